@@ -1,0 +1,127 @@
+ghost use Rattle.std.specs.Prelude.{◌≡◌, option_map};
+ghost use Rattle.cosem_axdr.specs.Forms.{array_of, structure_of, octets_of, boolean_of, double_long_unsigned_of, long_unsigned_of, unsigned_of, enumerated_of, integer_of, date_time_of, date_of, time_of};
+
+use crate::value::Data;
+
+/// What a Data of one type holds; a Data of any other type gives nothing.
+impl Data {
+    /// The items of an array.
+    pub fn array(&self) -> Option<&[Data]>
+        ensures { option_map (λ s. s.now) result ≡ array_of self.now }
+    {
+        match self {
+            Data::Array(items) => Some(items.as_slice()),
+            _ => None,
+        }
+    }
+
+    /// The items of a structure.
+    pub fn structure(&self) -> Option<&[Data]>
+        ensures { option_map (λ s. s.now) result ≡ structure_of self.now }
+    {
+        match self {
+            Data::Structure(items) => Some(items.as_slice()),
+            _ => None,
+        }
+    }
+
+    /// The bytes of an octet-string.
+    pub fn octets(&self) -> Option<&[u8]>
+        ensures { option_map (λ s. s.now) result ≡ octets_of self.now }
+    {
+        match self {
+            Data::OctetString(bytes) => Some(bytes.as_slice()),
+            _ => None,
+        }
+    }
+
+    /// A boolean.
+    pub fn boolean(&self) -> Option<bool>
+        ensures { result ≡ boolean_of self.now }
+    {
+        match self {
+            Data::Boolean(value) => Some(*value),
+            _ => None,
+        }
+    }
+
+    /// The number of a double-long-unsigned.
+    pub fn double_long_unsigned(&self) -> Option<u32>
+        ensures { result ≡ double_long_unsigned_of self.now }
+    {
+        match self {
+            Data::DoubleLongUnsigned(number) => Some(*number),
+            _ => None,
+        }
+    }
+
+    /// The number of a long-unsigned.
+    pub fn long_unsigned(&self) -> Option<u16>
+        ensures { result ≡ long_unsigned_of self.now }
+    {
+        match self {
+            Data::LongUnsigned(number) => Some(*number),
+            _ => None,
+        }
+    }
+
+    /// The number of an unsigned.
+    pub fn unsigned(&self) -> Option<u8>
+        ensures { result ≡ unsigned_of self.now }
+    {
+        match self {
+            Data::Unsigned(number) => Some(*number),
+            _ => None,
+        }
+    }
+
+    /// The number of an enum.
+    pub fn enumerated(&self) -> Option<u8>
+        ensures { result ≡ enumerated_of self.now }
+    {
+        match self {
+            Data::Enum(number) => Some(*number),
+            _ => None,
+        }
+    }
+
+    /// The number of an integer.
+    pub fn integer(&self) -> Option<i8>
+        ensures { result ≡ integer_of self.now }
+    {
+        match self {
+            Data::Integer(number) => Some(*number),
+            _ => None,
+        }
+    }
+
+    /// The twelve bytes of a date-time.
+    pub fn date_time(&self) -> Option<&[u8]>
+        ensures { option_map (λ s. s.now) result ≡ date_time_of self.now }
+    {
+        match self {
+            Data::DateTime(bytes) => Some(bytes.as_slice()),
+            _ => None,
+        }
+    }
+
+    /// The five bytes of a date.
+    pub fn date(&self) -> Option<&[u8]>
+        ensures { option_map (λ s. s.now) result ≡ date_of self.now }
+    {
+        match self {
+            Data::Date(bytes) => Some(bytes.as_slice()),
+            _ => None,
+        }
+    }
+
+    /// The four bytes of a time.
+    pub fn time(&self) -> Option<&[u8]>
+        ensures { option_map (λ s. s.now) result ≡ time_of self.now }
+    {
+        match self {
+            Data::Time(bytes) => Some(bytes.as_slice()),
+            _ => None,
+        }
+    }
+}

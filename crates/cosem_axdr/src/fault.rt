@@ -1,0 +1,41 @@
+ghost use Rattle.std.specs.Prelude.{◌≡◌};
+ghost use Rattle.cosem_axdr.specs.declared.fault.DataFault.TheVariants.{Memory};
+
+use std::alloc::{AllocError, AllocFailed};
+use thiserror::Error;
+
+/// Why bytes begin with no Data. Bytes are wanted from left to right, and the first fault that is met is the answer.
+#[derive(Clone, Copy, Debug, PartialEq, Eq, Error)]
+pub enum DataFault {
+    /// A byte past the end is wanted.
+    #[error("the bytes end within a Data")]
+    Truncated,
+    /// The tag is none of the twenty.
+    #[error("a tag of no type")]
+    UnknownTag,
+    /// An array or structure lies within eight others.
+    #[error("arrays and structures nested more than eight deep")]
+    TooDeep,
+    /// A byte past the 8,192nd is wanted, an array or structure has more than 255 items, or a length is in no form that is read.
+    #[error("a Data past its limits of length")]
+    TooLong,
+    /// Memory ran out.
+    #[error("out of memory")]
+    Memory,
+}
+
+impl From<AllocError> for DataFault {
+    ghost from_gives = { λ _ fault. fault ≡ Memory };
+
+    fn from(_error: AllocError) -> DataFault {
+        DataFault::Memory
+    }
+}
+
+impl<T: Drop> From<AllocFailed<T>> for DataFault {
+    ghost from_gives = { λ _ fault. fault ≡ Memory };
+
+    fn from(_error: AllocFailed<T>) -> DataFault {
+        DataFault::Memory
+    }
+}

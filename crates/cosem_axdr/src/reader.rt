@@ -1,0 +1,106 @@
+ghost use Rattle.std.specs.Prelude.{◌≡◌, ◌≤◌, length, IfOk};
+ghost use Rattle.cosem_axdr.specs.Reading.{Reads, start, byte_at, bytes_at, big_endian, length_at, string_at};
+
+use crate::fault::DataFault;
+use crate::limits::MAX_TEXT;
+use std::marker::Model;
+
+/// A place in bytes that are read from left to right: what is left of them, and how many of them a Data may still take.
+#[derive(Drop)]
+pub(crate) struct Reader<'a> {
+    rest: &'a [u8],
+    room: usize,
+}
+
+impl<'a> Model for Reader<'a> {
+    ghost use Rattle.cosem_axdr.specs.Reading.{Place};
+
+    ghost Value = { Place };
+
+    ghost view = { λ reader. record { bytes = reader.rest.now; room = reader.room } };
+}
+
+impl<'a> Reader<'a> {
+    /// At the front of bytes.
+    pub(crate) fn new(bytes: &'a [u8]) -> Self
+        ensures { result ≡ start bytes.now }
+    {
+        Reader {
+            rest: bytes,
+            room: MAX_TEXT,
+        }
+    }
+
+    /// How many bytes are left.
+    pub(crate) fn remaining(&self) -> usize
+        ensures { result ≡ length self.now.bytes }
+    {
+        self.rest.len()
+    }
+
+    /// The next bytes, wanted all at once.
+    pub(crate) fn bytes(&mut self, count: usize) -> Result<&'a [u8], DataFault>
+        ensures read { Reads (λ bytes. bytes.now) result self.new (bytes_at count self.old) }
+        ensures len { IfOk result (λ bytes. length bytes.now ≡ count) }
+    {
+        if self.room < count {
+            return Err(DataFault::TooLong);
+        }
+        if self.rest.len() < count {
+            return Err(DataFault::Truncated);
+        }
+        let (bytes, rest) = self.rest.split_at(count);
+        self.rest = rest;
+        self.room -= count;
+        Ok(bytes)
+    }
+
+    /// The next byte.
+    pub(crate) fn byte(&mut self) -> Result<u8, DataFault>
+        ensures { Reads (λ byte. byte) result self.new (byte_at self.old) }
+    {
+        Ok(self.bytes(1)?[0])
+    }
+
+    /// The next `N` bytes.
+    pub(crate) fn array<const N: usize>(&mut self) -> Result<[u8; N], DataFault>
+        ensures { Reads (λ bytes. bytes) result self.new (bytes_at N self.old) }
+    {
+        let mut array = [0; N];
+        array.copy_from_slice(self.bytes(N)?);
+        Ok(array)
+    }
+
+    /// A length or count: below 80 as it is, or 81 to 84 and that many bytes of it.
+    #[tactic(auto, unfolding(crate::specs::Reading::length_at))]
+    pub(crate) fn length(&mut self) -> Result<usize, DataFault>
+        ensures { Reads (λ n. n) result self.new (length_at self.old) }
+    {
+        match self.byte()? {
+            short @ 0..=0x7F => Ok(usize::from(short)),
+            form @ 0x81..=0x84 => Ok(number_of(self.bytes(usize::from(form - 0x80))?)),
+            _ => Err(DataFault::TooLong),
+        }
+    }
+
+    /// The bytes of a string, behind their length.
+    #[tactic(auto, unfolding(crate::specs::Reading::string_at))]
+    pub(crate) fn string(&mut self) -> Result<&'a [u8], DataFault>
+        ensures { Reads (λ bytes. bytes.now) result self.new (string_at self.old) }
+    {
+        let count = self.length()?;
+        self.bytes(count)
+    }
+}
+
+// The number whose bytes these are, the highest first.
+fn number_of(bytes: &[u8]) -> usize
+    requires { length bytes.now ≤ 4 }
+    ensures { result ≡ big_endian bytes.now }
+{
+    let mut number = 0;
+    for byte in bytes {
+        number = number * 256 + usize::from(*byte);
+    }
+    number
+}

@@ -1,0 +1,135 @@
+ghost use Rattle.std.specs.Prelude.{◌≡◌, ◌≤◌, ℕ, length, take, IfOk, MatchResult};
+ghost use Rattle.cosem_axdr.specs.Spelling.{IsSpelling};
+ghost use Rattle.cosem_axdr.specs.View.{tree_of};
+ghost use Rattle.cosem_axdr.specs.declared.value.Data.{Data};
+ghost use Rattle.byte_reading.specs.Outcome.{Gives};
+ghost use Rattle.cosem_axdr.specs.Reading.{Reads, string_at, bits_at, leaf_at, items_at, nested_at, value_at, first_data};
+
+use crate::fault::DataFault;
+use crate::limits::{MAX_ITEMS, MAX_NESTING, bytes_for, clear_unused};
+use crate::octets::Octets;
+use crate::reader::Reader;
+use crate::tag;
+use crate::value::{Data, Items};
+use std::alloc::Global;
+
+/// Reads the Data at the front of bytes, and says how many bytes it takes.
+///
+/// Bytes are wanted from left to right, and the first fault that is met is the answer: TooLong where a byte past the 8,192nd is wanted, Truncated past the end.
+/// A number's bytes, a string's length and its contents are each wanted all at once.
+pub fn read(alloc: Global, bytes: &[u8]) -> Result<(Data, usize), DataFault>
+    // The bytes that a Data takes spell it.
+    ensures found { IfOk result (λ read. (read.1 ≤ length bytes.now) × IsSpelling (take read.1 bytes.now) (tree_of read.0)) }
+    // Where the bytes begin with a spelling, what it spells is read.
+    ensures only { (d : Data) (n : ℕ) → n ≤ length bytes.now → IsSpelling (take n bytes.now) (tree_of d)
+        → MatchResult result (λ read. (read.0 ≡ d) × (read.1 ≡ n)) (λ fault. fault ≡ DataFault.Memory) }
+    // Which fault is the answer, too.
+    ensures exact { Gives DataFault.Memory (λ read. read) result (first_data bytes.now) }
+{
+    read_first(alloc, bytes)
+}
+
+// As `read`, by the definition alone.
+#[tactic(auto, unfolding(crate::specs::Reading::first_data))]
+fn read_first(alloc: Global, bytes: &[u8]) -> Result<(Data, usize), DataFault>
+    ensures { Gives DataFault.Memory (λ read. read) result (first_data bytes.now) }
+{
+    let mut reader = Reader::new(bytes);
+    let value = read_value(alloc, MAX_NESTING, &mut reader)?;
+    Ok((value, bytes.len() - reader.remaining()))
+}
+
+// A value that lies within arrays and structures that leave so many levels.
+#[cycle(reading)]
+#[tactic(auto, unfolding(crate::specs::Reading::value_at))]
+fn read_value(alloc: Global, levels: usize, reader: &mut Reader) -> Result<Data, DataFault>
+    ensures { Reads (λ value. value) result reader.new (value_at (nested_at levels) reader.old) }
+{
+    match reader.byte()? {
+        tag::ARRAY => Ok(Data::Array(read_counted(alloc, levels, reader)?)),
+        tag::STRUCTURE => Ok(Data::Structure(read_counted(alloc, levels, reader)?)),
+        tag => read_leaf(alloc, tag, reader),
+    }
+}
+
+// The count of items and the items. Where no level is left they are refused before the count is read.
+#[cycle(reading)]
+#[tactic(auto, unfolding(crate::specs::Reading::nested_at, crate::specs::Reading::counted_at))]
+fn read_counted(alloc: Global, levels: usize, reader: &mut Reader) -> Result<Items, DataFault>
+    ensures { Reads (λ items. items) result reader.new (nested_at levels reader.old) }
+{
+    if levels == 0 {
+        return Err(DataFault::TooDeep);
+    }
+    let count = reader.length()?;
+    if count > MAX_ITEMS {
+        return Err(DataFault::TooLong);
+    }
+    Ok(Items::from_vec(read_items(alloc, levels - 1, count, reader)?))
+}
+
+// So many values one after the other.
+#[cycle(reading)]
+fn read_items(
+    alloc: Global,
+    levels: usize,
+    count: usize,
+    reader: &mut Reader,
+) -> Result<Vec<Data>, DataFault>
+    ensures { Reads (λ items. items.items) result reader.new (items_at (value_at (nested_at levels)) count reader.old) }
+{
+    let mut items = Vec::new(alloc);
+    'items: for _ in 0..count {
+        items.push(read_value(alloc, levels, reader)?)?;
+    }
+    Ok(items)
+}
+
+// The value of a tag that has no items.
+#[tactic(auto, unfolding(crate::specs::Reading::leaf_at))]
+fn read_leaf(alloc: Global, tag: u8, reader: &mut Reader) -> Result<Data, DataFault>
+    ensures { Reads (λ value. value) result reader.new (leaf_at tag reader.old) }
+{
+    Ok(match tag {
+        tag::NULL_DATA => Data::Null,
+        tag::BOOLEAN => Data::Boolean(reader.byte()? != 0),
+        tag::BIT_STRING => read_bits(alloc, reader)?,
+        tag::DOUBLE_LONG => Data::DoubleLong(i32::from_be_bytes(reader.array()?)),
+        tag::DOUBLE_LONG_UNSIGNED => Data::DoubleLongUnsigned(u32::from_be_bytes(reader.array()?)),
+        tag::OCTET_STRING => Data::OctetString(read_string(alloc, reader)?),
+        tag::VISIBLE_STRING => Data::VisibleString(read_string(alloc, reader)?),
+        tag::UTF8_STRING => Data::Utf8String(read_string(alloc, reader)?),
+        tag::INTEGER => Data::Integer(i8::from_be_bytes(reader.array()?)),
+        tag::LONG => Data::Long(i16::from_be_bytes(reader.array()?)),
+        tag::UNSIGNED => Data::Unsigned(u8::from_be_bytes(reader.array()?)),
+        tag::LONG_UNSIGNED => Data::LongUnsigned(u16::from_be_bytes(reader.array()?)),
+        tag::LONG64 => Data::Long64(i64::from_be_bytes(reader.array()?)),
+        tag::LONG64_UNSIGNED => Data::Long64Unsigned(u64::from_be_bytes(reader.array()?)),
+        tag::ENUM => Data::Enum(u8::from_be_bytes(reader.array()?)),
+        tag::DATE_TIME => Data::DateTime(reader.array()?),
+        tag::DATE => Data::Date(reader.array()?),
+        tag::TIME => Data::Time(reader.array()?),
+        _ => return Err(DataFault::UnknownTag),
+    })
+}
+
+// A string's bytes in memory of their own.
+fn read_string(alloc: Global, reader: &mut Reader) -> Result<Octets, DataFault>
+    ensures { Reads (λ octets. octets) result reader.new (string_at reader.old) }
+{
+    Ok(Octets::from_slice(alloc, reader.string()?)?)
+}
+
+// A bit-string, its unused bits as 0.
+#[tactic(auto, unfolding(crate::specs::Reading::bits_at))]
+fn read_bits(alloc: Global, reader: &mut Reader) -> Result<Data, DataFault>
+    ensures { Reads (λ value. value) result reader.new (bits_at reader.old) }
+{
+    let bits = reader.length()?;
+    let mut bytes = Vec::from_slice(alloc, reader.bytes(bytes_for(bits))?)?;
+    clear_unused(bits, bytes.as_mut_slice());
+    Ok(Data::BitString {
+        bits,
+        bytes: Octets::from_vec(bytes),
+    })
+}

@@ -1,0 +1,124 @@
+ghost use Rattle.std.specs.Prelude.{◌≡◌, ◌↔◌, IsTrue};
+ghost use Rattle.cosem_axdr.specs.Tree.{trees_of, count_of, no_trees};
+ghost use Rattle.cosem_axdr.specs.View.{all_trees, list_of};
+
+use crate::octets::Octets;
+use std::marker::Model;
+
+/// A value of the DLMS/COSEM type Data (IEC 62056-6-2, "Common data types"; its tags are those of IEC 62056-5-3, A-XDR encoding).
+#[cycle(value)]
+#[derive(Debug, Drop)]
+pub enum Data {
+    /// null-data, tag 00
+    Null,
+    /// array, tag 01: its items
+    Array(Items),
+    /// structure, tag 02: its items
+    Structure(Items),
+    /// boolean, tag 03
+    Boolean(bool),
+    /// bit-string, tag 04: how many bits, and the bytes that hold them, the first bit the highest of the first byte
+    BitString { bits: usize, bytes: Octets },
+    /// double-long, tag 05
+    DoubleLong(i32),
+    /// double-long-unsigned, tag 06
+    DoubleLongUnsigned(u32),
+    /// octet-string, tag 09
+    OctetString(Octets),
+    /// visible-string, tag 0A: any bytes
+    VisibleString(Octets),
+    /// utf8-string, tag 0C: any bytes
+    Utf8String(Octets),
+    /// integer, tag 0F
+    Integer(i8),
+    /// long, tag 10
+    Long(i16),
+    /// unsigned, tag 11
+    Unsigned(u8),
+    /// long-unsigned, tag 12
+    LongUnsigned(u16),
+    /// long64, tag 14
+    Long64(i64),
+    /// long64-unsigned, tag 15
+    Long64Unsigned(u64),
+    /// enum, tag 16
+    Enum(u8),
+    /// date-time, tag 19: any bytes
+    DateTime([u8; 12]),
+    /// date, tag 1A: any bytes
+    Date([u8; 5]),
+    /// time, tag 1B: any bytes
+    Time([u8; 4]),
+}
+
+/// The items of an array or structure, in order. Contracts see their trees, so equal Datas are those of one tree, whatever memory holds them.
+#[cycle(value)]
+#[derive(Debug, Drop)]
+pub struct Items {
+    pub items: Vec<Data>,
+}
+
+impl Model for Items {
+    ghost use Rattle.cosem_axdr.specs.Tree.{Trees, trees_of, nests};
+    ghost use Rattle.cosem_axdr.specs.Stored.{coded_trees};
+
+    ghost Value = { Trees };
+
+    ghost coded = { coded_trees };
+
+    ghost use Rattle.cosem_axdr.specs.View.{all_trees};
+
+    ghost view = { λ items. trees_of (all_trees items.items.items) };
+
+    ghost size = { nests };
+
+    ghost use Rattle.cosem_axdr.specs.Falls.{falls};
+
+    ghost size_decreases = { λ items h. falls items.items.items };
+}
+
+impl Items {
+    /// The items of a `Vec`. It takes no memory.
+    #[tactic(auto, using(crate::proofs::OneTree::list_of_trees))]
+    pub fn from_vec(items: Vec<Data>) -> Items
+        ensures trees { result ≡ trees_of (all_trees items.items) }
+        ensures list { list_of result ≡ items.items }
+    {
+        Items { items }
+    }
+
+    /// The items as a `Vec`. It takes no memory.
+    #[tactic(auto, using(crate::proofs::OneTree::list_of_trees))]
+    pub fn into_vec(self) -> Vec<Data>
+        ensures trees { trees_of (all_trees result.items) ≡ self }
+        ensures list { result.items ≡ list_of self }
+    {
+        let Items { items } = self;
+        items
+    }
+
+    /// The items.
+    #[tactic(auto, using(crate::proofs::OneTree::list_of_trees))]
+    pub fn as_slice(&self) -> &[Data]
+        ensures trees { trees_of (all_trees result.now) ≡ self.now }
+        ensures list { result.now ≡ list_of self.now }
+    {
+        self.items.as_slice()
+    }
+
+    /// How many items there are.
+    #[tactic(auto, using(crate::proofs::OneTree::counted))]
+    pub fn len(&self) -> usize
+        ensures { result ≡ count_of self.now }
+    {
+        self.items.len()
+    }
+
+    /// Whether there are none.
+    #[tactic(auto, using(crate::proofs::OneTree::counted))]
+    pub fn is_empty(&self) -> bool
+        ensures { IsTrue result ↔ (self.now ≡ no_trees) }
+    {
+        self.len() == 0
+    }
+}

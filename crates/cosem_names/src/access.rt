@@ -1,0 +1,112 @@
+ghost use Rattle.std.specs.Prelude.{◌≡◌, option_map};
+ghost use Rattle.cosem_names.specs.Objects.{object_of, class_attribute_of, class_method_of, attribute_of, method_of, rights_of, may_execute_of};
+
+use crate::level::{Level, Rights};
+use crate::name::{AttrRef, ClassId, MethodRef, Obis};
+use crate::objects::{ATTRIBUTES, Access, Attribute, METHODS, Method, OBJECTS, Object};
+
+/// The row of the object with this logical name, or None where no object has it.
+#[tactic(auto, unfolding(crate::specs::Objects::object_of))]
+pub fn object(name: Obis) -> Option<Object>
+    ensures { result ≡ object_of name }
+{
+    OBJECTS.iter().copied().find(|row| row.name == name)
+}
+
+/// The class of the object with this logical name, or None where no object has it.
+pub fn find(name: Obis) -> Option<ClassId>
+    ensures { result ≡ option_map (λ row. row.class) (object_of name) }
+{
+    let row = object(name)?;
+    Some(row.class)
+}
+
+/// The row of an attribute of a class.
+#[tactic(auto, unfolding(crate::specs::Objects::class_attribute_of))]
+fn class_attribute(class: ClassId, number: u8) -> Option<Attribute>
+    ensures { result ≡ class_attribute_of class number }
+{
+    ATTRIBUTES
+        .iter()
+        .copied()
+        .find(|row| row.class == class && row.number == number)
+}
+
+/// The row of a method of a class.
+#[tactic(auto, unfolding(crate::specs::Objects::class_method_of))]
+fn class_method(class: ClassId, number: u8) -> Option<Method>
+    ensures { result ≡ class_method_of class number }
+{
+    METHODS
+        .iter()
+        .copied()
+        .find(|row| row.class == class && row.number == number)
+}
+
+/// The row of an attribute, or None where the name is unknown, the class is not the name's, or the
+/// object has no attribute of that number.
+#[tactic(auto, unfolding(crate::specs::Objects::attribute_of))]
+pub fn attribute(reference: &AttrRef) -> Option<Attribute>
+    ensures { result ≡ attribute_of reference.now }
+{
+    let row = object(reference.name)?;
+    if row.class != reference.class {
+        return None;
+    }
+    class_attribute(row.class, reference.number)
+}
+
+#[tactic(auto, unfolding(crate::specs::Objects::method_of))]
+fn method(reference: &MethodRef) -> Option<Method>
+    ensures { result ≡ method_of reference.now }
+{
+    let row = object(reference.name)?;
+    if row.class != reference.class {
+        return None;
+    }
+    class_method(row.class, reference.number)
+}
+
+/// What a client of this level may do with an attribute: neither read nor write where there is no such
+/// attribute.
+#[tactic(auto, unfolding(crate::specs::Objects::rights_of))]
+pub fn rights(level: Level, reference: &AttrRef) -> Rights
+    ensures { result ≡ rights_of level reference.now }
+{
+    let Some(row) = attribute(reference) else {
+        return Rights {
+            read: false,
+            write: false,
+        };
+    };
+    let access = match level {
+        Level::Public => row.public,
+        Level::Management => row.management,
+    };
+    match access {
+        Access::NoAccess => Rights {
+            read: false,
+            write: false,
+        },
+        Access::ReadOnly => Rights {
+            read: true,
+            write: false,
+        },
+        Access::ReadAndWrite => Rights {
+            read: true,
+            write: true,
+        },
+    }
+}
+
+/// Whether a client of this level may execute a method: false where there is no such method.
+#[tactic(auto, unfolding(crate::specs::Objects::may_execute_of))]
+pub fn may_execute(level: Level, reference: &MethodRef) -> bool
+    ensures { result ≡ may_execute_of level reference.now }
+{
+    match (method(reference), level) {
+        (None, _) => false,
+        (Some(row), Level::Public) => row.public,
+        (Some(row), Level::Management) => row.management,
+    }
+}

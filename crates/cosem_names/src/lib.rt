@@ -1,0 +1,20 @@
+//! The names of the meter's objects, and what each client may do with them.
+//!
+//! `objects` has the one table of the objects; `access` reads it.
+#![tactic(auto)]
+
+mod access;
+mod level;
+mod name;
+mod objects;
+mod result_code;
+mod service;
+#[cfg(test)]
+mod tests;
+
+pub use access::{attribute, find, may_execute, object, rights};
+pub use level::{Level, Rights};
+pub use name::{AttrRef, ClassId, MethodRef, Obis};
+pub use objects::{ATTRIBUTES, Access, Attribute, Instance, METHODS, Method, OBJECTS, Object};
+pub use result_code::ResultCode;
+pub use service::{AttributeSelection, GetResult};

@@ -1,0 +1,29 @@
+use Rattle.std.specs.Prelude.{◌≡◌, Bool, ◌==◌, ◌&&◌, ◌||◌, not, if◌then◌else◌}
+use Rattle.cosem_names.specs.declared.result_code.ResultCode.{ResultCode}
+use Rattle.cosem_names.specs.declared.result_code.ResultCode.TheVariants.{Success, TemporaryFailure}
+use Rattle.disconnect_control.specs.declared.state.ControlState.{ControlState}
+use Rattle.disconnect_control.specs.declared.state.ControlState.TheVariants.{Connected}
+use Rattle.disconnect_control.specs.declared.state.ControlMode.{ControlMode}
+use Rattle.disconnect_control.specs.declared.state.Trigger.{Trigger}
+use Rattle.disconnect_control.specs.Transitions.{is_state, mode_number, after}
+
+-- the switch as its clients see it: attributes 3 and 4
+pub record Control : Type 0 where
+  pub state : ControlState
+  pub mode : ControlMode
+
+-- the switch after a trigger: its mode stays
+abbrev pub triggered : Trigger → Control → Control
+triggered trigger control = record { state = after control.mode trigger control.state; mode = control.mode }
+
+-- whether a mode may be written: mode 0 is always connected, so it is taken in Connected alone
+unfoldable pub is_mode_fit : ControlMode → ControlState → Bool
+is_mode_fit mode state = not (mode_number mode == 0) || is_state state Connected
+
+-- the switch after a write of its mode
+unfoldable pub with_mode : ControlMode → Control → Control
+with_mode mode control = if is_mode_fit mode control.state then record { state = control.state; mode = mode } else control
+
+-- the result of a write of the mode
+unfoldable pub mode_result : ControlMode → Control → ResultCode
+mode_result mode control = if is_mode_fit mode control.state then Success else TemporaryFailure

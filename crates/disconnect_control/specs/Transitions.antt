@@ -1,0 +1,115 @@
+use Rattle.std.specs.Prelude.{◌≡◌, ℕ, Bool, true, false, Option, Some, None, List, [], ◌∷◌, ◌==◌, ◌&&◌, ◌||◌, find, option_map, unwrap_or, is_some, if◌then◌else◌}
+use Rattle.cosem_names.specs.declared.result_code.ResultCode.{ResultCode}
+use Rattle.cosem_names.specs.declared.result_code.ResultCode.TheVariants.{Success, TemporaryFailure}
+use Rattle.disconnect_control.specs.declared.state.ControlState.{ControlState}
+use Rattle.disconnect_control.specs.declared.state.ControlState.TheVariants.{Disconnected, Connected, ReadyForReconnection}
+use Rattle.disconnect_control.specs.declared.state.ControlMode.{ControlMode}
+use Rattle.disconnect_control.specs.declared.state.ControlMode.TheVariants.{Mode0, Mode1, Mode2, Mode3, Mode4, Mode5, Mode6}
+use Rattle.disconnect_control.specs.declared.state.Trigger.{Trigger}
+use Rattle.disconnect_control.specs.declared.state.Trigger.TheVariants.{RemoteDisconnect, RemoteReconnect, ManualDisconnect, ManualReconnect, LocalDisconnect, LocalReconnect}
+
+-- a transition: on this trigger, from one state to another
+pub record Row : Type 0 where
+  pub trigger : Trigger
+  pub from : ControlState
+  pub to : ControlState
+
+-- the eight transitions, by the letters of the standard's figure of states and transitions
+abbrev pub a : Row
+a = record { trigger = RemoteReconnect; from = Disconnected; to = Connected }
+
+abbrev pub b : Row
+b = record { trigger = RemoteDisconnect; from = Connected; to = Disconnected }
+
+abbrev pub c : Row
+c = record { trigger = RemoteDisconnect; from = ReadyForReconnection; to = Disconnected }
+
+abbrev pub d : Row
+d = record { trigger = RemoteReconnect; from = Disconnected; to = ReadyForReconnection }
+
+abbrev pub e : Row
+e = record { trigger = ManualReconnect; from = ReadyForReconnection; to = Connected }
+
+abbrev pub f : Row
+f = record { trigger = ManualDisconnect; from = Connected; to = ReadyForReconnection }
+
+abbrev pub g : Row
+g = record { trigger = LocalDisconnect; from = Connected; to = ReadyForReconnection }
+
+abbrev pub h : Row
+h = record { trigger = LocalReconnect; from = ReadyForReconnection; to = Connected }
+
+-- the transitions of each mode; mode 0 has none
+abbrev pub rows_of : ControlMode → List Row
+rows_of Mode0 = []
+rows_of Mode1 = b ∷ c ∷ f ∷ g ∷ d ∷ e ∷ []
+rows_of Mode2 = b ∷ c ∷ f ∷ g ∷ a ∷ e ∷ []
+rows_of Mode3 = b ∷ c ∷ g ∷ d ∷ e ∷ []
+rows_of Mode4 = b ∷ c ∷ g ∷ a ∷ e ∷ []
+rows_of Mode5 = b ∷ c ∷ f ∷ g ∷ d ∷ e ∷ h ∷ []
+rows_of Mode6 = b ∷ c ∷ g ∷ d ∷ e ∷ h ∷ []
+
+-- the numbers of the states, as attribute 3 shows them
+abbrev pub state_number : ControlState → ℕ
+state_number Disconnected = 0
+state_number Connected = 1
+state_number ReadyForReconnection = 2
+
+-- the numbers of the modes, as attribute 4 shows them
+abbrev pub mode_number : ControlMode → ℕ
+mode_number Mode0 = 0
+mode_number Mode1 = 1
+mode_number Mode2 = 2
+mode_number Mode3 = 3
+mode_number Mode4 = 4
+mode_number Mode5 = 5
+mode_number Mode6 = 6
+
+-- the mode of a number
+abbrev pub mode_of : ℕ → Option ControlMode
+mode_of n = if n == 0 then Some Mode0 else if n == 1 then Some Mode1 else if n == 2 then Some Mode2 else if n == 3 then Some Mode3
+    else if n == 4 then Some Mode4 else if n == 5 then Some Mode5 else if n == 6 then Some Mode6 else None
+
+-- a number for each trigger, to tell them apart
+abbrev pub trigger_number : Trigger → ℕ
+trigger_number RemoteDisconnect = 0
+trigger_number RemoteReconnect = 1
+trigger_number ManualDisconnect = 2
+trigger_number ManualReconnect = 3
+trigger_number LocalDisconnect = 4
+trigger_number LocalReconnect = 5
+
+-- whether two states are the same
+abbrev pub is_state : ControlState → ControlState → Bool
+is_state one other = state_number one == state_number other
+
+-- the transition that a mode allows on a trigger in a state
+unfoldable pub allowed : ControlMode → Trigger → ControlState → Option Row
+allowed mode trigger state = find (λ row. trigger_number row.trigger == trigger_number trigger && is_state row.from state) (rows_of mode)
+
+-- the state after a trigger
+unfoldable pub after : ControlMode → Trigger → ControlState → ControlState
+after mode trigger state = unwrap_or (option_map (λ row. row.to) (allowed mode trigger state)) state
+
+-- modes whose remote reconnection waits for the button
+abbrev pub waits_for_button : ControlMode → Bool
+waits_for_button Mode0 = false
+waits_for_button Mode1 = true
+waits_for_button Mode2 = false
+waits_for_button Mode3 = true
+waits_for_button Mode4 = false
+waits_for_button Mode5 = true
+waits_for_button Mode6 = true
+
+-- whether a state is what a trigger asks for, so that nothing is left to do
+abbrev pub is_target : ControlMode → Trigger → ControlState → Bool
+is_target _ RemoteDisconnect state = is_state state Disconnected
+is_target mode RemoteReconnect state = is_state state Connected || (waits_for_button mode && is_state state ReadyForReconnection)
+is_target _ ManualDisconnect state = is_state state Disconnected || is_state state ReadyForReconnection
+is_target _ ManualReconnect state = is_state state Connected
+is_target _ LocalDisconnect state = is_state state Disconnected || is_state state ReadyForReconnection
+is_target _ LocalReconnect state = is_state state Connected
+
+-- the result of a trigger: success where a transition is allowed or nothing is left to do
+unfoldable pub result_of : ControlMode → Trigger → ControlState → ResultCode
+result_of mode trigger state = if is_some (allowed mode trigger state) || is_target mode trigger state then Success else TemporaryFailure

@@ -1,0 +1,179 @@
+ghost use Rattle.std.specs.Prelude.{◌≡◌, ◌≢◌, ◌↔◌, option_map, IsTrue, IsNone, IfSome};
+ghost use Rattle.disconnect_control.specs.declared.state.ControlState.TheVariants.{Connected};
+ghost use Rattle.disconnect_control.specs.declared.state.ControlMode.TheVariants.{Mode0};
+ghost use Rattle.disconnect_control.specs.Transitions.{allowed, is_target, is_state, result_of, state_number, mode_number, mode_of};
+ghost use Rattle.disconnect_control.specs.Control.{Control, triggered, is_mode_fit, with_mode, mode_result};
+
+use crate::state::{ControlMode, ControlState, Trigger};
+use cosem_names::ResultCode;
+use std::marker::Model;
+
+/// The supply switch: its state and its mode. In mode 0 it is always Connected.
+#[derive(Clone, Copy, Debug, PartialEq, Eq)]
+pub struct DisconnectControl {
+    state: ControlState,
+    mode: ControlMode,
+}
+
+impl Model for DisconnectControl {
+    ghost Value = { Control };
+
+    ghost view = { λ s. record { state = s.state; mode = s.mode } };
+
+    ghost invariant = { λ s. s.mode ≡ Mode0 → s.state ≡ Connected };
+
+    ghost inverse = { λ c. record { state = c.state; mode = c.mode } };
+}
+
+impl ControlState {
+    /// The number of the state, as attribute 3 shows it.
+    pub fn number(self) -> u8
+        ensures { result ≡ state_number self }
+    {
+        self as u8
+    }
+}
+
+impl ControlMode {
+    /// The number of the mode, as attribute 4 shows it.
+    pub fn number(self) -> u8
+        ensures { result ≡ mode_number self }
+    {
+        self as u8
+    }
+
+    /// The mode of this number, or None above 6.
+    pub fn of_number(number: u8) -> Option<ControlMode>
+        ensures { result ≡ mode_of number }
+    {
+        Some(match number {
+            0 => ControlMode::Mode0,
+            1 => ControlMode::Mode1,
+            2 => ControlMode::Mode2,
+            3 => ControlMode::Mode3,
+            4 => ControlMode::Mode4,
+            5 => ControlMode::Mode5,
+            6 => ControlMode::Mode6,
+            _ => return None,
+        })
+    }
+}
+
+/// The state that a mode's transition leads to, where one is allowed.
+#[tactic(auto, unfolding(crate::specs::Transitions::allowed))]
+fn next(mode: ControlMode, trigger: Trigger, state: ControlState) -> Option<ControlState>
+    ensures { result ≡ option_map (λ row. row.to) (allowed mode trigger state) }
+{
+    use ControlMode::{Mode0, Mode1, Mode2, Mode3, Mode4, Mode5, Mode6};
+    use ControlState::{Connected, Disconnected, ReadyForReconnection};
+    use Trigger::{
+        LocalDisconnect, LocalReconnect, ManualDisconnect, ManualReconnect, RemoteDisconnect,
+        RemoteReconnect,
+    };
+
+    match (mode, trigger, state) {
+        (Mode0, _, _) => None,
+        (_, RemoteDisconnect, Connected | ReadyForReconnection) => Some(Disconnected),
+        (Mode2 | Mode4, RemoteReconnect, Disconnected) => Some(Connected),
+        (_, RemoteReconnect, Disconnected) => Some(ReadyForReconnection),
+        (_, ManualReconnect, ReadyForReconnection) => Some(Connected),
+        (Mode1 | Mode2 | Mode5, ManualDisconnect, Connected) => Some(ReadyForReconnection),
+        (_, LocalDisconnect, Connected) => Some(ReadyForReconnection),
+        (Mode5 | Mode6, LocalReconnect, ReadyForReconnection) => Some(Connected),
+        _ => None,
+    }
+}
+
+/// Whether a state is what a trigger asks for.
+fn is_done(mode: ControlMode, trigger: Trigger, state: ControlState) -> bool
+    ensures { result ≡ is_target mode trigger state }
+{
+    use ControlMode::{Mode0, Mode2, Mode4};
+    use ControlState::{Connected, Disconnected, ReadyForReconnection};
+
+    match trigger {
+        Trigger::RemoteDisconnect => state == Disconnected,
+        Trigger::RemoteReconnect => match state {
+            Connected => true,
+            Disconnected => false,
+            ReadyForReconnection => !matches!(mode, Mode0 | Mode2 | Mode4),
+        },
+        Trigger::ManualDisconnect | Trigger::LocalDisconnect => state != Connected,
+        Trigger::ManualReconnect | Trigger::LocalReconnect => state == Connected,
+    }
+}
+
+impl DisconnectControl {
+    /// The switch of a new meter: Connected, in mode 0.
+    pub fn new() -> DisconnectControl
+        ensures { result ≡ record { state = Connected; mode = Mode0 } }
+    {
+        DisconnectControl {
+            state: ControlState::Connected,
+            mode: ControlMode::Mode0,
+        }
+    }
+
+    /// A switch in this state and mode, or None for mode 0 in another state than Connected.
+    pub fn of(state: ControlState, mode: ControlMode) -> Option<DisconnectControl>
+        ensures none { IsNone result ↔ ((mode ≡ Mode0) × (state ≢ Connected)) }
+        ensures some { IfSome result (λ control. control ≡ record { state = state; mode = mode }) }
+    {
+        if mode == ControlMode::Mode0 && state != ControlState::Connected {
+            return None;
+        }
+        Some(DisconnectControl { state, mode })
+    }
+
+    /// Attribute 3, control_state.
+    pub fn state(&self) -> ControlState
+        ensures { result ≡ self.now.state }
+    {
+        self.state
+    }
+
+    /// Attribute 4, control_mode.
+    pub fn mode(&self) -> ControlMode
+        ensures { result ≡ self.now.mode }
+    {
+        self.mode
+    }
+
+    /// Attribute 2, output_state: whether the supply is on, which is so in Connected alone.
+    pub fn output(&self) -> bool
+        ensures state { result ≡ is_state self.now.state Connected }
+        ensures connected { IsTrue result ↔ (self.now.state ≡ Connected) }
+    {
+        self.state == ControlState::Connected
+    }
+
+    /// Acts on a trigger: follows the mode's transition, where there is one. TemporaryFailure says that there
+    /// is none and that the state is not what the trigger asks for; nothing has changed then.
+    #[tactic(auto, unfolding(crate::specs::Transitions::allowed, crate::specs::Transitions::after, crate::specs::Transitions::result_of))]
+    pub fn apply(&mut self, trigger: Trigger) -> ResultCode
+        ensures control { self.new ≡ triggered trigger self.old }
+        ensures code { result ≡ result_of self.old.mode trigger self.old.state }
+    {
+        match next(self.mode, trigger, self.state) {
+            Some(state) => {
+                self.state = state;
+                ResultCode::Success
+            }
+            None if is_done(self.mode, trigger, self.state) => ResultCode::Success,
+            None => ResultCode::TemporaryFailure,
+        }
+    }
+
+    /// Writes attribute 4. Mode 0 is refused with TemporaryFailure outside Connected, and nothing changes.
+    #[tactic(auto, unfolding(crate::specs::Control::is_mode_fit, crate::specs::Control::with_mode, crate::specs::Control::mode_result))]
+    pub fn set_mode(&mut self, mode: ControlMode) -> ResultCode
+        ensures control { self.new ≡ with_mode mode self.old }
+        ensures code { result ≡ mode_result mode self.old }
+    {
+        if mode == ControlMode::Mode0 && self.state != ControlState::Connected {
+            return ResultCode::TemporaryFailure;
+        }
+        self.mode = mode;
+        ResultCode::Success
+    }
+}

@@ -1,0 +1,75 @@
+use crate::fault::Fault;
+use cosem_axdr::Octets;
+use hex::FromHexError;
+use meter_server::answer_apdu;
+use relay_core::RelayCore;
+use std::alloc::Global;
+use std::io::{ErrorKind, Read, Write};
+
+/// How many bytes standard input may have.
+const MOST_BYTES: usize = 1_048_576;
+
+/// All of an input, which must not be longer than `MOST_BYTES`.
+fn whole_text<I: Read>(alloc: Global, input: &mut I) -> Result<Vec<u8>, Fault> {
+    let mut text = Vec::new(alloc);
+    let mut piece = [0u8; 4096];
+    for _ in 0..u64::MAX {
+        match input.read(&mut piece) {
+            Ok(0) => return Ok(text),
+            Ok(count) => {
+                text.extend_from_slice(&piece[..count])
+                    .map_err(|_| Fault::Memory)?;
+            }
+            Err(error) if error.kind() == ErrorKind::Interrupted => {}
+            Err(_) => return Err(Fault::Read),
+        }
+        if text.len() > MOST_BYTES {
+            return Err(Fault::Input);
+        }
+    }
+    Err(Fault::Read)
+}
+
+/// The bytes of a line of hexadecimal pairs.
+fn request(alloc: Global, line: &[u8]) -> Result<Vec<u8>, Fault> {
+    hex::decode(alloc, line).map_err(|error| match error {
+        FromHexError::OutOfMemory => Fault::Memory,
+        _ => Fault::Input,
+    })
+}
+
+/// The requests of a text, a line each; an empty line is none.
+fn requests(alloc: Global, text: &[u8]) -> Result<Vec<Vec<u8>>, Fault> {
+    let mut requests = Vec::new(alloc);
+    for line in text.split(|byte| *byte == b'\n') {
+        if !line.is_empty() {
+            requests
+                .push(request(alloc, line)?)
+                .map_err(|_| Fault::Memory)?;
+        }
+    }
+    Ok(requests)
+}
+
+/// One core's answers to requests, a line each, in hexadecimal.
+fn answers(alloc: Global, requests: &[Vec<u8>]) -> Result<String, Fault> {
+    let device = Octets::from_slice(alloc, b"RELAY1").map_err(|_| Fault::Memory)?;
+    let mut core = RelayCore::new(alloc, &device).map_err(|_| Fault::Memory)?;
+    let mut lines = String::new(alloc);
+    for request in requests {
+        let answer = answer_apdu(&mut core, alloc, request.as_slice()).map_err(|_| Fault::Memory)?;
+        let line = hex::encode_upper(alloc, answer.as_slice()).map_err(|_| Fault::Memory)?;
+        lines.push_str(line.as_str()).map_err(|_| Fault::Memory)?;
+        lines.push('\n').map_err(|_| Fault::Memory)?;
+    }
+    Ok(lines)
+}
+
+/// The command `apdu`: answers each request of standard input. All requests are judged before any is answered.
+pub fn run<R: Print + Input + AllocGlobal>(rt: &R) -> Result<(), Fault> {
+    let alloc = rt.alloc();
+    let text = whole_text(alloc, &mut rt.reader())?;
+    let requests = requests(alloc, text.as_slice())?;
+    let lines = answers(alloc, requests.as_slice())?;
+    print!(rt; "{lines}").map_err(|_| Fault::Write)
+}

@@ -1,0 +1,22 @@
+use Rattle.std.specs.Prelude.{Bool, Option, Some, None, Result, Ok, Err, ◌==◌, not, if◌then◌else◌}
+use Rattle.cosem_names.specs.declared.name.Obis.{Obis}
+use Rattle.cosem_names.specs.declared.name.ClassId.{ClassId}
+use Rattle.cosem_names.specs.declared.objects.Instance.{Instance}
+use Rattle.cosem_names.specs.declared.objects.Object.{Object}
+use Rattle.cosem_names.specs.declared.result_code.ResultCode.{ResultCode}
+use Rattle.cosem_names.specs.declared.result_code.ResultCode.TheVariants.{ObjectUndefined, ObjectClassInconsistent, ReadWriteDenied, ScopeOfAccessViolated}
+use Rattle.cosem_names.specs.Objects.{object_of}
+
+-- the order of refusals of a call on an object that was sought by its name
+abbrev pub target_in : Option Object → ClassId → Bool → Bool → Result Instance ResultCode
+target_in None class allowed selected = Err ObjectUndefined
+target_in (Some object) class allowed selected =
+    if not (object.class.0 == class.0) then Err ObjectClassInconsistent
+    else if not allowed then Err ReadWriteDenied
+    else if selected then Err ScopeOfAccessViolated
+    else Ok object.instance
+
+-- the object that a call reaches, or the first refusal: the name is unknown, the class isn't the object's,
+-- there is no right to that number, or a part was asked for
+unfoldable pub target_of : Obis → ClassId → Bool → Bool → Result Instance ResultCode
+target_of name class allowed selected = target_in (object_of name) class allowed selected

@@ -1,0 +1,30 @@
+ghost use Rattle.std.specs.Prelude.{◌≡◌};
+ghost use Rattle.relay_core.specs.Access.{target_of};
+
+use cosem_names::{ClassId, Instance, Obis, ResultCode, object};
+
+/// The object that a call reaches, or the first thing that refuses it: an unknown name, a class that isn't
+/// the object's, a number that isn't there or not `allowed`, selective access.
+#[tactic(auto, unfolding(crate::specs::Access::target_of))]
+pub(crate) fn target(
+    name: Obis,
+    class: ClassId,
+    allowed: bool,
+    selected: bool,
+) -> Result<Instance, ResultCode>
+    ensures { result ≡ target_of name class allowed selected }
+{
+    let Some(object) = object(name) else {
+        return Err(ResultCode::ObjectUndefined);
+    };
+    if object.class != class {
+        return Err(ResultCode::ObjectClassInconsistent);
+    }
+    if !allowed {
+        return Err(ResultCode::ReadWriteDenied);
+    }
+    if selected {
+        return Err(ResultCode::ScopeOfAccessViolated);
+    }
+    Ok(object.instance)
+}

@@ -1,0 +1,19 @@
+//! The meter's core: every event that reaches it, one after the other, and its reply.
+//!
+//! `specs/World.antt` says what the meter is, `specs/Machine.antt` what an event does to it, and
+//! `specs/Runs.antt` what a list of events does. A `RelayCore` stands for a world and does the same.
+#![tactic(auto)]
+
+mod access;
+mod acting;
+mod event;
+mod reading;
+mod relay;
+mod running;
+#[cfg(test)]
+mod tests;
+mod writing;
+
+pub use event::{Event, Events, Line, Lines, Reply};
+pub use relay::RelayCore;
+pub use running::{RunStop, run};

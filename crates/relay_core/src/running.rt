@@ -1,0 +1,96 @@
+ghost use Rattle.std.specs.Prelude.{◌≡◌, IfOk, IfErr, IsOk, IsTrue, OnOk, OnErr};
+ghost use Rattle.relay_core.specs.World.{World};
+ghost use Rattle.relay_core.specs.Stands.{StandsFor};
+ghost use Rattle.relay_core.specs.Machine.{at_event, is_sure, Fits};
+ghost use Rattle.relay_core.specs.Runs.{line_at, Runs, StopsEarly};
+
+use crate::event::{Event, Events, Line, Lines, Reply};
+use crate::relay::RelayCore;
+use cosem_names::GetResult;
+use std::alloc::{AllocError, Global};
+
+impl RelayCore {
+    /// Takes an event and answers it. Where memory runs out the core is as it was, as though the event had
+    /// not come.
+    #[tactic(auto, unfolding(crate::specs::Machine::at_event, crate::specs::Machine::is_sure))]
+    pub fn step(&mut self, alloc: Global, event: &Event) -> Result<Reply, AllocError>
+        ensures world { OnOk result ((w : World) → StandsFor self.old w → StandsFor self.new (at_event event.now w).world) }
+        ensures reply { IfOk result (λ reply. (w : World) → StandsFor self.old w → reply ≡ (at_event event.now w).reply) }
+        ensures fits { IfOk result (Fits event.now) }
+        ensures sure { IsTrue (is_sure event.now) → IsOk result }
+        ensures err { OnErr result (self.new ≡ self.old) }
+    {
+        Ok(match event {
+            Event::Get {
+                level,
+                attr,
+                selected,
+            } => match self.get(alloc, *level, attr, *selected)? {
+                GetResult::Value(data) => Reply::Value(data),
+                GetResult::Code(code) => Reply::Code(code),
+            },
+            Event::GetList { level, items } => {
+                Reply::Values(self.get_list(alloc, *level, items.as_slice())?)
+            }
+            Event::Set {
+                level,
+                attr,
+                selected,
+                value,
+            } => { Reply::Code(self.set(*level, attr, *selected, value)) }
+            Event::Execute {
+                level,
+                method,
+                parameter: _,
+            } => Reply::Code(self.execute(*level, method)),
+            Event::Button => Reply::Code(self.press()),
+        })
+    }
+}
+
+/// A run that stopped for want of memory: the lines of the events before it stopped. The core stands after
+/// just these.
+#[derive(Debug, Drop)]
+pub struct RunStop {
+    pub done: Lines,
+}
+
+/// Takes an event, and gives its line.
+fn line_after(core: &mut RelayCore, alloc: Global, event: &Event) -> Result<Line, AllocError>
+    ensures world { OnOk result ((w : World) → StandsFor core.old w → StandsFor core.new (at_event event.now w).world) }
+    ensures line { IfOk result (λ line. (w : World) → StandsFor core.old w → line ≡ line_at event.now w) }
+    ensures sure { IsTrue (is_sure event.now) → IsOk result }
+    ensures err { OnErr result (core.new ≡ core.old) }
+{
+    let reply = core.step(alloc, event)?;
+    Ok(Line {
+        reply,
+        state: core.state(),
+        output: core.output(),
+    })
+}
+
+/// Takes events one after the other. The line of each has its reply, and the state and the supply output after
+/// it. So for every interleaving of remote calls and button presses, each line is what the mode and transition
+/// tables say.
+///
+/// Where memory runs out, the run stops before the event that wanted it, or before the first.
+pub fn run(core: &mut RelayCore, alloc: Global, events: &Events) -> Result<Lines, RunStop>
+    ensures ok { IfOk result (λ lines. Runs core.old core.new events.now lines) }
+    ensures stop { IfErr result (λ stop. StopsEarly core.old core.new events.now stop.done) }
+{
+    let Ok(mut lines) = Vec::with_capacity(alloc, events.len()) else {
+        return Err(RunStop {
+            done: Lines::new(alloc),
+        });
+    };
+    'events: for event in events.as_slice() {
+        match line_after(core, alloc, event) {
+            Ok(line) => lines.push(line).unwrap(),
+            Err(_) => return Err(RunStop {
+                done: Lines::from_vec(lines),
+            }),
+        }
+    }
+    Ok(Lines::from_vec(lines))
+}

@@ -1,0 +1,129 @@
+//! The parts of the services.
+ghost use Rattle.std.specs.Prelude.{◌≡◌, ◌∷◌, ◌++◌, OnOk};
+ghost use Rattle.cosem_axdr.specs.Spelling.{string_text};
+ghost use Rattle.xdlms_apdu.specs.Heads.{head};
+ghost use Rattle.xdlms_apdu.specs.Text.{flag_text, number_text, attribute_text, method_text, selection_text, target_text, parameter_text, block_text, result_text};
+
+use crate::block::Block;
+use crate::invoke_id::InvokeId;
+use crate::length::put_length;
+use crate::tag::{ABSENT, PRESENT, choice};
+use cosem_axdr::{Data, Octets};
+use cosem_names::{AttrRef, AttributeSelection, GetResult, MethodRef};
+use std::alloc::{AllocError, Global};
+
+/// How an APDU begins: its tag, its form and the invoke-id-and-priority.
+pub(crate) fn put_head(tag: u8, form: u8, id: InvokeId, out: &mut Octets) -> Result<(), AllocError>
+    ensures { OnOk result (out.new ≡ out.old ++ head tag form id) }
+{
+    out.extend_from_slice(&[tag, form, id.0])
+}
+
+/// Yes or no.
+pub(crate) fn put_flag(flag: bool, out: &mut Octets) -> Result<(), AllocError>
+    ensures { OnOk result (out.new ≡ out.old ++ flag_text flag) }
+{
+    out.push(u8::from(flag))
+}
+
+/// The number of a block.
+pub(crate) fn put_number(number: u32, out: &mut Octets) -> Result<(), AllocError>
+    ensures { OnOk result (out.new ≡ out.old ++ number_text number) }
+{
+    out.extend_from_slice(&number.to_be_bytes())
+}
+
+/// Bytes behind their length.
+pub(crate) fn put_raw(raw: &Octets, out: &mut Octets) -> Result<(), AllocError>
+    ensures { OnOk result (out.new ≡ out.old ++ string_text raw.now) }
+{
+    put_length(raw.len(), out)?;
+    out.extend_from_slice(raw.as_slice())
+}
+
+/// Cosem-Attribute-Descriptor.
+pub(crate) fn put_attribute(attribute: &AttrRef, out: &mut Octets) -> Result<(), AllocError>
+    ensures { OnOk result (out.new ≡ out.old ++ attribute_text attribute.now) }
+{
+    out.extend_from_slice(&attribute.class.0.to_be_bytes())?;
+    out.extend_from_slice(&attribute.name.0)?;
+    out.push(attribute.number)
+}
+
+/// Cosem-Method-Descriptor.
+pub(crate) fn put_method(method: &MethodRef, out: &mut Octets) -> Result<(), AllocError>
+    ensures { OnOk result (out.new ≡ out.old ++ method_text method.now) }
+{
+    out.extend_from_slice(&method.class.0.to_be_bytes())?;
+    out.extend_from_slice(&method.name.0)?;
+    out.push(method.number)
+}
+
+/// Selective-Access-Descriptor, if there is to be one: selector 0, and null-data as its parameters.
+pub(crate) fn put_selection(selected: bool, out: &mut Octets) -> Result<(), AllocError>
+    ensures { OnOk result (out.new ≡ out.old ++ selection_text selected) }
+{
+    if selected {
+        out.extend_from_slice(&[PRESENT, NO_SELECTOR, NULL_DATA])
+    } else {
+        out.push(ABSENT)
+    }
+}
+
+const NO_SELECTOR: u8 = 0;
+
+const NULL_DATA: u8 = 0;
+
+/// Cosem-Attribute-Descriptor-With-Selection.
+pub(crate) fn put_target(target: &AttributeSelection, out: &mut Octets) -> Result<(), AllocError>
+    ensures { OnOk result (out.new ≡ out.old ++ target_text target.now) }
+{
+    put_attribute(&target.attr, out)?;
+    put_selection(target.selected, out)
+}
+
+/// The parameter of a method, if it has one.
+pub(crate) fn put_parameter(
+    alloc: Global,
+    parameter: &Option<Data>,
+    out: &mut Octets,
+) -> Result<(), AllocError>
+    ensures { OnOk result (out.new ≡ out.old ++ parameter_text parameter.now) }
+{
+    match parameter {
+        Some(value) => {
+            out.push(PRESENT)?;
+            cosem_axdr::write(alloc, value, out)
+        }
+        None => out.push(ABSENT),
+    }
+}
+
+/// DataBlock-SA.
+pub(crate) fn put_block(block: &Block, out: &mut Octets) -> Result<(), AllocError>
+    ensures { OnOk result (out.new ≡ out.old ++ block_text block.now) }
+{
+    put_flag(block.last, out)?;
+    put_number(block.number, out)?;
+    put_raw(&block.raw, out)
+}
+
+/// Get-Data-Result.
+pub(crate) fn put_result(
+    alloc: Global,
+    outcome: &GetResult,
+    out: &mut Octets,
+) -> Result<(), AllocError>
+    ensures { OnOk result (out.new ≡ out.old ++ result_text outcome.now) }
+{
+    match outcome {
+        GetResult::Value(value) => {
+            out.push(choice::DATA)?;
+            cosem_axdr::write(alloc, value, out)
+        }
+        GetResult::Code(code) => {
+            out.push(choice::RESULT)?;
+            out.push(code.code())
+        }
+    }
+}

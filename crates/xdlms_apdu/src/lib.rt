@@ -1,0 +1,29 @@
+//! The xDLMS service APDUs of a meter and its client: GET, SET and ACTION, their responses, and exceptions (IEC 62056-5-3, Green Book of the DLMS UA).
+#![tactic(auto)]
+
+mod block;
+mod fault;
+mod field_reading;
+mod field_writing;
+mod invoke_id;
+mod length;
+mod list_reading;
+mod list_writing;
+mod reader;
+mod request;
+mod request_reading;
+mod request_writing;
+mod response;
+mod response_reading;
+mod response_writing;
+mod tag;
+
+pub use block::Block;
+pub use fault::ApduFault;
+pub use invoke_id::InvokeId;
+pub use request::Request;
+pub use request_reading::read_request;
+pub use request_writing::write_request;
+pub use response::{Exception, Response};
+pub use response_reading::read_response;
+pub use response_writing::write_response;

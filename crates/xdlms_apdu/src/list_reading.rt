@@ -1,0 +1,64 @@
+//! Lists of the parts of the services.
+ghost use Rattle.std.specs.Prelude.{◌≡◌};
+ghost use Rattle.xdlms_apdu.specs.Reading.{Reads, target_at, result_at, items_at, list_at};
+
+use crate::fault::ApduFault;
+use crate::field_reading::{read_result, read_target};
+use crate::reader::Reader;
+use cosem_names::{AttributeSelection, GetResult};
+use listed::Listed;
+use std::alloc::Global;
+
+/// A count, and so many attributes.
+#[tactic(auto, unfolding(crate::specs::Reading::list_at))]
+pub(crate) fn read_targets(
+    alloc: Global,
+    reader: &mut Reader,
+) -> Result<Listed<AttributeSelection>, ApduFault>
+    ensures { Reads (λ targets. targets) result reader.new (list_at target_at reader.old) }
+{
+    let count = reader.length()?;
+    Ok(Listed::from_vec(read_target_items(alloc, count, reader)?))
+}
+
+// So many attributes.
+fn read_target_items(
+    alloc: Global,
+    count: usize,
+    reader: &mut Reader,
+) -> Result<Vec<AttributeSelection>, ApduFault>
+    ensures { Reads (λ items. items.items) result reader.new (items_at target_at count reader.old) }
+{
+    let mut items = Vec::new(alloc);
+    'items: for _ in 0..count {
+        items.push(read_target(alloc, reader)?)?;
+    }
+    Ok(items)
+}
+
+/// A count, and so many results.
+#[tactic(auto, unfolding(crate::specs::Reading::list_at))]
+pub(crate) fn read_results(
+    alloc: Global,
+    reader: &mut Reader,
+) -> Result<Listed<GetResult>, ApduFault>
+    ensures { Reads (λ results. results) result reader.new (list_at result_at reader.old) }
+{
+    let count = reader.length()?;
+    Ok(Listed::from_vec(read_result_items(alloc, count, reader)?))
+}
+
+// So many results.
+fn read_result_items(
+    alloc: Global,
+    count: usize,
+    reader: &mut Reader,
+) -> Result<Vec<GetResult>, ApduFault>
+    ensures { Reads (λ items. items.items) result reader.new (items_at result_at count reader.old) }
+{
+    let mut items = Vec::new(alloc);
+    'items: for _ in 0..count {
+        items.push(read_result(alloc, reader)?)?;
+    }
+    Ok(items)
+}

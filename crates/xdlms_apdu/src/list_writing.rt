@@ -1,0 +1,38 @@
+//! Lists of the parts of the services.
+ghost use Rattle.std.specs.Prelude.{◌≡◌, ◌++◌, OnOk};
+ghost use Rattle.xdlms_apdu.specs.Text.{target_text, result_text, list_text};
+
+use crate::field_writing::{put_result, put_target};
+use crate::length::put_length;
+use cosem_axdr::Octets;
+use cosem_names::{AttributeSelection, GetResult};
+use std::alloc::{AllocError, Global};
+
+/// How many attributes there are, and the attributes.
+pub(crate) fn put_targets(
+    targets: &[AttributeSelection],
+    out: &mut Octets,
+) -> Result<(), AllocError>
+    ensures { OnOk result (out.new ≡ out.old ++ list_text target_text targets.now) }
+{
+    put_length(targets.len(), out)?;
+    for target in targets {
+        put_target(target, out)?;
+    }
+    Ok(())
+}
+
+/// How many results there are, and the results.
+pub(crate) fn put_results(
+    alloc: Global,
+    results: &[GetResult],
+    out: &mut Octets,
+) -> Result<(), AllocError>
+    ensures { OnOk result (out.new ≡ out.old ++ list_text result_text results.now) }
+{
+    put_length(results.len(), out)?;
+    for outcome in results {
+        put_result(alloc, outcome, out)?;
+    }
+    Ok(())
+}

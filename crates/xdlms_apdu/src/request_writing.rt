@@ -1,0 +1,91 @@
+ghost use Rattle.std.specs.Prelude.{◌≡◌, ◌++◌, IfOk, OnOk};
+ghost use Rattle.xdlms_apdu.specs.Heads.{request_head};
+ghost use Rattle.xdlms_apdu.specs.Text.{request_body, request_text};
+
+use crate::field_writing::{
+    put_block, put_head, put_method, put_number, put_parameter, put_target,
+};
+use crate::list_writing::put_targets;
+use crate::request::Request;
+use crate::tag::{
+    ACTION_REQUEST, GET_REQUEST, SET_REQUEST, action_request, get_request, set_request,
+};
+use cosem_axdr::Octets;
+use std::alloc::{AllocError, Global};
+
+/// Writes a request, each length in its shortest form, an access selection as selector 0 with null-data.
+///
+/// Of a length or count of 2^32 or more the lowest four bytes are written, and a Data past the limits of a reader is written too: such a text is not read back.
+#[tactic(auto, unfolding(crate::specs::Text::request_text))]
+pub fn write_request(alloc: Global, request: &Request) -> Result<Octets, AllocError>
+    ensures { IfOk result (λ text. text ≡ request_text request.now) }
+{
+    let mut out = Octets::new(alloc);
+    put_request_head(request, &mut out)?;
+    put_request_body(alloc, request, &mut out)?;
+    Ok(out)
+}
+
+// The first bytes of a request.
+fn put_request_head(request: &Request, out: &mut Octets) -> Result<(), AllocError>
+    ensures { OnOk result (out.new ≡ out.old ++ request_head request.now) }
+{
+    match request {
+        Request::Get { id, .. } => put_head(GET_REQUEST, get_request::NORMAL, *id, out),
+        Request::GetNext { id, .. } => put_head(GET_REQUEST, get_request::NEXT, *id, out),
+        Request::GetList { id, .. } => put_head(GET_REQUEST, get_request::WITH_LIST, *id, out),
+        Request::Set { id, .. } => put_head(SET_REQUEST, set_request::NORMAL, *id, out),
+        Request::SetFirst { id, .. } => put_head(
+            SET_REQUEST,
+            set_request::WITH_FIRST_DATABLOCK,
+            *id,
+            out,
+        ),
+        Request::SetNext { id, .. } => put_head(SET_REQUEST, set_request::WITH_DATABLOCK, *id, out),
+        Request::Action { id, .. } => put_head(ACTION_REQUEST, action_request::NORMAL, *id, out),
+        Request::ActionFirst { id, .. } => put_head(
+            ACTION_REQUEST,
+            action_request::WITH_FIRST_PBLOCK,
+            *id,
+            out,
+        ),
+        Request::ActionNext { id, .. } => put_head(
+            ACTION_REQUEST,
+            action_request::WITH_PBLOCK,
+            *id,
+            out,
+        ),
+    }
+}
+
+// What stands behind the first bytes of a request.
+fn put_request_body(alloc: Global, request: &Request, out: &mut Octets) -> Result<(), AllocError>
+    ensures { OnOk result (out.new ≡ out.old ++ request_body request.now) }
+{
+    match request {
+        Request::Get { target, .. } => put_target(target, out),
+        Request::GetNext { number, .. } => put_number(*number, out),
+        Request::GetList { targets, .. } => put_targets(targets.as_slice(), out),
+        Request::Set { target, value, .. } => {
+            put_target(target, out)?;
+            cosem_axdr::write(alloc, value, out)
+        }
+        Request::SetFirst { target, block, .. } => {
+            put_target(target, out)?;
+            put_block(block, out)
+        }
+        Request::Action {
+            method,
+            parameter,
+            ..
+        } => {
+            put_method(method, out)?;
+            put_parameter(alloc, parameter, out)
+        }
+        Request::ActionFirst { method, block, .. } => {
+            put_method(method, out)?;
+            put_block(block, out)
+        }
+        Request::SetNext { block, .. } | Request::ActionNext { block, .. } => put_block(block, out),
+    }
+}

@@ -1,0 +1,162 @@
+ghost use Rattle.std.specs.Prelude.{◌≡◌};
+ghost use Rattle.byte_reading.specs.Outcome.{Gives};
+ghost use Rattle.xdlms_apdu.specs.Reading.{Reads, get_block_at, get_response_at, set_response_at, action_response_at, nothing_at, exception_at, response_at, response_of};
+
+use crate::block::Block;
+use crate::fault::ApduFault;
+use crate::field_reading::{read_code, read_invoke_id, read_result};
+use crate::list_reading::read_results;
+use crate::reader::Reader;
+use crate::response::{Exception, Response};
+use crate::tag;
+use crate::tag::{choice, service_error, state_error};
+use std::alloc::Global;
+
+/// Reads a response: a tag of GET, SET or ACTION, the form, and what it holds, which has to end where the bytes end; or an exception.
+///
+/// No byte, and a first byte that is none of the four tags, is UnknownTag; a second that is no form of the service, UnknownForm; all else, Unreadable.
+#[tactic(auto, unfolding(crate::specs::Reading::response_of))]
+pub fn read_response(alloc: Global, bytes: &[u8]) -> Result<Response, ApduFault>
+    ensures exact { Gives ApduFault.Memory (λ response. response) result (response_of bytes.now) }
+{
+    let [tag, body @ ..] = bytes else {
+        return Err(ApduFault::UnknownTag);
+    };
+    let mut reader = Reader::new(body);
+    let response = read_tagged(alloc, *tag, &mut reader)?;
+    if !reader.is_empty() {
+        return Err(ApduFault::Unreadable);
+    }
+    Ok(response)
+}
+
+// What stands behind the tag of a response.
+#[tactic(auto, unfolding(crate::specs::Reading::response_at))]
+fn read_tagged(alloc: Global, tag: u8, reader: &mut Reader) -> Result<Response, ApduFault>
+    ensures { Reads (λ response. response) result reader.new (response_at tag reader.old) }
+{
+    match tag {
+        tag::GET_RESPONSE => read_get(alloc, reader),
+        tag::SET_RESPONSE => read_set(reader),
+        tag::ACTION_RESPONSE => read_action(reader),
+        tag::EXCEPTION_RESPONSE => read_exception(reader),
+        _ => Err(ApduFault::UnknownTag),
+    }
+}
+
+// Get-Response, behind its tag.
+#[tactic(auto, unfolding(crate::specs::Reading::get_response_at))]
+fn read_get(alloc: Global, reader: &mut Reader) -> Result<Response, ApduFault>
+    ensures { Reads (λ response. response) result reader.new (get_response_at reader.old) }
+{
+    Ok(match reader.byte()? {
+        tag::get_response::NORMAL => Response::Get {
+            id: read_invoke_id(reader)?,
+            result: read_result(alloc, reader)?,
+        },
+        tag::get_response::WITH_DATABLOCK => read_get_block(alloc, reader)?,
+        tag::get_response::WITH_LIST => Response::GetList {
+            id: read_invoke_id(reader)?,
+            results: read_results(alloc, reader)?,
+        },
+        _ => return Err(ApduFault::UnknownForm),
+    })
+}
+
+// Get-Response-With-Datablock, behind its form: DataBlock-G, with raw data or a result.
+#[tactic(auto, unfolding(crate::specs::Reading::get_block_at))]
+fn read_get_block(alloc: Global, reader: &mut Reader) -> Result<Response, ApduFault>
+    ensures { Reads (λ response. response) result reader.new (get_block_at reader.old) }
+{
+    let id = read_invoke_id(reader)?;
+    let last = reader.flag()?;
+    let number = reader.block_number()?;
+    match reader.byte()? {
+        choice::DATA => {
+            let raw = reader.raw(alloc)?;
+            Ok(Response::GetBlock {
+                id,
+                block: Block { last, number, raw },
+            })
+        }
+        choice::RESULT => {
+            let code = read_code(reader)?;
+            Ok(Response::GetBlockRefused {
+                id,
+                last,
+                number,
+                code,
+            })
+        }
+        _ => Err(ApduFault::Unreadable),
+    }
+}
+
+// Set-Response, behind its tag.
+#[tactic(auto, unfolding(crate::specs::Reading::set_response_at))]
+fn read_set(reader: &mut Reader) -> Result<Response, ApduFault>
+    ensures { Reads (λ response. response) result reader.new (set_response_at reader.old) }
+{
+    Ok(match reader.byte()? {
+        tag::set_response::NORMAL => Response::Set {
+            id: read_invoke_id(reader)?,
+            code: read_code(reader)?,
+        },
+        tag::set_response::DATABLOCK => Response::SetBlock {
+            id: read_invoke_id(reader)?,
+            number: reader.block_number()?,
+        },
+        tag::set_response::LAST_DATABLOCK => Response::SetLastBlock {
+            id: read_invoke_id(reader)?,
+            code: read_code(reader)?,
+            number: reader.block_number()?,
+        },
+        _ => return Err(ApduFault::UnknownForm),
+    })
+}
+
+// Action-Response, behind its tag.
+#[tactic(auto, unfolding(crate::specs::Reading::action_response_at))]
+fn read_action(reader: &mut Reader) -> Result<Response, ApduFault>
+    ensures { Reads (λ response. response) result reader.new (action_response_at reader.old) }
+{
+    match reader.byte()? {
+        tag::action_response::NORMAL => {
+            let id = read_invoke_id(reader)?;
+            let code = read_code(reader)?;
+            read_nothing(reader)?;
+            Ok(Response::Action { id, code })
+        }
+        tag::action_response::NEXT_PBLOCK => Ok(Response::ActionBlock {
+            id: read_invoke_id(reader)?,
+            number: reader.block_number()?,
+        }),
+        _ => Err(ApduFault::UnknownForm),
+    }
+}
+
+// The byte that says that there are no return parameters.
+fn read_nothing(reader: &mut Reader) -> Result<(), ApduFault>
+    ensures { Reads (λ nothing. nothing) result reader.new (nothing_at reader.old) }
+{
+    if reader.byte()? != tag::ABSENT {
+        return Err(ApduFault::Unreadable);
+    }
+    Ok(())
+}
+
+// The state-error and the service-error of an ExceptionResponse.
+#[tactic(auto, unfolding(crate::specs::Reading::exception_at))]
+fn read_exception(reader: &mut Reader) -> Result<Response, ApduFault>
+    ensures { Reads (λ response. response) result reader.new (exception_at reader.old) }
+{
+    let state = reader.byte()?;
+    let service = reader.byte()?;
+    Ok(Response::Exception(match (state, service) {
+        (state_error::SERVICE_NOT_ALLOWED, service_error::OPERATION_NOT_POSSIBLE) =>
+            Exception::NotAllowed,
+        (state_error::SERVICE_UNKNOWN, service_error::SERVICE_NOT_SUPPORTED) => Exception::Unknown,
+        (state_error::SERVICE_NOT_ALLOWED, service_error::OTHER_REASON) => Exception::Unreadable,
+        _ => return Err(ApduFault::Unreadable),
+    }))
+}

@@ -1,0 +1,128 @@
+ghost use Rattle.std.specs.Prelude.{◌≡◌, [], ◌∷◌, ◌++◌, IfOk, OnOk};
+ghost use Rattle.cosem_names.specs.ResultCode.{code_of};
+ghost use Rattle.xdlms_apdu.specs.Heads.{response_head};
+ghost use Rattle.xdlms_apdu.specs.Text.{exception_text, response_body, response_text};
+
+use crate::field_writing::{put_flag, put_head, put_number, put_raw, put_result};
+use crate::list_writing::put_results;
+use crate::response::{Exception, Response};
+use crate::tag::{
+    ABSENT, ACTION_RESPONSE, EXCEPTION_RESPONSE, GET_RESPONSE, SET_RESPONSE, action_response,
+    choice, get_response, service_error, set_response, state_error,
+};
+use cosem_axdr::Octets;
+use cosem_names::ResultCode;
+use std::alloc::{AllocError, Global};
+
+/// Writes a response, each length in its shortest form.
+///
+/// Of a length or count of 2^32 or more the lowest four bytes are written, and a Data past the limits of a reader is written too: such a text is not read back.
+#[tactic(auto, unfolding(crate::specs::Text::response_text))]
+pub fn write_response(alloc: Global, response: &Response) -> Result<Octets, AllocError>
+    ensures { IfOk result (λ text. text ≡ response_text response.now) }
+{
+    let mut out = Octets::new(alloc);
+    put_response_head(response, &mut out)?;
+    put_response_body(alloc, response, &mut out)?;
+    Ok(out)
+}
+
+// The first bytes of a response.
+fn put_response_head(response: &Response, out: &mut Octets) -> Result<(), AllocError>
+    ensures { OnOk result (out.new ≡ out.old ++ response_head response.now) }
+{
+    match response {
+        Response::Get { id, .. } => put_head(GET_RESPONSE, get_response::NORMAL, *id, out),
+        Response::GetBlock { id, .. } | Response::GetBlockRefused { id, .. } => {
+            put_head(GET_RESPONSE, get_response::WITH_DATABLOCK, *id, out)
+        }
+        Response::GetList { id, .. } => put_head(GET_RESPONSE, get_response::WITH_LIST, *id, out),
+        Response::Set { id, .. } => put_head(SET_RESPONSE, set_response::NORMAL, *id, out),
+        Response::SetBlock { id, .. } => put_head(SET_RESPONSE, set_response::DATABLOCK, *id, out),
+        Response::SetLastBlock { id, .. } => put_head(
+            SET_RESPONSE,
+            set_response::LAST_DATABLOCK,
+            *id,
+            out,
+        ),
+        Response::Action { id, .. } => put_head(ACTION_RESPONSE, action_response::NORMAL, *id, out),
+        Response::ActionBlock { id, .. } => put_head(
+            ACTION_RESPONSE,
+            action_response::NEXT_PBLOCK,
+            *id,
+            out,
+        ),
+        Response::Exception(_) => out.push(EXCEPTION_RESPONSE),
+    }
+}
+
+// What stands behind the first bytes of a response.
+fn put_response_body(alloc: Global, response: &Response, out: &mut Octets) -> Result<(), AllocError>
+    ensures { OnOk result (out.new ≡ out.old ++ response_body response.now) }
+{
+    match response {
+        Response::Get {
+            result: outcome,
+            ..
+        } => put_result(alloc, outcome, out),
+        Response::GetBlock { block, .. } => {
+            put_flag(block.last, out)?;
+            put_number(block.number, out)?;
+            out.push(choice::DATA)?;
+            put_raw(&block.raw, out)
+        }
+        Response::GetBlockRefused {
+            last,
+            number,
+            code,
+            ..
+        } => {
+            put_flag(*last, out)?;
+            put_number(*number, out)?;
+            out.push(choice::RESULT)?;
+            put_code(*code, out)
+        }
+        Response::GetList { results, .. } => put_results(alloc, results.as_slice(), out),
+        Response::Set { code, .. } => put_code(*code, out),
+        Response::SetBlock { number, .. } | Response::ActionBlock { number, .. } => put_number(
+            *number, out,
+        ),
+        Response::SetLastBlock { code, number, .. } => {
+            put_code(*code, out)?;
+            put_number(*number, out)
+        }
+        Response::Action { code, .. } => {
+            put_code(*code, out)?;
+            out.push(ABSENT)
+        }
+        Response::Exception(exception) => put_exception(*exception, out),
+    }
+}
+
+// Data-Access-Result or Action-Result.
+fn put_code(code: ResultCode, out: &mut Octets) -> Result<(), AllocError>
+    ensures { OnOk result (out.new ≡ out.old ++ code_of code ∷ []) }
+{
+    out.push(code.code())
+}
+
+// The state-error and the service-error of an ExceptionResponse.
+fn put_exception(exception: Exception, out: &mut Octets) -> Result<(), AllocError>
+    ensures { OnOk result (out.new ≡ out.old ++ exception_text exception) }
+{
+    let (state, service) = match exception {
+        Exception::NotAllowed => (
+            state_error::SERVICE_NOT_ALLOWED,
+            service_error::OPERATION_NOT_POSSIBLE,
+        ),
+        Exception::Unknown => (
+            state_error::SERVICE_UNKNOWN,
+            service_error::SERVICE_NOT_SUPPORTED,
+        ),
+        Exception::Unreadable => (
+            state_error::SERVICE_NOT_ALLOWED,
+            service_error::OTHER_REASON,
+        ),
+    };
+    out.extend_from_slice(&[state, service])
+}

@@ -1,0 +1,89 @@
+#!/usr/bin/env python3
+"""Runs the programs' command lines over the executables that the gate left, and compares output, fault and status."""
+
+import pathlib
+import subprocess
+import sys
+
+TOP = pathlib.Path(__file__).resolve().parent.parent
+FAULT_INPUT = b"fault: input\n"
+
+# A case: its name, the program, its words, its standard input, and what it must give: standard output, standard
+# error (None: any text, but some), status.
+CASES = [
+    ("a request", "meter_server_cli", ["apdu"], b"C001C10046000060030AFF0300\n", b"C401C1001601\n", b"", 0),
+    ("lower case", "meter_server_cli", ["apdu"], b"c001c10046000060030aff0300\n", b"C401C1001601\n", b"", 0),
+    ("no line", "meter_server_cli", ["apdu"], b"", b"", b"", 0),
+    ("an empty line is skipped", "meter_server_cli", ["apdu"],
+     b"\nC001C10046000060030AFF0300\n\n", b"C401C1001601\n", b"", 0),
+    ("a last line without its end", "meter_server_cli", ["apdu"], b"C001C10046000060030AFF0300", b"C401C1001601\n", b"", 0),
+    ("one core answers all lines", "meter_server_cli", ["apdu"],
+     b"C101C10046000060030AFF04001602\nC301C10046000060030AFF0100\nC001C10046000060030AFF0300\n",
+     b"C501C100\nC701C10000\nC401C1001600\n", b"", 0),
+    ("mode 0 is refused while the supply is cut", "meter_server_cli", ["apdu"],
+     b"C101C10046000060030AFF04001601\nC301C10046000060030AFF0100\nC101C10046000060030AFF04001600\nC001C10046000060030AFF0400\n",
+     b"C501C100\nC701C10000\nC501C102\nC401C1001601\n", b"", 0),
+    ("the device name", "meter_server_cli", ["apdu"], b"C001C1000100002A0000FF0200\n", b"C401C100090652454C415931\n", b"", 0),
+    ("an unknown name", "meter_server_cli", ["apdu"], b"C001C10046000060030BFF0200\n", b"C401C10104\n", b"", 0),
+    ("a class that is not the object's", "meter_server_cli", ["apdu"], b"C001C10047000060030AFF0200\n", b"C401C10109\n", b"", 0),
+    ("an attribute that is not there", "meter_server_cli", ["apdu"], b"C001C10046000060030AFF0500\n", b"C401C10103\n", b"", 0),
+    ("selective access", "meter_server_cli", ["apdu"], b"C001C10046000060030AFF03010100\n", b"C401C1010D\n", b"", 0),
+    ("a mode that is no enum", "meter_server_cli", ["apdu"], b"C101C10046000060030AFF04001102\n", b"C501C10C\n", b"", 0),
+    ("a mode above 6", "meter_server_cli", ["apdu"], b"C101C10046000060030AFF04001607\n", b"C501C1FA\n", b"", 0),
+    ("a tag alone", "meter_server_cli", ["apdu"], b"C0\nC1\nC3\n", b"D80103\nD80103\nD80103\n", b"", 0),
+    ("an unknown tag", "meter_server_cli", ["apdu"], b"CA\n60\n62\n", b"D80202\nD80202\nD80202\n", b"", 0),
+    ("forms that need a session", "meter_server_cli", ["apdu"],
+     b"C002C100000001\nC102\nC306C1\n", b"D80202\nD80202\nD80202\n", b"", 0),
+    ("bytes left over", "meter_server_cli", ["apdu"], b"C001C10046000060030AFF030000\n", b"D80103\n", b"", 0),
+    ("an odd digit", "meter_server_cli", ["apdu"], b"C001C10046000060030AFF0300\nC00\n", b"", FAULT_INPUT, 2),
+    ("a letter that is no digit", "meter_server_cli", ["apdu"], b"C001C10046000060030AFF0300\nC00G\n", b"", FAULT_INPUT, 2),
+    ("a carriage return", "meter_server_cli", ["apdu"], b"C001C10046000060030AFF0300\r\n", b"", FAULT_INPUT, 2),
+    ("a blank", "meter_server_cli", ["apdu"], b"C0 01\n", b"", FAULT_INPUT, 2),
+    ("1,048,576 bytes", "meter_server_cli", ["apdu"], b"\n" * 1048576, b"", b"", 0),
+    ("1,048,577 bytes", "meter_server_cli", ["apdu"], b"\n" * 1048577, b"", FAULT_INPUT, 2),
+    ("too many bytes are found before a wrong line", "meter_server_cli", ["apdu"], b"G\n" + b"\n" * 1048576, b"", FAULT_INPUT, 2),
+    ("no subcommand", "meter_server_cli", [], b"", b"", None, 2),
+    ("an unknown subcommand", "meter_server_cli", ["apud"], b"", b"", None, 2),
+    ("an argument too many", "meter_server_cli", ["apdu", "now"], b"", b"", None, 2),
+    ("help", "meter_server_cli", ["--help"], b"", None, b"", 0),
+    ("help of apdu", "meter_server_cli", ["apdu", "--help"], b"", None, b"", 0),
+]
+
+
+def differs(want, got):
+    return got == b"" if want is None else want != got
+
+
+def main():
+    passed = failed = 0
+    for crate in sorted({case[1] for case in CASES}):
+        if not (TOP / "crates" / crate / "out" / crate).exists():
+            print(f"there is no proved executable of {crate}: the gate leaves one")
+            print(f"0 passed, {len(CASES)} failed")
+            return 1
+    for name, crate, words, stdin, stdout, stderr, status in CASES:
+        program = TOP / "crates" / crate / "out" / crate
+        try:
+            run = subprocess.run([program, *words], input=stdin, capture_output=True, timeout=60)
+        except (OSError, subprocess.TimeoutExpired) as error:
+            print(f"FAILED {crate}: {name}: {error}")
+            failed += 1
+            continue
+        wrong = [
+            f"{what}: wanted {want!r}, got {got[:200]!r}"
+            for what, want, got in [("output", stdout, run.stdout), ("error", stderr, run.stderr)]
+            if differs(want, got)
+        ]
+        if run.returncode != status:
+            wrong.append(f"status: wanted {status}, got {run.returncode}")
+        if wrong:
+            print(f"FAILED {crate}: {name}: " + "; ".join(wrong))
+            failed += 1
+        else:
+            passed += 1
+    print(f"{passed} passed, {failed} failed")
+    return 1 if failed else 0
+
+
+if __name__ == "__main__":
+    sys.exit(main())
