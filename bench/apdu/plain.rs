@@ -152,6 +152,8 @@ impl Core {
     }
 }
 
+const DIGITS: &[u8; 16] = b"0123456789ABCDEF";
+
 fn digit(c: u8) -> Option<u8> {
     (c as char).to_digit(16).map(|d| d as u8)
 }
@@ -177,7 +179,8 @@ fn main() {
     let mut out = String::new();
     for request in requests {
         for byte in core.answer(&request) {
-            out.push_str(&format!("{byte:02X}"));
+            out.push(DIGITS[(byte >> 4) as usize] as char);
+            out.push(DIGITS[(byte & 15) as usize] as char);
         }
         out.push('\n');
     }

@@ -1,3 +1,5 @@
+pub mod Equality
+pub mod EqualityLaws
 pub mod Falls
 pub mod Forms
 pub mod Limits
@@ -6,3 +8,4 @@ pub mod Spelling
 pub mod Stored
 pub mod Tree
 pub mod View
+pub mod ViewLaws

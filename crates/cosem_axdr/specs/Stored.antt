@@ -107,7 +107,7 @@ by_tag tag fields items =
     null
 
 -- a cell read as a tree and as items at once
-abbrev back : Gv → Tree × Trees
+abbrev pub back : Gv → Tree × Trees
 back gnil = (null, no_trees)
 back (gnum n) = (null, no_trees)
 back (gcons a b) = (by_tag (num a) b (back b).1, tree (back a).0 (back b).1)

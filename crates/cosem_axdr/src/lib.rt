@@ -2,6 +2,7 @@
 #![tactic(auto)]
 
 mod access;
+mod comparing;
 mod copying;
 mod fault;
 mod fitting;
@@ -23,3 +24,6 @@ pub use octets::Octets;
 pub use reading::read;
 pub use value::{Data, Items};
 pub use writing::write;
+
+#[cfg(test)]
+mod tests;

@@ -1,5 +1,8 @@
-//! A `Vec` that contracts see as a list.
+//! A `Vec` that contracts see as a list: equality of values that hold one is equality of what they hold.
 #![tactic(auto)]
+
+#[cfg(test)]
+mod tests;
 
 ghost use Rattle.std.specs.Prelude.{◌≡◌, ◌↔◌, [], ◌∷◌, ◌++◌, length, IsTrue, OnOk, OnErr, IfErr};
 
@@ -25,7 +28,9 @@ impl<T> Listed<T> {
     pub fn new(alloc: Global) -> Listed<T>
         ensures { result ≡ [] }
     {
-        Listed { items: Vec::new(alloc) }
+        Listed {
+            items: Vec::new(alloc),
+        }
     }
 
     /// The items of a `Vec`. It takes no memory.
@@ -57,7 +62,14 @@ impl<T> Listed<T> {
         self.items.len()
     }
 
-    /// Puts an item at the end.
+    /// Whether there are none.
+    pub fn is_empty(&self) -> bool
+        ensures { IsTrue result ↔ (self.now ≡ []) }
+    {
+        self.items.is_empty()
+    }
+
+    /// Puts an item at the end, or gives it back where memory runs out.
     pub fn push(&mut self, item: T) -> Result<(), AllocFailed<T>>
         ensures ok { OnOk result (self.new ≡ self.old ++ item ∷ []) }
         ensures err { OnErr result (self.new ≡ self.old) }

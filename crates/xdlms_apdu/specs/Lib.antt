@@ -1,3 +1,5 @@
+pub mod Fit
 pub mod Heads
 pub mod Reading
+pub mod Spelling
 pub mod Text

@@ -1,6 +1,8 @@
-ghost use Rattle.std.specs.Prelude.{◌≡◌};
+ghost use Rattle.std.specs.Prelude.{◌≡◌, IfOk, MatchResult};
 ghost use Rattle.byte_reading.specs.Outcome.{Gives};
 ghost use Rattle.xdlms_apdu.specs.Reading.{Reads, get_request_at, set_request_at, action_request_at, request_at, request_of};
+ghost use Rattle.xdlms_apdu.specs.Spelling.{SpellsRequest};
+ghost use Rattle.xdlms_apdu.specs.declared.request.Request.{Request};
 
 use crate::fault::ApduFault;
 use crate::field_reading::{read_block, read_invoke_id, read_method, read_parameter, read_target};
@@ -13,9 +15,23 @@ use std::alloc::Global;
 /// Reads a request: a tag of GET, SET or ACTION, the form, and what it holds, which has to end where the bytes end.
 ///
 /// No byte, and a first byte that is none of the three tags, is UnknownTag; a second that is no form of the service, UnknownForm; all else, Unreadable.
-#[tactic(auto, unfolding(crate::specs::Reading::request_of))]
 pub fn read_request(alloc: Global, bytes: &[u8]) -> Result<Request, ApduFault>
-    ensures exact { Gives ApduFault.Memory (λ request. request) result (request_of bytes.now) }
+    // What is read is spelled by the bytes, all of them.
+    ensures found { IfOk result (SpellsRequest bytes.now) }
+
+    // What the bytes spell is read.
+    ensures only { (request : Request) → SpellsRequest bytes.now request → MatchResult result (λ read. read ≡ request) (λ fault. fault ≡ ApduFault.Memory) }
+
+    // Which fault is the answer, too.
+    ensures exact { Gives ApduFault.Memory (λ read. read) result (request_of bytes.now) }
+{
+    read_whole(alloc, bytes)
+}
+
+// As `read_request`, by the definition alone.
+#[tactic(auto, unfolding(crate::specs::Reading::request_of))]
+fn read_whole(alloc: Global, bytes: &[u8]) -> Result<Request, ApduFault>
+    ensures { Gives ApduFault.Memory (λ read. read) result (request_of bytes.now) }
 {
     let [tag, body @ ..] = bytes else {
         return Err(ApduFault::UnknownTag);

@@ -1,6 +1,8 @@
-ghost use Rattle.std.specs.Prelude.{◌≡◌};
+ghost use Rattle.std.specs.Prelude.{◌≡◌, IfOk, MatchResult};
 ghost use Rattle.byte_reading.specs.Outcome.{Gives};
 ghost use Rattle.xdlms_apdu.specs.Reading.{Reads, get_block_at, get_response_at, set_response_at, action_response_at, nothing_at, exception_at, response_at, response_of};
+ghost use Rattle.xdlms_apdu.specs.Spelling.{SpellsResponse};
+ghost use Rattle.xdlms_apdu.specs.declared.response.Response.{Response};
 
 use crate::block::Block;
 use crate::fault::ApduFault;
@@ -15,9 +17,23 @@ use std::alloc::Global;
 /// Reads a response: a tag of GET, SET or ACTION, the form, and what it holds, which has to end where the bytes end; or an exception.
 ///
 /// No byte, and a first byte that is none of the four tags, is UnknownTag; a second that is no form of the service, UnknownForm; all else, Unreadable.
-#[tactic(auto, unfolding(crate::specs::Reading::response_of))]
 pub fn read_response(alloc: Global, bytes: &[u8]) -> Result<Response, ApduFault>
-    ensures exact { Gives ApduFault.Memory (λ response. response) result (response_of bytes.now) }
+    // What is read is spelled by the bytes, all of them.
+    ensures found { IfOk result (SpellsResponse bytes.now) }
+
+    // What the bytes spell is read.
+    ensures only { (response : Response) → SpellsResponse bytes.now response → MatchResult result (λ read. read ≡ response) (λ fault. fault ≡ ApduFault.Memory) }
+
+    // Which fault is the answer, too.
+    ensures exact { Gives ApduFault.Memory (λ read. read) result (response_of bytes.now) }
+{
+    read_whole(alloc, bytes)
+}
+
+// As `read_response`, by the definition alone.
+#[tactic(auto, unfolding(crate::specs::Reading::response_of))]
+fn read_whole(alloc: Global, bytes: &[u8]) -> Result<Response, ApduFault>
+    ensures { Gives ApduFault.Memory (λ read. read) result (response_of bytes.now) }
 {
     let [tag, body @ ..] = bytes else {
         return Err(ApduFault::UnknownTag);

@@ -1,0 +1,22 @@
+#!/bin/sh
+# Times `classify` and `classify_plain` over blocks of 256 samples in cache beside plain loops in Rust, at the
+# processor that the kit compiles for. Usage: bench/lane_sampler/run.sh [rounds]; needs rt and rustc.
+set -eu
+here=$(cd "$(dirname "$0")" && pwd)
+rounds=${1:-20000}
+built=$(mktemp -d)
+trap 'rm -r "$built"' EXIT
+rustc -O -C target-cpu=x86-64-v2 -o "$built/plain" "$here/plain.rs"
+cd "$here/../../crates/lane_sampler_bench"
+rt run > "$built/gate" 2> "$built/log" || { cat "$built/log"; exit 1; }
+for _ in 1 2 3 4 5 6 7; do
+    "$built/plain" "$rounds"
+    out/lane_sampler_bench "$rounds"
+done > "$built/runs"
+# The least of seven runs of each; equal check sums show that all made the same masks.
+awk '{ if (!($1 in ns) || $3 + 0 < ns[$1]) ns[$1] = $3 + 0; sums[$2] = 1 }
+    END { for (sum in sums) different++
+        if (different != 1) { print "the check sums differ"; exit 1 }
+        printf "classify %.1f ns a block, classify_plain %.1f, Rust plain loop %.1f, by words %.1f\n", ns["lanes"], ns["plain"], ns["rust"], ns["rust_by_words"]
+        printf "time of classify over time of the plain Rust loop: %.2f\n", ns["lanes"] / ns["rust"]
+        printf "time of classify over time of the Rust loop by words: %.2f\n", ns["lanes"] / ns["rust_by_words"] }' "$built/runs"

@@ -1,0 +1,24 @@
+#!/bin/sh
+# Times calls through the turn lock beside the same calls through a Mutex, for 1, 2 and 4 threads, and
+# prints nanoseconds a call and ratios. It wants `rt` and `rustc` on the path, and proves the bench first.
+set -e
+here=$(cd "$(dirname "$0")" && pwd)
+top=$(cd "$here/../.." && pwd)
+work=$(mktemp -d)
+trap 'rm -rf "$work"' EXIT
+rustc -O -o "$work/mutex" "$here/mutex.rs"
+(cd "$top/crates/turn_lock_bench" && rt run > /dev/null)
+for round in 1 2 3; do
+    "$top/crates/turn_lock_bench/out/turn_lock_bench" time > "$work/lock.$round"
+    "$work/mutex" > "$work/mutex.$round"
+done
+cat "$work"/lock.* > "$work/lock"
+cat "$work"/mutex.? > "$work/mutex.all"
+awk '
+    NF == 5 { n = $2; key = $1; if (!(key in lock) || $3 / n < lock[key]) lock[key] = $3 / n; if (!(key in own) || $5 / n < own[key]) own[key] = $5 / n }
+    NF == 3 { key = $1; if (!(key in rust) || $3 / $2 < rust[key]) rust[key] = $3 / $2 }
+    END {
+        print "threads  turn_lock  Rattle Mutex  Rust Mutex   (ns a call, best of 3)   to Rattle Mutex  to Rust Mutex"
+        for (i = 1; i <= 4; i *= 2)
+            printf "%7d  %9.1f  %12.1f  %10.1f %43.2f  %13.2f\n", i, lock[i], own[i], rust[i], lock[i] / own[i], lock[i] / rust[i]
+    }' "$work/lock" "$work/mutex.all"

@@ -1,0 +1,70 @@
+-- Which seconds of the meter's time a time and a date match.
+use Rattle.std.specs.Prelude.{◌==◌, ℕ, zero, suc, ◌+◌, ◌-◌, ◌/◌, ◌%◌, Bool, true, false, ◌&&◌, ◌||◌, nat_lt, Option, Some, None, is_some, if◌then◌else◌}
+use Rattle.cosem_datetime.specs.declared.calendar.CivilDate.{CivilDate}
+use Rattle.cosem_datetime.specs.declared.date.DayOfMonth.{DayOfMonth}
+use Rattle.cosem_datetime.specs.declared.date.DayOfMonth.TheVariants.{Any, Number, SecondLast, Last}
+use Rattle.cosem_datetime.specs.declared.entry.EntryPattern.{EntryPattern}
+use Rattle.cosem_datetime.specs.Fields.{DateFields, TimeFields}
+use Rattle.cosem_datetime.specs.Calendar.{month_length, weekday, first_day, date_of_day}
+
+-- the test holds of some number below n
+unfoldable pub some_below : (ℕ → Bool) → ℕ → Bool
+some_below test zero = false
+some_below test (suc n) = some_below test n || test n
+
+-- a field that is specified is the number
+abbrev pub holds : Option ℕ → ℕ → Bool
+holds None n = true
+holds (Some field) n = field == n
+
+abbrev pub day_holds : DayOfMonth → CivilDate → Bool
+day_holds Any c = true
+day_holds (Number d) c = d == c.day
+day_holds SecondLast c = c.day + 1 == month_length c.year c.month
+day_holds Last c = c.day == month_length c.year c.month
+
+-- the year, the month and the day of the month are those of the date
+abbrev pub date_holds : DateFields → CivilDate → Bool
+date_holds p c = holds p.year c.year && (holds p.month c.month && day_holds p.day c)
+
+-- the date lies in its month's last seven days, and year and month hold
+abbrev pub last_week_holds : DateFields → CivilDate → Bool
+last_week_holds p c =
+    holds p.year c.year && (holds p.month c.month && nat_lt (month_length c.year c.month) (c.day + 7))
+
+-- one of the seven days that end with day n has the date
+abbrev pub past_week_holds : DateFields → ℕ → Bool
+past_week_holds p n = some_below (λ back. date_holds p (date_of_day (n - back))) 7
+
+-- Day n of the calendar, apart from its weekday. Beside a weekday the last day of the month is read as the
+-- last such weekday, and a day number, where year or month is open, as the first such weekday from that day on.
+abbrev pub month_day_holds : DayOfMonth → Option ℕ → DateFields → ℕ → Bool
+month_day_holds Last (Some w) p n = last_week_holds p (date_of_day n)
+month_day_holds (Number d) (Some w) p n =
+    if is_some p.year && is_some p.month then date_holds p (date_of_day n) else past_week_holds p n
+month_day_holds _ _ p n = date_holds p (date_of_day n)
+
+-- the date matches day n of the calendar
+unfoldable pub date_matches : DateFields → ℕ → Bool
+date_matches p n = holds p.weekday (weekday n) && month_day_holds p.day p.weekday p n
+
+-- the time matches a second of the day; hundredths of a second aren't looked at
+unfoldable pub time_matches : TimeFields → ℕ → Bool
+time_matches t s = holds t.hour (s / 3600) && (holds t.minute (s / 60 % 60) && holds t.second (s % 60))
+
+-- the entry matches a second of the meter's time
+unfoldable pub matches : EntryPattern → ℕ → Bool
+matches entry s =
+    date_matches entry.date (first_day + s / 86400) && time_matches entry.time (s % 86400)
+
+-- some second of (after, upto] matches
+unfoldable pub matches_in : EntryPattern → ℕ → ℕ → Bool
+matches_in entry after upto = some_below (λ k. matches entry (after + 1 + k)) (upto - after)
+
+-- year, month and day of the month are plain numbers
+abbrev pub is_plain : DateFields → Bool
+is_plain p = is_some p.year && (is_some p.month && is_number p.day)
+  where
+    is_number : DayOfMonth → Bool
+    is_number (Number d) = true
+    is_number _ = false

@@ -1,0 +1,54 @@
+-- The second that a date-time stands for.
+use Rattle.std.specs.Prelude.{ℕ, ◌+◌, ◌*◌, ◌^◌, Bool, ◌&&◌, nat_lt, Option, Some, None, unwrap_or, ℤ, pos, negsuc, ◌+ℤ◌, ◌-ℤ◌, ◌*ℤ◌, if◌then◌else◌}
+use Rattle.cosem_datetime.specs.declared.calendar.CivilDate.{CivilDate}
+use Rattle.cosem_datetime.specs.declared.date.DayOfMonth.{DayOfMonth}
+use Rattle.cosem_datetime.specs.declared.date.DayOfMonth.TheVariants.{Number}
+use Rattle.cosem_datetime.specs.Fields.{DateFields, TimeFields, DateTimeFields}
+use Rattle.cosem_datetime.specs.Calendar.{is_date, day_count, first_day, weekday}
+use Rattle.cosem_datetime.specs.Matching.{holds}
+
+infixl 10 ◌>>=◌
+abbrev pub ◌>>=◌ : {A B : Type 0} → Option A → (A → Option B) → Option B
+(Some x) >>= f = f x
+None >>= f = None
+
+abbrev pub day_number : DayOfMonth → Option ℕ
+day_number (Number d) = Some d
+day_number _ = None
+
+-- the date, where year, month and day of the month are numbers
+abbrev pub plain_date : DateFields → Option CivilDate
+plain_date p = do
+  year ← p.year
+  month ← p.month
+  day ← day_number p.day
+  Some (record { year = year; month = month; day = day })
+
+-- the second of the day, where hour, minute and second are numbers
+abbrev pub second_of_day : TimeFields → Option ℕ
+second_of_day t = do
+  hour ← t.hour
+  minute ← t.minute
+  second ← t.second
+  Some (3600 * hour + 60 * minute + second)
+
+-- the calendar has the date, and a weekday that is given is its own
+abbrev pub is_right_date : DateFields → CivilDate → Bool
+is_right_date p c = is_date c && holds p.weekday (weekday (day_count c))
+
+-- a number of seconds that 32 bits hold
+abbrev pub in_u32 : ℤ → Option ℕ
+in_u32 (pos s) = if nat_lt s (2 ^ 32) then Some s else None
+in_u32 (negsuc s) = None
+
+-- from 1 January 2000 to a second of a date, negative before; the deviation, in minutes, leads to UTC
+abbrev pub seconds_since : CivilDate → ℕ → Option ℤ → ℤ
+seconds_since c second deviation =
+    (pos (86400 * day_count c + second) -ℤ pos (86400 * first_day)) +ℤ (pos 60 *ℤ unwrap_or deviation (pos 0))
+
+-- the seconds, where all six fields are numbers, the date is right, and 32 bits hold them
+unfoldable pub moment_of : DateTimeFields → Option ℕ
+moment_of field = do
+  c ← plain_date field.date
+  second ← second_of_day field.time
+  if is_right_date field.date c then in_u32 (seconds_since c second field.deviation) else None

@@ -1,0 +1,77 @@
+//! The days of the calendar, which `jiff` counts.
+
+ghost use Rattle.std.specs.Prelude.{◌≡◌, ◌≤◌, ◌↔◌, ℕ, Some, None, IfSome, if◌then◌else◌};
+ghost use Rattle.cosem_datetime.specs.declared.calendar.CivilDate.{CivilDate};
+ghost use Rattle.cosem_datetime.specs.Calendar as calendar;
+
+use jiff::civil::Date;
+use jiff_core::civil;
+
+/// A date of the calendar.
+#[derive(Clone, Copy, Debug)]
+pub struct CivilDate {
+    pub year: u16,
+    pub month: u8,
+    pub day: u8,
+}
+
+pub const SECONDS_OF_DAY: u32 = 86_400;
+
+/// 1 January 2000, as the days since 1 January of the year 0.
+pub const FIRST_DAY: u32 = 730_485;
+
+/// From `jiff`'s first day to 1 January of the year 0.
+const YEAR_ZERO: u32 = 3_652_059;
+
+/// The date of a day, which is counted from 1 January of the year 0.
+pub fn date_of_day(day: u32) -> CivilDate
+    requires { day ≤ 1_000_000 }
+    ensures date { result ≡ calendar.date_of_day day }
+    ensures year { result.year ≤ 9999 }
+    ensures day { result.day ≤ 31 }
+{
+    let date = Date::from_plain(civil::Date::from_days_since_min(day + YEAR_ZERO)).to_plain();
+    CivilDate {
+        year: date.year as u16,
+        month: date.month,
+        day: date.day,
+    }
+}
+
+/// The weekday of such a day, from 1 for Monday to 7 for Sunday.
+pub fn weekday(day: u32) -> u8
+    requires { day ≤ 4_000_000 }
+    ensures { result ≡ calendar.weekday day }
+{
+    ((day + 5) % 7 + 1) as u8
+}
+
+/// The days of a month.
+pub fn month_length(year: u16, month: u8) -> u8
+    requires { year ≤ 9999 }
+    ensures value { result ≡ calendar.month_length year month }
+{
+    civil::days_in_month(year as i16, month)
+}
+
+/// The day of a date that the calendar has, counted from 1 January of the year 0.
+pub fn day_of_date(date: CivilDate) -> Option<u32>
+    requires year { date.year ≤ 9999 }
+    requires month { date.month ≤ 12 }
+    requires day { date.day ≤ 31 }
+    ensures value { result ≡ (if calendar.is_date date then Some (calendar.day_count date) else None) }
+    ensures bound { IfSome result (λ day. day ≤ 4_000_000) }
+{
+    match Date::new(date.year as i16, date.month as i8, date.day as i8) {
+        Ok(date) => Some(date.to_plain().days_since_min() - YEAR_ZERO),
+        Err(_) => None,
+    }
+}
+
+/// The calendar that the contracts speak of: each day has one date, whose earlier years, months and days are counted
+/// together, and 1 January 2000 is a Saturday. A call does nothing; its contract is the statement.
+pub fn calendar_laws()
+    ensures one_date { (n : ℕ) (c : CivilDate) → calendar.IsDay n c ↔ (c ≡ calendar.date_of_day n) }
+    ensures first_day { calendar.first_day ≡ 730_485 }
+    ensures saturday { calendar.weekday calendar.first_day ≡ 6 }
+{}

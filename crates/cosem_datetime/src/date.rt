@@ -1,0 +1,285 @@
+ghost use Rattle.std.specs.Prelude.{◌≡◌, ◌≢◌, ◌==◌, ◌≤◌, ◌↔◌, ℕ, length, slice_index, IsTrue, IsOk, IfOk, IfSome, IsErrOf, Ok};
+ghost use Rattle.cosem_datetime.specs.Fields.{DateFields, IsDateFields, day_byte, date_bytes, unspecified};
+ghost use Rattle.cosem_datetime.specs.Matching.{holds, day_holds, date_holds, last_week_holds, past_week_holds, month_day_holds, date_matches, is_plain};
+ghost use Rattle.cosem_datetime.specs.Moment.{plain_date};
+ghost use Rattle.cosem_datetime.specs.Calendar.{weekday};
+ghost use Rattle.cosem_datetime.specs.Reading.{month_of, day_of, year_of, date_of, is_season};
+
+use crate::calendar::{CivilDate, date_of_day, month_length, weekday};
+use crate::fault::PatternFault;
+use crate::field::{NOT_SPECIFIED, byte_of, field_holds, read_field};
+use std::marker::Model;
+
+/// The day of the month that a date names.
+#[derive(Clone, Copy, Debug, PartialEq, Eq)]
+pub enum DayOfMonth {
+    /// Not specified (`FF`): any day.
+    Any,
+    /// A day from 1 to 31.
+    Number(u8),
+    /// The second last day of the month (`FD`).
+    SecondLast,
+    /// The last day of the month (`FE`), or with a weekday the last such weekday.
+    Last,
+}
+
+const DAYS_OF_WEEK: u8 = 7;
+
+const LAST_DAY: u8 = 0xFE;
+
+const SECOND_LAST_DAY: u8 = 0xFD;
+
+const DAYLIGHT_SAVING_BEGIN: u8 = 0xFE;
+
+const DAYLIGHT_SAVING_END: u8 = 0xFD;
+
+const YEAR_NOT_SPECIFIED: u16 = 0xFFFF;
+
+/// A date of five bytes: year, month, day of the month and day of the week, each of which may be left open.
+#[derive(Clone, Copy, Debug, PartialEq, Eq)]
+pub struct DatePattern {
+    year: Option<u16>,
+    month: Option<u8>,
+    day: DayOfMonth,
+    weekday: Option<u8>,
+}
+
+impl Model for DatePattern {
+    ghost use Rattle.cosem_datetime.specs.Fields.{DateFields, IsDateFields};
+
+    ghost Value = { DateFields };
+
+    ghost view = { λ p. record { year = p.year; month = p.month; day = p.day; weekday = p.weekday } };
+
+    ghost invariant = { λ p. IsDateFields (record { year = p.year; month = p.month; day = p.day; weekday = p.weekday }) };
+
+    ghost inverse = { λ v. record { year = v.year; month = v.month; day = v.day; weekday = v.weekday } };
+}
+
+fn read_month(byte: u8) -> Result<Option<u8>, PatternFault>
+    ensures { result ≡ month_of byte }
+{
+    match byte {
+        DAYLIGHT_SAVING_BEGIN | DAYLIGHT_SAVING_END => Err(PatternFault::SeasonMonth),
+        _ => read_field(byte, 1, 12),
+    }
+}
+
+fn read_day(byte: u8) -> Result<DayOfMonth, PatternFault>
+    ensures { result ≡ day_of byte }
+{
+    match byte {
+        NOT_SPECIFIED => Ok(DayOfMonth::Any),
+        LAST_DAY => Ok(DayOfMonth::Last),
+        SECOND_LAST_DAY => Ok(DayOfMonth::SecondLast),
+        1..=31 => Ok(DayOfMonth::Number(byte)),
+        _ => Err(PatternFault::Range),
+    }
+}
+
+fn read_year(year: u16) -> Option<u16>
+    ensures { result ≡ year_of year }
+{
+    if year == YEAR_NOT_SPECIFIED {
+        None
+    } else {
+        Some(year)
+    }
+}
+
+#[tactic(auto, unfolding(crate::specs::Reading::date_of))]
+pub(crate) fn date_fields(bytes: &[u8]) -> Result<DatePattern, PatternFault>
+    ensures { result ≡ date_of bytes.now }
+{
+    if bytes.len() != 5 {
+        return Err(PatternFault::Length);
+    }
+    let year = read_year(u16::from_be_bytes([bytes[0], bytes[1]]));
+    let month = read_month(bytes[2])?;
+    let day = read_day(bytes[3])?;
+    let weekday = read_field(bytes[4], 1, 7)?;
+    Ok(DatePattern {
+        year,
+        month,
+        day,
+        weekday,
+    })
+}
+
+/// Reads a date of five bytes.
+pub fn read_date(bytes: &[u8]) -> Result<DatePattern, PatternFault>
+    // Field by field from left to right, up to the first fault.
+    ensures exact { result ≡ date_of bytes.now }
+    // What is read is spelled so, and what is spelled so is read.
+    ensures found { IfOk result (λ p. IsDateFields p × (bytes.now ≡ date_bytes p)) }
+    ensures only { (p : DateFields) → IsDateFields p → bytes.now ≡ date_bytes p → result ≡ Ok p }
+    ensures length { IsErrOf result PatternFault.Length ↔ (length bytes.now ≢ 5) }
+    // The month is the begin or the end of daylight saving, which no field can precede as a fault but the length.
+    ensures season { IsErrOf result PatternFault.SeasonMonth ↔ ((length bytes.now ≡ 5) × IsTrue (is_season (slice_index bytes.now 2))) }
+{
+    date_fields(bytes)
+}
+
+impl DayOfMonth {
+    /// The byte that spells it.
+    fn byte(self) -> u8
+        ensures { result ≡ day_byte self }
+    {
+        match self {
+            DayOfMonth::Any => NOT_SPECIFIED,
+            DayOfMonth::Number(day) => day,
+            DayOfMonth::SecondLast => SECOND_LAST_DAY,
+            DayOfMonth::Last => LAST_DAY,
+        }
+    }
+
+    /// Whether this is the date's day of the month.
+    fn holds(self, date: CivilDate) -> bool
+        requires year { date.year ≤ 9999 }
+        requires day { date.day ≤ 31 }
+        ensures { result ≡ day_holds self date }
+    {
+        match self {
+            DayOfMonth::Any => true,
+            DayOfMonth::Number(day) => day == date.day,
+            DayOfMonth::SecondLast => date.day + 1 == month_length(date.year, date.month),
+            DayOfMonth::Last => date.day == month_length(date.year, date.month),
+        }
+    }
+}
+
+fn year_holds(year: Option<u16>, number: u16) -> bool
+    ensures { result ≡ holds year number }
+{
+    match year {
+        None => true,
+        Some(year) => year == number,
+    }
+}
+
+impl DatePattern {
+    /// The date with no field specified.
+    pub(crate) const fn unspecified() -> DatePattern
+        ensures { result ≡ unspecified.date }
+    {
+        DatePattern {
+            year: None,
+            month: None,
+            day: DayOfMonth::Any,
+            weekday: None,
+        }
+    }
+
+    /// The five bytes that spell the date, which are those that it was read from.
+    pub fn bytes(&self) -> [u8; 5]
+        ensures bytes { result ≡ date_bytes self.now }
+        ensures within { IsDateFields self.now }
+        // Read again, they give the date back.
+        ensures again { date_of result ≡ Ok self.now }
+    {
+        self.spelling()
+    }
+
+    fn spelling(&self) -> [u8; 5]
+        ensures bytes { result ≡ date_bytes self.now }
+        ensures within { IsDateFields self.now }
+    {
+        let [high, low] = self.year.unwrap_or(YEAR_NOT_SPECIFIED).to_be_bytes();
+        [
+            high,
+            low,
+            byte_of(self.month),
+            self.day.byte(),
+            byte_of(self.weekday),
+        ]
+    }
+
+    /// Whether year, month and day of the month are those of the date.
+    fn holds(&self, date: CivilDate) -> bool
+        requires year { date.year ≤ 9999 }
+        requires day { date.day ≤ 31 }
+        ensures { result ≡ date_holds self.now date }
+    {
+        year_holds(self.year, date.year)
+            && field_holds(self.month, u32::from(date.month))
+            && self.day.holds(date)
+    }
+
+    /// Whether the date lies in its month's last seven days, in the year and the month of the pattern.
+    fn last_week_holds(&self, date: CivilDate) -> bool
+        requires year { date.year ≤ 9999 }
+        requires day { date.day ≤ 31 }
+        ensures { result ≡ last_week_holds self.now date }
+    {
+        year_holds(self.year, date.year)
+            && field_holds(self.month, u32::from(date.month))
+            && month_length(date.year, date.month) < date.day + DAYS_OF_WEEK
+    }
+
+    /// Whether one of the seven days that end with the day has the pattern's year, month and day of the month.
+    fn past_week_holds(&self, day: u32) -> bool
+        requires low { 7 ≤ day }
+        requires high { day ≤ 1_000_000 }
+        ensures { result ≡ past_week_holds self.now day }
+    {
+        for back in 0..u32::from(DAYS_OF_WEEK) {
+            if self.holds(date_of_day(day - back)) {
+                return true;
+            }
+        }
+        false
+    }
+
+    /// Whether the pattern matches the day, apart from its weekday.
+    fn month_day_holds(&self, day: u32) -> bool
+        requires low { 7 ≤ day }
+        requires high { day ≤ 1_000_000 }
+        ensures { result ≡ month_day_holds self.now.day self.now.weekday self.now day }
+    {
+        match (self.day, self.weekday) {
+            (DayOfMonth::Last, Some(_)) => self.last_week_holds(date_of_day(day)),
+            (DayOfMonth::Number(_), Some(_)) if self.year.is_none() || self.month.is_none() => {
+                self.past_week_holds(day)
+            }
+            _ => self.holds(date_of_day(day)),
+        }
+    }
+
+    /// Whether the pattern matches the day, which is counted from 1 January of the year 0.
+    #[tactic(auto, unfolding(crate::specs::Matching::date_matches))]
+    pub(crate) fn matches_day(&self, day: u32) -> bool
+        requires low { 7 ≤ day }
+        requires high { day ≤ 1_000_000 }
+        ensures { result ≡ date_matches self.now day }
+    {
+        self.weekday_holds(day) && self.month_day_holds(day)
+    }
+
+    /// Whether year, month and day of the month are plain numbers.
+    pub(crate) fn is_plain(&self) -> bool
+        ensures { result ≡ is_plain self.now }
+    {
+        self.year.is_some() && self.month.is_some() && matches!(&self.day, DayOfMonth::Number(_))
+    }
+
+    /// The date, where year, month and day of the month are numbers.
+    pub(crate) fn plain_date(&self) -> Option<CivilDate>
+        ensures date { result ≡ plain_date self.now }
+        ensures within { IfSome result (λ c. (c.month ≤ 12) × (c.day ≤ 31)) }
+    {
+        let year = self.year?;
+        let month = self.month?;
+        let DayOfMonth::Number(day) = self.day else {
+            return None;
+        };
+        Some(CivilDate { year, month, day })
+    }
+
+    /// Whether a weekday that is given is that of the day, which is counted from 1 January of the year 0.
+    pub(crate) fn weekday_holds(&self, day: u32) -> bool
+        requires { day ≤ 4_000_000 }
+        ensures { result ≡ holds self.now.weekday (weekday day) }
+    {
+        field_holds(self.weekday, u32::from(weekday(day)))
+    }
+}

@@ -1,0 +1,122 @@
+ghost use Rattle.std.specs.Prelude.{◌≡◌, ◌≢◌, ◌+◌, ◌*◌, ◌↔◌, [], ◌∷◌, length, slice_index, Ok, IsTrue, IfOk, IsErrOf};
+ghost use Rattle.cosem_datetime.specs.Fields.{DateTimeFields, IsDateTimeFields, date_time_bytes, unspecified};
+ghost use Rattle.cosem_datetime.specs.Reading.{is_season, deviation_of, date_time_of};
+
+use crate::date::{DatePattern, date_fields};
+use crate::fault::PatternFault;
+use crate::field::NOT_SPECIFIED;
+use crate::time::{TimePattern, time_fields};
+use std::marker::Model;
+
+/// A date-time of twelve bytes: a date, a time, the deviation from local time to UTC in minutes, and the clock status.
+#[derive(Clone, Copy, Debug)]
+pub struct DateTimeField {
+    pub(crate) date: DatePattern,
+    pub(crate) time: TimePattern,
+    pub(crate) deviation: Option<i16>,
+    status: u8,
+}
+
+impl Model for DateTimeField {
+    ghost use Rattle.std.specs.Prelude.{◌<◌};
+    ghost use Rattle.cosem_datetime.specs.Fields.{DateTimeFields, IsDeviationWithin};
+
+    ghost Value = { DateTimeFields };
+
+    ghost view = { λ p. record { date = p.date; time = p.time; deviation = p.deviation; status = p.status } };
+
+    ghost invariant = { λ p. IsDeviationWithin p.deviation × (p.status < 256) };
+
+    ghost inverse = { λ v. record { date = v.date; time = v.time; deviation = v.deviation; status = v.status } };
+}
+
+fn read_deviation(high: u8, low: u8) -> Result<Option<i16>, PatternFault>
+    ensures { result ≡ deviation_of (high * 256 + low) }
+{
+    match i16::from_be_bytes([high, low]) {
+        i16::MIN => Ok(None),
+        minutes @ -720..=840 => Ok(Some(minutes)),
+        _ => Err(PatternFault::Range),
+    }
+}
+
+#[tactic(auto, unfolding(crate::specs::Reading::date_time_of))]
+fn date_time_fields(bytes: &[u8]) -> Result<DateTimeField, PatternFault>
+    ensures { result ≡ date_time_of bytes.now }
+{
+    if bytes.len() != 12 {
+        return Err(PatternFault::Length);
+    }
+    let date = date_fields(&bytes[..5])?;
+    let time = time_fields(&bytes[5..9])?;
+    let deviation = read_deviation(bytes[9], bytes[10])?;
+    Ok(DateTimeField {
+        date,
+        time,
+        deviation,
+        status: bytes[11],
+    })
+}
+
+/// Reads a date-time of twelve bytes.
+pub fn read_date_time(bytes: &[u8]) -> Result<DateTimeField, PatternFault>
+    // Field by field from left to right, up to the first fault.
+    ensures exact { result ≡ date_time_of bytes.now }
+    // What is read is spelled so, and what is spelled so is read.
+    ensures found { IfOk result (λ p. IsDateTimeFields p × (bytes.now ≡ date_time_bytes p)) }
+    ensures only { (p : DateTimeFields) → IsDateTimeFields p → bytes.now ≡ date_time_bytes p → result ≡ Ok p }
+    ensures length { IsErrOf result PatternFault.Length ↔ (length bytes.now ≢ 12) }
+    // The month is the begin or the end of daylight saving, which no field can precede as a fault but the length.
+    ensures season { IsErrOf result PatternFault.SeasonMonth ↔ ((length bytes.now ≡ 12) × IsTrue (is_season (slice_index bytes.now 2))) }
+{
+    date_time_fields(bytes)
+}
+
+impl DateTimeField {
+    /// The date-time with no field specified, `FFFFFFFFFFFFFFFFFF8000FF`.
+    pub const fn unspecified() -> DateTimeField
+        ensures fields { result ≡ unspecified }
+        ensures bytes { date_time_bytes result
+            ≡ 0xFF ∷ 0xFF ∷ 0xFF ∷ 0xFF ∷ 0xFF ∷ 0xFF ∷ 0xFF ∷ 0xFF ∷ 0xFF ∷ 0x80 ∷ 0x00 ∷ 0xFF ∷ [] }
+    {
+        DateTimeField {
+            date: DatePattern::unspecified(),
+            time: TimePattern::unspecified(),
+            deviation: None,
+            status: NOT_SPECIFIED,
+        }
+    }
+
+    /// The twelve bytes that spell the date-time, which are those that it was read from.
+    pub fn bytes(&self) -> [u8; 12]
+        ensures bytes { result ≡ date_time_bytes self.now }
+        ensures within { IsDateTimeFields self.now }
+        // Read again, they give the date-time back.
+        ensures again { date_time_of result ≡ Ok self.now }
+    {
+        self.spelling()
+    }
+
+    fn spelling(&self) -> [u8; 12]
+        ensures bytes { result ≡ date_time_bytes self.now }
+        ensures within { IsDateTimeFields self.now }
+    {
+        let [y1, y2, month, day, weekday] = self.date.bytes();
+        let [hour, minute, second, hundredths] = self.time.bytes();
+        let [d1, d2] = self.deviation.unwrap_or(i16::MIN).to_be_bytes();
+        [
+            y1,
+            y2,
+            month,
+            day,
+            weekday,
+            hour,
+            minute,
+            second,
+            hundredths,
+            d1,
+            d2,
+            self.status,
+        ]
+    }
+}

@@ -1,0 +1,5 @@
+pub mod Inside
+pub mod Masks
+pub mod Runs
+pub mod Samples
+pub mod Scans

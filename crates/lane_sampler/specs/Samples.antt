@@ -1,0 +1,19 @@
+-- What a block of samples is to its callers.
+use Rattle.std.specs.Prelude.{◌≡◌, ℕ, List, length, Option, Some, None, IfSome}
+
+-- the import values, and in a block of pairs the export values
+pub record Samples : Type 0 where
+  pub import : List ℕ
+  pub export : Option (List ℕ)
+
+-- a block of import values alone
+abbrev pub values_alone : List ℕ → Samples
+values_alone values = record { import = values; export = None }
+
+-- a block of pairs
+abbrev pub pairs_of : List ℕ → List ℕ → Samples
+pairs_of values others = record { import = values; export = Some others }
+
+-- there are as many export values, if any, as import values
+abbrev pub AreEven : Samples → Type 0
+AreEven samples = IfSome samples.export (λ others. length others ≡ length samples.import)

@@ -1,0 +1,180 @@
+//! Blocks of power samples, and the scans that were made of them ahead of their use.
+
+ghost use Rattle.std.specs.Prelude.{◌≡◌, ◌≢◌, ◌<◌, ◌≤◌, ◌↔◌, length, IfOk, IfSome, IsErrOf};
+ghost use Rattle.std.specs.Option.{option_copied};
+ghost use Rattle.lane_sampler.specs.declared.samples.TheConstants.{MAX_VALUES};
+ghost use Rattle.lane_sampler.specs.Samples.{AreEven, pairs_of, values_alone};
+ghost use Rattle.lane_sampler.specs.Scans.{AreRightScans, IsRightScan};
+
+use crate::lanes::{Masks, classify};
+use std::alloc::{AllocError, Global};
+use std::marker::Model;
+use thiserror::Error;
+
+/// How many values, or pairs of values, a block has at most.
+pub const MAX_VALUES: usize = 256;
+
+/// Why a block was not made.
+#[derive(Clone, Copy, Debug, PartialEq, Eq, Error)]
+pub enum BlockMade {
+    /// More than 256 values.
+    #[error("more than 256 values")]
+    TooLong,
+    /// No memory for the values.
+    #[error("out of memory")]
+    Memory,
+    /// Import and export values differ in number.
+    #[error("import and export values differ in number")]
+    Uneven,
+}
+
+/// The masks of some values at one threshold.
+#[derive(Clone, Copy, Debug, PartialEq, Eq)]
+pub struct Scan {
+    /// The threshold, in the unit of the values.
+    pub threshold: u32,
+    /// Which values lie over it, and which under it.
+    pub masks: Masks,
+}
+
+/// The scans of a block.
+#[derive(Clone, Copy, Debug, PartialEq, Eq)]
+pub struct Scans {
+    /// Of the import values.
+    pub import: Scan,
+    /// Of the export values, in a block of pairs.
+    pub export: Option<Scan>,
+}
+
+/// Up to 256 samples of the import power, or as many pairs of import and export power, in the order that
+/// they were taken; and the scans last made of them, which no contract sees.
+#[derive(Debug, Drop)]
+pub struct Block {
+    import: Vec<u32>,
+    export: Option<Vec<u32>>,
+    scans: Option<Scans>,
+}
+
+impl Model for Block {
+    ghost use Rattle.lane_sampler.specs.Samples.{Samples};
+
+    ghost Value = { Samples };
+
+    ghost use Rattle.lane_sampler.specs.Inside.{samples_of, IsBlock};
+
+    ghost view = { samples_of };
+
+    ghost invariant = { IsBlock };
+}
+
+impl Block {
+    /// A block of import values alone. Errors: `TooLong` over 256 values, else `Memory`.
+    pub fn from_slice(alloc: Global, values: &[u32]) -> Result<Block, BlockMade>
+        ensures made { IfOk result (λ block. block ≡ values_alone values.now) }
+        ensures too_long { IsErrOf result BlockMade.TooLong ↔ (MAX_VALUES < length values.now) }
+        ensures never_uneven { ¬ (IsErrOf result BlockMade.Uneven) }
+    {
+        if values.len() > MAX_VALUES {
+            return Err(BlockMade::TooLong);
+        }
+        let import = Vec::from_slice(alloc, values).map_err(|_| BlockMade::Memory)?;
+        Ok(Block {
+            import,
+            export: None,
+            scans: None,
+        })
+    }
+
+    /// A block of pairs, also where both slices are empty. Errors, judged in this order: `Uneven` where the
+    /// slices differ in length, `TooLong` over 256 pairs, `Memory`.
+    pub fn from_pairs(alloc: Global, import: &[u32], export: &[u32]) -> Result<Block, BlockMade>
+        ensures made { IfOk result (λ block. block ≡ pairs_of import.now export.now) }
+        ensures uneven { IsErrOf result BlockMade.Uneven ↔ (length import.now ≢ length export.now) }
+        ensures too_long { IsErrOf result BlockMade.TooLong
+            ↔ ((length import.now ≡ length export.now) × (MAX_VALUES < length import.now)) }
+    {
+        if import.len() != export.len() {
+            return Err(BlockMade::Uneven);
+        }
+        if import.len() > MAX_VALUES {
+            return Err(BlockMade::TooLong);
+        }
+        let import = Vec::from_slice(alloc, import).map_err(|_| BlockMade::Memory)?;
+        let export = Vec::from_slice(alloc, export).map_err(|_| BlockMade::Memory)?;
+        Ok(Block {
+            import,
+            export: Some(export),
+            scans: None,
+        })
+    }
+
+    /// The import values, at most 256.
+    pub fn values(&self) -> &[u32]
+        ensures values { result.now ≡ self.now.import }
+        ensures few { length self.now.import ≤ MAX_VALUES }
+    {
+        &self.import
+    }
+
+    /// The export values of a block of pairs, as many as the import ones; `None` for import values alone.
+    pub fn export(&self) -> Option<&[u32]>
+        ensures values { option_copied result ≡ self.now.export }
+        ensures even { IfSome result (λ values. length values.now ≡ length self.now.import) }
+        ensures few { IfSome result (λ values. length values.now ≤ MAX_VALUES) }
+    {
+        match &self.export {
+            Some(values) => Some(values.as_slice()),
+            None => None,
+        }
+    }
+
+    /// Scans the values at these thresholds, and keeps that scan in place of an earlier one. The export
+    /// threshold counts in a block of pairs alone.
+    pub fn scan(&mut self, import_threshold: u32, export_threshold: u32)
+        ensures { self.new ≡ self.old }
+    {
+        let import = scan_of(self.import.as_slice(), import_threshold);
+        let export = match &self.export {
+            Some(values) => Some(scan_of(values.as_slice(), export_threshold)),
+            None => None,
+        };
+        self.scans = Some(Scans { import, export });
+    }
+
+    /// The scans last made, right for the values at the thresholds that they name. `None` before the first
+    /// `scan`.
+    pub fn scanned(&self) -> Option<&Scans>
+        ensures right { IfSome result (λ scans. AreRightScans self.now scans.now) }
+        ensures few { length self.now.import ≤ MAX_VALUES }
+        ensures even { AreEven self.now }
+    {
+        self.scans.as_ref()
+    }
+
+    /// A block of the same values, with the same scans.
+    pub fn try_clone(&self, alloc: Global) -> Result<Block, AllocError>
+        ensures same { IfOk result (λ block. block ≡ self.now) }
+    {
+        let import = Vec::from_slice(alloc, self.import.as_slice())?;
+        let export = match &self.export {
+            Some(values) => Some(Vec::from_slice(alloc, values.as_slice())?),
+            None => None,
+        };
+        Ok(Block {
+            import,
+            export,
+            scans: self.scans,
+        })
+    }
+}
+
+fn scan_of(values: &[u32], threshold: u32) -> Scan
+    requires { length values.now ≤ MAX_VALUES }
+    ensures right { IsRightScan values.now result }
+    ensures threshold { result.threshold ≡ threshold }
+{
+    Scan {
+        threshold,
+        masks: classify(values, threshold),
+    }
+}

@@ -1,0 +1,4 @@
+pub mod Lists
+pub mod StepsKeep
+pub mod Counting
+pub mod Sent

@@ -1,0 +1,695 @@
+-- Each step on the table keeps its rule, and tells what its play says.
+use Rattle.std.proofs.Common.{◌≡◌, ◌≢◌, ◌⊎◌, ℕ, zero, suc, ◌+◌, ◌%◌, ◌^◌, ◌<◌, ◌≤◌, eqb, ◌==◌, Bool, true, false, if◌then◌else◌, List, [], ◌∷◌, ◌++◌, length, get_or, set, sym, refl, ap, ◌∙◌, subst, inl, inr, ⊎_elim, arith, le_refl, eq-eqb, ne_eqb, Option, Some, None}
+use mathlib.Core.Logic.{dite}
+use mathlib.Core.Option.{none, some, some-injective, some-ne-none}
+use native.Mathlib.Decide.{ℕ_discrete}
+use lib.ListN.{get_elem?}
+use lib.Seq.{set-get_or}
+use prog.Atomic.{either}
+use Rattle.std.specs.declared.snapshot.Snapshot.{Snapshot}
+use Rattle.std.proofs.lemmas.List.{append-nil}
+use Rattle.std.proofs.Math.Nat.{mod-eq_of_lt}
+use Rattle.atomic_table.specs.Table.{State, Me, step, Act, keeps, takes, gives, Valid, carried_after, homes_after, stepped, Allows, Splits, Joins, opening, Final, Seen}
+use Rattle.atomic_table.proofs.Lists.{at_set, set_else, exchanged}
+use Rattle.turn_lock.specs.declared.turned.Entry.{Entry}
+use Rattle.turn_lock.specs.declared.known.Known.{Known}
+use Rattle.turn_lock.specs.declared.known.View.{View}
+use Rattle.turn_lock.specs.declared.known.Stage.{Stage}
+use Rattle.turn_lock.specs.declared.known.Stage.TheVariants.{New, Young, Idle, Waiting, Turn, SawServing, Met}
+use Rattle.turn_lock.specs.declared.board.Slot.{Slot}
+use Rattle.turn_lock.specs.declared.board.TheConstants.{MOST_TURNS}
+use Rattle.turn_lock.specs.History.{StartsWith, calls_by}
+use Rattle.turn_lock.specs.Rule.{newcomer, full, IsOwn, Moment, IsHome, Staged, IsPort, Fits, Facts, Keeps}
+use Rattle.turn_lock.specs.Calls.{Watches}
+use Rattle.turn_lock.specs.Plays.{added, posed, spent_view, divided_view, born_view, noted_view, met_view, settled, drew, saw, Watched, looked, Ended, ended, Merged, merged, Takes, reached, closed}
+use Rattle.turn_lock.proofs.Lists.{starts_refl, starts_more, calls_by-own, calls_by-other, calls_none, has_front, has_front-append, future-not-self, future_sooner, front_is_future, future-not-front, apart-not-front, among-append}
+
+-- the function that is v at k, and f elsewhere
+abbrev put : (ℕ → ℕ) → ℕ → ℕ → ℕ → ℕ
+put f k v j = if j == k then v else f j
+
+put_here : (f : ℕ → ℕ) (k v : ℕ) → put f k v k ≡ v
+put_here f k v = ap (λ (b : Bool). if b then v else f k) (eq-eqb k k refl)
+
+put_else : (f : ℕ → ℕ) (k v j : ℕ) → j ≢ k → put f k v j ≡ f j
+put_else f k v j n = ap (λ (b : Bool). if b then v else f j) (ne_eqb j k n)
+
+-- the numbers of the seat `other` go to the seat i
+abbrev passed_on : (List ℕ → ℕ) → ℕ → ℕ → List ℕ → ℕ
+passed_on h other i q = if h q == other then i else h q
+
+passed_here : (h : List ℕ → ℕ) (other i : ℕ) (q : List ℕ) → h q ≡ other → passed_on h other i q ≡ i
+passed_here h other i q e = ap (λ (b : Bool). if b then i else h q) (eq-eqb (h q) other e)
+
+passed_else : (h : List ℕ → ℕ) (other i j : ℕ) (q : List ℕ) → j ≢ other → h q ≡ j → passed_on h other i q ≡ j
+passed_else h other i j q n e = ap (λ (b : Bool). if b then i else h q) (ne_eqb (h q) other (λ x. n (sym e ∙ x))) ∙ e
+
+-- the numbers that begin with c go to the seat i
+abbrev forked : (List ℕ → ℕ) → List ℕ → ℕ → List ℕ → ℕ
+forked h c i q = if has_front c q then i else h q
+
+forked_here : (h : List ℕ → ℕ) (c : List ℕ) (i : ℕ) (q : List ℕ) → has_front c q ≡ true → forked h c i q ≡ i
+forked_here h c i q e = ap (λ (b : Bool). if b then i else h q) e
+
+forked_else : (h : List ℕ → ℕ) (c : List ℕ) (i : ℕ) (q : List ℕ) → has_front c q ≡ false → forked h c i q ≡ h q
+forked_else h c i q e = ap (λ (b : Bool). if b then i else h q) e
+
+-- the last of a longer list, or one of those before it
+at_end : {A : Type 0} (l : List A) (a b : A) (j : ℕ) → get_elem? (l ++ a ∷ []) j ≡ some b → (get_elem? l j ≡ some b) ⊎ ((j ≡ length l) × (a ≡ b))
+at_end [] a b zero e = inr (refl, some-injective a b e)
+at_end [] a b (suc j) e = absurd (some-ne-none b (sym e))
+at_end (x ∷ xs) a b zero e = inl e
+at_end (x ∷ xs) a b (suc j) e = ⊎_elim inl (λ t. inr (omega (arith, t.0), t.1)) (at_end xs a b j e)
+
+module _ {E R : Type 0} where
+  added_own : (p : List ℕ) (xs : List (Entry E R)) (l : Option (Snapshot E × Snapshot R)) → calls_by p (xs ++ added p l) ≡ calls_by p xs ++ added p l
+  added_own p xs None = ap (calls_by p) (append-nil xs) ∙ sym (append-nil (calls_by p xs))
+  added_own p xs (Some l) = calls_by-own p xs l.0.value l.1.value
+
+  added_other : (q p : List ℕ) (xs : List (Entry E R)) (l : Option (Snapshot E × Snapshot R)) → q ≢ p → calls_by q (xs ++ added p l) ≡ calls_by q xs
+  added_other q p xs None n = ap (calls_by q) (append-nil xs)
+  added_other q p xs (Some l) n = calls_by-other q p xs l.0.value l.1.value n
+
+  -- what a stage says of the seat that was taken in, and d where it says nothing
+  abbrev met_of : Bool × List ℕ × List (List ℕ) × List (Entry E R) → Stage E R → Bool × List ℕ × List (List ℕ) × List (Entry E R)
+  met_of d (Met b p js h) = (b, p, js, h)
+  met_of d _ = d
+
+  abbrev turn_of : ℕ → Stage E R → ℕ
+  turn_of d (Waiting n) = n
+  turn_of d _ = d
+
+module _ {T E R O : Type 0} (origin : T → O) (stands : T → List (Entry E R) → Type 0) (legal : O → List (Entry E R) → Type 0) (first : T) where
+  abbrev V : Type 0
+  V = View E R O
+
+  abbrev Sl : Type 0
+  Sl = Slot T E R
+
+  abbrev St : Type 0
+  St = State Sl V
+
+  abbrev Mo : Type 0
+  Mo = Moment T E R O
+
+  abbrev Rule : St → Type 0
+  Rule = Keeps origin stands legal first
+
+  abbrev F : Mo → List V → Type 0
+  F = Facts origin stands legal first
+
+  abbrev Fit : Mo → ℕ → V → Type 0
+  Fit = Fits origin stands first
+
+  abbrev Stand : Mo → ℕ → Known E R O → Stage E R → Type 0
+  Stand = Staged origin stands first
+
+  -- the table at a moment, as data
+  abbrev canon : Mo → List V → St
+  canon m vs = record { words = m.ticket ∷ m.serving ∷ []; homes = m.home ∷ []; views = vs }
+
+  kept : (m : Mo) (vs : List V) → F m vs → Rule (canon m vs)
+  kept m vs f = record { now = m; words_are = refl; homes_are = refl; facts = f }
+
+  -- a claim about any table that meets the rule need only be shown at each moment
+  by_moment : (P : St → Type 0) → ((m : Mo) (vs : List V) → F m vs → P (canon m vs)) → (s : St) → Rule s → P s
+  by_moment P h s r = let same : canon r.now s.views ≡ s = λ k. record { words = sym r.words_are k; homes = sym r.homes_are k; views = s.views } in subst P same (h r.now s.views r.facts)
+
+  -- what holds of each seat, where the seat i has the view w
+  seats : (K : ℕ → V → Type 0) (vs : List V) (i : ℕ) (w : V) → K i w → ((j : ℕ) (d : V) → j ≢ i → get_elem? vs j ≡ some d → K j d) → (j : ℕ) (d : V) → get_elem? (set vs i w) j ≡ some d → K j d
+  seats K vs i w mine others j d e = ⊎_elim (λ (t : (j ≡ i) × (w ≡ d)). subst (λ (x : ℕ × V). K x.0 x.1) (λ k. (sym t.0 k, t.1 k)) mine)
+      (λ (t : (j ≢ i) × (get_elem? vs j ≡ some d)). others j d t.0 t.1) (at_set vs i j w d e)
+
+  -- a step of the seat i that goes from one moment to another
+  moves : (m m' : Mo) (vs : List V) (i : ℕ) (w : V) → F m vs → m'.serving ≤ m'.ticket → m'.ticket ≤ MOST_TURNS + m'.closed → m'.closed ≤ 1 → legal m'.start m'.whole
+      → IsHome origin stands m' ⊎ (m'.serving < m'.ticket) → Fit m' i w → ((j : ℕ) (d : V) → j ≢ i → Fit m j d → Fit m' j d) → F m' (set vs i w)
+  moves m m' vs i w f range few once lawful held mine others = record {
+    range = range;
+    few = few;
+    once = once;
+    lawful = lawful;
+    held = held;
+    fits = seats (Fit m') vs i w mine (λ j d n at. others j d n (f.fits j d at));
+  }
+
+  -- a step that changes the view of the seat i alone
+  stays : (m : Mo) (vs : List V) (i : ℕ) (w : V) → F m vs → Fit m i w → F m (set vs i w)
+  stays m vs i w f mine = moves m m vs i w f f.range f.few f.once f.lawful f.held mine (λ _ _ _ x. x)
+
+  at_stage : (m : Mo) (i : ℕ) (v : V) (stage : Stage E R) → Fit m i v → Stand m i v.known stage → Fit m i (posed v stage)
+  at_stage m i v stage f st = record { named = f.named; seen = f.seen; drawn = f.drawn; lone = f.lone; staged = st; port = f.port }
+
+  -- what a port knows that has seen all
+  abbrev informed : Mo → Known E R O → Known E R O
+  informed m k = record k { seen = m.whole; drawn = m.ticket }
+
+  abbrev informed_view : Mo → V → Stage E R → V
+  informed_view m v stage = record { known = informed m v.known; is_port = v.is_port; stage = stage }
+
+  informs : (m : Mo) (i : ℕ) (v : V) (stage : Stage E R) → Fit m i v → Stand m i (informed m v.known) stage → Fit m i (informed_view m v stage)
+  informs m i v stage f st = record {
+    named = f.named;
+    seen = starts_refl m.whole;
+    drawn = le_refl m.ticket;
+    lone = f.lone;
+    staged = st;
+    port = λ e. let p = f.port e in record { begun = p.begun; own = λ q o. ((p.own q o).0, refl); future = p.future; apart = p.apart };
+  }
+
+  watches : (m : Mo) (i : ℕ) (v : V) → Fit m i v → v.is_port ≡ true → legal m.start m.whole → Watches legal v.known (informed m v.known)
+  watches m i v f port lawful = record {
+    sees = record {
+      origin = refl;
+      number = refl;
+      splits = refl;
+      drawn = f.drawn;
+      seen = f.seen;
+      lawful = λ o e. subst (λ z. legal z m.whole) (sym (f.named o e)) lawful;
+      own = λ q o. ((f.port port).own q o).1;
+    };
+    joined = refl;
+  }
+
+  abbrev M : Type 0
+  M = Me Sl V
+
+  watched : (m : Mo) (i : ℕ) (me : M) (stage : Stage E R) (cs : List (ℕ × Sl)) → Fit m i me.0 → me.0.is_port ≡ true → legal m.start m.whole → Watched legal stage me (informed_view m me.0 stage, cs)
+  watched m i me stage cs f port lawful = record { port = port; staged = refl; watches = watches m i me.0 f port lawful }
+
+  -- a load that takes no slot
+  loads : (slots id : ℕ) (me : M) (i : ℕ) (told : ℕ → M → Type 0)
+      → ((m : Mo) (vs : List V) → F m vs → Fit m id me.0 → (w : V) × Fit m id w × told (get_or (m.ticket ∷ m.serving ∷ []) i 0) (w, me.1)) → Allows Rule slots id me i (λ n. n) told
+  loads slots id me i told h = by_moment
+      (λ s. length s.homes ≡ slots → get_elem? s.views id ≡ some me.0 → get_or s.words i 0 < 18446744073709551616
+      → (w : V) × (a : Act Sl) × Valid s.homes me.1 a × Rule (stepped s i (get_or s.words i 0) id me.1 w a) × told (get_or s.words i 0) (w, carried_after me.1 a))
+      (λ m vs f _ at _. let t = h m vs f (f.fits id me.0 at) in let same = set-get_or (m.ticket ∷ m.serving ∷ []) i 0 in
+      (t.0, keeps, tt, subst (λ (ws : List ℕ). Rule record { words = ws; homes = m.home ∷ []; views = set vs id t.0 }) (sym same) (kept m (set vs id t.0) (stays m vs id t.0 f t.1)), t.2))
+
+  pub settles : (slots id : ℕ) (me : M) → Allows Rule slots id me 1 (λ n. n) (settled (step slots 1 0 0 none) me)
+  settles slots id me = loads slots id me 1 (settled (step slots 1 0 0 none) me) (λ m vs f fit.
+      (posed me.0 Idle, at_stage m id me.0 Idle fit tt, (refl, λ e. subst (Stand m id me.0.known) e fit.staged)))
+
+  pub looks : (slots id : ℕ) (me : M) → me.0.is_port ≡ true → Allows Rule slots id me 0 (λ n. n) (looked legal (step slots 0 0 0 none) me)
+  looks slots id me port = loads slots id me 0 (looked legal (step slots 0 0 0 none) me) (λ m vs f fit.
+      (informed_view m me.0 Idle, informs m id me.0 Idle fit tt, (watched m id me Idle me.1 fit port f.lawful, refl, le_refl m.ticket)))
+
+  pub sees : (slots id : ℕ) (me : M) → Allows Rule slots id me 1 (λ n. n) (saw (step slots 1 0 0 none) me)
+  sees slots id me = loads slots id me 1 (saw (step slots 1 0 0 none) me) (λ m vs f fit.
+      let a : m.serving ≤ m.ticket = f.range in let b : m.ticket ≤ MOST_TURNS + m.closed = f.few in let c : m.closed ≤ 1 = f.once in
+      (posed me.0 (SawServing m.serving), at_stage m id me.0 (SawServing m.serving) fit (le_refl m.serving), (refl, omega arith)))
+
+  -- the draw of a turn by the seat i
+  abbrev after_draw : Mo → ℕ → ℕ → Mo
+  after_draw m i new = record m { ticket = new; owner = put m.owner m.ticket i }
+
+  draw_staged : (m : Mo) (i new j : ℕ) (k : Known E R O) → new ≡ m.ticket + 1 → (st : Stage E R) → Stand m j k st → Stand (after_draw m i new) j k st
+  draw_staged m i new j k up New h = h
+  draw_staged m i new j k up Young h = h
+  draw_staged m i new j k up Idle h = tt
+  draw_staged m i new j k up (Waiting n) h = let low : n < m.ticket = h.0.1 in ((h.0.0, omega arith, put_else m.owner m.ticket i n (λ e. omega arith) ∙ h.0.2), h.1)
+  draw_staged m i new j k up (Turn n) h = let low : n < m.ticket = h.0.1 in ((h.0.0, omega arith, put_else m.owner m.ticket i n (λ e. omega arith) ∙ h.0.2), h.1, h.2, h.3)
+  draw_staged m i new j k up (SawServing n) h = h
+  draw_staged m i new j k up (Met b p js t) h = h
+
+  draw_fit : (m : Mo) (i new j : ℕ) (d : V) → new ≡ m.ticket + 1 → Fit m j d → Fit (after_draw m i new) j d
+  draw_fit m i new j d up f = let low : d.known.drawn ≤ m.ticket = f.drawn in
+      record { named = f.named; seen = f.seen; drawn = omega arith; lone = f.lone; staged = draw_staged m i new j d.known up d.stage f.staged; port = f.port }
+
+  at_home : (m : Mo) → IsHome origin stands m ⊎ (m.serving < m.ticket) → m.ticket ≡ m.serving → IsHome origin stands m
+  at_home m held e = ⊎_elim (λ h. h) (λ l. absurd (omega arith)) held
+
+  draws_at : (id : ℕ) (me : M) (old new : ℕ) (m : Mo) (vs : List V) → F m vs → Fit m id me.0 → new ≡ old + 1 → old < MOST_TURNS → m.ticket ≡ old → F (after_draw m id new) (set vs id (posed me.0 (Waiting m.ticket)))
+  draws_at id me old new m vs f fit up few hit = let low : m.serving ≤ m.ticket = f.range in let more : new ≡ m.ticket + 1 = omega arith in
+      moves m (after_draw m id new) vs id (posed me.0 (Waiting m.ticket)) f (omega arith) (omega arith) f.once f.lawful (⊎_elim inl (λ (l : m.serving < m.ticket). inr (omega arith)) f.held)
+      (at_stage (after_draw m id new) id me.0 (Waiting m.ticket) (draw_fit m id new id me.0 more fit) ((low, omega arith, put_here m.owner m.ticket id), at_home m f.held))
+      (λ j d _ x. draw_fit m id new j d more x)
+
+  pub draws : (slots id : ℕ) (me : M) (old new : ℕ) → new ≡ old + 1 → old < MOST_TURNS → Allows Rule slots id me 0 (λ n. either (eqb n old) new n) (drew (step slots 0 old new none) me)
+  draws slots id me old new up few = by_moment
+      (λ s. length s.homes ≡ slots → get_elem? s.views id ≡ some me.0 → get_or s.words 0 0 < 18446744073709551616
+      → (w : V) × (a : Act Sl) × Valid s.homes me.1 a × Rule (stepped s 0 (either (eqb (get_or s.words 0 0) old) new (get_or s.words 0 0)) id me.1 w a) × drew (step slots 0 old new none) me (get_or s.words 0 0) (w, carried_after me.1 a))
+      (λ m vs f _ at _. exchanged m.ticket old new
+      (λ x. (w : V) × (a : Act Sl) × Valid (m.home ∷ []) me.1 a × Rule record { words = x ∷ m.serving ∷ []; homes = homes_after (m.home ∷ []) me.1 a; views = set vs id w } × drew (step slots 0 old new none) me m.ticket (w, carried_after me.1 a))
+      (λ hit. let w : V = posed me.0 (Waiting m.ticket) in
+      (w, keeps, tt, kept (after_draw m id new) (set vs id w) (draws_at id me old new m vs f (f.fits id me.0 at) up few hit), ((λ _. refl), λ miss. absurd (miss hit))))
+      (λ miss. (me.0, keeps, tt, kept m (set vs id me.0) (stays m vs id me.0 f (f.fits id me.0 at)), ((λ hit. absurd (miss hit)), λ _. refl))))
+
+  -- the slot is out with the seat whose turn has come
+  abbrev after_take : Mo → Mo
+  after_take m = record m { home = none }
+
+  -- two seats are not alone
+  not_lone : {X : Type 0} (m : Mo) (i j : ℕ) (v d : V) → j ≢ i → Fit m i v → Fit m j d → m.lone ≡ true → X
+  not_lone m i j v d other f g lone = absurd (other (g.lone lone ∙ sym (f.lone lone)))
+
+  take_staged : (m : Mo) (i n j : ℕ) (k : Known E R O) → j ≢ i → m.owner n ≡ i → n ≡ m.serving → (m.lone ≡ true → ⊥) → (st : Stage E R) → Stand m j k st → Stand (after_take m) j k st
+  take_staged m i n j k other mine here pair New h = absurd (pair h.0)
+  take_staged m i n j k other mine here pair Young h = h
+  take_staged m i n j k other mine here pair Idle h = tt
+  take_staged m i n j k other mine here pair (Waiting q) h = (h.0, λ e. absurd (other (sym h.0.2 ∙ (ap m.owner (e ∙ sym here) ∙ mine))))
+  take_staged m i n j k other mine here pair (Turn q) h = h
+  take_staged m i n j k other mine here pair (SawServing q) h = h
+  take_staged m i n j k other mine here pair (Met b p js t) h = h
+
+  restaged : (m m' : Mo) (i : ℕ) (v : V) → m'.start ≡ m.start → m'.whole ≡ m.whole → m.ticket ≤ m'.ticket → (m'.lone ≡ true → m.lone ≡ true) → m'.holder ≡ m.holder → Fit m i v → Stand m' i v.known v.stage → Fit m' i v
+  restaged m m' i v start whole more lone holder f st = let low : v.known.drawn ≤ m.ticket = f.drawn in record {
+    named = λ o e. f.named o e ∙ sym start;
+    seen = subst (λ h. StartsWith h v.known.seen) (sym whole) f.seen;
+    drawn = omega arith;
+    lone = λ e. f.lone (lone e);
+    staged = st;
+    port = λ e. subst (λ (z : O × (List ℕ → ℕ) × List (Entry E R)). IsPort z.0 z.1 i z.2 v.known) (λ c. (sym start c, sym holder c, sym whole c)) (f.port e);
+  }
+
+  takes_at : (id n : ℕ) (v : V) (m : Mo) (vs : List V) → F m vs → Fit m id v → v.stage ≡ Waiting n → m.serving ≡ n → F (after_take m) (set vs id (informed_view m v (Turn n)))
+  takes_at id n v m vs f fit is hit = let w : V = informed_view m v (Turn n) in let st = subst (Stand m id v.known) is fit.staged in let home = st.1 (sym hit) in let low : n < m.ticket = st.0.1 in
+      moves m (after_take m) vs id w f f.range f.few f.once f.lawful (inr (omega arith))
+      (restaged m (after_take m) id w refl refl (le_refl m.ticket) (λ e. e) refl (informs m id v (Turn n) fit (st.0, sym hit, refl, home.5)) (st.0, sym hit, refl, home.5))
+      (λ j d other g. restaged m (after_take m) j d refl refl (le_refl m.ticket) (λ e. e) refl g (take_staged m id n j d.known other st.0.2 (sym hit) (not_lone m id j v d other fit g) d.stage g.staged))
+
+  pub reaches : (slots id n : ℕ) (me : M) → me.0.is_port ≡ true → me.0.stage ≡ Waiting n → Allows Rule slots id me 1 (λ x. x) (reached origin stands legal (step slots 1 0 0 none) me)
+  reaches slots id n me port is = by_moment
+      (λ s. length s.homes ≡ slots → get_elem? s.views id ≡ some me.0 → get_or s.words 1 0 < 18446744073709551616
+      → (w : V) × (a : Act Sl) × Valid s.homes me.1 a × Rule (stepped s 1 (get_or s.words 1 0) id me.1 w a) × reached origin stands legal (step slots 1 0 0 none) me (get_or s.words 1 0) (w, carried_after me.1 a))
+      (λ m vs f _ at _. let fit = f.fits id me.0 at in dite (ℕ_discrete m.serving n)
+      (λ hit. let st = subst (Stand m id me.0.known) is fit.staged in let home = st.1 (sym hit) in let w : V = informed_view m me.0 (Turn n) in
+      let met : Takes origin stands legal (Turn n) me (w, (0, full home.0 home.1) ∷ me.1) = record {
+        watched = watched m id me (Turn n) ((0, full home.0 home.1) ∷ me.1) fit port f.lawful;
+        value = home.0;
+        last = home.1;
+        taken = refl;
+        stood = home.3;
+        begun = (fit.port port).begun ∙ ap (λ (o : O). Some o) (sym home.4);
+      } in (
+        w,
+        takes 0 (full home.0 home.1),
+        ap (λ h. some h) home.2,
+        kept (after_take m) (set vs id w) (takes_at id n me.0 m vs f fit is hit),
+        λ k is'. let same : n ≡ k = ap (turn_of n) (sym is ∙ is') in
+            ((λ _. subst (λ (z : ℕ). Takes origin stands legal (Turn z) me (w, (0, full home.0 home.1) ∷ me.1)) same met), λ miss. absurd (miss (hit ∙ same))),
+      ))
+      (λ miss. (
+        me.0,
+        keeps,
+        tt,
+        kept m (set vs id me.0) (stays m vs id me.0 f fit),
+        λ k is'. let same : n ≡ k = ap (turn_of n) (sym is ∙ is') in ((λ hit. absurd (miss (hit ∙ sym same))), λ _. refl),
+      )))
+
+  -- the turn of the port p has ended, and the slot is back with x
+  abbrev after_end : Mo → List ℕ → T → Option (Snapshot E × Snapshot R) → Mo
+  after_end m p x l = record m { serving = m.serving + 1; whole = m.whole ++ added p l; home = some (full x l) }
+
+  end_staged : (m : Mo) (i n j : ℕ) (p : List ℕ) (x : T) (l : Option (Snapshot E × Snapshot R)) (k : Known E R O) → j ≢ i → m.owner n ≡ i → n ≡ m.serving → m.holder p ≡ i → (m.lone ≡ true → ⊥)
+      → IsHome origin stands (after_end m p x l) → (st : Stage E R) → Stand m j k st → Stand (after_end m p x l) j k st
+  end_staged m i n j p x l k other mine here holds pair home New h = absurd (pair h.0)
+  end_staged m i n j p x l k other mine here holds pair home Young h = h
+  end_staged m i n j p x l k other mine here holds pair home Idle h = tt
+  end_staged m i n j p x l k other mine here holds pair home (Waiting q) h = let low : m.serving ≤ q = h.0.0 in let apart : q ≢ m.serving = λ e. other (sym h.0.2 ∙ (ap m.owner (e ∙ sym here) ∙ mine)) in ((omega arith, h.0.1, h.0.2), λ _. home)
+  end_staged m i n j p x l k other mine here holds pair home (Turn q) h = absurd (other (sym h.0.2 ∙ (ap m.owner (h.1 ∙ sym here) ∙ mine)))
+  end_staged m i n j p x l k other mine here holds pair home (SawServing q) h = let low : q ≤ m.serving = h in (omega arith)
+  end_staged m i n j p x l k other mine here holds pair home (Met b u js t) h = (
+    starts_more m.whole t (added p l) h.0,
+    λ yes q one. let a = h.1 yes q one in (a.0, added_other q p m.whole l (λ e. other (sym a.0 ∙ (ap m.holder e ∙ holds))) ∙ a.1, a.2, a.3),
+  )
+
+  end_others : (m : Mo) (i n j : ℕ) (p : List ℕ) (x : T) (l : Option (Snapshot E × Snapshot R)) (d : V) → j ≢ i → m.owner n ≡ i → n ≡ m.serving → m.holder p ≡ i → (m.lone ≡ true → ⊥)
+      → IsHome origin stands (after_end m p x l) → Fit m j d → Fit (after_end m p x l) j d
+  end_others m i n j p x l d other mine here holds pair home f = record {
+    named = f.named;
+    seen = starts_more m.whole d.known.seen (added p l) f.seen;
+    drawn = f.drawn;
+    lone = f.lone;
+    staged = end_staged m i n j p x l d.known other mine here holds pair home d.stage f.staged;
+    port = λ e. let t = f.port e in record {
+      begun = t.begun;
+      own = λ q o. let a = t.own q o in (a.0, added_other q p m.whole l (λ same. other (sym a.0 ∙ (ap m.holder same ∙ holds))) ∙ a.1);
+      future = λ q o. let a = t.future q o in (a.0, added_other q p m.whole l (λ same. other (sym a.0 ∙ (ap m.holder same ∙ holds))) ∙ a.1);
+      apart = t.apart;
+    };
+  }
+
+  -- a port's view after its turn
+  abbrev ended_view : V → Option (Snapshot E × Snapshot R) → V
+  ended_view v l = record v { stage = Idle; known = record v.known { seen = v.known.seen ++ added v.known.number l } }
+
+  end_mine : (m : Mo) (i : ℕ) (x : T) (l : Option (Snapshot E × Snapshot R)) (v : V) → v.known.seen ≡ m.whole → Fit m i v → Fit (after_end m v.known.number x l) i (ended_view v l)
+  end_mine m i x l v all f = let p : List ℕ = v.known.number in let same : m.whole ++ added p l ≡ v.known.seen ++ added p l = ap (λ h. h ++ added p l) (sym all) in record {
+    named = f.named;
+    seen = subst (λ h. StartsWith h (v.known.seen ++ added p l)) (sym same) (starts_refl (v.known.seen ++ added p l));
+    drawn = f.drawn;
+    lone = f.lone;
+    staged = tt;
+    port = λ e. let t = f.port e in record {
+      begun = t.begun;
+      own = λ q o. ((t.own q o).0, ap (calls_by q) same);
+      future = λ q o. let a = t.future q o in (a.0, added_other q p m.whole l (future-not-self p v.known.splits q o) ∙ a.1);
+      apart = t.apart;
+    };
+  }
+
+  module _ (law : (x : T) (h : List (Entry E R)) → stands x h → legal (origin x) h) where
+    ends_at : (id n : ℕ) (v : V) (x : T) (l : Option (Snapshot E × Snapshot R)) (m : Mo) (vs : List V) → F m vs → Fit m id v → v.is_port ≡ true → v.stage ≡ Turn n → v.known.origin ≡ Some (origin x)
+        → stands x (v.known.seen ++ added v.known.number l) → F (after_end m v.known.number x l) (set vs id (ended_view v l)) × Ended legal l v (ended_view v l)
+    ends_at id n v x l m vs f fit port is begun stood = let p : List ℕ = v.known.number in let st = subst (Stand m id v.known) is fit.staged in let all = st.2 in let mine = fit.port port in
+        let start : origin x ≡ m.start = fit.named (origin x) begun in let whole : v.known.seen ++ added p l ≡ m.whole ++ added p l = ap (λ h. h ++ added p l) all in
+        let stood' : stands x (m.whole ++ added p l) = subst (stands x) whole stood in let home : IsHome origin stands (after_end m p x l) = (x, l, refl, stood', start, st.3) in
+        let lawful : legal m.start (m.whole ++ added p l) = subst (λ o. legal o (m.whole ++ added p l)) start (law x (m.whole ++ added p l) stood') in
+        let low : n < m.ticket = st.0.1 in let here : n ≡ m.serving = st.1 in (
+          moves m (after_end m p x l) vs id (ended_view v l) f (omega arith) f.few f.once lawful (inl home) (end_mine m id x l v all fit)
+              (λ j d other g. end_others m id n j p x l d other st.0.2 here (mine.own p (inl refl)).0 (not_lone m id j v d other fit g) home g),
+          record {
+            view = refl;
+            lawful = λ o e. subst (λ z. legal z (v.known.seen ++ added p l)) (sym (fit.named o e)) (subst (legal m.start) (sym whole) lawful);
+            own = added_own p v.known.seen l;
+            others = λ q a. added_other q p v.known.seen l (mine.apart q a).0;
+          },
+        )
+
+    ends_with : (slots id n : ℕ) (v : V) (x : T) (l : Option (Snapshot E × Snapshot R)) → v.is_port ≡ true → v.stage ≡ Turn n → v.known.origin ≡ Some (origin x) → stands x (v.known.seen ++ added v.known.number l)
+        → Allows Rule slots id (v, (0, full x l) ∷ []) 1 (λ q. (q + 1) % 2 ^ 64) (ended legal (step slots 1 1 0 none) (v, (0, full x l) ∷ []))
+    ends_with slots id n v x l port is begun stood = let me : M = (v, (0, full x l) ∷ []) in by_moment
+        (λ s. length s.homes ≡ slots → get_elem? s.views id ≡ some v → get_or s.words 1 0 < 18446744073709551616
+        → (w : V) × (a : Act Sl) × Valid s.homes me.1 a × Rule (stepped s 1 ((get_or s.words 1 0 + 1) % 2 ^ 64) id me.1 w a) × ended legal (step slots 1 1 0 none) me (get_or s.words 1 0) (w, carried_after me.1 a))
+        (λ m vs f _ at _. let t = ends_at id n v x l m vs f (f.fits id v at) port is begun stood in let w : V = ended_view v l in
+        let a : m.serving ≤ m.ticket = f.range in let b : m.ticket ≤ MOST_TURNS + m.closed = f.few in let c : m.closed ≤ 1 = f.once in let small : m.serving + 1 < 2 ^ 64 = omega arith in
+        (w, gives, tt, subst (λ (z : ℕ). Rule record { words = m.ticket ∷ z ∷ []; homes = some (full x l) ∷ []; views = set vs id w }) (sym (mod-eq_of_lt small)) (kept (after_end m v.known.number x l) (set vs id w) t.0), (refl, t.1)))
+
+    pub ends : (slots id n : ℕ) (me : M) (x : T) (l : Option (Snapshot E × Snapshot R)) → me.0.is_port ≡ true → me.0.stage ≡ Turn n → me.1 ≡ (0, full x l) ∷ [] → me.0.known.origin ≡ Some (origin x)
+        → stands x (me.0.known.seen ++ added me.0.known.number l) → Allows Rule slots id me 1 (λ q. (q + 1) % 2 ^ 64) (ended legal (step slots 1 1 0 none) me)
+    ends slots id n me x l port is carried begun stood = subst (λ (cs : List (ℕ × Sl)). Allows Rule slots id (me.0, cs) 1 (λ q. (q + 1) % 2 ^ 64) (ended legal (step slots 1 1 0 none) (me.0, cs))) (sym carried)
+        (ends_with slots id n me.0 x l port is begun stood)
+
+    -- the table as it is made
+    abbrev first_moment : T → Mo
+    first_moment x = record { ticket = 0; serving = 0; start = origin x; whole = []; home = some (full x None); holder = λ _. 0; owner = λ _. 0; lone = true; closed = 0 }
+
+    first_fit : (x : T) → x ≡ first → Fit (first_moment x) 0 (newcomer (origin x))
+    first_fit x same = record {
+      named = λ o e. sym (the_value e);
+      seen = starts_refl [];
+      drawn = le_refl 0;
+      lone = λ _. refl;
+      staged = (refl, ap (λ (y : T). some (full y None)) same);
+      port = λ _. record { begun = refl; own = λ q _. (refl, refl); future = λ q _. (refl, refl); apart = λ q a. absurd a };
+    }
+      where
+        the_value : {a b : O} → Some a ≡ Some b → a ≡ b
+        the_value e = cc
+
+    pub made : (x : T) → stands x [] → x ≡ first → Rule (opening (0 ∷ 0 ∷ []) (full x None ∷ []) (newcomer (origin x)))
+    made x empty same = let m : Mo = first_moment x in let w : V = newcomer (origin x) in let mine = first_fit x same in let home : IsHome origin stands m = (x, None, refl, empty, refl, refl) in
+        kept m (w ∷ []) (moves m m (w ∷ []) 0 w (record {
+          range = le_refl 0;
+          few = omega arith;
+          once = omega arith;
+          lawful = law x [] empty;
+          held = inl home;
+          fits = λ i v at. ⊎_elim (λ (e : get_elem? [] i ≡ some v). absurd (some-ne-none v (sym e))) (λ (t : (i ≡ 0) × (w ≡ v)). subst (λ (z : ℕ × V). Fit m z.0 z.1) (λ c. (sym t.0 c, t.1 c)) mine) (at_end [] w v i at);
+        }) (le_refl 0) (omega arith) (omega arith) (law x [] empty) (inl home) mine (λ _ _ _ g. g))
+
+  -- the lock is closed, and the value taken for good
+  abbrev after_close : Mo → Mo
+  after_close m = record m { ticket = m.ticket + 1; home = none; closed = 1 }
+
+  close_staged : (m : Mo) (j : ℕ) (k : Known E R O) → m.ticket ≡ m.serving → (m.lone ≡ true → ⊥) → (st : Stage E R) → Stand m j k st → Stand (after_close m) j k st
+  close_staged m j k ended pair New h = absurd (pair h.0)
+  close_staged m j k ended pair Young h = h
+  close_staged m j k ended pair Idle h = tt
+  close_staged m j k ended pair (Waiting q) h = let low : m.serving ≤ q = h.0.0 in let high : q < m.ticket = h.0.1 in absurd (omega arith)
+  close_staged m j k ended pair (Turn q) h = let low : m.serving ≤ q = h.0.0 in let high : q < m.ticket = h.0.1 in absurd (omega arith)
+  close_staged m j k ended pair (SawServing q) h = h
+  close_staged m j k ended pair (Met b p js t) h = h
+
+  closes_at : (id : ℕ) (v : V) (m : Mo) (vs : List V) → F m vs → Fit m id v → m.ticket ≡ m.serving → m.closed ≡ 0 → F (after_close m) (set vs id (informed_view m v Idle))
+  closes_at id v m vs f fit ended fresh = let few : m.ticket ≤ MOST_TURNS + m.closed = f.few in let more : m.ticket ≤ m.ticket + 1 = omega arith in let w : V = informed_view m v Idle in
+      moves m (after_close m) vs id w f (omega arith) (omega arith) (omega arith) f.lawful (inr (omega arith))
+      (restaged m (after_close m) id w refl refl more (λ e. e) refl (informs m id v Idle fit tt) tt)
+      (λ j d other g. restaged m (after_close m) j d refl refl more (λ e. e) refl g (close_staged m j d.known ended (not_lone m id j v d other fit g) d.stage g.staged))
+
+  pub closes : (slots id old new : ℕ) (me : M) → new ≡ old + 1 → me.0.is_port ≡ true → me.0.stage ≡ SawServing old
+      → Allows Rule slots id me 0 (λ n. either (eqb n old) new n) (closed origin stands legal (step slots 0 old new none) me)
+  closes slots id old new me up port is = by_moment
+      (λ s. length s.homes ≡ slots → get_elem? s.views id ≡ some me.0 → get_or s.words 0 0 < 18446744073709551616
+      → (w : V) × (a : Act Sl) × Valid s.homes me.1 a × Rule (stepped s 0 (either (eqb (get_or s.words 0 0) old) new (get_or s.words 0 0)) id me.1 w a)
+      × closed origin stands legal (step slots 0 old new none) me (get_or s.words 0 0) (w, carried_after me.1 a))
+      (λ m vs f _ at _. let fit = f.fits id me.0 at in let st : old ≤ m.serving = subst (Stand m id me.0.known) is fit.staged in let range : m.serving ≤ m.ticket = f.range in let w : V = informed_view m me.0 Idle in
+      exchanged m.ticket old new
+      (λ x. (w : V) × (a : Act Sl) × Valid (m.home ∷ []) me.1 a × Rule record { words = x ∷ m.serving ∷ []; homes = homes_after (m.home ∷ []) me.1 a; views = set vs id w }
+      × closed origin stands legal (step slots 0 old new none) me m.ticket (w, carried_after me.1 a))
+      (λ hit. let done : m.ticket ≡ m.serving = omega arith in let home = at_home m f.held done in let more : m.ticket + 1 ≡ new = omega arith in (
+        w,
+        takes 0 (full home.0 home.1),
+        ap (λ h. some h) home.2,
+        subst (λ (z : ℕ). Rule record { words = z ∷ m.serving ∷ []; homes = none ∷ []; views = set vs id w }) more (kept (after_close m) (set vs id w) (closes_at id me.0 m vs f fit done home.5)),
+        (
+          (λ _. record {
+            watched = watched m id me Idle ((0, full home.0 home.1) ∷ me.1) fit port f.lawful;
+            value = home.0;
+            last = home.1;
+            taken = refl;
+            stood = home.3;
+            begun = (fit.port port).begun ∙ ap (λ (o : O). Some o) (sym home.4);
+          }),
+          λ miss. absurd (miss hit),
+        ),
+      ))
+      (λ miss. (
+        w,
+        keeps,
+        tt,
+        kept m (set vs id w) (stays m vs id w f (informs m id me.0 Idle fit tt)),
+        ((λ hit. absurd (miss hit)), λ _. (watched m id me Idle me.1 fit port f.lawful, refl, omega arith, refl)),
+      )))
+
+  -- the view of a seat that has merged what it took in
+  abbrev merged_known : Mo → Known E R O → Bool → List ℕ → List (List ℕ) → Known E R O
+  merged_known m k b p js = record k { joined = (if b then k.joined ++ p ∷ js else k.joined); seen = m.whole; drawn = m.ticket }
+
+  merge_port : (m : Mo) (i : ℕ) (k : Known E R O) (b : Bool) (p : List ℕ) (js : List (List ℕ)) (h : List (Entry E R)) → Stand m i k (Met b p js h) → IsPort m.start m.holder i m.whole k
+      → IsPort m.start m.holder i m.whole (merged_known m k b p js)
+  merge_port m i k false p js h st t = record { begun = t.begun; own = λ q o. ((t.own q o).0, refl); future = t.future; apart = t.apart }
+  merge_port m i k true p js h st t = record {
+    begun = t.begun;
+    own = λ q o. (⊎_elim (λ e. (t.own q (inl e)).0) (λ a. ⊎_elim (λ x. (t.own q (inr x)).0) (λ x. (st.1 refl q x).0) (among-append q p k.joined js a)) o, refl);
+    future = t.future;
+    apart = λ q a. ⊎_elim (t.apart q) (λ x. let y = st.1 refl q x in (y.2, y.3)) (among-append q p k.joined js a);
+  }
+
+  pub merges : (slots id : ℕ) (me : M) (b : Bool) (p : List ℕ) (js : List (List ℕ)) (h : List (Entry E R)) → me.0.is_port ≡ true → me.0.stage ≡ Met b p js h
+      → Allows Rule slots id me 1 (λ n. n) (merged legal (step slots 1 0 0 none) me)
+  merges slots id me b p js h port is = loads slots id me 1 (merged legal (step slots 1 0 0 none) me) (λ m vs f fit. let st = subst (Stand m id me.0.known) is fit.staged in let k : Known E R O = me.0.known in
+      let w : V = record { known = merged_known m k b p js; is_port = me.0.is_port; stage = Idle } in let see = (watches m id me.0 fit port f.lawful).sees in
+      let met : Merged legal b p js h me.0.known w = record {
+        port = port;
+        staged = refl;
+        sees = record { origin = refl; number = refl; splits = refl; drawn = see.drawn; seen = see.seen; lawful = see.lawful; own = see.own };
+        joined = refl;
+        told = st.0;
+        theirs = λ yes q x. (st.1 yes q x).1;
+      } in (
+        w,
+        record {
+          named = fit.named;
+          seen = starts_refl m.whole;
+          drawn = le_refl m.ticket;
+          lone = fit.lone;
+          staged = tt;
+          port = λ e. merge_port m id k b p js h st (fit.port e);
+        },
+        (
+          refl,
+          λ b' p' js' h' is'. subst (λ (z : Bool × List ℕ × List (List ℕ) × List (Entry E R)). Merged legal z.0 z.1 z.2 z.3 me.0.known w) (ap (met_of (b, p, js, h)) (sym is ∙ is')) met,
+        ),
+      ))
+
+  -- two seats where there was one
+  abbrev after_split : Mo → List ℕ → ℕ → Mo
+  after_split m c new = record m { holder = forked m.holder c new; lone = false }
+
+  abbrev after_tell : Mo → Mo
+  after_tell m = record m { lone = false }
+
+  never : {X : Type 0} → false ≡ true → X
+  never e = cc
+
+  tell_staged : (m : Mo) (j : ℕ) (k : Known E R O) → (m.lone ≡ true → ⊥) → (st : Stage E R) → Stand m j k st → Stand (after_tell m) j k st
+  tell_staged m j k pair New h = absurd (pair h.0)
+  tell_staged m j k pair Young h = h
+  tell_staged m j k pair Idle h = tt
+  tell_staged m j k pair (Waiting q) h = h
+  tell_staged m j k pair (Turn q) h = h
+  tell_staged m j k pair (SawServing q) h = h
+  tell_staged m j k pair (Met b p js t) h = h
+
+  -- the rule once a new seat with the view w has come
+  comes : (m m' : Mo) (vs : List V) (i : ℕ) (v w : V) → F m vs → m'.serving ≡ m.serving → m'.ticket ≡ m.ticket → m'.closed ≡ m.closed → m'.start ≡ m.start → m'.whole ≡ m.whole → m'.home ≡ m.home
+      → Fit m' i v → Fit m' (length (set vs i v)) w → ((j : ℕ) (d : V) → j ≢ i → Fit m j d → Fit m' j d) → F m' (set vs i v ++ w ∷ [])
+  comes m m' vs i v w f serving ticket end start whole home mine theirs others =
+      let few : m.ticket ≤ MOST_TURNS + m.closed = f.few in let range : m.serving ≤ m.ticket = f.range in let once : m.closed ≤ 1 = f.once in record {
+        range = omega arith;
+        few = omega arith;
+        once = omega arith;
+        lawful = subst (λ (z : O × List (Entry E R)). legal z.0 z.1) (λ c. (sym start c, sym whole c)) f.lawful;
+        held = ⊎_elim (λ (h : IsHome origin stands m). inl (h.0, h.1, home ∙ h.2, subst (stands h.0) (sym whole) h.3, h.4 ∙ sym start, end ∙ h.5)) (λ (l : m.serving < m.ticket). inr (omega arith)) f.held;
+        fits = λ j d at. ⊎_elim (λ e. seats (Fit m') vs i v mine (λ j d n e. others j d n (f.fits j d e)) j d e)
+            (λ (t : (j ≡ length (set vs i v)) × (w ≡ d)). subst (λ (z : ℕ × V). Fit m' z.0 z.1) (λ c. (sym t.0 c, t.1 c)) theirs) (at_end (set vs i v) w d j at);
+      }
+
+  -- the next number that the port may give
+  abbrev next_number : Known E R O → List ℕ
+  next_number k = k.number ++ k.splits ∷ []
+
+  module _ (m : Mo) (i new : ℕ) (k : Known E R O) (mine : IsPort m.start m.holder i m.whole k) where
+    abbrev Forked : Mo
+    Forked = after_split m (next_number k) new
+
+    -- a number of another seat stays with it
+    theirs_stay : (j : ℕ) (q : List ℕ) → j ≢ i → m.holder q ≡ j → Forked.holder q ≡ j
+    theirs_stay j q other h = forked_else m.holder (next_number k) new q (apart-not-front k.number k.splits q (λ t. other (sym h ∙ (mine.future q t).0))) ∙ h
+
+    split_staged : (j : ℕ) (d : Known E R O) → j ≢ i → (m.lone ≡ true → ⊥) → (st : Stage E R) → Stand m j d st → Stand Forked j d st
+    split_staged j d other pair New h = absurd (pair h.0)
+    split_staged j d other pair Young h = h
+    split_staged j d other pair Idle h = tt
+    split_staged j d other pair (Waiting q) h = h
+    split_staged j d other pair (Turn q) h = h
+    split_staged j d other pair (SawServing q) h = h
+    split_staged j d other pair (Met b p js t) h = (h.0, λ yes q one. let a = h.1 yes q one in (theirs_stay j q other a.0, a.1, a.2, a.3))
+
+    split_others : (v : V) (j : ℕ) (d : V) → Fit m i v → j ≢ i → Fit m j d → Fit Forked j d
+    split_others v j d fit other f = record {
+      named = f.named;
+      seen = f.seen;
+      drawn = f.drawn;
+      lone = λ e. never e;
+      staged = split_staged j d.known other (not_lone m i j v d other fit f) d.stage f.staged;
+      port = λ e. let t = f.port e in record {
+        begun = t.begun;
+        own = λ q o. let a = t.own q o in (theirs_stay j q other a.0, a.1);
+        future = λ q o. let a = t.future q o in (theirs_stay j q other a.0, a.1);
+        apart = t.apart;
+      };
+    }
+
+    -- the port that was split keeps its own numbers
+    own_stays : (q : List ℕ) → IsOwn k q → Forked.holder q ≡ i
+    own_stays q o = let n : has_front (next_number k) q ≡ false = apart-not-front k.number k.splits q (λ t. ⊎_elim (λ e. future-not-self k.number k.splits q t e) (λ a. (mine.apart q a).1 t) o) in
+        forked_else m.holder (next_number k) new q n ∙ (mine.own q o).0
+
+    split_mine : (v : V) → v.known ≡ k → v.stage ≡ Idle → Fit m i v → Fit Forked i (record v { known = record k { splits = k.splits + 1 } })
+    split_mine v same idle f = let g : Fit m i (record v { known = k }) = subst (λ (z : Known E R O). Fit m i (record v { known = z })) same f in record {
+      named = g.named;
+      seen = g.seen;
+      drawn = g.drawn;
+      lone = λ e. never e;
+      staged = subst (Stand Forked i (record k { splits = k.splits + 1 })) (sym idle) tt;
+      port = λ _. record {
+        begun = mine.begun;
+        own = λ q o. (own_stays q o, (mine.own q o).1);
+        future = λ q o. let a = mine.future q (future_sooner k.number k.splits q o) in (forked_else m.holder (next_number k) new q (future-not-front k.number k.splits q o) ∙ a.0, a.1);
+        apart = λ q a. let t = mine.apart q a in (t.0, λ o. t.1 (future_sooner k.number k.splits q o));
+      };
+    }
+
+    -- what the new port may come to give begins with its number
+    front_of_child : (q : List ℕ) → StartsWith q (next_number k) → (Forked.holder q ≡ new) × (calls_by q m.whole ≡ [])
+    front_of_child q a = (forked_here m.holder (next_number k) new q (ap (has_front (next_number k)) a.1 ∙ has_front-append (next_number k) a.0), (mine.future q (front_is_future k.number k.splits q a)).1)
+
+    split_born : (v : V) → v.known ≡ k → Fit m i v → Fit Forked new (born_view (record v { known = k }))
+    split_born v same f = let g : Fit m i (record v { known = k }) = subst (λ (z : Known E R O). Fit m i (record v { known = z })) same f in let c : List ℕ = next_number k in
+        let self = front_of_child c (starts_refl c) in let none_seen : calls_by c k.seen ≡ [] = calls_none c m.whole k.seen g.seen self.1 in record {
+          named = g.named;
+          seen = g.seen;
+          drawn = omega arith;
+          lone = λ e. never e;
+          staged = none_seen;
+          port = λ _. record {
+            begun = mine.begun;
+            own = λ q o. ⊎_elim (λ (e : q ≡ c). subst (λ (z : List ℕ). (Forked.holder z ≡ new) × (calls_by z m.whole ≡ calls_by z k.seen)) (sym e) (self.0, self.1 ∙ sym none_seen)) (λ a. absurd a) o;
+            future = λ q o. front_of_child q (o.0 ∷ o.1, o.2);
+            apart = λ q a. absurd a;
+          };
+        }
+
+  pub splits : (id : ℕ) (v : V) → v.is_port ≡ true → v.stage ≡ Idle → Splits Rule id v (divided_view v) (born_view v)
+  splits id v port idle = by_moment (λ s. get_elem? s.views id ≡ some v → Rule record { words = s.words; homes = s.homes; views = set s.views id (divided_view v) ++ born_view v ∷ [] })
+      (λ m vs f at. let fit = f.fits id v at in let mine = fit.port port in let new : ℕ = length (set vs id (divided_view v)) in let m' : Mo = after_split m (next_number v.known) new in
+      kept m' (set vs id (divided_view v) ++ born_view v ∷ []) (comes m m' vs id (divided_view v) (born_view v) f refl refl refl refl refl refl (split_mine m id new v.known mine v refl idle fit)
+      (split_born m id new v.known mine v refl fit) (λ j d other g. split_others m id new v.known mine v j d fit other g)))
+
+  told_fit : (m : Mo) (i : ℕ) (v : V) → Fit m i v → Stand (after_tell m) i v.known v.stage → Fit (after_tell m) i v
+  told_fit m i v f st = record { named = f.named; seen = f.seen; drawn = f.drawn; lone = λ e. never e; staged = st; port = f.port }
+
+  pub tells : (id : ℕ) (v : V) → v.stage ≡ Idle → Splits Rule id v v (noted_view v)
+  tells id v idle = by_moment (λ s. get_elem? s.views id ≡ some v → Rule record { words = s.words; homes = s.homes; views = set s.views id v ++ noted_view v ∷ [] })
+      (λ m vs f at. let fit = f.fits id v at in let m' : Mo = after_tell m in
+      kept m' (set vs id v ++ noted_view v ∷ []) (comes m m' vs id v (noted_view v) f refl refl refl refl refl refl (told_fit m id v fit (subst (Stand m' id v.known) (sym idle) tt))
+      record { named = fit.named; seen = fit.seen; drawn = omega arith; lone = λ e. never e; staged = tt; port = λ e. never e }
+      (λ j d other g. told_fit m j d g (tell_staged m j d.known (not_lone m id j v d other fit g) d.stage g.staged))))
+
+  -- the numbers of the seat `other` are the seat i's
+  abbrev after_join : Mo → ℕ → ℕ → Mo
+  after_join m other i = record m { holder = passed_on m.holder other i }
+
+  join_staged : (m : Mo) (other i j : ℕ) (k : Known E R O) → j ≢ other → (st : Stage E R) → Stand m j k st → Stand (after_join m other i) j k st
+  join_staged m other i j k apart New h = h
+  join_staged m other i j k apart Young h = h
+  join_staged m other i j k apart Idle h = tt
+  join_staged m other i j k apart (Waiting q) h = h
+  join_staged m other i j k apart (Turn q) h = h
+  join_staged m other i j k apart (SawServing q) h = h
+  join_staged m other i j k apart (Met b p js t) h = (h.0, λ yes q one. let a = h.1 yes q one in (passed_else m.holder other i j q apart a.0, a.1, a.2, a.3))
+
+  -- a seat other than the one that was taken in
+  join_fit : (m : Mo) (other i j : ℕ) (d : V) → j ≢ other → Fit m j d → Fit (after_join m other i) j d
+  join_fit m other i j d apart f = record {
+    named = f.named;
+    seen = f.seen;
+    drawn = f.drawn;
+    lone = f.lone;
+    staged = join_staged m other i j d.known apart d.stage f.staged;
+    port = λ e. let t = f.port e in record {
+      begun = t.begun;
+      own = λ q o. let a = t.own q o in (passed_else m.holder other i j q apart a.0, a.1);
+      future = λ q o. let a = t.future q o in (passed_else m.holder other i j q apart a.0, a.1);
+      apart = t.apart;
+    };
+  }
+
+  -- what a port knows of the seat that it took in
+  join_met : (m : Mo) (other i : ℕ) (v w : V) → i ≢ other → v.is_port ≡ true → Fit m i v → Fit m other w
+      → Stand (after_join m other i) i v.known (Met w.is_port w.known.number w.known.joined w.known.seen)
+  join_met m other i v w apart port f g = let mine = f.port port in (
+    g.seen,
+    λ yes q one. let a = (g.port yes).own q one in (
+      passed_here m.holder other i q a.0,
+      a.1,
+      (λ e. apart (sym (mine.own q (inl e)).0 ∙ a.0)),
+      λ t. apart (sym (mine.future q t).0 ∙ a.0),
+    ),
+  )
+
+  pub joins : (id : ℕ) (v : V) (other : ℕ) (w : V) → v.is_port ≡ true → Joins Rule id v other w (met_view v w) spent_view
+  joins id v other w port = by_moment
+      (λ s. get_elem? s.views id ≡ some v → ¬ (other ≡ id) → get_elem? (set s.views id (met_view v w)) other ≡ some w → Rule record { words = s.words; homes = s.homes; views = set (set s.views id (met_view v w)) other spent_view })
+      (λ m vs f at apart there. let n : id ≢ other = λ e. apart (sym e) in let fit = f.fits id v at in let m' : Mo = after_join m other id in let both : V = met_view v w in
+      let theirs = f.fits other w (sym (set_else vs id other both apart) ∙ there) in let st = join_met m other id v w n port fit theirs in
+      let mine : Fit m' id both = at_stage m' id v (Met w.is_port w.known.number w.known.joined w.known.seen) (join_fit m other id id v n fit) st in
+      let spent : Fit m' other spent_view = record { named = λ o e. no_origin e; seen = (m.whole, refl); drawn = omega arith; lone = theirs.lone; staged = tt; port = λ e. never e } in
+      kept m' (set (set vs id both) other spent_view) record {
+        range = f.range;
+        few = f.few;
+        once = f.once;
+        lawful = f.lawful;
+        held = f.held;
+        fits = seats (Fit m') (set vs id both) other spent_view spent (λ j d a e. seats (λ j d. j ≢ other → Fit m' j d) vs id both (λ _. mine) (λ j d _ e a. join_fit m other id j d a (f.fits j d e)) j d e a);
+      })
+    where
+      no_origin : {X : Type 0} {o : O} → None ≡ Some o → X
+      no_origin e = cc
+
+  -- while the first seat has taken no step, the slot has the value that the table was made with
+  pub regained : (ws : List ℕ) (xs : List Sl) (id : ℕ) (v : V) → v.stage ≡ New → Final (Seen Rule id v) ws xs → get_elem? xs 0 ≡ some (full first None)
+  regained ws xs id v is (s, seen, words, count, homes) = let r = seen.0 in let fit = r.facts.fits id v seen.1 in let st = subst (Stand r.now id v.known) is fit.staged in
+      homes 0 (full first None) (ap (λ h. get_elem? h 0) r.homes_are ∙ ap (λ h. some h) st.1)

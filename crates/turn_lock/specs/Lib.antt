@@ -1,0 +1,6 @@
+pub mod History
+pub mod Rule
+pub mod Calls
+pub mod Plays
+pub mod Shown
+pub mod Trials

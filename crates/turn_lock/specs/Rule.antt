@@ -1,0 +1,93 @@
+-- The rule of the table: what holds of its words, its slot and all views between any two steps.
+use Rattle.std.specs.Prelude.{◌≡◌, ◌≢◌, ◌⊎◌, ℕ, ◌+◌, ◌<◌, ◌≤◌, Bool, true, List, [], ◌∷◌, Option, Some, None}
+use mathlib.Core.Option.{some, none}
+use mathlib.Core.Option as maybe
+use lib.ListN.{get_elem?}
+use Rattle.std.specs.declared.snapshot.Snapshot.{Snapshot}
+use Rattle.atomic_table.specs.Table.{State}
+use Rattle.turn_lock.specs.declared.turned.Entry.{Entry}
+use Rattle.turn_lock.specs.declared.known.Known.{Known}
+use Rattle.turn_lock.specs.declared.known.View.{View}
+use Rattle.turn_lock.specs.declared.known.Stage.{Stage}
+use Rattle.turn_lock.specs.declared.known.Stage.TheVariants.{New, Young, Idle, Waiting, Turn, SawServing, Met}
+use Rattle.turn_lock.specs.declared.board.Slot.{Slot}
+use Rattle.turn_lock.specs.declared.board.TheConstants.{MOST_TURNS}
+use Rattle.turn_lock.specs.History.{StartsWith, IsAmong, IsFuture, calls_by}
+
+-- what a port knows when its lock has been made
+abbrev pub opened : {E R O : Type 0} → O → Known E R O
+opened o = record { origin = Some o; number = []; splits = 0; joined = []; seen = []; drawn = 0 }
+
+abbrev pub newcomer : {E R O : Type 0} → O → View E R O
+newcomer o = record { known = opened o; is_port = true; stage = New }
+
+abbrev pub full : {T E R : Type 0} → T → Option (Snapshot E × Snapshot R) → Slot T E R
+full x l = record { value = Some x; last = l }
+
+-- q is the port's own number, or was joined into it
+abbrev pub IsOwn : {E R O : Type 0} → Known E R O → List ℕ → Type 0
+IsOwn k q = (q ≡ k.number) ⊎ IsAmong q k.joined
+
+-- The table at one moment. `whole` is the longest history, `home` the slot where no seat has it, `holder` the seat that a number belongs to, and `owner` the seat that drew a turn. `lone` says that there is the first seat alone, and `closed` is 1 once the lock was closed
+pub record Moment (T E R O : Type 0) : Type 0 where
+  pub ticket : ℕ
+  pub serving : ℕ
+  pub start : O
+  pub whole : List (Entry E R)
+  pub home : maybe.Option (Slot T E R)
+  pub holder : List ℕ → ℕ
+  pub owner : ℕ → ℕ
+  pub lone : Bool
+  pub closed : ℕ
+
+module _ {T E R O : Type 0} (origin : T → O) (stands : T → List (Entry E R) → Type 0) where
+  -- the value is in the slot, and stands for the history
+  abbrev pub IsHome : Moment T E R O → Type 0
+  IsHome m = (x : T) × (l : Option (Snapshot E × Snapshot R)) × (m.home ≡ some (full x l)) × stands x m.whole × (origin x ≡ m.start) × (m.closed ≡ 0)
+
+  -- the seat i drew the turn n, which has not ended
+  abbrev pub Holds : Moment T E R O → ℕ → ℕ → Type 0
+  Holds m i n = (m.serving ≤ n) × (n < m.ticket) × (m.owner n ≡ i)
+
+  -- what a seat knows by its stage. `first` is the value that the lock was made over
+  abbrev pub Staged : T → Moment T E R O → ℕ → Known E R O → Stage E R → Type 0
+  Staged first m i k New = (m.lone ≡ true) × (m.home ≡ some (full first None))
+  Staged first m i k Young = calls_by k.number k.seen ≡ []
+  Staged first m i k Idle = Unit {0}
+  Staged first m i k (Waiting n) = Holds m i n × (n ≡ m.serving → IsHome m)
+  Staged first m i k (Turn n) = Holds m i n × (n ≡ m.serving) × (k.seen ≡ m.whole) × (m.closed ≡ 0)
+  Staged first m i k (SawServing n) = n ≤ m.serving
+  Staged first m i k (Met b p js h) = StartsWith m.whole h
+      × (b ≡ true → (q : List ℕ) → (q ≡ p) ⊎ IsAmong q js → (m.holder q ≡ i) × (calls_by q m.whole ≡ calls_by q h) × (q ≢ k.number) × ¬ IsFuture k.number k.splits q)
+
+-- Of its own numbers a port has seen all calls; of those that it may come to give there are none; and they all differ
+pub record IsPort {E R O : Type 0} (start : O) (holder : List ℕ → ℕ) (i : ℕ) (whole : List (Entry E R)) (k : Known E R O) : Type 0 where
+  pub begun : k.origin ≡ Some start
+  pub own : (q : List ℕ) → IsOwn k q → (holder q ≡ i) × (calls_by q whole ≡ calls_by q k.seen)
+  pub future : (q : List ℕ) → IsFuture k.number k.splits q → (holder q ≡ i) × (calls_by q whole ≡ [])
+  pub apart : (q : List ℕ) → IsAmong q k.joined → (q ≢ k.number) × ¬ IsFuture k.number k.splits q
+
+-- the view of the seat i fits the moment
+pub record Fits {T E R O : Type 0} (origin : T → O) (stands : T → List (Entry E R) → Type 0) (first : T) (m : Moment T E R O) (i : ℕ) (v : View E R O) : Type 0 where
+  pub named : (o : O) → v.known.origin ≡ Some o → o ≡ m.start
+  pub seen : StartsWith m.whole v.known.seen
+  pub drawn : v.known.drawn ≤ m.ticket
+  pub lone : m.lone ≡ true → i ≡ 0
+  pub staged : Staged origin stands first m i v.known v.stage
+  pub port : v.is_port ≡ true → IsPort m.start m.holder i m.whole v.known
+
+-- The longest history is legal, the value is at home or a turn is held, and each view fits
+pub record Facts {T E R O : Type 0} (origin : T → O) (stands : T → List (Entry E R) → Type 0) (legal : O → List (Entry E R) → Type 0) (first : T) (m : Moment T E R O) (views : List (View E R O)) : Type 0 where
+  pub range : m.serving ≤ m.ticket
+  pub few : m.ticket ≤ MOST_TURNS + m.closed
+  pub once : m.closed ≤ 1
+  pub lawful : legal m.start m.whole
+  pub held : IsHome origin stands m ⊎ (m.serving < m.ticket)
+  pub fits : (i : ℕ) (v : View E R O) → get_elem? views i ≡ some v → Fits origin stands first m i v
+
+-- the rule
+pub record Keeps {T E R O : Type 0} (origin : T → O) (stands : T → List (Entry E R) → Type 0) (legal : O → List (Entry E R) → Type 0) (first : T) (s : State (Slot T E R) (View E R O)) : Type 0 where
+  pub now : Moment T E R O
+  pub words_are : s.words ≡ now.ticket ∷ now.serving ∷ []
+  pub homes_are : s.homes ≡ now.home ∷ []
+  pub facts : Facts origin stands legal first now s.views

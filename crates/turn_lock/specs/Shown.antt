@@ -1,0 +1,17 @@
+-- What contracts see of a port and of a note.
+use Rattle.std.specs.Prelude.{ℕ, List, Option}
+use Rattle.atomic_table.specs.Seated.{TableId}
+use Rattle.turn_lock.specs.declared.turned.Entry.{Entry}
+use Rattle.turn_lock.specs.declared.known.Known.{Known}
+
+-- a port: which lock it belongs to, how many turns that lock has, and what the port knows
+pub record ShownPort (E R O : Type 0) : Type 0 where
+  pub lock : TableId
+  pub bound : ℕ
+  pub known : Known E R O
+
+-- a note: which lock it belongs to, the origin, and the history that it tells
+pub record ShownNote (E R O : Type 0) : Type 0 where
+  pub lock : TableId
+  pub origin : Option O
+  pub seen : List (Entry E R)

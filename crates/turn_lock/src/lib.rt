@@ -1,0 +1,21 @@
+//! A fair lock round one value, whose calls stand in one legal history.
+#![tactic(auto)]
+
+mod board;
+mod faults;
+mod known;
+mod lock;
+mod plays;
+mod port;
+mod steps;
+mod turned;
+
+pub use board::MOST_TURNS;
+pub use faults::{Busy, CallFault};
+pub use known::Known;
+pub use lock::Shared;
+pub use port::{Note, Port};
+pub use turned::{Entry, Turned};
+
+#[cfg(test)]
+mod tests;

@@ -1,0 +1,130 @@
+//! How a lock is made, and how its value comes back.
+ghost use Rattle.std.specs.Prelude.{◌≡◌, ◌<◌, ◌≤◌, [], ◌∷◌, Some, None, IfOk, IfErr};
+ghost use Rattle.std.specs.Arc.{arc_value};
+ghost use Rattle.turn_lock.specs.declared.known.Stage.TheVariants.{New};
+ghost use Rattle.turn_lock.specs.Rule.{opened, newcomer};
+ghost use Rattle.turn_lock.specs.Calls.{Watches, Yields};
+ghost use Rattle.turn_lock.specs.Plays.{IsSized};
+
+use crate::board::{Board, MOST_TURNS, Place, Slot};
+use crate::faults::Busy;
+use crate::port::Port;
+use crate::steps::{draw_last, settle};
+use crate::turned::Turned;
+use atomic_table::{Refused, Table};
+use std::alloc::{AllocError, AllocFailed, Global};
+use std::marker::Model;
+use std::snapshot::Snapshot;
+use std::sync::Arc;
+
+/// The right to close a lock. Contracts see which lock it is. It has no bytes: the value lies with the ports.
+#[derive(Drop)]
+pub struct Shared<T: Turned> {
+    lock: Snapshot<Board<T>>,
+}
+
+impl<T: Turned> Model for Shared<T> {
+    ghost use Rattle.atomic_table.specs.Seated.{TableId, table_id_coded};
+
+    ghost Value = { TableId };
+
+    ghost coded = { table_id_coded };
+
+    ghost view = { λ s. s.lock.value.shared.table_id };
+}
+
+// The value of a table whose first seat has taken no step.
+fn regain<T: Turned>(table: Board<T>, place: Place<T>) -> T
+    requires table { place.table_id ≡ table.shared.table_id }
+    requires size { table.shared.table_id.slots ≡ 1 }
+    requires new { place.me.0.stage ≡ New }
+    ensures { result ≡ table.shared.key.value }
+{
+    let mut closed = table.close_with(place);
+    let slot = closed.take(0);
+    closed.free();
+    slot.value.unwrap()
+}
+
+// The table with its first seat, or the value.
+fn lay<T: Turned>(alloc: Global, value: T) -> Result<(Arc<Board<T>, Global>, Place<T>), T>
+    requires { T.stands value [] }
+    ensures ok { IfOk result (λ t. (t.1.table_id ≡ (arc_value t.0).shared.table_id) × IsSized t.1.table_id × (t.1.me ≡ (newcomer (T.origin value), []))) }
+    ensures err { IfErr result (λ x. x ≡ value) }
+{
+    let key = Snapshot::of(&value);
+    let slot = Slot {
+        value: Some(value),
+        last: None,
+    };
+    let mut slots = Vec::new(alloc);
+    if let Err(AllocFailed { value: slot }) = slots.push(slot) {
+        return Err(slot.value.unwrap());
+    }
+    let (table, place) = match Table::new(alloc, &[0, 0], slots, &key) {
+        Ok(laid) => laid,
+        Err(Refused { mut slots }) => return Err(slots.pop().unwrap().value.unwrap()),
+    };
+    match Arc::new(alloc, table) {
+        Ok(table) => Ok((table, place)),
+        Err(AllocFailed { value: table }) => Err(regain(table, place)),
+    }
+}
+
+impl<T: Turned> Shared<T> {
+    /// A lock over the value, for `bound` turns, and its first port. For want of memory the value
+    /// comes back.
+    pub fn new(alloc: Global, value: T, bound: u64) -> Result<(Shared<T>, Port<T>), (AllocError, T)>
+        requires bound { (0 < bound) × (bound ≤ MOST_TURNS) }
+        requires empty { T.stands value [] }
+        ensures ok { IfOk result (λ r. (r.0 ≡ r.1.lock) × (r.1.bound ≡ bound) × (r.1.known ≡ opened (T.origin value))) }
+        ensures err { IfErr result (λ e. e.1 ≡ value) }
+    {
+        match lay(alloc, value) {
+            Ok((table, mut place)) => {
+                settle(&table.shared, &mut place);
+                let board: &Board<T> = &table;
+                let lock = Snapshot::of(board);
+                Ok((
+                    Shared { lock },
+                    Port {
+                        table,
+                        place,
+                        bound,
+                    },
+                ))
+            }
+            Err(value) => Err((AllocError, value)),
+        }
+    }
+
+    /// Takes the value out for good, by a port of this lock. It waits for nobody.
+    ///
+    /// `Busy`: it read that so many turns had ended and then that more were drawn; the lock and the
+    /// port come back. At `Ok` ports that were not joined find no turn any more: they wait, or are
+    /// Exhausted.
+    pub fn close(self, port: Port<T>) -> Result<T, (Busy, Shared<T>, Port<T>)>
+        requires { port.lock ≡ self }
+        ensures ok { IfOk result (λ x. Yields T.origin T.stands T.legal port.known x) }
+        ensures err { IfErr result (λ e. (e.0.served < e.0.drawn) × (e.0.drawn ≡ e.2.known.drawn) × Watches T.legal port.known e.2.known) }
+        ensures back { IfErr result (λ e. (e.1 ≡ self) × (e.2.lock ≡ port.lock) × (e.2.bound ≡ port.bound)) }
+    {
+        let Port {
+            table,
+            mut place,
+            bound,
+        } = port;
+        match draw_last(&table.shared, &mut place) {
+            Ok(value) => Ok(value),
+            Err(busy) => Err((
+                busy,
+                self,
+                Port {
+                    table,
+                    place,
+                    bound,
+                },
+            )),
+        }
+    }
+}

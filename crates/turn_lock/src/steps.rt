@@ -1,0 +1,237 @@
+//! The steps that the calls of a port are made of, each a step or two on the table.
+ghost use Rattle.std.specs.Prelude.{◌≡◌, ℕ, ◌+◌, ◌<◌, ◌≤◌, [], ◌∷◌, ◌++◌, Some, None, IfOk, IfErr, IfSome, IfNone, IsTrue, IsFalse, Option};
+ghost use Rattle.std.specs.declared.snapshot.Snapshot.{Snapshot};
+ghost use Rattle.turn_lock.specs.declared.known.Stage.TheVariants.{Young, Idle, Waiting, Turn};
+ghost use Rattle.turn_lock.specs.History.{calls_by};
+ghost use Rattle.turn_lock.specs.Rule.{full};
+ghost use Rattle.turn_lock.specs.Calls.{IsLegal, Watches, Called, IsCause};
+ghost use Rattle.turn_lock.specs.Plays.{IsSized, IsReady, hollow, posed, added, divided_view, born_view, noted_view, Ended, Merged, Takes};
+
+use crate::board::{HOME, MOST_TURNS, Place, SERVING, Slot, TICKET, Top};
+use crate::faults::{Busy, CallFault};
+use crate::plays::{Close, Cut, Draw, End, Look, Merge, Reach, SeeServing, Settle, TakeIn, Tell};
+use crate::turned::Turned;
+use crossbeam_utils::Backoff;
+use std::alloc::Global;
+use std::snapshot::Snapshot;
+use std::sync::Wait;
+
+/// The first step of a seat.
+pub(crate) fn settle<T: Turned>(top: &Top<T>, place: &mut Place<T>)
+    requires table { (place.old.table_id ≡ top.now.table_id) × IsSized top.now.table_id }
+    ensures seat { (place.new.table_id ≡ place.old.table_id) × (place.new.me ≡ (posed place.old.me.0 Idle, place.old.me.1)) }
+    ensures young { place.old.me.0.stage ≡ Young → calls_by place.old.me.0.known.number place.old.me.0.known.seen ≡ [] }
+{
+    top.load::<Settle>(place, SERVING);
+}
+
+/// Reads how many turns were drawn.
+fn look<T: Turned>(top: &Top<T>, place: &mut Place<T>) -> u64
+    requires table { (place.old.table_id ≡ top.now.table_id) × IsSized top.now.table_id }
+    requires ready { IsReady place.old Idle [] }
+    ensures seat { (place.new.table_id ≡ place.old.table_id) × IsReady place.new Idle [] }
+    ensures watches { Watches T.legal place.old.me.0.known place.new.me.0.known }
+    ensures drawn { result ≤ place.new.me.0.known.drawn }
+{
+    top.load::<Look<T>>(place, TICKET)
+}
+
+/// Draws this turn, unless another was drawn before.
+fn try_draw<T: Turned>(top: &Top<T>, place: &mut Place<T>, turn: u64) -> bool
+    requires table { (place.old.table_id ≡ top.now.table_id) × IsSized top.now.table_id }
+    requires bound { turn < MOST_TURNS }
+    ensures seat { place.new.table_id ≡ place.old.table_id }
+    ensures yes { IsTrue result → place.new.me ≡ (posed place.old.me.0 (Waiting turn), place.old.me.1) }
+    ensures no { IsFalse result → place.new.me ≡ place.old.me }
+{
+    top.compare_exchange::<Draw>(place, TICKET, turn, turn + 1) == turn
+}
+
+/// Draws a turn, unless `bound` turns were drawn.
+pub(crate) fn draw<T: Turned, W: Wait>(
+    top: &Top<T>,
+    place: &mut Place<T>,
+    rt: &W,
+    bound: u64,
+) -> Option<u64>
+    requires table { (place.old.table_id ≡ top.now.table_id) × IsSized top.now.table_id }
+    requires bound { bound ≤ MOST_TURNS }
+    requires ready { IsReady place.old Idle [] × IsLegal T.legal place.old.me.0.known }
+    ensures seat { place.new.table_id ≡ place.old.table_id }
+    ensures watches { Watches T.legal place.old.me.0.known place.new.me.0.known }
+    ensures some { IfSome result (λ n. IsReady place.new (Waiting n) []) }
+    ensures none { IfNone result (IsReady place.new Idle [] × (bound ≤ place.new.me.0.known.drawn)) }
+{
+    let backoff = Backoff::new();
+    for _ in rt.forever() {
+        let turn = look(top, place);
+        if turn >= bound {
+            return None;
+        }
+        if try_draw(top, place, turn) {
+            return Some(turn);
+        }
+        backoff.spin();
+    }
+    unreachable!()
+}
+
+/// Takes the slot, if the seat's turn has come.
+fn try_reach<T: Turned>(top: &Top<T>, place: &mut Place<T>, turn: u64) -> bool
+    requires table { (place.old.table_id ≡ top.now.table_id) × IsSized top.now.table_id }
+    requires waiting { IsReady place.old (Waiting turn) [] }
+    ensures seat { place.new.table_id ≡ place.old.table_id }
+    ensures yes { IsTrue result → Takes T.origin T.stands T.legal (Turn turn) place.old.me place.new.me }
+    ensures no { IsFalse result → place.new.me ≡ place.old.me }
+{
+    top.load::<Reach<T>>(place, SERVING) == turn
+}
+
+/// Takes the value out of the slot, which the seat holds.
+fn take_out<T: Turned>(top: &Top<T>, place: &mut Place<T>) -> T
+    requires table { (place.old.table_id ≡ top.now.table_id) × IsSized top.now.table_id }
+    requires holds { (x : T) × (l : Option (Snapshot T.Event × Snapshot T.Reply)) × (place.old.me.1 ≡ (0, full x l) ∷ []) }
+    ensures seat { (place.new.table_id ≡ place.old.table_id) × (place.new.me ≡ (place.old.me.0, (0, hollow) ∷ [])) }
+    ensures value { (l : Option (Snapshot T.Event × Snapshot T.Reply)) × (place.old.me.1 ≡ (0, full result l) ∷ []) }
+{
+    let empty = Slot {
+        value: None,
+        last: None,
+    };
+    top.exchange(place, HOME, empty).value.unwrap()
+}
+
+/// Puts this into the slot, which the seat holds.
+fn put_back<T: Turned>(top: &Top<T>, place: &mut Place<T>, slot: Slot<T, T::Event, T::Reply>)
+    requires table { (place.old.table_id ≡ top.now.table_id) × IsSized top.now.table_id }
+    requires holds { place.old.me.1 ≡ (0, hollow) ∷ [] }
+    ensures { (place.new.table_id ≡ place.old.table_id) × (place.new.me ≡ (place.old.me.0, (0, slot) ∷ [])) }
+{
+    drop(top.exchange(place, HOME, slot));
+}
+
+/// Waits for the turn, and takes the value. It spins for a while, and then yields the processor at each look.
+pub(crate) fn reach<T: Turned, W: Wait>(top: &Top<T>, place: &mut Place<T>, rt: &W, turn: u64) -> T
+    requires table { (place.old.table_id ≡ top.now.table_id) × IsSized top.now.table_id }
+    requires waiting { IsReady place.old (Waiting turn) [] }
+    ensures seat { (place.new.table_id ≡ place.old.table_id) × IsReady place.new (Turn turn) ((0, hollow) ∷ []) }
+    ensures watches { Watches T.legal place.old.me.0.known place.new.me.0.known }
+    ensures value { (place.new.me.0.known.origin ≡ Some (T.origin result)) × T.stands result place.new.me.0.known.seen }
+{
+    let backoff = Backoff::new();
+    for _ in rt.forever() {
+        if try_reach(top, place, turn) {
+            return take_out(top, place);
+        }
+        backoff.snooze();
+    }
+    unreachable!()
+}
+
+/// Puts the value back and ends the turn, with the entry that `last` names, if any.
+pub(crate) fn end_turn<T: Turned>(
+    top: &Top<T>,
+    place: &mut Place<T>,
+    turn: u64,
+    value: T,
+    last: Option<(Snapshot<T::Event>, Snapshot<T::Reply>)>,
+)
+    requires table { (place.old.table_id ≡ top.now.table_id) × IsSized top.now.table_id }
+    requires taken { IsReady place.old (Turn turn) ((0, hollow) ∷ []) }
+    requires value { (place.old.me.0.known.origin ≡ Some (T.origin value)) × T.stands value (place.old.me.0.known.seen ++ added place.old.me.0.known.number last) }
+    ensures seat { (place.new.table_id ≡ place.old.table_id) × (place.new.me.1 ≡ []) }
+    ensures ended { Ended T.legal last place.old.me.0 place.new.me.0 }
+{
+    let slot = Slot {
+        value: Some(value),
+        last,
+    };
+    put_back(top, place, slot);
+    top.fetch_add::<End<T>>(place, SERVING, 1);
+}
+
+/// One call: draws a turn, waits for it, has the value take the event, and ends the turn.
+pub(crate) fn call_at<T: Turned, W: Wait>(
+    top: &Top<T>,
+    place: &mut Place<T>,
+    rt: &W,
+    alloc: Global,
+    bound: u64,
+    event: T::Event,
+) -> Result<T::Reply, CallFault>
+    requires table { (place.old.table_id ≡ top.now.table_id) × IsSized top.now.table_id }
+    requires bound { bound ≤ MOST_TURNS }
+    requires ready { IsReady place.old Idle [] × IsLegal T.legal place.old.me.0.known }
+    ensures seat { (place.new.table_id ≡ place.old.table_id) × IsReady place.new Idle [] × IsLegal T.legal place.new.me.0.known }
+    ensures ok { IfOk result (λ r. Called T.legal place.old.me.0.known event r place.new.me.0.known) }
+    ensures err { IfErr result (λ f. Watches T.legal place.old.me.0.known place.new.me.0.known × IsCause T.sure event bound place.new.me.0.known f) }
+{
+    let Some(turn) = draw(top, place, rt, bound) else {
+        return Err(CallFault::Exhausted);
+    };
+    let mut value = reach(top, place, rt, turn);
+    let asked = Snapshot::of(&event);
+    match value.turn(alloc, event) {
+        Ok(reply) => {
+            let last = Some((asked, Snapshot::of(&reply)));
+            end_turn(top, place, turn, value, last);
+            Ok(reply)
+        }
+        Err(_) => {
+            end_turn(top, place, turn, value, None);
+            Err(CallFault::Memory)
+        }
+    }
+}
+
+/// Splits a port off.
+pub(crate) fn divide<T: Turned>(top: &Top<T>, place: &mut Place<T>) -> Place<T>
+    requires table { (place.old.table_id ≡ top.now.table_id) × IsSized top.now.table_id }
+    requires ready { IsReady place.old Idle [] }
+    ensures seat { (place.new.table_id ≡ place.old.table_id) × (place.new.me ≡ (divided_view place.old.me.0, [])) }
+    ensures child { (result.table_id ≡ place.old.table_id) × (result.me ≡ (posed (born_view place.old.me.0) Idle, [])) }
+    ensures young { calls_by result.me.0.known.number result.me.0.known.seen ≡ [] }
+{
+    let mut child = top.split_seat::<Cut>(place);
+    settle(top, &mut child);
+    child
+}
+
+/// Writes a note of what the port has seen.
+pub(crate) fn write_note<T: Turned>(top: &Top<T>, place: &mut Place<T>) -> Place<T>
+    requires table { (place.old.table_id ≡ top.now.table_id) × IsSized top.now.table_id }
+    requires ready { IsReady place.old Idle [] }
+    ensures seat { (place.new.table_id ≡ place.old.table_id) × (place.new.me ≡ place.old.me) }
+    ensures note { (result.table_id ≡ place.old.table_id) × (result.me ≡ (noted_view place.old.me.0, [])) }
+{
+    top.split_seat::<Tell>(place)
+}
+
+/// Takes in another seat, and sees all that it had seen.
+pub(crate) fn take_in<T: Turned>(top: &Top<T>, place: &mut Place<T>, other: Place<T>)
+    requires table { (place.old.table_id ≡ top.now.table_id) × (other.table_id ≡ top.now.table_id) × IsSized top.now.table_id }
+    requires ready { IsReady place.old Idle [] × (other.me.1 ≡ []) }
+    ensures seat { (place.new.table_id ≡ place.old.table_id) × (place.new.me.1 ≡ []) }
+    ensures merged { let k = other.me.0.known in Merged T.legal other.me.0.is_port k.number k.joined k.seen place.old.me.0.known place.new.me.0 }
+{
+    top.join_seat::<TakeIn>(place, other);
+    top.load::<Merge<T>>(place, SERVING);
+}
+
+/// Draws the last turn where all that were drawn have ended, and takes the value.
+pub(crate) fn draw_last<T: Turned>(top: &Top<T>, place: &mut Place<T>) -> Result<T, Busy>
+    requires table { (place.old.table_id ≡ top.now.table_id) × IsSized top.now.table_id }
+    requires ready { IsReady place.old Idle [] }
+    ensures seat { place.new.table_id ≡ place.old.table_id }
+    ensures watches { Watches T.legal place.old.me.0.known place.new.me.0.known }
+    ensures ok { IfOk result (λ x. (place.new.me.0.known.origin ≡ Some (T.origin x)) × T.stands x place.new.me.0.known.seen) }
+    ensures err { IfErr result (λ b. IsReady place.new Idle [] × (b.served < b.drawn) × (b.drawn ≡ place.new.me.0.known.drawn)) }
+{
+    let served = top.load::<SeeServing>(place, SERVING);
+    let drawn = top.compare_exchange::<Close<T>>(place, TICKET, served, served + 1);
+    if drawn == served {
+        Ok(take_out(top, place))
+    } else {
+        Err(Busy { drawn, served })
+    }
+}

@@ -1,0 +1,8 @@
+-- However the bytes go on, the frame taken is their first, and the bytes kept go on as the bytes after it.
+use Rattle.std.proofs.Common.{arith}
+use Rattle.std.proofs.lemmas.Grind.{common_steps}
+use Rattle.wrapper_frame.proofs.CutLemmas.{first_on}
+use Rattle.wrapper_frame.proofs.deframer.Deframer.take.Goals as goal
+
+pub returns-in_ok-from_slice-in-Whole-clause-goes_on : goal.returns-in_ok-from_slice-in-Whole-clause-goes_on
+returns-in_ok-from_slice-in-Whole-clause-goes_on c = first_on _ _ _ (grind (arith, common_steps))

@@ -1,0 +1,5 @@
+pub mod Header
+pub mod Text
+pub mod Messages
+pub mod Stream
+pub mod Law

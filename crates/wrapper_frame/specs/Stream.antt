@@ -1,0 +1,45 @@
+-- What a Deframer does to the bytes that it holds, and what that means for every text that they begin.
+use Rattle.std.specs.Prelude.{◌≡◌, ℕ, ◌+◌, ◌<◌, List, [], ◌++◌, length, Option, Some, None, option_to_list}
+use Rattle.wrapper_frame.specs.declared.parts.Frame.{Frame}
+use Rattle.wrapper_frame.specs.declared.fault.WrapperFault.{WrapperFault}
+use Rattle.wrapper_frame.specs.declared.fault.WrapperFault.TheVariants as fault
+use Rattle.wrapper_frame.specs.declared.header.Head.{Head}
+use Rattle.wrapper_frame.specs.declared.header.Head.TheVariants.{Part, BadVersion, TooLong, Whole}
+use Rattle.wrapper_frame.specs.declared.header.TheConstants.{HEADER_SIZE, MAX_PAYLOAD}
+use Rattle.wrapper_frame.specs.Header.{head_of}
+use Rattle.wrapper_frame.specs.Messages.{first_frame, after_first, frames_of, rest_of}
+
+-- the frame at the front of the old bytes, and the bytes after it
+pub record IsFirst (old : List ℕ) (frame : Frame) (new : List ℕ) : Type 0 where
+  pub front : head_of old ≡ Whole (length frame.payload)
+  pub frame_is : frame ≡ first_frame (length frame.payload) old
+  pub after : new ≡ after_first (length frame.payload) old
+
+-- part of a frame: no frame, nothing that is wrong, and no more bytes than the longest frame has
+pub record IsPart (bytes : List ℕ) : Type 0 where
+  pub front : head_of bytes ≡ Part
+  pub few : length bytes < HEADER_SIZE + MAX_PAYLOAD
+  pub frames : frames_of bytes ≡ []
+  pub rest : rest_of bytes ≡ bytes
+
+-- the first frame is taken from the front, and where there is none all stays
+abbrev pub TakesFirst : List ℕ → Option Frame → List ℕ → Type 0
+TakesFirst old (Some frame) new = IsFirst old frame new
+TakesFirst old None new = IsPart old × (new ≡ old)
+
+-- however the bytes go on, their frames are what was taken and then the frames of what is kept
+pub record GoesOn (old : List ℕ) (taken : Option Frame) (new : List ℕ) : Type 0 where
+  pub frames : (more : List ℕ) → frames_of (old ++ more) ≡ option_to_list taken ++ frames_of (new ++ more)
+  pub rest : (more : List ℕ) → rest_of (old ++ more) ≡ rest_of (new ++ more)
+
+-- however the bytes go on, they have no frame, and this stands at their front
+pub record Stops (front : Head) (bytes : List ℕ) : Type 0 where
+  pub frames : (more : List ℕ) → frames_of (bytes ++ more) ≡ []
+  pub rest : (more : List ℕ) → rest_of (bytes ++ more) ≡ bytes ++ more
+  pub heads : (more : List ℕ) → head_of (bytes ++ more) ≡ front
+
+-- a fault of the bytes stays their fault however they go on
+abbrev pub StopsBy : WrapperFault → List ℕ → Type 0
+StopsBy fault.Version bytes = Stops BadVersion bytes
+StopsBy fault.TooLong bytes = Stops TooLong bytes
+StopsBy fault.Memory bytes = Unit {0}

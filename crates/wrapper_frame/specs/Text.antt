@@ -1,0 +1,19 @@
+-- The bytes that spell a frame (IEC 62056-4-7).
+use Rattle.std.specs.Prelude.{ℕ, ◌<◌, ◌≤◌, ◌^◌, List, ◌++◌, length}
+use Rattle.byteorder.specs.Endian.{big_bytes}
+use Rattle.wrapper_frame.specs.declared.parts.Frame.{Frame}
+use Rattle.wrapper_frame.specs.declared.header.TheConstants.{VERSION, MAX_PAYLOAD}
+
+-- a header: version, source port, destination port and length of the payload
+abbrev pub header_text : ℕ → ℕ → ℕ → List ℕ
+header_text src dst size = big_bytes 2 VERSION ++ big_bytes 2 src ++ big_bytes 2 dst ++ big_bytes 2 size
+
+-- a frame's bytes: its header, then its payload
+unfoldable pub frame_text : Frame → List ℕ
+frame_text frame = header_text frame.src frame.dst (length frame.payload) ++ frame.payload
+
+-- a frame that has a text: its ports are of two bytes, and its payload is not too long
+pub record IsFrame (frame : Frame) : Type 0 where
+  pub src : frame.src < 2 ^ 16
+  pub dst : frame.dst < 2 ^ 16
+  pub payload : length frame.payload ≤ MAX_PAYLOAD

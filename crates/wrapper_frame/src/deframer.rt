@@ -1,0 +1,96 @@
+ghost use Rattle.std.specs.Prelude.{◌≡◌, ◌↔◌, [], ◌++◌, IsTrue, IfOk, IfErr, OnOk, OnErr, IsErrOf};
+ghost use Rattle.wrapper_frame.specs.Header.{head_of};
+ghost use Rattle.wrapper_frame.specs.Stream.{TakesFirst, GoesOn, StopsBy};
+ghost use Rattle.wrapper_frame.specs.declared.header.Head.TheVariants.{BadVersion, TooLong};
+
+use crate::fault::WrapperFault;
+use crate::header::{DST_AT, HEADER_SIZE, Head, SRC_AT, judge};
+use crate::parts::Frame;
+use byteorder::{BigEndian, ByteOrder};
+use bytes::BytesMut;
+use cosem_axdr::Octets;
+use std::alloc::Global;
+use std::marker::Model;
+
+/// The bytes of a stream that were fed and not taken as frames. Contracts see the list of them.
+///
+/// Nothing is ever taken past a wrong header, so its fault stays the answer of every later call. The frames before it are given first.
+#[derive(Debug, Drop)]
+pub struct Deframer {
+    pending: BytesMut,
+}
+
+impl Model for Deframer {
+    ghost use Rattle.std.specs.Prelude.{List, ℕ};
+
+    ghost Value = { List ℕ };
+
+    ghost view = { λ deframer. deframer.pending.items };
+}
+
+impl Deframer {
+    /// No bytes. It takes no memory.
+    pub fn new(alloc: Global) -> Self
+        ensures { result ≡ [] }
+    {
+        Deframer {
+            pending: BytesMut::new(alloc),
+        }
+    }
+
+    /// Whether no bytes are pending.
+    pub fn is_empty(&self) -> bool
+        ensures { IsTrue result ↔ (self.now ≡ []) }
+    {
+        self.pending.is_empty()
+    }
+
+    /// Puts the next bytes of the stream behind those pending, in any cut. After a fault all stands as before.
+    #[tactic(auto, using(crate::proofs::CutLemmas::stops_version, crate::proofs::CutLemmas::stops_long))]
+    pub fn feed(&mut self, bytes: &[u8]) -> Result<(), WrapperFault>
+        ensures ok { OnOk result (self.new ≡ self.old ++ bytes.now) }
+        ensures err { OnErr result (self.new ≡ self.old) }
+
+        // A wrong header at the front is answered again.
+        ensures version { IsErrOf result WrapperFault.Version ↔ (head_of self.old ≡ BadVersion) }
+        ensures too_long { IsErrOf result WrapperFault.TooLong ↔ (head_of self.old ≡ TooLong) }
+        ensures stops { IfErr result (λ fault. StopsBy fault self.old) }
+    {
+        match judge(self.pending.as_slice()) {
+            Head::BadVersion => return Err(WrapperFault::Version),
+            Head::TooLong => return Err(WrapperFault::TooLong),
+            Head::Part | Head::Whole(_) => {}
+        }
+        self.pending.extend_from_slice(bytes)?;
+        Ok(())
+    }
+
+    /// Takes the first frame, or says that part of one is pending. After a fault all stands as before.
+    #[tactic(auto, using(crate::proofs::CutLemmas::is_part, crate::proofs::CutLemmas::stops_version, crate::proofs::CutLemmas::stops_long))]
+    pub fn take(&mut self, alloc: Global) -> Result<Option<Frame>, WrapperFault>
+        ensures taken { IfOk result (λ taken. TakesFirst self.old taken self.new) }
+        ensures goes_on { IfOk result (λ taken. GoesOn self.old taken self.new) }
+        ensures err { OnErr result (self.new ≡ self.old) }
+
+        // A wrong header at the front is answered again and again.
+        ensures version { IsErrOf result WrapperFault.Version ↔ (head_of self.old ≡ BadVersion) }
+        ensures too_long { IsErrOf result WrapperFault.TooLong ↔ (head_of self.old ≡ TooLong) }
+        ensures stops { IfErr result (λ fault. StopsBy fault self.old) }
+    {
+        let bytes = self.pending.as_slice();
+        match judge(bytes) {
+            Head::Part => Ok(None),
+            Head::BadVersion => Err(WrapperFault::Version),
+            Head::TooLong => Err(WrapperFault::TooLong),
+            Head::Whole(size) => {
+                let frame = Frame {
+                    src: BigEndian::read_u16(&bytes[SRC_AT..]),
+                    dst: BigEndian::read_u16(&bytes[DST_AT..]),
+                    payload: Octets::from_slice(alloc, &bytes[HEADER_SIZE..HEADER_SIZE + size])?,
+                };
+                self.pending.advance(HEADER_SIZE + size);
+                Ok(Some(frame))
+            }
+        }
+    }
+}

@@ -1,0 +1,5 @@
+pub mod Transfer
+pub mod Sending
+pub mod Joining
+pub mod Blocks
+pub mod Law

@@ -1,0 +1,30 @@
+ghost use Rattle.std.specs.Prelude.{◌≡◌};
+ghost use Rattle.xdlms_blocks.specs.declared.fault.BlockFault.TheVariants.{Memory};
+
+use std::alloc::AllocError;
+use thiserror::Error;
+
+/// Why a transfer in blocks does not go on. All but `Memory` end it.
+#[derive(Clone, Copy, Debug, PartialEq, Eq, Error)]
+pub enum BlockFault {
+    /// The transfer is over.
+    #[error("no transfer goes on")]
+    NoTransfer,
+    /// The number is not that of the block that is due.
+    #[error("the number of another block")]
+    WrongNumber,
+    /// The joined text would be longer than 8,192 bytes.
+    #[error("blocks of more than 8,192 bytes")]
+    TooLong,
+    /// Memory ran out.
+    #[error("out of memory")]
+    Memory,
+}
+
+impl From<AllocError> for BlockFault {
+    ghost from_gives = { λ _ fault. fault ≡ Memory };
+
+    fn from(_error: AllocError) -> BlockFault {
+        BlockFault::Memory
+    }
+}

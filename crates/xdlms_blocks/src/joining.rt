@@ -1,0 +1,73 @@
+ghost use Rattle.std.specs.Prelude.{◌≡◌, ◌≢◌, ◌+◌, ◌<◌, ◌≤◌, ◌↔◌, [], length, true, false, IsErrOf, IfOk, IfErr, OnOk};
+ghost use Rattle.xdlms_blocks.specs.Joining.{added_text, after_added, joining_by};
+
+use crate::blocks::MAX_JOINED;
+use crate::fault::BlockFault;
+use cosem_axdr::Octets;
+use std::alloc::Global;
+use std::marker::Model;
+
+/// A long text that comes in blocks. Contracts see the number of the block last added, the bytes so far, and whether the transfer goes on.
+#[derive(Debug, Drop)]
+pub struct JoinBlocks {
+    number: u32,
+    // None once the transfer is over.
+    bytes: Option<Octets>,
+}
+
+impl Model for JoinBlocks {
+    ghost use Rattle.std.specs.Prelude.{[], ◌≤◌, length, unwrap_or, is_some};
+    ghost use Rattle.xdlms_blocks.specs.declared.blocks.TheConstants.{MAX_JOINED};
+    ghost use Rattle.xdlms_blocks.specs.Transfer.{Joining};
+
+    ghost Value = { Joining };
+
+    ghost view = { λ j. record { number = j.number; bytes = unwrap_or j.bytes []; is_open = is_some j.bytes } };
+
+    ghost invariant = { λ j. length (unwrap_or j.bytes []) ≤ MAX_JOINED };
+}
+
+impl JoinBlocks {
+    /// A transfer of which no block has come. It takes no memory.
+    pub fn new(alloc: Global) -> Self
+        ensures { result ≡ record { number = 0; bytes = []; is_open = true } }
+    {
+        JoinBlocks {
+            number: 0,
+            bytes: Some(Octets::new(alloc)),
+        }
+    }
+
+    /// Adds a block, whose number is one more than that of the block before it and 1 for the first. At the last block it gives the joined text.
+    pub fn add(&mut self, last: bool, number: u32, raw: &[u8]) -> Result<Option<Octets>, BlockFault>
+        ensures no_transfer { IsErrOf result BlockFault.NoTransfer ↔ (self.old.is_open ≡ false) }
+        ensures wrong_number { IsErrOf result BlockFault.WrongNumber ↔ ((self.old.is_open ≡ true) × (number ≢ self.old.number + 1)) }
+        ensures too_long { IsErrOf result BlockFault.TooLong
+            ↔ ((self.old.is_open ≡ true) × (number ≡ self.old.number + 1) × (MAX_JOINED < length self.old.bytes + length raw.now)) }
+        ensures text { IfOk result (λ text. text ≡ added_text last raw.now self.old) }
+        ensures ok { OnOk result (self.new ≡ after_added last raw.now self.old) }
+
+        // Want of memory changes nothing, and each other fault ends the transfer.
+        ensures err { IfErr result (λ fault. self.new ≡ joining_by fault self.old) }
+    {
+        let Some(mut bytes) = self.bytes.take() else {
+            return Err(BlockFault::NoTransfer);
+        };
+        if number.checked_sub(1) != Some(self.number) {
+            return Err(BlockFault::WrongNumber);
+        }
+        if raw.len() > MAX_JOINED - bytes.len() {
+            return Err(BlockFault::TooLong);
+        }
+        if bytes.extend_from_slice(raw).is_err() {
+            self.bytes = Some(bytes);
+            return Err(BlockFault::Memory);
+        }
+        self.number = number;
+        if last {
+            return Ok(Some(bytes));
+        }
+        self.bytes = Some(bytes);
+        Ok(None)
+    }
+}

@@ -1,0 +1,18 @@
+//! The block transfer of xDLMS services (IEC 62056-5-3): long texts sent in numbered blocks, and put together again.
+//!
+//! [`GetBlocks`] sends the answer to a GET, a block for each request. [`JoinBlocks`] puts together the blocks of a SET or an ACTION.
+#![tactic(auto)]
+
+mod blocks;
+mod fault;
+mod joining;
+mod law;
+mod sending;
+#[cfg(test)]
+mod tests;
+
+pub use blocks::{MAX_BLOCKS, MAX_JOINED, MIN_BLOCK_SIZE, Piece};
+pub use fault::BlockFault;
+pub use joining::JoinBlocks;
+pub use law::one_text;
+pub use sending::GetBlocks;

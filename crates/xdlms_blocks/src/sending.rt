@@ -1,0 +1,76 @@
+ghost use Rattle.std.specs.Prelude.{◌≡◌, ◌≢◌, ◌*◌, ◌<◌, ◌≤◌, ◌↔◌, length, true, false, IsErrOf, IfOk, IfErr, OnOk, Err};
+ghost use Rattle.xdlms_blocks.specs.Sending.{next_piece, after_next, sending_by};
+
+use crate::blocks::{MAX_BLOCKS, MIN_BLOCK_SIZE, Piece};
+use crate::fault::BlockFault;
+use cosem_axdr::Octets;
+use std::alloc::Global;
+use std::marker::Model;
+
+/// A long text that is sent in blocks, each when the one before is named. Contracts see the text, the number of the block last given, the raw bytes of a
+/// block, and whether the transfer goes on.
+#[derive(Debug, Drop)]
+pub struct GetBlocks {
+    text: Octets,
+    number: u32,
+    size: u16,
+    is_open: bool,
+}
+
+impl Model for GetBlocks {
+    ghost use Rattle.xdlms_blocks.specs.Transfer.{Sending, CanGoOn};
+
+    ghost Value = { Sending };
+
+    ghost view = { λ g. record { text = g.text; number = g.number; size = g.size; is_open = g.is_open } };
+
+    ghost invariant = { λ g. CanGoOn (record { text = g.text; number = g.number; size = g.size; is_open = g.is_open }) };
+}
+
+impl GetBlocks {
+    /// A transfer of `raw` in blocks of `size` bytes, of which none is given. It takes no memory.
+    pub fn new(raw: Octets, size: u16) -> Self
+        requires size { MIN_BLOCK_SIZE ≤ size }
+        requires some { 0 < length raw }
+        requires numbered { length raw ≤ MAX_BLOCKS * size }
+        ensures { result ≡ record { text = raw; number = 0; size = size; is_open = true } }
+    {
+        GetBlocks {
+            text: raw,
+            number: 0,
+            size,
+            is_open: true,
+        }
+    }
+
+    /// The next block, where `after` is the number of the block last given, or 0 before the first.
+    pub fn next(&mut self, alloc: Global, after: u32) -> Result<Piece, BlockFault>
+        ensures no_transfer { IsErrOf result BlockFault.NoTransfer ↔ (self.old.is_open ≡ false) }
+        ensures wrong_number { IsErrOf result BlockFault.WrongNumber ↔ ((self.old.is_open ≡ true) × (after ≢ self.old.number)) }
+        ensures never { result ≢ Err BlockFault.TooLong }
+        ensures piece { IfOk result (λ piece. piece ≡ next_piece self.old) }
+        ensures ok { OnOk result (self.new ≡ after_next self.old) }
+
+        // Want of memory changes nothing, and each other fault ends the transfer.
+        ensures err { IfErr result (λ fault. self.new ≡ sending_by fault self.old) }
+    {
+        if !self.is_open {
+            return Err(BlockFault::NoTransfer);
+        }
+        if after != self.number {
+            self.is_open = false;
+            return Err(BlockFault::WrongNumber);
+        }
+        let size = usize::from(self.size);
+        let rest = &self.text.as_slice()[self.number as usize * size..];
+        let (raw, later) = rest.split_at(rest.len().min(size));
+        let piece = Piece {
+            last: later.is_empty(),
+            number: self.number + 1,
+            raw: Octets::from_slice(alloc, raw)?,
+        };
+        self.number = piece.number;
+        self.is_open = !piece.last;
+        Ok(piece)
+    }
+}
