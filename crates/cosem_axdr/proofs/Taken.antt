@@ -142,7 +142,7 @@ bits_takes levels place x e =
     let t = length_takes place b.0 b.1 in
     let u = bytes_takes (bytes_for b.0.0) b.0.1 c.0 c.1 in
     let made : Data × Place = (BitString b.0.0 (cleared b.0.0 c.0.0), c.0.1) in
-    let bits : IsBits (t.text ++ u.text) b.0.0 (cleared b.0.0 c.0.0) = record { length_text = t.text; raw = u.text; parts = refl; is_length = t.spelled; long = u.spelled.0; value = ap (cleared b.0.0) u.spelled.1 } in
+    let bits : IsBits (t.text ++ u.text) b.0.0 (cleared b.0.0 c.0.0) = record { length_text = t.text; raw = u.text; parts = refl {a = t.text ++ u.text}; is_length = t.spelled; long = u.spelled.0; value = ap (cleared b.0.0) u.spelled.1 } in
     subst (λ (z : Data × Place). Took Data (IsBody levels 0x04) place z) (ok_is made x c.2)
     (record { text = t.text ++ u.text; takes = Takes-then place t.text b.0.1 u.text c.0.1 t.takes u.takes; spelled = (refl, bits, least levels) })
 
@@ -263,7 +263,7 @@ items_take levels item_at takes (suc n) place x e =
     subst (λ (z : List Data × Place). Took (List Data) (AreValues levels (suc n)) place z) (ok_is made x c.2) (record {
       text = t.text ++ u.text;
       takes = Takes-then place t.text b.0.1 u.text c.0.1 t.takes u.takes;
-      spelled = (record { first = t.text; others = u.text; parts = refl; is_first = t.spelled.0; are_others = u.spelled.0 }, omega (arith, t.spelled.1, u.spelled.1), omega (arith, u.spelled.2));
+      spelled = (record { first = t.text; others = u.text; parts = refl {a = t.text ++ u.text}; is_first = t.spelled.0; are_others = u.spelled.0 }, omega (arith, t.spelled.1, u.spelled.1), omega (arith, u.spelled.2));
     })
 
 pub counted_takes : (levels : ℕ) (item_at : Place → Read Data) → IsTaking Data (IsValue levels) item_at → IsTaking Trees (AreCountedBelow (suc levels)) (counted_at item_at)
@@ -279,7 +279,7 @@ counted_takes levels item_at takes place x e =
     let counted : IsCounted (λ items. AreSpelled items x.0) (t.text ++ u.text) (count_of x.0) = record {
       length_text = t.text;
       items = u.text;
-      parts = refl;
+      parts = refl {a = t.text ++ u.text};
       is_length = subst (λ (n : ℕ). IsLength t.text n) count t.spelled;
       few = subst (λ (n : ℕ). n ≤ max_items) count few;
       are_items = u.spelled.0;

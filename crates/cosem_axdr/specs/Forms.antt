@@ -19,7 +19,7 @@ abbrev pub octets_of : Data → Option (List ℕ)
 octets_of (OctetString bytes) = Some bytes
 octets_of _ = None
 
--- a boolean
+-- the value of a boolean
 abbrev pub boolean_of : Data → Option Bool
 boolean_of (Boolean b) = Some b
 boolean_of _ = None

@@ -3,7 +3,7 @@ ghost use Rattle.cosem_axdr.specs.Forms.{array_of, structure_of, octets_of, bool
 
 use crate::value::Data;
 
-/// What a Data of one type holds; a Data of any other type gives nothing.
+/// What a Data of one type holds. A Data of any other type gives `None`.
 impl Data {
     /// The items of an array.
     pub fn array(&self) -> Option<&[Data]>
@@ -35,7 +35,7 @@ impl Data {
         }
     }
 
-    /// A boolean.
+    /// The value of a boolean.
     pub fn boolean(&self) -> Option<bool>
         ensures { result ≡ boolean_of self.now }
     {

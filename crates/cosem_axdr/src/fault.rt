@@ -13,10 +13,10 @@ pub enum DataFault {
     /// The tag is none of the twenty.
     #[error("a tag of no type")]
     UnknownTag,
-    /// An array or structure lies within eight others.
+    /// An array or structure lies within eight others: judged at its tag, before its count is read.
     #[error("arrays and structures nested more than eight deep")]
     TooDeep,
-    /// A byte past the 8,192nd is wanted, an array or structure has more than 255 items, or a length is in no form that is read.
+    /// A byte past the 8,192nd is wanted, an array or structure has more than 255 items, or a length begins with 80 or with 85 or more.
     #[error("a Data past its limits of length")]
     TooLong,
     /// Memory ran out.

@@ -68,27 +68,53 @@ fn value_at(alloc: Global, place: usize) -> Result<Data, AllocError> {
     })
 }
 
-// The text of a value.
+// The calls under test, without their contracts: a test is run for what no clause says, and its own proof then has little to look at.
+fn read_from(alloc: Global, text: &[u8]) -> Result<(Data, usize), DataFault> {
+    read(alloc, text)
+}
+
+fn fault_of(alloc: Global, text: &[u8]) -> Option<DataFault> {
+    read(alloc, text).err()
+}
+
 fn written(alloc: Global, value: &Data) -> Result<Octets, AllocError> {
     let mut text = Octets::new(alloc);
     write(alloc, value, &mut text)?;
     Ok(text)
 }
 
+fn is_fit(value: &Data) -> bool {
+    fits(value)
+}
+
+fn len_of(value: &Data) -> u64 {
+    text_len(value)
+}
+
+// Whether all of the text is read as this value, of which it is the written text.
+fn is_text_of(alloc: Global, text: &[u8], value: &Data) -> Result<bool, DataFault> {
+    let (found, len) = read_from(alloc, text)?;
+    Ok(
+        found == *value
+            && len == text.len()
+            && written(alloc, &found)?.as_slice() == text
+            && len_of(value) == len as u64
+            && is_fit(value),
+    )
+}
+
+// Whether all of the text is read, and written as the other.
+fn is_written_as(alloc: Global, text: &[u8], other: &[u8]) -> Result<bool, DataFault> {
+    let (value, len) = read_from(alloc, text)?;
+    Ok(len == text.len() && written(alloc, &value)?.as_slice() == other)
+}
+
 #[test]
 fn each_tag_is_read_and_written(rt: HostRuntime) -> Result<(), Fail> {
     for (place, text) in TEXTS.iter().enumerate() {
-        let (value, len) = read(rt.alloc(), text)?;
-        assert_eq!(rt; value, value_at(rt.alloc(), place)?, "at {place}");
-        assert_eq!(rt; len, text.len(), "at {place}");
-        assert_eq!(rt;
-            written(rt.alloc(), &value)?.as_slice(),
-            *text,
-            "at {place}"
-        );
-        assert_eq!(rt; text_len(&value), text.len() as u64, "at {place}");
-        assert!(rt; fits(&value), "at {place}");
-        assert_eq!(rt; value.try_clone(rt.alloc())?, value, "at {place}");
+        let value = value_at(rt.alloc(), place)?;
+        assert!(rt; is_text_of(rt.alloc(), text, &value)?, "at {place}");
+        assert!(rt; value.try_clone(rt.alloc())? == value, "at {place}");
     }
     Ok(())
 }
@@ -98,7 +124,7 @@ fn each_part_of_a_text_is_truncated(rt: HostRuntime) {
     for text in &TEXTS {
         for len in 0..text.len() {
             assert!(rt;
-                matches!(read(rt.alloc(), &text[..len]), Err(DataFault::Truncated)),
+                fault_of(rt.alloc(), &text[..len]) == Some(DataFault::Truncated),
                 "{len} bytes of {text:?}"
             );
         }
@@ -107,68 +133,76 @@ fn each_part_of_a_text_is_truncated(rt: HostRuntime) {
 
 #[test]
 fn other_forms_are_read(rt: HostRuntime) -> Result<(), Fail> {
-    let (value, len) = read(rt.alloc(), &[0x09, 0x82, 0x00, 0x02, 0xAB, 0xCD])?;
-    assert_eq!(rt; len, 6);
-    assert_eq!(rt;
-        written(rt.alloc(), &value)?.as_slice(),
-        [0x09, 0x02, 0xAB, 0xCD].as_slice()
+    assert!(rt;
+        is_written_as(
+            rt.alloc(),
+            &[0x09, 0x82, 0x00, 0x02, 0xAB, 0xCD],
+            &[0x09, 0x02, 0xAB, 0xCD]
+        )?
     );
-    let (value, len) = read(rt.alloc(), &[0x03, 0x05, 0xFF])?;
-    assert_eq!(rt; len, 2);
-    assert_eq!(rt;
-        written(rt.alloc(), &value)?.as_slice(),
-        [0x03, 0x01].as_slice()
-    );
-    let (value, len) = read(rt.alloc(), &[0x04, 0x81, 0x05, 0xBF])?;
-    assert_eq!(rt; len, 4);
-    assert_eq!(rt;
-        written(rt.alloc(), &value)?.as_slice(),
-        [0x04, 0x05, 0xB8].as_slice()
-    );
+    assert!(rt; is_written_as(rt.alloc(), &[0x03, 0x05], &[0x03, 0x01])?);
+    assert!(rt; is_written_as(rt.alloc(), &[0x04, 0x81, 0x05, 0xBF], &[0x04, 0x05, 0xB8])?);
     Ok(())
 }
 
 #[test]
-fn faults_come_in_the_order_in_which_bytes_are_wanted(rt: HostRuntime) {
-    let nine_deep = [
-        0x02, 0x01, 0x02, 0x01, 0x02, 0x01, 0x02, 0x01, 0x02, 0x01, 0x02, 0x01, 0x02, 0x01, 0x02,
-        0x01, 0x02, 0x01, 0x00,
-    ];
-    let cases: [(&[u8], DataFault); 12] = [
-        (&[0x09, 0x05, 0xAB], DataFault::Truncated),
-        (&[], DataFault::Truncated),
-        (&[0x0D, 0x00], DataFault::UnknownTag),
-        (&[0x01, 0x82, 0x01, 0x00], DataFault::TooLong),
-        (&[0x09, 0x82, 0x20, 0x01], DataFault::TooLong),
-        (&[0x09, 0x80], DataFault::TooLong),
-        (&[0x09, 0x85], DataFault::TooLong),
-        (&[0x02, 0x02, 0x0D], DataFault::UnknownTag),
-        (&nine_deep[..18], DataFault::TooDeep),
-        (&nine_deep, DataFault::TooDeep),
-        (&nine_deep[..17], DataFault::TooDeep),
-        (&nine_deep[..16], DataFault::Truncated),
-    ];
-    for (text, fault) in &cases {
+fn bytes_behind_a_value_are_left(rt: HostRuntime) -> Result<(), Fail> {
+    let (value, len) = read_from(rt.alloc(), &[0x16, 0x03, 0x16])?;
+    assert!(rt; value == Data::Enum(3) && len == 2);
+    Ok(())
+}
+
+// Nine structures of one item, one within the other, around a null-data.
+const NINE_DEEP: [u8; 19] = [
+    0x02, 0x01, 0x02, 0x01, 0x02, 0x01, 0x02, 0x01, 0x02, 0x01, 0x02, 0x01, 0x02, 0x01, 0x02, 0x01,
+    0x02, 0x01, 0x00,
+];
+
+const FAULTS: [(&[u8], DataFault); 10] = [
+    (&[0x09, 0x05, 0xAB], DataFault::Truncated),
+    (&[], DataFault::Truncated),
+    (&[0x0D, 0x00], DataFault::UnknownTag),
+    (&[0x01, 0x82, 0x01, 0x00], DataFault::TooLong),
+    (&[0x09, 0x82, 0x20, 0x01], DataFault::TooLong),
+    (&[0x09, 0x80], DataFault::TooLong),
+    (&[0x09, 0x85], DataFault::TooLong),
+    (&[0x02, 0x02, 0x0D], DataFault::UnknownTag),
+    (&[0x02, 0x02, 0x11, 0x07], DataFault::Truncated),
+    (&[0x12, 0x1B], DataFault::Truncated),
+];
+
+#[test]
+fn the_first_fault_is_the_answer(rt: HostRuntime) {
+    for (text, fault) in &FAULTS {
         assert!(rt;
-            matches!(read(rt.alloc(), text), Err(found) if found == *fault),
+            fault_of(rt.alloc(), text) == Some(*fault),
             "{text:?} is to be {fault:?}"
         );
     }
 }
 
 #[test]
+fn depth_is_judged_at_the_ninth_tag(rt: HostRuntime) {
+    for (len, fault) in [
+        (19, DataFault::TooDeep),
+        (18, DataFault::TooDeep),
+        (17, DataFault::TooDeep),
+        (16, DataFault::Truncated),
+    ] {
+        assert!(rt;
+            fault_of(rt.alloc(), NINE_DEEP.get(..len).unwrap_or(&[])) == Some(fault),
+            "{len} bytes"
+        );
+    }
+}
+
+#[test]
 fn the_deepest_value_is_read_and_written(rt: HostRuntime) -> Result<(), Fail> {
-    let text = [
-        0x02, 0x01, 0x02, 0x01, 0x02, 0x01, 0x02, 0x01, 0x02, 0x01, 0x02, 0x01, 0x02, 0x01, 0x02,
-        0x01, 0x00,
-    ];
-    let (value, len) = read(rt.alloc(), &text)?;
-    assert_eq!(rt; len, 17);
-    assert!(rt; fits(&value));
-    assert_eq!(rt; written(rt.alloc(), &value)?.as_slice(), text.as_slice());
+    let text = &NINE_DEEP[2..];
+    let (value, _) = read_from(rt.alloc(), text)?;
+    assert!(rt; is_text_of(rt.alloc(), text, &value)?);
     let deeper = Data::Structure(Items::from_vec(vec![in rt.alloc(); value]?));
-    assert!(rt; !fits(&deeper));
-    assert_eq!(rt; text_len(&deeper), 19);
+    assert!(rt; !is_fit(&deeper) && len_of(&deeper) == 19);
     Ok(())
 }
 
@@ -186,108 +220,70 @@ fn nulls(alloc: Global, count: usize) -> Result<Data, AllocError> {
     Ok(Data::Array(Items::from_vec(items)))
 }
 
+// Whether a value has a text of so many bytes and is read from it again.
+fn is_widest(alloc: Global, value: &Data, len: u64) -> Result<bool, DataFault> {
+    Ok(len_of(value) == len && is_text_of(alloc, written(alloc, value)?.as_slice(), value)?)
+}
+
+// Whether a value has a text of so many bytes, is not fit, and is too long to be read.
+fn is_too_wide(alloc: Global, value: &Data, len: u64) -> Result<bool, AllocError> {
+    let fault = fault_of(alloc, written(alloc, value)?.as_slice());
+    Ok(len_of(value) == len && !is_fit(value) && fault == Some(DataFault::TooLong))
+}
+
 #[test]
 fn the_widest_values_are_read_and_written(rt: HostRuntime) -> Result<(), Fail> {
-    for (value, len) in [
-        (nulls(rt.alloc(), 255)?, 258),
-        (string_of(rt.alloc(), 8188)?, 8192),
-    ] {
-        assert!(rt; fits(&value));
-        assert_eq!(rt; text_len(&value), len);
-        let text = written(rt.alloc(), &value)?;
-        let (again, _) = read(rt.alloc(), text.as_slice())?;
-        assert_eq!(rt; again, value);
-    }
-    for (value, len) in [
-        (nulls(rt.alloc(), 256)?, 260),
-        (string_of(rt.alloc(), 8189)?, 8193),
-    ] {
-        assert!(rt; !fits(&value));
-        assert_eq!(rt; text_len(&value), len);
-        let text = written(rt.alloc(), &value)?;
-        assert!(rt; matches!(read(rt.alloc(), text.as_slice()), Err(DataFault::TooLong)));
-    }
+    assert!(rt; is_widest(rt.alloc(), &nulls(rt.alloc(), 255)?, 258)?);
+    assert!(rt; is_widest(rt.alloc(), &string_of(rt.alloc(), 8188)?, 8192)?);
+    assert!(rt; is_too_wide(rt.alloc(), &nulls(rt.alloc(), 256)?, 260)?);
+    assert!(rt; is_too_wide(rt.alloc(), &string_of(rt.alloc(), 8189)?, 8193)?);
     Ok(())
+}
+
+// Whether a bit-string of so many bits in one byte fits.
+fn bits_fit(alloc: Global, bits: usize, byte: u8) -> Result<bool, AllocError> {
+    let bytes = Octets::from_slice(alloc, &[byte])?;
+    Ok(is_fit(&Data::BitString { bits, bytes }))
 }
 
 #[test]
 fn bit_strings_that_are_not_whole_do_not_fit(rt: HostRuntime) -> Result<(), Fail> {
-    for (bits, byte, fit) in [
-        (5, 0xB8, true),
-        (8, 0xFF, true),
-        (9, 0xB8, false),
-        (0, 0x00, false),
-        (5, 0xB9, false),
-    ] {
-        let value = Data::BitString {
-            bits,
-            bytes: Octets::from_slice(rt.alloc(), &[byte])?,
-        };
-        assert_eq!(rt; fits(&value), fit, "{bits} bits in {byte}");
-    }
+    assert!(rt; bits_fit(rt.alloc(), 5, 0xB8)? && bits_fit(rt.alloc(), 8, 0xFF)?);
+    assert!(rt; !bits_fit(rt.alloc(), 9, 0xB8)? && !bits_fit(rt.alloc(), 0, 0x00)?);
+    assert!(rt; !bits_fit(rt.alloc(), 5, 0xB9)?);
     Ok(())
 }
 
 #[test]
-fn each_accessor_gives_its_own_type_alone(rt: HostRuntime) -> Result<(), Fail> {
-    for place in 0..20 {
-        let value = value_at(rt.alloc(), place)?;
-        assert_eq!(rt;
-            value.array().map(|items| items.len()),
-            if place == 1 { Some(2) } else { None }
-        );
-        assert_eq!(rt;
-            value.structure().map(|items| items.len()),
-            if place == 2 { Some(2) } else { None }
-        );
-        assert_eq!(rt; value.boolean(), if place == 3 { Some(true) } else { None });
-        assert_eq!(rt;
-            value.double_long_unsigned(),
-            if place == 6 { Some(7000) } else { None }
-        );
-        assert_eq!(rt;
-            value.octets(),
-            if place == 7 {
-                Some([0xAB, 0xCD].as_slice())
-            } else {
-                None
-            }
-        );
-        assert_eq!(rt; value.integer(), if place == 10 { Some(-2) } else { None });
-        assert_eq!(rt; value.unsigned(), if place == 12 { Some(7) } else { None });
-        assert_eq!(rt;
-            value.long_unsigned(),
-            if place == 13 { Some(7000) } else { None }
-        );
-        assert_eq!(rt;
-            value.enumerated(),
-            if place == 16 { Some(3) } else { None }
-        );
-        assert_eq!(rt;
-            value.date_time(),
-            if place == 17 {
-                Some(DATE_TIME.as_slice())
-            } else {
-                None
-            }
-        );
-        assert_eq!(rt;
-            value.date(),
-            if place == 18 {
-                Some(DATE.as_slice())
-            } else {
-                None
-            }
-        );
-        assert_eq!(rt;
-            value.time(),
-            if place == 19 {
-                Some(TIME.as_slice())
-            } else {
-                None
-            }
-        );
-    }
+fn accessors_give_numbers(rt: HostRuntime) {
+    assert_eq!(rt; Data::Boolean(true).boolean(), Some(true));
+    assert_eq!(rt;
+        Data::DoubleLongUnsigned(7000).double_long_unsigned(),
+        Some(7000)
+    );
+    assert_eq!(rt; Data::LongUnsigned(7000).long_unsigned(), Some(7000));
+    assert_eq!(rt; Data::Unsigned(7).unsigned(), Some(7));
+    assert_eq!(rt; Data::Enum(3).enumerated(), Some(3));
+    assert_eq!(rt; Data::Integer(-2).integer(), Some(-2));
+}
+
+#[test]
+fn accessors_give_bytes(rt: HostRuntime) -> Result<(), Fail> {
+    assert!(rt; value_at(rt.alloc(), 7)?.octets() == Some([0xAB, 0xCD].as_slice()));
+    assert!(rt; Data::DateTime(DATE_TIME).date_time() == Some(DATE_TIME.as_slice()));
+    assert!(rt; Data::Date(DATE).date() == Some(DATE.as_slice()));
+    assert!(rt; Data::Time(TIME).time() == Some(TIME.as_slice()));
+    Ok(())
+}
+
+#[test]
+fn accessors_give_items(rt: HostRuntime) -> Result<(), Fail> {
+    let array = value_at(rt.alloc(), 1)?;
+    assert!(rt; array.array().is_some_and(|items| items.len() == 2) && array.structure().is_none());
+    let structure = value_at(rt.alloc(), 2)?;
+    assert!(rt;
+        structure.structure().is_some_and(|items| items.len() == 2) && structure.array().is_none()
+    );
     Ok(())
 }
 
@@ -295,34 +291,30 @@ fn each_accessor_gives_its_own_type_alone(rt: HostRuntime) -> Result<(), Fail> {
 fn values_are_equal_to_themselves_alone(rt: HostRuntime) -> Result<(), Fail> {
     for a in 0..20 {
         for b in 0..20 {
-            assert_eq!(rt;
-                value_at(rt.alloc(), a)? == value_at(rt.alloc(), b)?,
-                a == b,
-                "{a} and {b}"
-            );
+            let same = value_at(rt.alloc(), a)? == value_at(rt.alloc(), b)?;
+            assert!(rt; same == (a == b), "{a} and {b}");
         }
     }
-    assert_ne!(rt; nulls(rt.alloc(), 2)?, nulls(rt.alloc(), 3)?);
-    assert_ne!(rt; string_of(rt.alloc(), 2)?, string_of(rt.alloc(), 3)?);
     Ok(())
 }
 
 #[test]
-fn items_and_octets_keep_what_is_put_in(rt: HostRuntime) -> Result<(), Fail> {
-    let none = Items::from_vec(Vec::new(rt.alloc()));
-    assert!(rt; none.is_empty());
+fn items_keep_what_is_put_in(rt: HostRuntime) -> Result<(), Fail> {
     let items = Items::from_vec(vec![in rt.alloc(); Data::Null, Data::Unsigned(7)]?);
-    assert!(rt; !items.is_empty());
-    assert_eq!(rt; items.len(), 2);
-    assert_eq!(rt; items.as_slice().len(), 2);
+    assert!(rt; !items.is_empty() && items.len() == 2 && items.as_slice().len() == 2);
     assert_eq!(rt; items.into_vec().len(), 2);
+    Ok(())
+}
+
+#[test]
+fn octets_keep_what_is_put_in(rt: HostRuntime) -> Result<(), Fail> {
     let mut octets = Octets::new(rt.alloc());
-    assert!(rt; octets.is_empty());
     octets.push(0xAB)?;
     octets.extend_from_slice(&[0xCD, 0xEF])?;
-    assert_eq!(rt; octets.len(), 3);
-    assert_eq!(rt; octets.try_clone(rt.alloc())?, octets);
-    assert_eq!(rt; octets.into_vec().as_slice(), [0xAB, 0xCD, 0xEF].as_slice());
+    assert!(rt; !octets.is_empty() && octets.len() == 3);
+    let copy = octets.try_clone(rt.alloc())?;
+    assert!(rt; copy == octets);
+    assert!(rt; copy.into_vec().as_slice() == [0xAB, 0xCD, 0xEF].as_slice());
     Ok(())
 }
 

@@ -5,7 +5,7 @@ ghost use Rattle.cosem_axdr.specs.View.{all_trees, list_of};
 use crate::octets::Octets;
 use std::marker::Model;
 
-/// A value of the DLMS/COSEM type Data (IEC 62056-6-2, "Common data types"; its tags are those of IEC 62056-5-3, A-XDR encoding).
+/// A value of the DLMS/COSEM type Data, by its type (IEC 62056-6-2, common data types). Two are equal where their trees are.
 #[cycle(value)]
 #[derive(Debug, Drop)]
 pub enum Data {

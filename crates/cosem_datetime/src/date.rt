@@ -1,4 +1,4 @@
-ghost use Rattle.std.specs.Prelude.{◌≡◌, ◌≢◌, ◌==◌, ◌≤◌, ◌↔◌, ℕ, length, slice_index, IsTrue, IsOk, IfOk, IfSome, IsErrOf, Ok};
+ghost use Rattle.std.specs.Prelude.{◌≡◌, ◌≢◌, ◌≤◌, ◌↔◌, length, slice_index, IsTrue, IfOk, IfSome, IsErrOf, Ok};
 ghost use Rattle.cosem_datetime.specs.Fields.{DateFields, IsDateFields, day_byte, date_bytes, unspecified};
 ghost use Rattle.cosem_datetime.specs.Matching.{holds, day_holds, date_holds, last_week_holds, past_week_holds, month_day_holds, date_matches, is_plain};
 ghost use Rattle.cosem_datetime.specs.Moment.{plain_date};
@@ -114,7 +114,7 @@ pub fn read_date(bytes: &[u8]) -> Result<DatePattern, PatternFault>
     ensures found { IfOk result (λ p. IsDateFields p × (bytes.now ≡ date_bytes p)) }
     ensures only { (p : DateFields) → IsDateFields p → bytes.now ≡ date_bytes p → result ≡ Ok p }
     ensures length { IsErrOf result PatternFault.Length ↔ (length bytes.now ≢ 5) }
-    // The month is the begin or the end of daylight saving, which no field can precede as a fault but the length.
+    // The month is the first field that is judged, so this fault hides any later one.
     ensures season { IsErrOf result PatternFault.SeasonMonth ↔ ((length bytes.now ≡ 5) × IsTrue (is_season (slice_index bytes.now 2))) }
 {
     date_fields(bytes)

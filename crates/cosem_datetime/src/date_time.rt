@@ -66,7 +66,7 @@ pub fn read_date_time(bytes: &[u8]) -> Result<DateTimeField, PatternFault>
     ensures found { IfOk result (λ p. IsDateTimeFields p × (bytes.now ≡ date_time_bytes p)) }
     ensures only { (p : DateTimeFields) → IsDateTimeFields p → bytes.now ≡ date_time_bytes p → result ≡ Ok p }
     ensures length { IsErrOf result PatternFault.Length ↔ (length bytes.now ≢ 12) }
-    // The month is the begin or the end of daylight saving, which no field can precede as a fault but the length.
+    // The month is the first field that is judged, so this fault hides any later one.
     ensures season { IsErrOf result PatternFault.SeasonMonth ↔ ((length bytes.now ≡ 12) × IsTrue (is_season (slice_index bytes.now 2))) }
 {
     date_time_fields(bytes)

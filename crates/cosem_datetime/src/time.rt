@@ -1,4 +1,4 @@
-ghost use Rattle.std.specs.Prelude.{◌≡◌, ◌+◌, ◌*◌, ◌/◌, ◌<◌, ◌≤◌, ◌≢◌, ◌↔◌, length, Ok, IsTrue, IfOk, IfSome, IsErrOf};
+ghost use Rattle.std.specs.Prelude.{◌≡◌, ◌+◌, ◌*◌, ◌/◌, ◌<◌, ◌≢◌, ◌↔◌, length, Ok, IsTrue, IfOk, IfSome, IsErrOf};
 ghost use Rattle.cosem_datetime.specs.Reading.{time_of};
 ghost use Rattle.cosem_datetime.specs.Fields.{TimeFields, IsTimeFields, time_bytes, unspecified};
 ghost use Rattle.cosem_datetime.specs.Matching.{holds, time_matches};

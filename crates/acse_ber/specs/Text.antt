@@ -1,0 +1,69 @@
+-- What is written: of each APDU one text, with the shortest lengths.
+--     tagged_text                     a tag, the length and the contents
+--     aarq_body, aare_body            the fields
+--     aarq_text, aare_text            whole APDUs
+use Rattle.std.specs.Prelude.{ℕ, Option, Some, None, List, [], ◌∷◌, ◌++◌}
+use Rattle.std.specs.Int.{w16, to_be_bytes, bytes_high_first}
+use Rattle.cosem_axdr.specs.Spelling.{string_text}
+use Rattle.acse_ber.specs.declared.aarq.Aarq.{Aarq}
+use Rattle.acse_ber.specs.declared.aare.Aare.{Aare}
+use Rattle.acse_ber.specs.declared.aare.Info.{Info}
+use Rattle.acse_ber.specs.declared.aare.Info.TheVariants.{Absent, Response, InitiateError}
+
+-- a tag, the length and the contents
+abbrev pub tagged_text : ℕ → List ℕ → List ℕ
+tagged_text tag contents = tag ∷ string_text contents
+
+-- an application context name, and user information
+abbrev pub context_text : List ℕ → List ℕ
+context_text context = tagged_text 0xA1 (tagged_text 0x06 context)
+
+abbrev pub user_text : List ℕ → List ℕ
+user_text user = tagged_text 0xBE (tagged_text 0x04 user)
+
+-- the mechanism, if there is one, behind the ACSE requirements that it needs
+abbrev pub mechanism_text : List ℕ → List ℕ
+mechanism_text [] = []
+mechanism_text (byte ∷ bytes) = (0x8A ∷ 0x02 ∷ 0x07 ∷ 0x80 ∷ []) ++ tagged_text 0x8B (byte ∷ bytes)
+
+-- the password, if there is one
+abbrev pub password_text : Option (List ℕ) → List ℕ
+password_text None = []
+password_text (Some password) = tagged_text 0xAC (tagged_text 0x80 password)
+
+-- the fields of an AARQ
+abbrev pub aarq_body : Aarq → List ℕ
+aarq_body aarq = context_text aarq.context ++ (mechanism_text aarq.mechanism ++ (password_text aarq.password ++ user_text aarq.user))
+
+-- the text of an AARQ
+unfoldable pub aarq_text : Aarq → List ℕ
+aarq_text aarq = tagged_text 0x60 (aarq_body aarq)
+
+-- the association result, and the diagnostic of the service user
+abbrev pub result_text : ℕ → List ℕ
+result_text outcome = 0xA2 ∷ 0x03 ∷ 0x02 ∷ 0x01 ∷ outcome ∷ []
+
+abbrev pub diagnostic_text : ℕ → List ℕ
+diagnostic_text diagnostic = 0xA3 ∷ 0x05 ∷ 0xA1 ∷ 0x03 ∷ 0x02 ∷ 0x01 ∷ diagnostic ∷ []
+
+-- an InitiateResponse: no quality of service, version 6, the bits, the size and the name of the virtual application entity, 0007
+abbrev pub response_text : ℕ → ℕ → List ℕ
+response_text bits limit = (0x08 ∷ 0x00 ∷ 0x06 ∷ 0x5F ∷ 0x1F ∷ 0x04 ∷ 0x00 ∷ []) ++ (bytes_high_first 3 bits ++ (to_be_bytes w16 limit ++ 0x00 ∷ 0x07 ∷ []))
+
+-- user information, if there is any
+abbrev pub info_text : Info → List ℕ
+info_text Absent = []
+info_text (Response bits limit) = user_text (response_text bits limit)
+info_text (InitiateError e) = user_text (0x0E ∷ 0x01 ∷ 0x06 ∷ e ∷ [])
+
+-- the application context without ciphering, by logical names
+abbrev pub ln_context : List ℕ
+ln_context = 0x60 ∷ 0x85 ∷ 0x74 ∷ 0x05 ∷ 0x08 ∷ 0x01 ∷ 0x01 ∷ []
+
+-- the fields of an AARE
+abbrev pub aare_body : Aare → List ℕ
+aare_body aare = context_text ln_context ++ (result_text aare.result ++ (diagnostic_text aare.diagnostic ++ info_text aare.info))
+
+-- the text of an AARE
+unfoldable pub aare_text : Aare → List ℕ
+aare_text aare = tagged_text 0x61 (aare_body aare)

@@ -1,0 +1,82 @@
+-- What a meter answers to an AARQ: the first of the checks that fails decides.
+--     level_of                        the level of a client's port
+--     judged                          the checks in their order
+--     verdict_of                      the verdict
+use Rattle.std.specs.Prelude.{ℕ, Bool, true, false, not, ◌&&◌, ◌||◌, ◌==◌, nat_le, if◌then◌else◌, Option, Some, None, List, [], ◌∷◌, bytes_eq, bit_and, Result, Ok, Err}
+use Rattle.byte_reading.specs.Outcome.{◌>>=◌, ◌>>◌, guard}
+use Rattle.cosem_names.specs.declared.level.Level.{Level}
+use Rattle.cosem_names.specs.declared.level.Level.TheVariants.{Public, Management}
+use Rattle.acse_ber.specs.Reading.{proposal_of}
+use Rattle.acse_ber.specs.Text.{ln_context}
+use Rattle.acse_ber.specs.declared.aarq.Aarq.{Aarq}
+use Rattle.acse_ber.specs.declared.fault.AcseFault.{AcseFault}
+use Rattle.acse_ber.specs.declared.initiate.Proposal.{Proposal}
+use Rattle.acse_ber.specs.declared.verdict.Verdict.{Verdict}
+use Rattle.acse_ber.specs.declared.verdict.Verdict.TheVariants.{Accepted, Rejected, InitiateError}
+
+-- the names of the authentication mechanisms of lowest level and of low level
+abbrev pub lowest_level : List ℕ
+lowest_level = 0x60 ∷ 0x85 ∷ 0x74 ∷ 0x05 ∷ 0x08 ∷ 0x02 ∷ 0x00 ∷ []
+
+abbrev pub low_level : List ℕ
+low_level = 0x60 ∷ 0x85 ∷ 0x74 ∷ 0x05 ∷ 0x08 ∷ 0x02 ∷ 0x01 ∷ []
+
+-- no mechanism, or the lowest level, which is none
+abbrev pub is_no_mechanism : List ℕ → Bool
+is_no_mechanism mechanism = bytes_eq mechanism [] || bytes_eq mechanism lowest_level
+
+-- the level of a client's port: 1 is the management client, 16 the public one
+abbrev pub level_of : ℕ → Result Level Verdict
+level_of sap = if sap == 1 then Ok Management else if sap == 16 then Ok Public else Err (Rejected 1)
+
+-- whether a client of this level has to authenticate itself
+abbrev pub must_authenticate : Level → Bool
+must_authenticate Management = true
+must_authenticate Public = false
+
+-- whether a password came, and is this one
+abbrev pub is_password : List ℕ → Option (List ℕ) → Bool
+is_password password None = false
+is_password password (Some given) = bytes_eq given password
+
+-- the InitiateRequest, or where it is unreadable the diagnostic for no reason given
+abbrev pub proposal_or_refusal : Result Proposal AcseFault → Result Proposal Verdict
+proposal_or_refusal (Ok proposal) = Ok proposal
+proposal_or_refusal (Err fault) = Err (Rejected 1)
+
+-- the services that the meter offers: block transfer with GET, SET and ACTION, multiple references, GET, SET and ACTION
+abbrev pub offered : ℕ
+offered = 0x001E19
+
+-- the checks of an InitiateRequest
+unfoldable pub agreed : Level → Proposal → Result Verdict Verdict
+agreed level proposal = do
+  guard (nat_le 6 proposal.version) (InitiateError 1)
+  guard (not (bit_and offered proposal.conformance == 0)) (InitiateError 2)
+  guard (proposal.size == 0 || nat_le 64 proposal.size) (InitiateError 3)
+  Ok (Accepted level (bit_and offered proposal.conformance) proposal.size)
+
+-- the checks of a client's authentication
+unfoldable pub authenticated : Level → Aarq → List ℕ → Result (Unit {0}) Verdict
+authenticated level aarq password = do
+  guard (is_no_mechanism aarq.mechanism || bytes_eq aarq.mechanism low_level) (Rejected 11)
+  guard (not (must_authenticate level && is_no_mechanism aarq.mechanism)) (Rejected 14)
+  guard (not (must_authenticate level) || is_password password aarq.password) (Rejected 13)
+
+-- all the checks: the refusal of the first that fails, or what is accepted
+unfoldable pub judged : Aarq → ℕ → List ℕ → Result Verdict Verdict
+judged aarq sap password = do
+  level ← level_of sap
+  guard (bytes_eq aarq.context ln_context) (Rejected 2)
+  authenticated level aarq password
+  proposal ← proposal_or_refusal (proposal_of aarq.user)
+  agreed level proposal
+
+-- the verdict, whichever way it came
+abbrev pub settled : Result Verdict Verdict → Verdict
+settled (Ok accepted) = accepted
+settled (Err refusal) = refusal
+
+-- the verdict on an AARQ that came from a client's port, where this is the password
+unfoldable pub verdict_of : Aarq → ℕ → List ℕ → Verdict
+verdict_of aarq sap password = settled (judged aarq sap password)

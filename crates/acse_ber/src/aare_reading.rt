@@ -1,0 +1,119 @@
+ghost use Rattle.std.specs.Prelude.{◌≡◌, option_map};
+ghost use Rattle.acse_ber.specs.Reading.{Reads, whole, byte_behind, result_at, diagnostic_at, response_at, initiate_error_at, info_in, info_of, is_response, aare_of};
+
+use crate::aare::{Aare, Info};
+use crate::fault::AcseFault;
+use crate::field::{find_field, find_inner, read_tagged};
+use crate::initiate::{INITIATE_ERROR_HEAD, RESPONSE_TAG, read_conformance, skip_optional_byte};
+use crate::reader::Reader;
+use crate::tag;
+use std::alloc::Global;
+
+/// Reads an AARE: a length that ends where the bytes end, and fields, in any order, that fill it.
+///
+/// The result and the diagnostic have to be there, and with result 0 an InitiateResponse. Those two and the user information may not be there twice. All other fields are skipped.
+/// With another result, user information that is neither a response nor an error is taken as absent. It takes no memory.
+#[tactic(auto, unfolding(crate::specs::Reading::aare_of))]
+pub fn read_aare(_alloc: Global, bytes: &[u8]) -> Result<Aare, AcseFault>
+    ensures exact { result ≡ aare_of bytes.now }
+{
+    let body = read_tagged(tag::AARE, bytes)?;
+    let result_field = find_field(tag::aare::RESULT, body)?.ok_or(AcseFault::Unreadable)?;
+    let outcome = read_result(result_field)?;
+    let diagnostic_field = find_field(tag::aare::RESULT_SOURCE_DIAGNOSTIC, body)?
+        .ok_or(AcseFault::Unreadable)?;
+    let diagnostic = read_diagnostic(diagnostic_field)?;
+    let user = find_inner(tag::USER_INFORMATION, tag::OCTET_STRING, body)?;
+    let info = read_info(user);
+    if outcome == ACCEPTED && !is_response(info) {
+        return Err(AcseFault::Unreadable);
+    }
+    Ok(Aare {
+        result: outcome,
+        diagnostic,
+        info,
+    })
+}
+
+/// The association result of an association that is open.
+const ACCEPTED: u8 = 0;
+
+// The association result: an integer of one byte.
+#[tactic(auto, unfolding(crate::specs::Reading::result_at))]
+fn read_result(contents: &[u8]) -> Result<u8, AcseFault>
+    ensures { result ≡ whole (result_at contents.now) }
+{
+    let mut reader = Reader::new(contents);
+    let outcome = read_byte_behind(&[tag::INTEGER, 1], &mut reader)?;
+    reader.finish(outcome)
+}
+
+// The diagnostic, of the service user or of the service provider: an integer of one byte.
+#[tactic(auto, unfolding(crate::specs::Reading::diagnostic_at))]
+fn read_diagnostic(contents: &[u8]) -> Result<u8, AcseFault>
+    ensures { result ≡ whole (diagnostic_at contents.now) }
+{
+    let mut reader = Reader::new(contents);
+    let (tag::SERVICE_USER | tag::SERVICE_PROVIDER) = reader.byte()? else {
+        return Err(AcseFault::Unreadable);
+    };
+    let diagnostic = read_byte_behind(&[3, tag::INTEGER, 1], &mut reader)?;
+    reader.finish(diagnostic)
+}
+
+// These very bytes, and one byte more.
+#[tactic(auto, unfolding(crate::specs::Reading::byte_behind))]
+fn read_byte_behind(expected: &[u8], reader: &mut Reader) -> Result<u8, AcseFault>
+    ensures { Reads (λ byte. byte) result reader.new (byte_behind expected.now reader.old) }
+{
+    reader.literal(expected)?;
+    reader.byte()
+}
+
+// User information, if it is there.
+#[tactic(auto, unfolding(crate::specs::Reading::info_in))]
+fn read_info(user: Option<&[u8]>) -> Info
+    ensures { result ≡ info_of (option_map (λ bytes. bytes.now) user.entry) }
+{
+    let Some(bytes) = user else {
+        return Info::Absent;
+    };
+    match read_response(bytes) {
+        Ok(info) => info,
+        Err(_) => match read_initiate_error(bytes) {
+            Ok(info) => info,
+            Err(_) => Info::Absent,
+        },
+    }
+}
+
+// Whether user information is an InitiateResponse.
+fn is_response(info: Info) -> bool
+    ensures { result ≡ is_response info }
+{
+    matches!(info, Info::Response { .. })
+}
+
+// An InitiateResponse: its version and the name of the virtual application entity are not looked at.
+#[tactic(auto, unfolding(crate::specs::Reading::response_at))]
+fn read_response(bytes: &[u8]) -> Result<Info, AcseFault>
+    ensures { result ≡ whole (response_at bytes.now) }
+{
+    let mut reader = Reader::new(bytes);
+    reader.literal(&[RESPONSE_TAG])?;
+    skip_optional_byte(&mut reader)?;
+    let _version = reader.byte()?;
+    let bits = read_conformance(&mut reader)?;
+    let limit = reader.size()?;
+    let _name = reader.bytes(2)?;
+    reader.finish(Info::Response { bits, limit })
+}
+
+// A ConfirmedServiceError of Initiate.
+fn read_initiate_error(bytes: &[u8]) -> Result<Info, AcseFault>
+    ensures { result ≡ whole (initiate_error_at bytes.now) }
+{
+    let mut reader = Reader::new(bytes);
+    let error = read_byte_behind(&INITIATE_ERROR_HEAD, &mut reader)?;
+    reader.finish(Info::InitiateError(error))
+}

@@ -1,0 +1,85 @@
+ghost use Rattle.std.specs.Prelude.{◌≡◌, [], ◌∷◌, ◌++◌, IfOk, OnOk};
+ghost use Rattle.acse_ber.specs.Text.{user_text, result_text, diagnostic_text, response_text, info_text, aare_text};
+
+use crate::aare::{Aare, Info};
+use crate::identifier::LN_WITHOUT_CIPHERING;
+use crate::field_writing::{put_context, put_tagged, put_user};
+use crate::initiate::{CONFORMANCE_HEAD, INITIATE_ERROR_HEAD, RESPONSE_TAG, VAA_NAME, VERSION};
+use crate::tag;
+use cosem_axdr::Octets;
+use std::alloc::{AllocError, Global};
+
+/// Writes an AARE of the application context of logical names without ciphering, each length in its shortest form. The diagnostic is written as one of the service user.
+///
+/// Of the bits of a response the lowest 24 are written.
+#[tactic(auto, unfolding(crate::specs::Text::aare_text))]
+pub fn write_aare(alloc: Global, aare: &Aare) -> Result<Octets, AllocError>
+    ensures { IfOk result (λ text. text ≡ aare_text aare.now) }
+{
+    let mut body = Octets::new(alloc);
+    put_context(alloc, &LN_WITHOUT_CIPHERING, &mut body)?;
+    put_result(aare.result, &mut body)?;
+    put_diagnostic(aare.diagnostic, &mut body)?;
+    put_info(alloc, aare.info, &mut body)?;
+    let mut text = Octets::new(alloc);
+    put_tagged(tag::AARE, body.as_slice(), &mut text)?;
+    Ok(text)
+}
+
+// The association result: an integer of one byte.
+fn put_result(outcome: u8, out: &mut Octets) -> Result<(), AllocError>
+    ensures { OnOk result (out.new ≡ out.old ++ result_text outcome) }
+{
+    out.extend_from_slice(&[tag::aare::RESULT, 3, tag::INTEGER, 1, outcome])
+}
+
+// The diagnostic, as one of the service user: an integer of one byte.
+fn put_diagnostic(diagnostic: u8, out: &mut Octets) -> Result<(), AllocError>
+    ensures { OnOk result (out.new ≡ out.old ++ diagnostic_text diagnostic) }
+{
+    out.extend_from_slice(&[
+        tag::aare::RESULT_SOURCE_DIAGNOSTIC,
+        5,
+        tag::SERVICE_USER,
+        3,
+        tag::INTEGER,
+        1,
+        diagnostic,
+    ])
+}
+
+// User information, if there is any.
+fn put_info(alloc: Global, info: Info, out: &mut Octets) -> Result<(), AllocError>
+    ensures { OnOk result (out.new ≡ out.old ++ info_text info) }
+{
+    match info {
+        Info::Absent => Ok(()),
+        Info::Response { bits, limit } => put_response(alloc, bits, limit, out),
+        Info::InitiateError(error) => put_initiate_error(alloc, error, out),
+    }
+}
+
+// An InitiateResponse: no quality of service, the version, the conformance, the size and the name of the virtual application entity.
+fn put_response(alloc: Global, bits: u32, limit: u16, out: &mut Octets) -> Result<(), AllocError>
+    ensures { OnOk result (out.new ≡ out.old ++ user_text (response_text bits limit)) }
+{
+    let mut response = Octets::new(alloc);
+    response.extend_from_slice(&[RESPONSE_TAG, NO_QUALITY, VERSION])?;
+    response.extend_from_slice(&CONFORMANCE_HEAD)?;
+    response.extend_from_slice(&bits.to_be_bytes()[1..])?;
+    response.extend_from_slice(&limit.to_be_bytes())?;
+    response.extend_from_slice(&VAA_NAME)?;
+    put_user(alloc, response.as_slice(), out)
+}
+
+const NO_QUALITY: u8 = 0;
+
+// A ConfirmedServiceError of Initiate.
+fn put_initiate_error(alloc: Global, error: u8, out: &mut Octets) -> Result<(), AllocError>
+    ensures { OnOk result (out.new ≡ out.old ++ user_text (0x0E ∷ 0x01 ∷ 0x06 ∷ error ∷ [])) }
+{
+    let mut text = Octets::new(alloc);
+    text.extend_from_slice(&INITIATE_ERROR_HEAD)?;
+    text.push(error)?;
+    put_user(alloc, text.as_slice(), out)
+}

@@ -1,0 +1,42 @@
+ghost use Rattle.std.specs.Prelude.{◌≡◌, IfOk, option_map};
+ghost use Rattle.byte_reading.specs.Outcome.{Gives};
+ghost use Rattle.acse_ber.specs.Reading.{aarq_of};
+
+use crate::aarq::Aarq;
+use crate::fault::AcseFault;
+use crate::field::{find_field, find_inner, read_tagged};
+use crate::tag;
+use cosem_axdr::Octets;
+use std::alloc::{AllocError, Global};
+
+/// Reads an AARQ: a length that ends where the bytes end, and fields, in any order, that fill it.
+///
+/// The application context and the user information have to be there. Those two, the mechanism and the authentication value may not be there twice. All other fields are skipped.
+#[tactic(auto, unfolding(crate::specs::Reading::aarq_of))]
+pub fn read_aarq(alloc: Global, bytes: &[u8]) -> Result<Aarq, AcseFault>
+    ensures exact { Gives AcseFault.Memory (λ aarq. aarq) result (aarq_of bytes.now) }
+{
+    let body = read_tagged(tag::AARQ, bytes)?;
+    let context = find_inner(tag::APPLICATION_CONTEXT_NAME, tag::OBJECT_IDENTIFIER, body)?
+        .ok_or(AcseFault::Unreadable)?;
+    let mechanism = find_field(tag::aarq::MECHANISM_NAME, body)?.unwrap_or(&[]);
+    let password = find_inner(tag::aarq::CALLING_AUTHENTICATION_VALUE, tag::CHARSTRING, body)?;
+    let user = find_inner(tag::USER_INFORMATION, tag::OCTET_STRING, body)?
+        .ok_or(AcseFault::Unreadable)?;
+    Ok(Aarq {
+        context: Octets::from_slice(alloc, context)?,
+        mechanism: Octets::from_slice(alloc, mechanism)?,
+        password: copy_of(alloc, password)?,
+        user: Octets::from_slice(alloc, user)?,
+    })
+}
+
+// A copy of bytes, if there are any.
+fn copy_of(alloc: Global, bytes: Option<&[u8]>) -> Result<Option<Octets>, AllocError>
+    ensures { IfOk result (λ copy. copy ≡ option_map (λ bytes. bytes.now) bytes.entry) }
+{
+    Ok(match bytes {
+        Some(bytes) => Some(Octets::from_slice(alloc, bytes)?),
+        None => None,
+    })
+}

@@ -1,0 +1,66 @@
+ghost use Rattle.std.specs.Prelude.{◌≡◌, ◌++◌, IfOk, OnOk};
+ghost use Rattle.acse_ber.specs.Text.{mechanism_text, password_text, aarq_body, aarq_text};
+
+use crate::aarq::Aarq;
+use crate::field_writing::{put_context, put_nested, put_tagged, put_user};
+use crate::tag;
+use cosem_axdr::Octets;
+use std::alloc::{AllocError, Global};
+
+/// Writes an AARQ, each length in its shortest form. Where there is a mechanism, the ACSE requirements say before it that there is authentication.
+///
+/// An AARQ whose fields have more than 65,535 bytes is written too, and not read back.
+#[tactic(auto, unfolding(crate::specs::Text::aarq_text))]
+pub fn write_aarq(alloc: Global, aarq: &Aarq) -> Result<Octets, AllocError>
+    ensures { IfOk result (λ text. text ≡ aarq_text aarq.now) }
+{
+    let mut body = Octets::new(alloc);
+    put_fields(alloc, aarq, &mut body)?;
+    let mut text = Octets::new(alloc);
+    put_tagged(tag::AARQ, body.as_slice(), &mut text)?;
+    Ok(text)
+}
+
+// The fields of an AARQ.
+fn put_fields(alloc: Global, aarq: &Aarq, out: &mut Octets) -> Result<(), AllocError>
+    ensures { OnOk result (out.new ≡ out.old ++ aarq_body aarq.now) }
+{
+    put_context(alloc, aarq.context.as_slice(), out)?;
+    put_mechanism(&aarq.mechanism, out)?;
+    put_password(alloc, &aarq.password, out)?;
+    put_user(alloc, aarq.user.as_slice(), out)
+}
+
+/// The ACSE requirements: the bit-string of which the first bit, authentication, is set.
+const AUTHENTICATION_REQUIRED: [u8; 4] = [tag::aarq::SENDER_ACSE_REQUIREMENTS, 0x02, 0x07, 0x80];
+
+// The mechanism, if there is one, behind the ACSE requirements.
+fn put_mechanism(mechanism: &Octets, out: &mut Octets) -> Result<(), AllocError>
+    ensures { OnOk result (out.new ≡ out.old ++ mechanism_text mechanism.now) }
+{
+    if mechanism.is_empty() {
+        return Ok(());
+    }
+    out.extend_from_slice(&AUTHENTICATION_REQUIRED)?;
+    put_tagged(tag::aarq::MECHANISM_NAME, mechanism.as_slice(), out)
+}
+
+// The password, if there is one.
+fn put_password(
+    alloc: Global,
+    password: &Option<Octets>,
+    out: &mut Octets,
+) -> Result<(), AllocError>
+    ensures { OnOk result (out.new ≡ out.old ++ password_text password.now) }
+{
+    match password {
+        Some(password) => put_nested(
+            alloc,
+            tag::aarq::CALLING_AUTHENTICATION_VALUE,
+            tag::CHARSTRING,
+            password.as_slice(),
+            out,
+        ),
+        None => Ok(()),
+    }
+}

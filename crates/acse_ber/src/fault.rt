@@ -1,0 +1,24 @@
+ghost use Rattle.std.specs.Prelude.{◌≡◌};
+ghost use Rattle.acse_ber.specs.declared.fault.AcseFault.TheVariants.{Memory};
+
+use std::alloc::AllocError;
+use thiserror::Error;
+
+/// Why bytes are no APDU of the kind that is read.
+#[derive(Clone, Copy, Debug, PartialEq, Eq, Error)]
+pub enum AcseFault {
+    /// A length, a tag or a field is not as it has to be.
+    #[error("the bytes are not those of the APDU")]
+    Unreadable,
+    /// Memory ran out.
+    #[error("out of memory")]
+    Memory,
+}
+
+impl From<AllocError> for AcseFault {
+    ghost from_gives = { λ _ fault. fault ≡ Memory };
+
+    fn from(_error: AllocError) -> AcseFault {
+        AcseFault::Memory
+    }
+}

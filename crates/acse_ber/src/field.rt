@@ -1,0 +1,84 @@
+//! The fields of an APDU: they come in any order.
+ghost use Rattle.std.specs.Prelude.{◌≡◌, option_map, is_ok};
+ghost use Rattle.acse_ber.specs.Reading.{Reads, Yields, field_at, tagged, fields_of, field_of, inner_of};
+
+use crate::fault::AcseFault;
+use crate::reader::Reader;
+use crate::tag::{FIRST_FIELD, LAST_FIELD};
+
+/// A field of an APDU.
+#[derive(Clone, Copy)]
+pub(crate) struct Field<'a> {
+    pub(crate) tag: u8,
+    pub(crate) contents: &'a [u8],
+}
+
+/// The next field: a context-specific tag, the length and the contents.
+#[tactic(auto, unfolding(crate::specs::Reading::field_at))]
+fn read_field<'a>(reader: &mut Reader<'a>) -> Result<Field<'a>, AcseFault>
+    ensures { Reads (λ field. record { tag = field.tag; contents = field.contents.now }) result reader.new (field_at reader.old) }
+{
+    match reader.byte()? {
+        tag @ FIRST_FIELD..=LAST_FIELD => Ok(Field {
+            tag,
+            contents: reader.contents()?,
+        }),
+        _ => Err(AcseFault::Unreadable),
+    }
+}
+
+/// The contents of a tag, which fill the bytes.
+#[tactic(auto, unfolding(crate::specs::Reading::tagged, crate::specs::Reading::tagged_at))]
+pub(crate) fn read_tagged(tag: u8, bytes: &[u8]) -> Result<&[u8], AcseFault>
+    ensures { Yields (λ contents. contents.now) result (tagged tag bytes.now) }
+{
+    let mut reader = Reader::new(bytes);
+    if reader.byte()? != tag {
+        return Err(AcseFault::Unreadable);
+    }
+    let contents = reader.contents()?;
+    reader.finish(contents)
+}
+
+/// Whether fields fill the bytes.
+pub(crate) fn are_fields(body: &[u8]) -> bool
+    ensures { result ≡ is_ok (fields_of body.now) }
+{
+    let mut reader = Reader::new(body);
+    'fields: while !reader.is_empty() {
+        let Ok(_field) = read_field(&mut reader) else {
+            return false;
+        };
+    }
+    true
+}
+
+/// What the field of a tag holds, if it is there. It may not be there twice, and all the fields have to fill the bytes.
+#[tactic(auto, unfolding(crate::specs::Reading::field_of))]
+pub(crate) fn find_field(tag: u8, body: &[u8]) -> Result<Option<&[u8]>, AcseFault>
+    ensures { Yields (λ found. option_map (λ contents. contents.now) found) result (field_of tag body.now) }
+{
+    let mut reader = Reader::new(body);
+    let mut found = None;
+    'fields: while !reader.is_empty() {
+        let field = read_field(&mut reader)?;
+        if field.tag == tag {
+            if found.is_some() {
+                return Err(AcseFault::Unreadable);
+            }
+            found = Some(field.contents);
+        }
+    }
+    Ok(found)
+}
+
+/// The contents of an inner tag, which fill the field of a tag, if that is there.
+#[tactic(auto, unfolding(crate::specs::Reading::inner_of))]
+pub(crate) fn find_inner(tag: u8, inner: u8, body: &[u8]) -> Result<Option<&[u8]>, AcseFault>
+    ensures { Yields (λ found. option_map (λ contents. contents.now) found) result (inner_of tag inner body.now) }
+{
+    match find_field(tag, body)? {
+        Some(contents) => Ok(Some(read_tagged(inner, contents)?)),
+        None => Ok(None),
+    }
+}

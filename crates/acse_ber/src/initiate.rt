@@ -1,0 +1,84 @@
+//! The user information of an AARQ, an InitiateRequest, and its parts that an InitiateResponse has too (IEC 62056-5-3).
+ghost use Rattle.std.specs.Prelude.{◌≡◌};
+ghost use Rattle.acse_ber.specs.Reading.{Reads, Yields, optional_byte_at, conformance_at, proposal_of};
+
+use crate::fault::AcseFault;
+use crate::reader::Reader;
+
+/// The tag of an InitiateRequest, and no dedicated key.
+const REQUEST_HEAD: [u8; 2] = [0x01, 0x00];
+
+/// The tag of an InitiateResponse.
+pub(crate) const RESPONSE_TAG: u8 = 0x08;
+
+/// A ConfirmedServiceError of Initiate: its tag, the choice initiate-error, and within that the choice initiate. The error follows.
+pub(crate) const INITIATE_ERROR_HEAD: [u8; 3] = [0x0E, 0x01, 0x06];
+
+/// The tag of a conformance block, the length of what follows and the number of its unused bits.
+pub(crate) const CONFORMANCE_HEAD: [u8; 4] = [0x5F, 0x1F, 0x04, 0x00];
+
+/// The DLMS version.
+pub(crate) const VERSION: u8 = 6;
+
+/// The name of the virtual application entity, for logical names.
+pub(crate) const VAA_NAME: [u8; 2] = [0x00, 0x07];
+
+const ABSENT: u8 = 0;
+
+const PRESENT: u8 = 1;
+
+/// What a client proposes in an InitiateRequest.
+#[derive(Clone, Copy)]
+pub(crate) struct Proposal {
+    /// The DLMS version.
+    pub(crate) version: u8,
+    /// The conformance, its first bit the highest of 24.
+    pub(crate) conformance: u32,
+    /// The longest APDU that the client takes, in bytes; 0 is no limit.
+    pub(crate) size: u16,
+}
+
+/// Reads an InitiateRequest without a dedicated key; what response-allowed and the quality of service say is not looked at.
+#[tactic(auto, unfolding(crate::specs::Reading::proposal_of, crate::specs::Reading::proposal_at))]
+pub(crate) fn read_proposal(bytes: &[u8]) -> Result<Proposal, AcseFault>
+    ensures { Yields (λ proposal. proposal) result (proposal_of bytes.now) }
+{
+    let mut reader = Reader::new(bytes);
+    reader.literal(&REQUEST_HEAD)?;
+    skip_optional_byte(&mut reader)?;
+    skip_optional_byte(&mut reader)?;
+    let version = reader.byte()?;
+    let conformance = read_conformance(&mut reader)?;
+    let size = reader.size()?;
+    reader.finish(Proposal {
+        version,
+        conformance,
+        size,
+    })
+}
+
+/// Skips a byte that says whether one more stands behind it, and that.
+#[tactic(auto, unfolding(crate::specs::Reading::optional_byte_at))]
+pub(crate) fn skip_optional_byte(reader: &mut Reader) -> Result<(), AcseFault>
+    ensures { Reads (λ unit. unit) result reader.new (optional_byte_at reader.old) }
+{
+    match reader.byte()? {
+        ABSENT => Ok(()),
+        PRESENT => {
+            let _value = reader.byte()?;
+            Ok(())
+        }
+        _ => Err(AcseFault::Unreadable),
+    }
+}
+
+/// Reads the 24 bits of a conformance block.
+#[tactic(auto, unfolding(crate::specs::Reading::conformance_at))]
+pub(crate) fn read_conformance(reader: &mut Reader) -> Result<u32, AcseFault>
+    ensures { Reads (λ bits. bits) result reader.new (conformance_at reader.old) }
+{
+    reader.literal(&CONFORMANCE_HEAD)?;
+    let mut bits = [0; 4];
+    bits[1..].copy_from_slice(reader.bytes(3)?);
+    Ok(u32::from_be_bytes(bits))
+}

@@ -1,0 +1,134 @@
+//! The judgement of a request for an association (IEC 62056-5-3).
+ghost use Rattle.std.specs.Prelude.{◌≡◌};
+ghost use Rattle.acse_ber.specs.Verdict.{is_no_mechanism, is_password, agreed, authenticated, judged, verdict_of};
+
+use crate::aarq::Aarq;
+use crate::identifier::{LN_WITHOUT_CIPHERING, LOW_LEVEL_SECURITY, LOWEST_LEVEL_SECURITY};
+use crate::initiate::{Proposal, read_proposal};
+use crate::verdict::Verdict;
+use cosem_axdr::Octets;
+use cosem_names::Level;
+
+/// The ports of clients that may open an association.
+const MANAGEMENT_CLIENT: u16 = 1;
+
+const PUBLIC_CLIENT: u16 = 16;
+
+/// The diagnostics of the ACSE service user.
+mod diagnostic {
+    pub(crate) const NO_REASON_GIVEN: u8 = 1;
+
+    pub(crate) const APPLICATION_CONTEXT_NAME_NOT_SUPPORTED: u8 = 2;
+
+    pub(crate) const AUTHENTICATION_MECHANISM_NAME_NOT_RECOGNISED: u8 = 11;
+
+    pub(crate) const AUTHENTICATION_FAILURE: u8 = 13;
+
+    pub(crate) const AUTHENTICATION_REQUIRED: u8 = 14;
+}
+
+/// The errors of Initiate.
+mod initiate_error {
+    pub(crate) const DLMS_VERSION_TOO_LOW: u8 = 1;
+
+    pub(crate) const INCOMPATIBLE_CONFORMANCE: u8 = 2;
+
+    pub(crate) const PDU_SIZE_TOO_SHORT: u8 = 3;
+}
+
+const LOWEST_VERSION: u8 = 6;
+
+/// Block transfer with GET, SET and ACTION, multiple references, GET, SET and ACTION.
+const OFFERED_CONFORMANCE: u32 = 0x00_1E19;
+
+const NO_SIZE_LIMIT: u16 = 0;
+
+const SHORTEST_PDU_SIZE: u16 = 64;
+
+/// Judges an AARQ that came from the client port `sap`: the refusal of the first check that it fails, or what is negotiated.
+///
+/// The checks, in this order: the port, the application context, the mechanism, and on the management client's port that there is one and the password;
+/// that the user information is an InitiateRequest, its version, that a service that the meter offers is proposed, and the size.
+#[tactic(auto, unfolding(crate::specs::Verdict::verdict_of))]
+pub fn judge(aarq: &Aarq, sap: u16, password: &Octets) -> Verdict
+    ensures { result ≡ verdict_of aarq.now sap password.now }
+{
+    match associate(aarq, sap, password) {
+        Ok(verdict) | Err(verdict) => verdict,
+    }
+}
+
+// The checks: an error is a refusal.
+#[tactic(auto, unfolding(crate::specs::Verdict::judged))]
+fn associate(aarq: &Aarq, sap: u16, password: &Octets) -> Result<Verdict, Verdict>
+    ensures { result ≡ judged aarq.now sap password.now }
+{
+    let level = match sap {
+        MANAGEMENT_CLIENT => Level::Management,
+        PUBLIC_CLIENT => Level::Public,
+        _ => return Err(Verdict::Rejected(diagnostic::NO_REASON_GIVEN)),
+    };
+    if aarq.context.as_slice() != LN_WITHOUT_CIPHERING.as_slice() {
+        return Err(Verdict::Rejected(diagnostic::APPLICATION_CONTEXT_NAME_NOT_SUPPORTED));
+    }
+    authenticate(level, aarq, password)?;
+    let Ok(proposal) = read_proposal(aarq.user.as_slice()) else {
+        return Err(Verdict::Rejected(diagnostic::NO_REASON_GIVEN));
+    };
+    agree(level, proposal)
+}
+
+// The checks of the client's authentication. Only the management client has to give the password.
+#[tactic(auto, unfolding(crate::specs::Verdict::authenticated))]
+fn authenticate(level: Level, aarq: &Aarq, password: &Octets) -> Result<(), Verdict>
+    ensures { result ≡ authenticated level aarq.now password.now }
+{
+    let is_absent = is_no_mechanism(&aarq.mechanism);
+    if !is_absent && aarq.mechanism.as_slice() != LOW_LEVEL_SECURITY.as_slice() {
+        return Err(Verdict::Rejected(diagnostic::AUTHENTICATION_MECHANISM_NAME_NOT_RECOGNISED));
+    }
+    match level {
+        Level::Public => Ok(()),
+        Level::Management if is_absent => Err(Verdict::Rejected(diagnostic::AUTHENTICATION_REQUIRED)),
+        Level::Management if !is_password(password, &aarq.password) => {
+            Err(Verdict::Rejected(diagnostic::AUTHENTICATION_FAILURE))
+        }
+        Level::Management => Ok(()),
+    }
+}
+
+// Whether a mechanism is absent, or is the one of no authentication.
+fn is_no_mechanism(mechanism: &Octets) -> bool
+    ensures { result ≡ is_no_mechanism mechanism.now }
+{
+    mechanism.is_empty() || mechanism.as_slice() == LOWEST_LEVEL_SECURITY.as_slice()
+}
+
+// Whether a password came, and is this one.
+fn is_password(password: &Octets, given: &Option<Octets>) -> bool
+    ensures { result ≡ is_password password.now given.now }
+{
+    match given {
+        Some(given) => given.as_slice() == password.as_slice(),
+        None => false,
+    }
+}
+
+// The checks of what the client proposes.
+#[tactic(auto, unfolding(crate::specs::Verdict::agreed))]
+fn agree(level: Level, proposal: Proposal) -> Result<Verdict, Verdict>
+    ensures { result ≡ agreed level proposal }
+{
+    if proposal.version < LOWEST_VERSION {
+        return Err(Verdict::InitiateError(initiate_error::DLMS_VERSION_TOO_LOW));
+    }
+    let bits = OFFERED_CONFORMANCE & proposal.conformance;
+    if bits == 0 {
+        return Err(Verdict::InitiateError(initiate_error::INCOMPATIBLE_CONFORMANCE));
+    }
+    let limit = proposal.size;
+    if limit != NO_SIZE_LIMIT && limit < SHORTEST_PDU_SIZE {
+        return Err(Verdict::InitiateError(initiate_error::PDU_SIZE_TOO_SHORT));
+    }
+    Ok(Verdict::Accepted { level, bits, limit })
+}

@@ -1,0 +1,33 @@
+//! The APDUs that open and release an association: AARQ, AARE and RLRQ of the ACSE, in BER, and the judgement of an AARQ (IEC 62056-5-3, Green Book of the DLMS UA).
+#![tactic(auto)]
+
+mod aare;
+mod aare_reading;
+mod aare_writing;
+mod aarq;
+mod aarq_reading;
+mod aarq_writing;
+mod fault;
+mod field;
+mod field_writing;
+mod identifier;
+mod initiate;
+mod judging;
+mod reader;
+mod release;
+mod tag;
+mod verdict;
+
+pub use aare::{Aare, Info};
+pub use aare_reading::read_aare;
+pub use aare_writing::write_aare;
+pub use aarq::Aarq;
+pub use aarq_reading::read_aarq;
+pub use aarq_writing::write_aarq;
+pub use fault::AcseFault;
+pub use judging::judge;
+pub use release::{RELEASE_REQUEST, RELEASE_RESPONSE, is_release};
+pub use verdict::Verdict;
+
+#[cfg(test)]
+mod tests;

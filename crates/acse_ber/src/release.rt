@@ -1,0 +1,23 @@
+//! The release of an association (IEC 62056-5-3, RLRQ and RLRE).
+ghost use Rattle.std.specs.Prelude.{◌≡◌};
+ghost use Rattle.acse_ber.specs.Reading.{is_release_text};
+
+use crate::field::{are_fields, read_tagged};
+use crate::tag;
+
+/// The RLRQ of a client: the reason is normal.
+pub const RELEASE_REQUEST: [u8; 5] = [0x62, 0x03, 0x80, 0x01, 0x00];
+
+/// The RLRE that answers an RLRQ: the reason is normal.
+pub const RELEASE_RESPONSE: [u8; 5] = [0x63, 0x03, 0x80, 0x01, 0x00];
+
+/// Whether bytes are an RLRQ: a length that ends where the bytes end, and fields, whatever they are, that fill it.
+#[tactic(auto, unfolding(crate::specs::Reading::is_release_text))]
+pub fn is_release(bytes: &[u8]) -> bool
+    ensures { result ≡ is_release_text bytes.now }
+{
+    match read_tagged(tag::RLRQ, bytes) {
+        Ok(body) => are_fields(body),
+        Err(_) => false,
+    }
+}
