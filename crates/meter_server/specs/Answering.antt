@@ -1,5 +1,8 @@
-use Rattle.std.specs.Prelude.{ℕ, Bool, true, false, List, [], ◌∷◌, Result, Ok, Err, ◌==◌, ◌&&◌, ◌||◌, not, if◌then◌else◌}
+use Rattle.std.specs.Prelude.{ℕ, Bool, true, false, List, [], ◌∷◌, Option, Result, Ok, Err, ◌==◌, ◌&&◌, ◌||◌, not, if◌then◌else◌}
+use Rattle.cosem_axdr.specs.declared.value.Data.{Data}
 use Rattle.cosem_names.specs.declared.level.Level.TheVariants.{Management}
+use Rattle.cosem_names.specs.declared.name.MethodRef.{MethodRef}
+use Rattle.cosem_names.specs.declared.service.AttributeSelection.{AttributeSelection}
 use Rattle.cosem_names.specs.declared.result_code.ResultCode.{ResultCode}
 use Rattle.cosem_names.specs.declared.result_code.ResultCode.TheVariants.{OtherReason}
 use Rattle.cosem_names.specs.declared.service.GetResult.{GetResult}
@@ -59,11 +62,21 @@ was_set id stepped = record { world = stepped.world; response = response.Set id 
 abbrev pub acted : InvokeId → Stepped → Answered
 acted id stepped = record { world = stepped.world; response = response.Action id (code_in stepped.reply) }
 
+-- a GET, a SET and an ACTION at management level
+abbrev pub at_get : InvokeId → AttributeSelection → World → Answered
+at_get id target w = got id (at_event (event.Get Management target.attr target.selected) w)
+
+abbrev pub at_set : InvokeId → AttributeSelection → Data → World → Answered
+at_set id target value w = was_set id (at_event (event.Set Management target.attr target.selected value) w)
+
+abbrev pub at_action : InvokeId → MethodRef → Option Data → World → Answered
+at_action id method parameter w = acted id (at_event (event.Execute Management method parameter) w)
+
 -- the answer to a request at management level
 unfoldable pub responded : Request → World → Answered
-responded (request.Get id target) w = got id (at_event (event.Get Management target.attr target.selected) w)
-responded (request.Set id target value) w = was_set id (at_event (event.Set Management target.attr target.selected value) w)
-responded (request.Action id method parameter) w = acted id (at_event (event.Execute Management method parameter) w)
+responded (request.Get id target) w = at_get id target w
+responded (request.Set id target value) w = at_set id target value w
+responded (request.Action id method parameter) w = at_action id method parameter w
 responded (request.GetNext id number) w = unknown w
 responded (request.GetList id targets) w = unknown w
 responded (request.SetFirst id target block) w = unknown w

@@ -2,13 +2,16 @@ ghost use Rattle.std.specs.Prelude.{◌≡◌, IfOk, OnOk, OnErr};
 ghost use Rattle.relay_core.specs.World.{World};
 ghost use Rattle.relay_core.specs.Stands.{StandsFor};
 ghost use Rattle.xdlms_apdu.specs.Text.{response_text};
-ghost use Rattle.meter_server.specs.Answering.{needs_session, result_in, code_in, responded, answered};
+ghost use Rattle.meter_server.specs.Answering.{needs_session, result_in, code_in, at_get, at_set, at_action, responded, answered};
 
-use cosem_axdr::Octets;
-use cosem_names::{GetResult, Level, ResultCode};
+use cosem_axdr::{Data, Octets};
+use cosem_names::{AttributeSelection, GetResult, Level, MethodRef, ResultCode};
 use relay_core::{Event, RelayCore, Reply};
 use std::alloc::{AllocError, Global};
-use xdlms_apdu::{ApduFault, Exception, Request, Response, read_request, write_response};
+use xdlms_apdu::{ApduFault, Exception, InvokeId, Request, Response, read_request, write_response};
+
+/// The level of a client that asks without an association.
+const LEVEL: Level = Level::Management;
 
 /// Whether a payload is of a service, and of another form than that of one attribute or method: a session alone
 /// goes on with such a form.
@@ -42,55 +45,89 @@ fn result_code(reply: Reply) -> ResultCode
     }
 }
 
+/// Takes a GET of one attribute at management level.
+fn answer_get(
+    core: &mut RelayCore,
+    alloc: Global,
+    id: InvokeId,
+    target: AttributeSelection,
+) -> Result<Response, AllocError>
+    ensures world { OnOk result ((w : World) → StandsFor core.old w → StandsFor core.new (at_get id target w).world) }
+    ensures response { IfOk result (λ response. (w : World) → StandsFor core.old w → response ≡ (at_get id target w).response) }
+{
+    let event = Event::Get {
+        level: LEVEL,
+        attr: target.attr,
+        selected: target.selected,
+    };
+    let reply = core.step(alloc, &event)?;
+    Ok(Response::Get {
+        id,
+        result: get_result(reply),
+    })
+}
+
+/// Takes a SET of one attribute at management level.
+fn answer_set(
+    core: &mut RelayCore,
+    alloc: Global,
+    id: InvokeId,
+    target: AttributeSelection,
+    value: Data,
+) -> Result<Response, AllocError>
+    ensures world { OnOk result ((w : World) → StandsFor core.old w → StandsFor core.new (at_set id target value w).world) }
+    ensures response { IfOk result (λ response. (w : World) → StandsFor core.old w → response ≡ (at_set id target value w).response) }
+{
+    let event = Event::Set {
+        level: LEVEL,
+        attr: target.attr,
+        selected: target.selected,
+        value,
+    };
+    let reply = core.step(alloc, &event)?;
+    Ok(Response::Set {
+        id,
+        code: result_code(reply),
+    })
+}
+
+/// Takes an ACTION of one method at management level.
+fn answer_action(
+    core: &mut RelayCore,
+    alloc: Global,
+    id: InvokeId,
+    method: MethodRef,
+    parameter: Option<Data>,
+) -> Result<Response, AllocError>
+    ensures world { OnOk result ((w : World) → StandsFor core.old w → StandsFor core.new (at_action id method parameter w).world) }
+    ensures response { IfOk result (λ response. (w : World) → StandsFor core.old w → response ≡ (at_action id method parameter w).response) }
+{
+    let event = Event::Execute {
+        level: LEVEL,
+        method,
+        parameter,
+    };
+    let reply = core.step(alloc, &event)?;
+    Ok(Response::Action {
+        id,
+        code: result_code(reply),
+    })
+}
+
 /// Takes a request at management level, and gives its response.
 #[tactic(auto, unfolding(crate::specs::Answering::responded))]
 fn respond(core: &mut RelayCore, alloc: Global, request: Request) -> Result<Response, AllocError>
     ensures world { OnOk result ((w : World) → StandsFor core.old w → StandsFor core.new (responded request w).world) }
     ensures response { IfOk result (λ response. (w : World) → StandsFor core.old w → response ≡ (responded request w).response) }
 {
-    let level = Level::Management;
     match request {
-        Request::Get { id, target } => {
-            let event = Event::Get {
-                level,
-                attr: target.attr,
-                selected: target.selected,
-            };
-            let reply = core.step(alloc, &event)?;
-            Ok(Response::Get {
-                id,
-                result: get_result(reply),
-            })
-        }
-        Request::Set { id, target, value } => {
-            let event = Event::Set {
-                level,
-                attr: target.attr,
-                selected: target.selected,
-                value,
-            };
-            let reply = core.step(alloc, &event)?;
-            Ok(Response::Set {
-                id,
-                code: result_code(reply),
-            })
-        }
+        Request::Get { id, target } => answer_get(core, alloc, id, target),
+        Request::Set { id, target, value } => answer_set(core, alloc, id, target, value),
         Request::Action {
             id,
             method,
             parameter,
-        } => {
-            let event = Event::Execute {
-                level,
-                method,
-                parameter,
-            };
-            let reply = core.step(alloc, &event)?;
-            Ok(Response::Action {
-                id,
-                code: result_code(reply),
-            })
-        }
+        } => answer_action(core, alloc, id, method, parameter),
         _ => Ok(Response::Exception(Exception::Unknown)),
     }
 }
