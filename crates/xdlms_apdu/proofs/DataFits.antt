@@ -1,14 +1,13 @@
 -- A Data that bytes spell fits: its numbers are of their types' ranges, and its text is no longer than those bytes.
-use Rattle.std.proofs.Common.{◌≡◌, ◌⊎◌, ℕ, zero, suc, ◌+◌, ◌-◌, ◌*◌, ◌/◌, ◌%◌, ◌^◌, ◌<◌, ◌≤◌, Bool, true, false, List, [], ◌∷◌, ◌++◌, length, get_or, set, slice_index, slice_set, ℤ, FitsSigned, refl, sym, ap, subst, ◌∙◌, arith, inl, inr}
-use Rattle.std.specs.Int.{Width, w8, w16, w32, w64, byte_len, from_be_bytes, to_be_bytes, cast_signed, cast_unsigned}
+use Rattle.std.proofs.Common.{◌≡◌, ℕ, zero, suc, ◌+◌, ◌-◌, ◌*◌, ◌/◌, ◌%◌, ◌^◌, ◌<◌, ◌≤◌, List, [], ◌∷◌, ◌++◌, length, slice_index, slice_set, ℤ, FitsSigned, refl, sym, ap, subst, ◌∙◌, arith, inl, inr}
+use Rattle.std.specs.Int.{Width, w8, w16, w32, w64, from_be_bytes, cast_signed}
 use Rattle.std.proofs.Math.Facts.{Fits-bits, sfits_to_z}
 use Rattle.std.proofs.Math.Nat.{div-mul-le_self, mul-div_cancel}
 use Rattle.std.proofs.lemmas.Nat.{pow_pos}
 use Rattle.std.proofs.lemmas.Bool.{cases_lt, lt-ltb, le-ltb}
 use Rattle.std.proofs.lemmas.List.{length-append, length-set, get_or-append-add}
-use Rattle.cosem_axdr.specs.Limits.{max_items, bytes_for, highest_bits, cleared}
-use Rattle.cosem_axdr.specs.Reading.{big_endian}
-use Rattle.cosem_axdr.specs.Spelling.{IsLength, IsString, IsBits, IsUnsigned, IsSigned, IsFixed, IsBoolean, AreContents, AreSpelled, IsSpelling, length_text, string_text, contents_text, texts, text, tag_of, IsBytes, IsWithin, AreWithin, IsFine, AreFine, IsFit}
+use Rattle.cosem_axdr.specs.Limits.{highest_bits, cleared}
+use Rattle.cosem_axdr.specs.Spelling.{IsLength, IsString, IsBits, IsUnsigned, IsSigned, IsFixed, AreContents, AreSpelled, IsSpelling, length_text, string_text, contents_text, texts, text, tag_of, IsBytes, IsWithin, AreWithin, IsFine, AreFine, IsFit}
 use Rattle.cosem_axdr.specs.Tree.{Tree, Trees, count_of, null, array, structure, boolean, bit_string, double_long, double_long_unsigned, octet_string, visible_string, utf8_string, integer, long, unsigned, long_unsigned, long64, long64_unsigned, enumerated, date_time, date, time, no_trees, tree}
 
 -- ---- bytes
@@ -124,9 +123,10 @@ signed_fits w k fits below contents z bytes is = subst (λ (y : ℤ). FitsSigned
 
 string_fits : (contents string : List ℕ) → IsBytes contents → IsString contents string → IsBytes string × (length (string_text string) ≤ length contents)
 string_fits contents string bytes is =
-    let l = length_is_short is.length_text (length string) (front_bytes is.length_text string contents is.parts bytes) is.is_length in
-    (back_bytes is.length_text string contents is.parts bytes,
-      omega (arith, l.1, length-append (length_text (length string)) string, length-append is.length_text string, ap (λ (s : List ℕ). length s) is.parts))
+    let l = length_is_short is.length_text (length string) (front_bytes is.length_text string contents is.parts bytes) is.is_length in (
+      back_bytes is.length_text string contents is.parts bytes,
+      omega (arith, l.1, length-append (length_text (length string)) string, length-append is.length_text string, ap (λ (s : List ℕ). length s) is.parts),
+    )
 
 fixed_fits : (n : ℕ) (contents bytes : List ℕ) → IsBytes contents → IsFixed n contents bytes → ((length bytes ≡ n) × IsBytes bytes) × (length bytes ≤ length contents)
 fixed_fits n contents bytes are is =
@@ -137,9 +137,11 @@ bits_fit contents k bytes are is =
     let l = length_is_short is.length_text k (front_bytes is.length_text is.raw contents is.parts are) is.is_length in
     let raw : IsBytes is.raw = back_bytes is.length_text is.raw contents is.parts are in
     let len : length (cleared k is.raw) ≡ length is.raw = length-set is.raw (k / 8) _ in
-    let done : FitsIn contents (bit_string k (cleared k is.raw)) =
-      ((omega (arith, l.0), cleared_bytes k is.raw raw), (len ∙ is.long, cleared_again k is.raw),
-        omega (arith, l.1, len, length-append (length_text k) (cleared k is.raw), length-append is.length_text is.raw, ap (λ (s : List ℕ). length s) is.parts)) in
+    let done : FitsIn contents (bit_string k (cleared k is.raw)) = (
+      (omega (arith, l.0), cleared_bytes k is.raw raw),
+      (len ∙ is.long, cleared_again k is.raw),
+      omega (arith, l.1, len, length-append (length_text k) (cleared k is.raw), length-append is.length_text is.raw, ap (λ (s : List ℕ). length s) is.parts),
+    ) in
     subst (λ (s : List ℕ). FitsIn contents (bit_string k s)) (sym is.value) done
 
 -- two texts that are no longer than two others

@@ -1,6 +1,5 @@
 -- An APDU that bytes spell fits, so its written text spells it.
-use Rattle.std.proofs.Common.{◌≡◌, ℕ, zero, suc, ◌+◌, ◌^◌, ◌<◌, true, false, Option, Some, None, List, [], ◌∷◌, ◌++◌, length, get_or, ap, sym, ◌∙◌, arith}
-use Rattle.std.specs.List.{All}
+use Rattle.std.proofs.Common.{ℕ, zero, suc, ◌^◌, ◌<◌, Option, Some, None, List, [], ◌∷◌, length, get_or, ap, ◌∙◌, arith}
 use Rattle.std.specs.Int.{w16, w32}
 use Rattle.cosem_axdr.specs.Spelling.{IsBytes, IsJoined}
 use Rattle.cosem_axdr.specs.View.{tree_of}
@@ -12,7 +11,7 @@ use Rattle.cosem_names.specs.declared.service.GetResult.{GetResult}
 use Rattle.cosem_names.specs.declared.service.GetResult.TheVariants.{Value, Code}
 use Rattle.xdlms_apdu.specs.Fit.{IsFitData, IsFitAttribute, IsFitMethod, IsFitTarget, IsFitNumber, IsFitBlock, IsFitParameter, IsFitResult, AreFit, IsFitRequest, IsFitResponse}
 use Rattle.xdlms_apdu.specs.Heads.{request_head, response_head}
-use Rattle.xdlms_apdu.specs.Spelling.{IsNumber, IsRaw, IsData, IsClass, IsName, IsByte, IsAttribute, IsMethod, IsTarget, IsParameter, IsBlock, IsResult, AreItems, IsList, IsRequestBody, IsResponseBody, SpellsRequest, SpellsResponse}
+use Rattle.xdlms_apdu.specs.Spelling.{IsNumber, IsRaw, IsData, IsAttribute, IsMethod, IsTarget, IsParameter, IsBlock, IsResult, AreItems, IsList, IsRequestBody, IsResponseBody, SpellsRequest, SpellsResponse}
 use Rattle.xdlms_apdu.specs.Text.{request_text, response_text}
 use Rattle.xdlms_apdu.specs.declared.block.Block.{Block}
 use Rattle.xdlms_apdu.specs.declared.request.Request.{Request}

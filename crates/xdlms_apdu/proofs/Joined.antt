@@ -103,8 +103,8 @@ pub two_agrees : {X Y Z : Type 0} (make : X → Y → Z) (first : List ℕ → R
     → Agrees X first P → Agrees Y second Q → Agrees Z (two_at make first second) (IsPair make P Q)
 two_agrees make first second P Q one two =
     then_agrees first (λ x. one_at (make x) second) P (λ x. IsMade (make x) Q) (IsPair make P Q) one (λ x. made_agrees (make x) second Q two)
-    (λ x z text j. (x, j.are_others.0, j.are_others.1, record { first = j.first; others = j.others; parts = j.parts; is_first = j.is_first; are_others = j.are_others.2 }))
-    (λ z text s. (s.0, record { first = s.3.first; others = s.3.others; parts = s.3.parts; is_first = s.3.is_first; are_others = (s.1, s.2, s.3.are_others) }))
+    (λ x z text j. (x, j.are_others.0, j.are_others.1, with_others j j.are_others.2))
+    (λ z text s. (s.0, with_others s.3 (s.1, s.2, s.3.are_others)))
 
 -- three fields
 pub three_agrees : {W X Y Z : Type 0} (make : W → X → Y → Z) (first : List ℕ → Read W) (second : List ℕ → Read X) (third : List ℕ → Read Y)
@@ -112,8 +112,8 @@ pub three_agrees : {W X Y Z : Type 0} (make : W → X → Y → Z) (first : List
     → Agrees W first P → Agrees X second Q → Agrees Y third R → Agrees Z (three_at make first second third) (IsTriple make P Q R)
 three_agrees make first second third P Q R one two three =
     then_agrees first (λ w. two_at (make w) second third) P (λ w. IsPair (make w) Q R) (IsTriple make P Q R) one (λ w. two_agrees (make w) second third Q R two three)
-    (λ w z text j. (w, j.are_others.0, j.are_others.1, j.are_others.2, record { first = j.first; others = j.others; parts = j.parts; is_first = j.is_first; are_others = j.are_others.3 }))
-    (λ z text s. (s.0, record { first = s.4.first; others = s.4.others; parts = s.4.parts; is_first = s.4.is_first; are_others = (s.1, s.2, s.3, s.4.are_others) }))
+    (λ w z text j. (w, j.are_others.0, j.are_others.1, j.are_others.2, with_others j j.are_others.3))
+    (λ z text s. (s.0, with_others s.4 (s.1, s.2, s.3, s.4.are_others)))
 
 -- the same reader, of a relation that says the same
 pub seen_as : {X : Type 0} (read : List ℕ → Read X) (P S : X → List ℕ → Type 0) → Agrees X read P → ((x : X) (text : List ℕ) → P x text → S x text) → ((x : X) (text : List ℕ) → S x text → P x text) → Agrees X read S

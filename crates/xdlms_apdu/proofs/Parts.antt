@@ -27,7 +27,7 @@ use Rattle.xdlms_apdu.specs.declared.fault.ApduFault.{ApduFault}
 use Rattle.xdlms_apdu.specs.declared.fault.ApduFault.TheVariants.{Unreadable}
 use Rattle.xdlms_apdu.specs.declared.invoke_id.InvokeId.{InvokeId}
 use Rattle.xdlms_apdu.proofs.Fields.{AreBytes, byte_agrees, bytes_agrees, flag_agrees, number_agrees, length_agrees, raw_agrees}
-use Rattle.xdlms_apdu.proofs.Joined.{Took, Agrees, IsMade, IsPair, IsTriple, IsNone, none_agrees, then_agrees, one_agrees, made_agrees, two_agrees, three_agrees, seen_as}
+use Rattle.xdlms_apdu.proofs.Joined.{Took, Agrees, IsMade, IsPair, IsTriple, IsNone, none_agrees, then_agrees, one_agrees, made_agrees, two_agrees, three_agrees, seen_as, with_others}
 
 -- ---- a Data
 
@@ -243,27 +243,14 @@ selection_is : (present selected : Bool) (text : List ℕ) → IsJoined (IsFlag 
 selection_is true selected text j =
     let o = j.are_others in
     subst (λ (b : Bool). IsSelection b text) o.2
-    (record {
-      first = j.first;
-      others = j.others;
-      parts = j.parts;
-      is_first = j.is_first;
-      are_others = record { first = o.3.first; others = o.3.others; parts = o.3.parts; is_first = (o.0, o.3.is_first); are_others = (o.1, o.3.are_others) };
-    })
+    (with_others j (record { first = o.3.first; others = o.3.others; parts = o.3.parts; is_first = (o.0, o.3.is_first); are_others = (o.1, o.3.are_others) }))
 selection_is false selected text j = subst (λ (b : Bool). IsSelection b text) j.are_others.0 (absent text j j.are_others.1)
 
 is_selection : (selected : Bool) (text : List ℕ) → IsSelection selected text → (present : Bool) × IsJoined (IsFlag present) (Optional false IsSelected present selected) text
 is_selection true text s =
-    let o = s.are_others in (
-      true,
-      record {
-        first = s.first;
-        others = s.others;
-        parts = s.parts;
-        is_first = s.is_first;
-        are_others = (o.is_first.0, o.are_others.0, refl, record { first = o.first; others = o.others; parts = o.parts; is_first = o.is_first.1; are_others = o.are_others.1 });
-      },
-    )
+    let o = s.are_others in
+    let both : IsJoined (IsByte o.is_first.0) (IsData o.are_others.0) s.others = record { first = o.first; others = o.others; parts = o.parts; is_first = o.is_first.1; are_others = o.are_others.1 } in
+    (true, with_others s (o.is_first.0, o.are_others.0, refl, both))
 is_selection false text s = (false, record { first = text; others = []; parts = sym (append-nil text); is_first = zero_is_no text s; are_others = (refl, refl) })
 
 pub selection_agrees : Agrees Bool selection_at IsSelection
@@ -288,11 +275,11 @@ IsGiven parameter text = IsMade Some IsData parameter text
 
 parameter_is : (present : Bool) (parameter : Option Data) (text : List ℕ) → IsJoined (IsFlag present) (Optional None IsGiven present parameter) text → IsParameter parameter text
 parameter_is true parameter text j =
-    subst (λ (o : Option Data). IsParameter o text) j.are_others.1 (record { first = j.first; others = j.others; parts = j.parts; is_first = j.is_first; are_others = j.are_others.2 })
+    subst (λ (o : Option Data). IsParameter o text) j.are_others.1 (with_others j j.are_others.2)
 parameter_is false parameter text j = subst (λ (o : Option Data). IsParameter o text) j.are_others.0 (absent text j j.are_others.1)
 
 is_parameter : (parameter : Option Data) (text : List ℕ) → IsParameter parameter text → (present : Bool) × IsJoined (IsFlag present) (Optional None IsGiven present parameter) text
-is_parameter (Some value) text s = (true, record { first = s.first; others = s.others; parts = s.parts; is_first = s.is_first; are_others = (value, refl, s.are_others) })
+is_parameter (Some value) text s = (true, with_others s (value, refl, s.are_others))
 is_parameter None text s = (false, record { first = text; others = []; parts = sym (append-nil text); is_first = zero_is_no text s; are_others = (refl, refl) })
 
 pub parameter_agrees : Agrees (Option Data) parameter_at IsParameter
@@ -341,8 +328,8 @@ either_is A B choice false true z o x text j =
 either_is A B choice false false z o x text j = absurd j.are_others
 
 is_either : {X : Type 0} (A B : X → List ℕ → Type 0) (x : X) (text : List ℕ) → IsEither A B x text → (choice : ℕ) × IsJoined (IsByte choice) (ByTests A B (choice == 0) (choice == 1) x) text
-is_either A B x text (inl j) = (0, record { first = j.first; others = j.others; parts = j.parts; is_first = j.is_first; are_others = j.are_others })
-is_either A B x text (inr j) = (1, record { first = j.first; others = j.others; parts = j.parts; is_first = j.is_first; are_others = j.are_others })
+is_either A B x text (inl j) = (0, with_others j j.are_others)
+is_either A B x text (inr j) = (1, with_others j j.are_others)
 
 -- a byte, and by it one kind or another
 abbrev pub either_at : {X : Type 0} → (List ℕ → Read X) → (List ℕ → Read X) → List ℕ → Read X
@@ -357,12 +344,12 @@ either_agrees zero_at one_at A B a b =
 
 -- a value or a result
 result_is : (result : GetResult) (text : List ℕ) → IsEither (IsMade Value IsData) (IsMade Code IsCode) result text → IsResult result text
-result_is result text (inl j) = subst (λ (r : GetResult). IsResult r text) j.are_others.1 (record { first = j.first; others = j.others; parts = j.parts; is_first = j.is_first; are_others = j.are_others.2 })
-result_is result text (inr j) = subst (λ (r : GetResult). IsResult r text) j.are_others.1 (record { first = j.first; others = j.others; parts = j.parts; is_first = j.is_first; are_others = j.are_others.2 })
+result_is result text (inl j) = subst (λ (r : GetResult). IsResult r text) j.are_others.1 (with_others j j.are_others.2)
+result_is result text (inr j) = subst (λ (r : GetResult). IsResult r text) j.are_others.1 (with_others j j.are_others.2)
 
 is_result : (result : GetResult) (text : List ℕ) → IsResult result text → IsEither (IsMade Value IsData) (IsMade Code IsCode) result text
-is_result (Value value) text s = inl (record { first = s.first; others = s.others; parts = s.parts; is_first = s.is_first; are_others = (value, refl, s.are_others) })
-is_result (Code code) text s = inr (record { first = s.first; others = s.others; parts = s.parts; is_first = s.is_first; are_others = (code, refl, s.are_others) })
+is_result (Value value) text s = inl (with_others s (value, refl, s.are_others))
+is_result (Code code) text s = inr (with_others s (code, refl, s.are_others))
 
 pub result_agrees : Agrees GetResult result_at IsResult
 unfolding result_at
@@ -380,14 +367,14 @@ AreCounted P n items text = (length items ≡ n) × AreItems P items text
 items_are : {X : Type 0} (P : X → List ℕ → Type 0) (n : ℕ) (items : List X) (text : List ℕ) → IsPair (λ x xs. x ∷ xs) P (AreCounted P n) items text → AreCounted P (suc n) items text
 items_are P n items text s =
     let j = s.3 in
-    let more : AreCounted P (suc n) (s.0 ∷ s.1) text = (ap suc j.are_others.0, record { first = j.first; others = j.others; parts = j.parts; is_first = j.is_first; are_others = j.are_others.1 }) in
+    let more : AreCounted P (suc n) (s.0 ∷ s.1) text = (ap suc j.are_others.0, with_others j j.are_others.1) in
     subst (λ (xs : List _). AreCounted P (suc n) xs text) s.2 more
 
 are_items : {X : Type 0} (P : X → List ℕ → Type 0) (n : ℕ) (items : List X) (text : List ℕ) → AreCounted P (suc n) items text → IsPair (λ x xs. x ∷ xs) P (AreCounted P n) items text
 are_items P n [] text s = absurd (omega (arith, s.0))
 are_items P n (x ∷ xs) text s =
     let j = s.1 in
-    (x, xs, refl, record { first = j.first; others = j.others; parts = j.parts; is_first = j.is_first; are_others = (omega (arith, s.0), j.are_others) })
+    (x, xs, refl, with_others j (omega (arith, s.0), j.are_others))
 
 none_are : {X : Type 0} (P : X → List ℕ → Type 0) (items : List X) (text : List ℕ) → IsNone [] items text → AreCounted P 0 items text
 none_are P items text s = subst (λ (xs : List _). AreCounted P 0 xs text) s.0 (refl, s.1)
@@ -409,7 +396,7 @@ unfolding list_at
 list_agrees item_at P agrees =
     then_agrees length_at (items_at item_at) (λ n text. IsLength text n) (AreCounted P) (IsList P) length_agrees (items_agrees item_at P agrees)
     (λ n items text j. record { first = j.first; others = j.others; parts = j.parts; is_first = subst (λ (m : ℕ). IsLength j.first m) (sym j.are_others.0) j.is_first; are_others = j.are_others.1 })
-    (λ items text s. (length items, record { first = s.first; others = s.others; parts = s.parts; is_first = s.is_first; are_others = (refl, s.are_others) }))
+    (λ items text s. (length items, with_others s (refl, s.are_others)))
 
 -- ---- no return parameters
 

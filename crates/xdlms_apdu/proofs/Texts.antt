@@ -1,12 +1,12 @@
 -- The written text of an APDU that fits spells it.
-use Rattle.std.proofs.Common.{◌≡◌, ℕ, suc, ◌+◌, ◌^◌, ◌<◌, ◌≤◌, Bool, true, false, Option, Some, None, List, [], ◌∷◌, ◌++◌, length, refl, sym, arith, inl, inr}
+use Rattle.std.proofs.Common.{◌≡◌, ℕ, suc, ◌^◌, ◌<◌, Bool, true, false, Option, Some, None, List, [], ◌∷◌, length, refl, sym, arith, inl, inr}
 use Rattle.std.specs.List.{All, flat_map}
 use Rattle.std.specs.Int.{w16, to_be_bytes, bytes_high_first}
 use Rattle.std.proofs.lemmas.Bool.{cases_lt, lt-ltb, le-ltb}
 use Rattle.std.proofs.lemmas.Nat.{from_be_bytes-to_be_bytes_2, from_be_bytes-to_be_bytes_4}
 use Rattle.cosem_axdr.specs.Reading.{big_endian}
-use Rattle.cosem_axdr.specs.Spelling.{IsLength, length_text, string_text, text, IsSpelling, IsFit}
-use Rattle.cosem_axdr.specs.Tree.{Tree, null}
+use Rattle.cosem_axdr.specs.Spelling.{IsLength, length_text, string_text, text, IsSpelling}
+use Rattle.cosem_axdr.specs.Tree.{null}
 use Rattle.cosem_axdr.specs.View.{tree_of}
 use Rattle.cosem_axdr.specs.declared.value.Data.{Data}
 use Rattle.cosem_axdr.specs.declared.value.Data.TheVariants.{Null}
@@ -47,10 +47,13 @@ length_spells n below =
   where
     back_1 : (n : ℕ) → n < 2 ^ 8 → n ≡ big_endian (bytes_high_first 1 n)
     back_1 n below = omega arith
+
     back_2 : (n : ℕ) → n < 2 ^ 16 → n ≡ big_endian (bytes_high_first 2 n)
     back_2 n below = omega arith
+
     back_3 : (n : ℕ) → n < 2 ^ 24 → n ≡ big_endian (bytes_high_first 3 n)
     back_3 n below = omega arith
+
     back_4 : (n : ℕ) → n < 2 ^ 32 → n ≡ big_endian (bytes_high_first 4 n)
     back_4 n below = omega arith
 

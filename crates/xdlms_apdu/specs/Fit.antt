@@ -6,7 +6,9 @@ use Rattle.cosem_axdr.specs.Spelling.{IsFit}
 use Rattle.cosem_axdr.specs.View.{tree_of}
 use Rattle.cosem_axdr.specs.declared.value.Data.{Data}
 use Rattle.cosem_names.specs.declared.name.AttrRef.{AttrRef}
+use Rattle.cosem_names.specs.declared.name.ClassId.{ClassId}
 use Rattle.cosem_names.specs.declared.name.MethodRef.{MethodRef}
+use Rattle.cosem_names.specs.declared.name.Obis.{Obis}
 use Rattle.cosem_names.specs.declared.service.AttributeSelection.{AttributeSelection}
 use Rattle.cosem_names.specs.declared.service.GetResult.{GetResult}
 use Rattle.cosem_names.specs.declared.service.GetResult.TheVariants.{Value, Code}
@@ -21,11 +23,15 @@ abbrev pub IsFitData : Data → Type 0
 IsFitData value = IsFit (tree_of value)
 
 -- a class that two bytes hold, and a logical name of six bytes: so it is of each that a program holds
+abbrev pub IsFitDescriptor : ClassId → Obis → Type 0
+IsFitDescriptor class name = (class.0 < 2 ^ 16) × (length name.0 ≡ 6)
+
+-- an attribute, a method, and an attribute with its access selection
 abbrev pub IsFitAttribute : AttrRef → Type 0
-IsFitAttribute attribute = (attribute.class.0 < 2 ^ 16) × (length attribute.name.0 ≡ 6)
+IsFitAttribute attribute = IsFitDescriptor attribute.class attribute.name
 
 abbrev pub IsFitMethod : MethodRef → Type 0
-IsFitMethod method = (method.class.0 < 2 ^ 16) × (length method.name.0 ≡ 6)
+IsFitMethod method = IsFitDescriptor method.class method.name
 
 abbrev pub IsFitTarget : AttributeSelection → Type 0
 IsFitTarget target = IsFitAttribute target.attr
@@ -38,10 +44,12 @@ IsFitNumber number = number < 2 ^ 32
 abbrev pub IsFitBlock : Block → Type 0
 IsFitBlock block = IsFitNumber block.number × (length block.raw < 2 ^ 32)
 
+-- the parameter of a method, if it has one
 abbrev pub IsFitParameter : Option Data → Type 0
 IsFitParameter None = Unit {0}
 IsFitParameter (Some value) = IsFitData value
 
+-- a value or a result
 abbrev pub IsFitResult : GetResult → Type 0
 IsFitResult (Value value) = IsFitData value
 IsFitResult (Code code) = Unit {0}

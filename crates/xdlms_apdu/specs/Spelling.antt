@@ -58,12 +58,16 @@ IsClass class bytes = IsUnsigned w16 bytes class.0
 abbrev pub IsName : Obis → List ℕ → Type 0
 IsName name bytes = IsFixed 6 bytes name.0
 
--- an attribute, and a method: class, logical name and number
+-- a class, a logical name and the number of an attribute or a method
+abbrev pub IsDescriptor : ClassId → Obis → ℕ → List ℕ → Type 0
+IsDescriptor class name number bytes = IsJoined (IsClass class) (IsJoined (IsName name) (IsByte number)) bytes
+
+-- an attribute, and a method
 abbrev pub IsAttribute : AttrRef → List ℕ → Type 0
-IsAttribute attribute bytes = IsJoined (IsClass attribute.class) (IsJoined (IsName attribute.name) (IsByte attribute.number)) bytes
+IsAttribute attribute bytes = IsDescriptor attribute.class attribute.name attribute.number bytes
 
 abbrev pub IsMethod : MethodRef → List ℕ → Type 0
-IsMethod method bytes = IsJoined (IsClass method.class) (IsJoined (IsName method.name) (IsByte method.number)) bytes
+IsMethod method bytes = IsDescriptor method.class method.name method.number bytes
 
 -- any selector, and any Data as its parameters
 abbrev pub IsSelector : List ℕ → Type 0

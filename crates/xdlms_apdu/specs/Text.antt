@@ -10,7 +10,9 @@ use Rattle.cosem_axdr.specs.View.{tree_of}
 use Rattle.cosem_axdr.specs.declared.value.Data.{Data}
 use Rattle.cosem_names.specs.ResultCode.{code_of}
 use Rattle.cosem_names.specs.declared.name.AttrRef.{AttrRef}
+use Rattle.cosem_names.specs.declared.name.ClassId.{ClassId}
 use Rattle.cosem_names.specs.declared.name.MethodRef.{MethodRef}
+use Rattle.cosem_names.specs.declared.name.Obis.{Obis}
 use Rattle.cosem_names.specs.declared.service.AttributeSelection.{AttributeSelection}
 use Rattle.cosem_names.specs.declared.service.GetResult.{GetResult}
 use Rattle.cosem_names.specs.declared.service.GetResult.TheVariants.{Value, Code}
@@ -35,12 +37,16 @@ number_text number = to_be_bytes w32 number
 abbrev pub data_text : Data → List ℕ
 data_text value = text (tree_of value)
 
--- an attribute, and a method: class, logical name and number
+-- a class, a logical name and the number of an attribute or a method
+abbrev pub descriptor_text : ClassId → Obis → ℕ → List ℕ
+descriptor_text class name number = to_be_bytes w16 class.0 ++ (name.0 ++ number ∷ [])
+
+-- an attribute, and a method
 abbrev pub attribute_text : AttrRef → List ℕ
-attribute_text attribute = to_be_bytes w16 attribute.class.0 ++ (attribute.name.0 ++ attribute.number ∷ [])
+attribute_text attribute = descriptor_text attribute.class attribute.name attribute.number
 
 abbrev pub method_text : MethodRef → List ℕ
-method_text method = to_be_bytes w16 method.class.0 ++ (method.name.0 ++ method.number ∷ [])
+method_text method = descriptor_text method.class method.name method.number
 
 -- no access selection, or one with selector 0 and null-data as its parameters
 abbrev pub selection_text : Bool → List ℕ

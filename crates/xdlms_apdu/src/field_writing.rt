@@ -2,14 +2,14 @@
 ghost use Rattle.std.specs.Prelude.{◌≡◌, ◌∷◌, ◌++◌, OnOk};
 ghost use Rattle.cosem_axdr.specs.Spelling.{string_text};
 ghost use Rattle.xdlms_apdu.specs.Heads.{head};
-ghost use Rattle.xdlms_apdu.specs.Text.{flag_text, number_text, attribute_text, method_text, selection_text, target_text, parameter_text, block_text, result_text};
+ghost use Rattle.xdlms_apdu.specs.Text.{flag_text, number_text, descriptor_text, attribute_text, method_text, selection_text, target_text, parameter_text, block_text, result_text};
 
 use crate::block::Block;
 use crate::invoke_id::InvokeId;
 use crate::length::put_length;
 use crate::tag::{ABSENT, PRESENT, choice};
 use cosem_axdr::{Data, Octets};
-use cosem_names::{AttrRef, AttributeSelection, GetResult, MethodRef};
+use cosem_names::{AttrRef, AttributeSelection, ClassId, GetResult, MethodRef, Obis};
 use std::alloc::{AllocError, Global};
 
 /// How an APDU begins: its tag, its form and the invoke-id-and-priority.
@@ -45,18 +45,28 @@ pub(crate) fn put_raw(raw: &Octets, out: &mut Octets) -> Result<(), AllocError>
 pub(crate) fn put_attribute(attribute: &AttrRef, out: &mut Octets) -> Result<(), AllocError>
     ensures { OnOk result (out.new ≡ out.old ++ attribute_text attribute.now) }
 {
-    out.extend_from_slice(&attribute.class.0.to_be_bytes())?;
-    out.extend_from_slice(&attribute.name.0)?;
-    out.push(attribute.number)
+    put_descriptor(attribute.class, attribute.name, attribute.number, out)
 }
 
 /// Cosem-Method-Descriptor.
 pub(crate) fn put_method(method: &MethodRef, out: &mut Octets) -> Result<(), AllocError>
     ensures { OnOk result (out.new ≡ out.old ++ method_text method.now) }
 {
-    out.extend_from_slice(&method.class.0.to_be_bytes())?;
-    out.extend_from_slice(&method.name.0)?;
-    out.push(method.number)
+    put_descriptor(method.class, method.name, method.number, out)
+}
+
+// A class, a logical name and the number of an attribute or a method.
+fn put_descriptor(
+    class: ClassId,
+    name: Obis,
+    number: u8,
+    out: &mut Octets,
+) -> Result<(), AllocError>
+    ensures { OnOk result (out.new ≡ out.old ++ descriptor_text class name number) }
+{
+    out.extend_from_slice(&class.0.to_be_bytes())?;
+    out.extend_from_slice(&name.0)?;
+    out.push(number)
 }
 
 /// Selective-Access-Descriptor, if there is to be one: selector 0, and null-data as its parameters.

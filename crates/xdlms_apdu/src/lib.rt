@@ -18,6 +18,8 @@ mod response;
 mod response_reading;
 mod response_writing;
 mod tag;
+#[cfg(test)]
+mod tests;
 
 pub use block::Block;
 pub use fault::ApduFault;

@@ -30,32 +30,18 @@ pub fn write_request(alloc: Global, request: &Request) -> Result<Octets, AllocEr
 fn put_request_head(request: &Request, out: &mut Octets) -> Result<(), AllocError>
     ensures { OnOk result (out.new ≡ out.old ++ request_head request.now) }
 {
-    match request {
-        Request::Get { id, .. } => put_head(GET_REQUEST, get_request::NORMAL, *id, out),
-        Request::GetNext { id, .. } => put_head(GET_REQUEST, get_request::NEXT, *id, out),
-        Request::GetList { id, .. } => put_head(GET_REQUEST, get_request::WITH_LIST, *id, out),
-        Request::Set { id, .. } => put_head(SET_REQUEST, set_request::NORMAL, *id, out),
-        Request::SetFirst { id, .. } => put_head(
-            SET_REQUEST,
-            set_request::WITH_FIRST_DATABLOCK,
-            *id,
-            out,
-        ),
-        Request::SetNext { id, .. } => put_head(SET_REQUEST, set_request::WITH_DATABLOCK, *id, out),
-        Request::Action { id, .. } => put_head(ACTION_REQUEST, action_request::NORMAL, *id, out),
-        Request::ActionFirst { id, .. } => put_head(
-            ACTION_REQUEST,
-            action_request::WITH_FIRST_PBLOCK,
-            *id,
-            out,
-        ),
-        Request::ActionNext { id, .. } => put_head(
-            ACTION_REQUEST,
-            action_request::WITH_PBLOCK,
-            *id,
-            out,
-        ),
-    }
+    let (tag, form, id) = match request {
+        Request::Get { id, .. } => (GET_REQUEST, get_request::NORMAL, *id),
+        Request::GetNext { id, .. } => (GET_REQUEST, get_request::NEXT, *id),
+        Request::GetList { id, .. } => (GET_REQUEST, get_request::WITH_LIST, *id),
+        Request::Set { id, .. } => (SET_REQUEST, set_request::NORMAL, *id),
+        Request::SetFirst { id, .. } => (SET_REQUEST, set_request::WITH_FIRST_DATABLOCK, *id),
+        Request::SetNext { id, .. } => (SET_REQUEST, set_request::WITH_DATABLOCK, *id),
+        Request::Action { id, .. } => (ACTION_REQUEST, action_request::NORMAL, *id),
+        Request::ActionFirst { id, .. } => (ACTION_REQUEST, action_request::WITH_FIRST_PBLOCK, *id),
+        Request::ActionNext { id, .. } => (ACTION_REQUEST, action_request::WITH_PBLOCK, *id),
+    };
+    put_head(tag, form, id, out)
 }
 
 // What stands behind the first bytes of a request.

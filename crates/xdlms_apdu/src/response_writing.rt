@@ -31,29 +31,20 @@ pub fn write_response(alloc: Global, response: &Response) -> Result<Octets, Allo
 fn put_response_head(response: &Response, out: &mut Octets) -> Result<(), AllocError>
     ensures { OnOk result (out.new ≡ out.old ++ response_head response.now) }
 {
-    match response {
-        Response::Get { id, .. } => put_head(GET_RESPONSE, get_response::NORMAL, *id, out),
+    let (tag, form, id) = match response {
+        Response::Get { id, .. } => (GET_RESPONSE, get_response::NORMAL, *id),
         Response::GetBlock { id, .. } | Response::GetBlockRefused { id, .. } => {
-            put_head(GET_RESPONSE, get_response::WITH_DATABLOCK, *id, out)
+            (GET_RESPONSE, get_response::WITH_DATABLOCK, *id)
         }
-        Response::GetList { id, .. } => put_head(GET_RESPONSE, get_response::WITH_LIST, *id, out),
-        Response::Set { id, .. } => put_head(SET_RESPONSE, set_response::NORMAL, *id, out),
-        Response::SetBlock { id, .. } => put_head(SET_RESPONSE, set_response::DATABLOCK, *id, out),
-        Response::SetLastBlock { id, .. } => put_head(
-            SET_RESPONSE,
-            set_response::LAST_DATABLOCK,
-            *id,
-            out,
-        ),
-        Response::Action { id, .. } => put_head(ACTION_RESPONSE, action_response::NORMAL, *id, out),
-        Response::ActionBlock { id, .. } => put_head(
-            ACTION_RESPONSE,
-            action_response::NEXT_PBLOCK,
-            *id,
-            out,
-        ),
-        Response::Exception(_) => out.push(EXCEPTION_RESPONSE),
-    }
+        Response::GetList { id, .. } => (GET_RESPONSE, get_response::WITH_LIST, *id),
+        Response::Set { id, .. } => (SET_RESPONSE, set_response::NORMAL, *id),
+        Response::SetBlock { id, .. } => (SET_RESPONSE, set_response::DATABLOCK, *id),
+        Response::SetLastBlock { id, .. } => (SET_RESPONSE, set_response::LAST_DATABLOCK, *id),
+        Response::Action { id, .. } => (ACTION_RESPONSE, action_response::NORMAL, *id),
+        Response::ActionBlock { id, .. } => (ACTION_RESPONSE, action_response::NEXT_PBLOCK, *id),
+        Response::Exception(_) => return out.push(EXCEPTION_RESPONSE),
+    };
+    put_head(tag, form, id, out)
 }
 
 // What stands behind the first bytes of a response.
