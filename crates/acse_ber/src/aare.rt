@@ -15,10 +15,7 @@ pub enum Info {
     /// None, or none that is known.
     Absent,
     /// An InitiateResponse: the negotiated conformance, its first bit the highest of 24, and the longest APDU that the meter takes, in bytes.
-    Response {
-        bits: u32,
-        limit: u16,
-    },
+    Response { bits: u32, limit: u16 },
     /// A ConfirmedServiceError of Initiate, and its number.
     InitiateError(u8),
 }

@@ -20,8 +20,9 @@ pub fn read_aare(_alloc: Global, bytes: &[u8]) -> Result<Aare, AcseFault>
     let body = read_tagged(tag::AARE, bytes)?;
     let result_field = find_field(tag::aare::RESULT, body)?.ok_or(AcseFault::Unreadable)?;
     let outcome = read_result(result_field)?;
-    let diagnostic_field = find_field(tag::aare::RESULT_SOURCE_DIAGNOSTIC, body)?
-        .ok_or(AcseFault::Unreadable)?;
+    let diagnostic_field = find_field(tag::aare::RESULT_SOURCE_DIAGNOSTIC, body)?.ok_or(
+        AcseFault::Unreadable,
+    )?;
     let diagnostic = read_diagnostic(diagnostic_field)?;
     let user = find_inner(tag::USER_INFORMATION, tag::OCTET_STRING, body)?;
     let info = read_info(user);

@@ -2,8 +2,8 @@ ghost use Rattle.std.specs.Prelude.{◌≡◌, [], ◌∷◌, ◌++◌, IfOk, On
 ghost use Rattle.acse_ber.specs.Text.{user_text, result_text, diagnostic_text, response_text, info_text, aare_text};
 
 use crate::aare::{Aare, Info};
-use crate::identifier::LN_WITHOUT_CIPHERING;
 use crate::field_writing::{put_context, put_tagged, put_user};
+use crate::identifier::LN_WITHOUT_CIPHERING;
 use crate::initiate::{CONFORMANCE_HEAD, INITIATE_ERROR_HEAD, RESPONSE_TAG, VAA_NAME, VERSION};
 use crate::tag;
 use cosem_axdr::Octets;

@@ -17,12 +17,18 @@ pub fn read_aarq(alloc: Global, bytes: &[u8]) -> Result<Aarq, AcseFault>
     ensures exact { Gives AcseFault.Memory (λ aarq. aarq) result (aarq_of bytes.now) }
 {
     let body = read_tagged(tag::AARQ, bytes)?;
-    let context = find_inner(tag::APPLICATION_CONTEXT_NAME, tag::OBJECT_IDENTIFIER, body)?
-        .ok_or(AcseFault::Unreadable)?;
+    let context = find_inner(tag::APPLICATION_CONTEXT_NAME, tag::OBJECT_IDENTIFIER, body)?.ok_or(
+        AcseFault::Unreadable,
+    )?;
     let mechanism = find_field(tag::aarq::MECHANISM_NAME, body)?.unwrap_or(&[]);
-    let password = find_inner(tag::aarq::CALLING_AUTHENTICATION_VALUE, tag::CHARSTRING, body)?;
-    let user = find_inner(tag::USER_INFORMATION, tag::OCTET_STRING, body)?
-        .ok_or(AcseFault::Unreadable)?;
+    let password = find_inner(
+        tag::aarq::CALLING_AUTHENTICATION_VALUE,
+        tag::CHARSTRING,
+        body,
+    )?;
+    let user = find_inner(tag::USER_INFORMATION, tag::OCTET_STRING, body)?.ok_or(
+        AcseFault::Unreadable,
+    )?;
     Ok(Aarq {
         context: Octets::from_slice(alloc, context)?,
         mechanism: Octets::from_slice(alloc, mechanism)?,

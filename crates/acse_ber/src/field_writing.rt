@@ -11,7 +11,13 @@ use std::alloc::{AllocError, Global};
 pub(crate) fn put_context(alloc: Global, context: &[u8], out: &mut Octets) -> Result<(), AllocError>
     ensures { OnOk result (out.new ≡ out.old ++ context_text context.now) }
 {
-    put_nested(alloc, tag::APPLICATION_CONTEXT_NAME, tag::OBJECT_IDENTIFIER, context, out)
+    put_nested(
+        alloc,
+        tag::APPLICATION_CONTEXT_NAME,
+        tag::OBJECT_IDENTIFIER,
+        context,
+        out,
+    )
 }
 
 /// User information.

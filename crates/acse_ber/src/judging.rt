@@ -89,7 +89,9 @@ fn authenticate(level: Level, aarq: &Aarq, password: &Octets) -> Result<(), Verd
     }
     match level {
         Level::Public => Ok(()),
-        Level::Management if is_absent => Err(Verdict::Rejected(diagnostic::AUTHENTICATION_REQUIRED)),
+        Level::Management if is_absent => Err(Verdict::Rejected(
+            diagnostic::AUTHENTICATION_REQUIRED,
+        )),
         Level::Management if !is_password(password, &aarq.password) => {
             Err(Verdict::Rejected(diagnostic::AUTHENTICATION_FAILURE))
         }

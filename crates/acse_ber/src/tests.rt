@@ -78,9 +78,21 @@ fn an_aarq_is_read_into_its_parts(rt: HostRuntime) -> Result<(), Fail> {
 #[test]
 fn the_public_client_needs_no_password(rt: HostRuntime) -> Result<(), Fail> {
     let alloc = rt.alloc();
-    assert_eq!(rt; verdict_on(alloc, &PUBLIC_AARQ, 16, PASSWORD)?, PUBLIC_ACCEPTED);
+    assert_eq!(rt;
+        verdict_on(alloc, &PUBLIC_AARQ, 16, PASSWORD)?,
+        PUBLIC_ACCEPTED
+    );
     let with_another = verdict_on(alloc, &MANAGEMENT_AARQ, 16, b"87654321")?;
-    assert!(rt; matches!(with_another, Verdict::Accepted { level: Level::Public, bits: 0x1C19, limit: 1024 }));
+    assert!(rt;
+        matches!(
+            with_another,
+            Verdict::Accepted {
+                level: Level::Public,
+                bits: 0x1C19,
+                limit: 1024
+            }
+        )
+    );
     Ok(())
 }
 
@@ -88,34 +100,76 @@ fn the_public_client_needs_no_password(rt: HostRuntime) -> Result<(), Fail> {
 fn the_management_client_needs_its_password(rt: HostRuntime) -> Result<(), Fail> {
     let alloc = rt.alloc();
     let accepted = verdict_on(alloc, &MANAGEMENT_AARQ, 1, PASSWORD)?;
-    assert!(rt; matches!(accepted, Verdict::Accepted { level: Level::Management, bits: 0x1C19, limit: 1024 }));
-    assert_eq!(rt; verdict_on(alloc, &MANAGEMENT_AARQ, 1, b"12345679")?, Verdict::Rejected(13));
-    assert_eq!(rt; verdict_on(alloc, &MANAGEMENT_AARQ, 1, b"1234567")?, Verdict::Rejected(13));
-    assert_eq!(rt; verdict_on(alloc, &PUBLIC_AARQ, 1, PASSWORD)?, Verdict::Rejected(14));
+    assert!(rt;
+        matches!(
+            accepted,
+            Verdict::Accepted {
+                level: Level::Management,
+                bits: 0x1C19,
+                limit: 1024
+            }
+        )
+    );
+    assert_eq!(rt;
+        verdict_on(alloc, &MANAGEMENT_AARQ, 1, b"12345679")?,
+        Verdict::Rejected(13)
+    );
+    assert_eq!(rt;
+        verdict_on(alloc, &MANAGEMENT_AARQ, 1, b"1234567")?,
+        Verdict::Rejected(13)
+    );
+    assert_eq!(rt;
+        verdict_on(alloc, &PUBLIC_AARQ, 1, PASSWORD)?,
+        Verdict::Rejected(14)
+    );
     let mut example = MANAGEMENT_AARQ;
     example[52] = 0x7E;
     example[53] = 0x1F;
     let accepted = verdict_on(alloc, &example, 1, PASSWORD)?;
-    assert!(rt; matches!(accepted, Verdict::Accepted { level: Level::Management, bits: 0x1E19, limit: 1024 }));
+    assert!(rt;
+        matches!(
+            accepted,
+            Verdict::Accepted {
+                level: Level::Management,
+                bits: 0x1E19,
+                limit: 1024
+            }
+        )
+    );
     Ok(())
 }
 
 #[test]
 fn other_ports_contexts_and_mechanisms_are_rejected(rt: HostRuntime) -> Result<(), Fail> {
     let alloc = rt.alloc();
-    assert_eq!(rt; verdict_on(alloc, &PUBLIC_AARQ, 2, PASSWORD)?, Verdict::Rejected(1));
+    assert_eq!(rt;
+        verdict_on(alloc, &PUBLIC_AARQ, 2, PASSWORD)?,
+        Verdict::Rejected(1)
+    );
     let mut ciphered = PUBLIC_AARQ;
     ciphered[12] = 0x03;
-    assert_eq!(rt; verdict_on(alloc, &ciphered, 16, PASSWORD)?, Verdict::Rejected(2));
+    assert_eq!(rt;
+        verdict_on(alloc, &ciphered, 16, PASSWORD)?,
+        Verdict::Rejected(2)
+    );
     let mut high_level = MANAGEMENT_AARQ;
     high_level[25] = 0x05;
-    assert_eq!(rt; verdict_on(alloc, &high_level, 1, PASSWORD)?, Verdict::Rejected(11));
+    assert_eq!(rt;
+        verdict_on(alloc, &high_level, 1, PASSWORD)?,
+        Verdict::Rejected(11)
+    );
     let mut lowest_level = MANAGEMENT_AARQ;
     lowest_level[25] = 0x00;
-    assert_eq!(rt; verdict_on(alloc, &lowest_level, 1, PASSWORD)?, Verdict::Rejected(14));
+    assert_eq!(rt;
+        verdict_on(alloc, &lowest_level, 1, PASSWORD)?,
+        Verdict::Rejected(14)
+    );
     let mut no_request = PUBLIC_AARQ;
     no_request[17] = 0x08;
-    assert_eq!(rt; verdict_on(alloc, &no_request, 16, PASSWORD)?, Verdict::Rejected(1));
+    assert_eq!(rt;
+        verdict_on(alloc, &no_request, 16, PASSWORD)?,
+        Verdict::Rejected(1)
+    );
     Ok(())
 }
 
@@ -124,18 +178,36 @@ fn a_proposal_is_checked(rt: HostRuntime) -> Result<(), Fail> {
     let alloc = rt.alloc();
     let mut old = PUBLIC_AARQ;
     old[21] = 5;
-    assert_eq!(rt; verdict_on(alloc, &old, 16, PASSWORD)?, Verdict::InitiateError(1));
+    assert_eq!(rt;
+        verdict_on(alloc, &old, 16, PASSWORD)?,
+        Verdict::InitiateError(1)
+    );
     let mut short = PUBLIC_AARQ;
     short[29] = 0x00;
     short[30] = 0x3F;
-    assert_eq!(rt; verdict_on(alloc, &short, 16, PASSWORD)?, Verdict::InitiateError(3));
+    assert_eq!(rt;
+        verdict_on(alloc, &short, 16, PASSWORD)?,
+        Verdict::InitiateError(3)
+    );
     short[30] = 0x40;
     short[27] = 0x00;
     short[28] = 0x10;
     let get_only = verdict_on(alloc, &short, 16, PASSWORD)?;
-    assert!(rt; matches!(get_only, Verdict::Accepted { level: Level::Public, bits: 0x10, limit: 64 }));
+    assert!(rt;
+        matches!(
+            get_only,
+            Verdict::Accepted {
+                level: Level::Public,
+                bits: 0x10,
+                limit: 64
+            }
+        )
+    );
     short[28] = 0x06;
-    assert_eq!(rt; verdict_on(alloc, &short, 16, PASSWORD)?, Verdict::InitiateError(2));
+    assert_eq!(rt;
+        verdict_on(alloc, &short, 16, PASSWORD)?,
+        Verdict::InitiateError(2)
+    );
     Ok(())
 }
 
@@ -147,10 +219,19 @@ fn fields_come_in_any_order_once_each(rt: HostRuntime) -> Result<(), Fail> {
         0x00, 0x00, 0x7E, 0x1F, 0x04, 0xB0, 0x8B, 0x00, 0xA1, 0x09, 0x06, 0x07, 0x60, 0x85, 0x74,
         0x05, 0x08, 0x01, 0x01,
     ];
-    assert_eq!(rt; verdict_on(alloc, &reordered, 16, PASSWORD)?, PUBLIC_ACCEPTED);
-    assert_eq!(rt; verdict_on(alloc, &reordered, 1, PASSWORD)?, Verdict::Rejected(14));
+    assert_eq!(rt;
+        verdict_on(alloc, &reordered, 16, PASSWORD)?,
+        PUBLIC_ACCEPTED
+    );
+    assert_eq!(rt;
+        verdict_on(alloc, &reordered, 1, PASSWORD)?,
+        Verdict::Rejected(14)
+    );
     let empty_context = [0x60, 0x08, 0xA1, 0x02, 0x06, 0x00, 0xBE, 0x02, 0x04, 0x00];
-    assert_eq!(rt; verdict_on(alloc, &empty_context, 16, PASSWORD)?, Verdict::Rejected(2));
+    assert_eq!(rt;
+        verdict_on(alloc, &empty_context, 16, PASSWORD)?,
+        Verdict::Rejected(2)
+    );
     let twice = [
         0x60, 0x0C, 0xA1, 0x02, 0x06, 0x00, 0xA1, 0x02, 0x06, 0x00, 0xBE, 0x02, 0x04, 0x00,
     ];
@@ -186,9 +267,15 @@ fn an_aarq_is_written(rt: HostRuntime) -> Result<(), Fail> {
         password: Some(Octets::from_slice(alloc, PASSWORD)?),
         user: Octets::from_slice(alloc, &MANAGEMENT_AARQ[42..])?,
     };
-    assert_eq!(rt; write_aarq(alloc, &management)?.as_slice(), MANAGEMENT_AARQ.as_slice());
+    assert_eq!(rt;
+        write_aarq(alloc, &management)?.as_slice(),
+        MANAGEMENT_AARQ.as_slice()
+    );
     let public = read_aarq(alloc, &PUBLIC_AARQ)?;
-    assert_eq!(rt; write_aarq(alloc, &public)?.as_slice(), PUBLIC_AARQ.as_slice());
+    assert_eq!(rt;
+        write_aarq(alloc, &public)?.as_slice(),
+        PUBLIC_AARQ.as_slice()
+    );
     Ok(())
 }
 
@@ -203,19 +290,28 @@ fn an_aare_is_written(rt: HostRuntime) -> Result<(), Fail> {
             limit: 1024,
         },
     };
-    assert_eq!(rt; write_aare(alloc, &accepting)?.as_slice(), ACCEPTING_AARE.as_slice());
+    assert_eq!(rt;
+        write_aare(alloc, &accepting)?.as_slice(),
+        ACCEPTING_AARE.as_slice()
+    );
     let refusing = Aare {
         result: 1,
         diagnostic: 14,
         info: Info::Absent,
     };
-    assert_eq!(rt; write_aare(alloc, &refusing)?.as_slice(), REFUSING_AARE.as_slice());
+    assert_eq!(rt;
+        write_aare(alloc, &refusing)?.as_slice(),
+        REFUSING_AARE.as_slice()
+    );
     let error = Aare {
         result: 1,
         diagnostic: 1,
         info: Info::InitiateError(1),
     };
-    assert_eq!(rt; write_aare(alloc, &error)?.as_slice(), INITIATE_ERROR_AARE.as_slice());
+    assert_eq!(rt;
+        write_aare(alloc, &error)?.as_slice(),
+        INITIATE_ERROR_AARE.as_slice()
+    );
     Ok(())
 }
 
@@ -224,7 +320,15 @@ fn an_aare_is_read(rt: HostRuntime) -> Result<(), Fail> {
     let alloc = rt.alloc();
     let accepting = read_aare(alloc, &ACCEPTING_AARE)?;
     assert!(rt; accepting.result == 0 && accepting.diagnostic == 0);
-    assert!(rt; matches!(accepting.info, Info::Response { bits: 0x1E19, limit: 1024 }));
+    assert!(rt;
+        matches!(
+            accepting.info,
+            Info::Response {
+                bits: 0x1E19,
+                limit: 1024
+            }
+        )
+    );
     let refusing = read_aare(alloc, &REFUSING_AARE)?;
     assert!(rt; refusing.result == 1 && refusing.diagnostic == 14);
     assert_eq!(rt; refusing.info, Info::Absent);

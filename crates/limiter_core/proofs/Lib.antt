@@ -1,0 +1,3 @@
+mod Firing
+mod Meaning
+mod Skipping

@@ -1,0 +1,4 @@
+pub mod Counting
+pub mod Rows
+pub mod Settings
+pub mod State

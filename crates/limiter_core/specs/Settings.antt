@@ -1,0 +1,50 @@
+-- The rules of a limiter's settings: the active threshold, the emergency profile and the needs.
+use Rattle.std.specs.Prelude.{ℕ, ◌+◌, ◌*◌, max, Bool, false, ◌&&◌, nat_lt, nat_le, ◌==◌, if◌then◌else◌, Option, Some, None, List, []}
+use Rattle.std.specs.List.{list_any}
+use Rattle.cosem_datetime.specs.Fields.{unspecified}
+use Rattle.cosem_datetime.specs.Moment.{moment_of}
+use Rattle.limiter_core.specs.declared.kinds.Kind.{Kind}
+use Rattle.limiter_core.specs.declared.kinds.Kind.TheVariants.{Over, Under, Equal}
+use Rattle.limiter_core.specs.declared.settings.Settings.{Settings}
+use Rattle.limiter_core.specs.Rows.{Row, Sample}
+
+-- now is from start to start + duration, that end left out
+abbrev pub is_within : Option ℕ → Option ℕ → ℕ → Bool
+is_within (Some now) (Some start) duration = nat_le start now && nat_lt now (start + duration)
+is_within _ _ _ = false
+
+-- one of the ids is this one
+abbrev pub is_among : ℕ → List ℕ → Bool
+is_among id ids = list_any (λ i. i == id) ids
+
+-- the emergency profile is active: its group is among the limiter's, and a moment has come that lies in its time
+unfoldable pub is_active : Settings → Bool
+is_active s = is_among s.profile.id s.groups && is_within s.moment (moment_of s.profile.start) s.profile.duration
+
+unfoldable pub active_threshold : Settings → ℕ
+active_threshold s = if is_active s then s.emergency_threshold else s.normal_threshold
+
+-- the samples that a duration in seconds needs, at ten a second
+abbrev pub need_of : ℕ → ℕ
+need_of duration = max 1 (10 * duration)
+
+-- a sample under these settings
+abbrev pub row_of : Settings → ℕ → Row
+row_of s value = Sample value (active_threshold s) (need_of s.min_over_duration) (need_of s.min_under_duration)
+
+-- on which side of the threshold a value lies
+abbrev pub kind_of : ℕ → ℕ → Kind
+kind_of threshold value = if nat_lt threshold value then Over else if nat_lt value threshold then Under else Equal
+
+-- the settings of a new limiter
+abbrev pub new_settings : Settings
+new_settings = record {
+  normal_threshold = 4294967295;
+  emergency_threshold = 4294967295;
+  min_over_duration = 0;
+  min_under_duration = 0;
+  profile = record { id = 0; start = unspecified; duration = 0 };
+  groups = [];
+  actions = record { over = 0; under = 0 };
+  moment = None;
+}

@@ -1,0 +1,88 @@
+-- A limiter as its callers see it, and the rows that it stands for.
+use Rattle.std.specs.Prelude.{◌≡◌, ℕ, ◌-◌, ◌<◌, ◌≤◌, ◌^◌, true, false, List, [], ◌∷◌, length}
+use Rattle.limiter_core.specs.declared.kinds.Fire.{Fire}
+use Rattle.limiter_core.specs.declared.kinds.Fire.TheVariants.{Quiet}
+use Rattle.limiter_core.specs.declared.kinds.Kind.{Kind}
+use Rattle.limiter_core.specs.declared.kinds.Kind.TheVariants.{Over, Under, Equal}
+use Rattle.limiter_core.specs.declared.count.Count.{Count}
+use Rattle.limiter_core.specs.declared.settings.Settings.{Settings}
+use Rattle.limiter_core.specs.Counting.{cap, count_of, no_run, before, skipped}
+use Rattle.limiter_core.specs.Rows.{Row, OverThreshold, UnderThreshold, fire_of, fire_past}
+use Rattle.limiter_core.specs.Settings.{row_of, need_of, kind_of, active_threshold}
+
+-- the settings, the last sample and the two counts
+pub record State : Type 0 where
+  pub settings : Settings
+  pub last : ℕ
+  pub over : Count
+  pub under : Count
+
+-- the counts are those of the rows
+pub record Keeps (state : State) (rows : List Row) : Type 0 where
+  pub over : state.over ≡ count_of OverThreshold rows
+  pub under : state.under ≡ count_of UnderThreshold rows
+
+-- a run of this count can be one of that many samples
+pub record IsFitCount (count : Count) : Type 0 where
+  pub within : count.run ≤ cap
+  pub none : count.run ≡ 0 → count.fired ≡ false
+  pub full : count.run ≡ cap → count.fired ≡ true
+
+-- counts that some samples, of which the last is the last one, can give
+pub record IsFit (last : ℕ) (over under : Count) : Type 0 where
+  pub over_fits : IsFitCount over
+  pub under_fits : IsFitCount under
+  pub one : 0 < over.run → under.run ≡ 0
+  pub above : 0 < over.run → 0 < last
+  pub below : 0 < under.run → last < 4294967295
+
+-- what is so of every limiter: its counts are fit, its thresholds and durations are of 32 bits, and it has 32 groups at most
+pub record IsLimiter (state : State) : Type 0 where
+  pub counts : IsFit state.last state.over state.under
+  pub normal_threshold : state.settings.normal_threshold < 2 ^ 32
+  pub emergency_threshold : state.settings.emergency_threshold < 2 ^ 32
+  pub over_duration : state.settings.min_over_duration < 2 ^ 32
+  pub under_duration : state.settings.min_under_duration < 2 ^ 32
+  pub groups : length state.settings.groups ≤ 32
+
+-- the rows after more samples, the first of the values being the oldest
+abbrev pub rows_after : Settings → List ℕ → List Row → List Row
+rows_after settings [] rows = rows
+rows_after settings (value ∷ values) rows = rows_after settings values (row_of settings value ∷ rows)
+
+-- none of the samples fires
+abbrev pub IsQuiet : Settings → List ℕ → List Row → Type 0
+IsQuiet settings [] rows = Unit {0}
+IsQuiet settings (value ∷ values) rows =
+    (fire_of (row_of settings value ∷ rows) ≡ Quiet) × IsQuiet settings values (row_of settings value ∷ rows)
+
+-- every value lies on that side of the active threshold
+abbrev pub AreOfKind : Kind → Settings → List ℕ → Type 0
+AreOfKind kind settings [] = Unit {0}
+AreOfKind kind settings (value ∷ values) =
+    (kind_of (active_threshold settings) value ≡ kind) × AreOfKind kind settings values
+
+-- the last value, or what was last before there were any
+abbrev pub last_of : ℕ → List ℕ → ℕ
+last_of last [] = last
+last_of last (value ∷ values) = last_of value values
+
+-- how many samples of a kind fire nothing, or the greatest u64 where none ever would
+abbrev pub quiet_count : Kind → State → ℕ
+quiet_count Over state = before (need_of state.settings.min_over_duration) state.over
+quiet_count Under state = before (need_of state.settings.min_under_duration) state.under
+quiet_count Equal state = 2 ^ 64 - 1
+
+-- what fires where samples of that kind fire
+abbrev pub fire_on : Kind → Fire
+fire_on Over = fire_past OverThreshold
+fire_on Under = fire_past UnderThreshold
+fire_on Equal = Quiet
+
+-- the limiter after n samples of a kind that fire nothing
+abbrev pub jumped : Kind → ℕ → ℕ → State → State
+jumped Over n last state =
+    record { settings = state.settings; last = last; over = skipped n state.over; under = no_run }
+jumped Under n last state =
+    record { settings = state.settings; last = last; over = no_run; under = skipped n state.under }
+jumped Equal n last state = record { settings = state.settings; last = last; over = no_run; under = no_run }

@@ -1,0 +1,59 @@
+ghost use Rattle.std.specs.Prelude.{◌≡◌};
+ghost use Rattle.limiter_core.specs.Counting.{no_run, taken, fires_at, before, skipped};
+
+/// The greatest run that is counted: the samples that a duration of 4,294,967,295 seconds needs.
+pub const RUN_LIMIT: u64 = 42_949_672_950;
+
+/// How long the value has been on one side of the threshold.
+#[derive(Clone, Copy, Debug, PartialEq, Eq)]
+pub struct Count {
+    /// The samples of the run, up to `RUN_LIMIT`.
+    pub run: u64,
+    /// Whether the run has fired.
+    pub fired: bool,
+}
+
+impl Count {
+    /// No sample past the threshold.
+    pub(crate) const fn none() -> Count
+        ensures { result ≡ no_run }
+    {
+        Count {
+            run: 0,
+            fired: false,
+        }
+    }
+
+    /// Counts a sample, and says whether it fires.
+    pub(crate) fn take(&mut self, past: bool, need: u64) -> bool
+        ensures count { self.new ≡ taken past need self.old }
+        ensures fires { result ≡ fires_at past need self.old }
+    {
+        if !past {
+            *self = Count::none();
+            return false;
+        }
+        self.run = self.run.saturating_add(1).min(RUN_LIMIT);
+        let reached = need <= self.run;
+        let fires = reached && !self.fired;
+        self.fired = self.fired || reached;
+        fires
+    }
+
+    /// How many samples past the threshold fire nothing.
+    pub(crate) fn quiet_before(&self, need: u64) -> u64
+        ensures { result ≡ before need self.now }
+    {
+        if self.fired {
+            return u64::MAX;
+        }
+        need.saturating_sub(1).saturating_sub(self.run)
+    }
+
+    /// Counts that many samples past the threshold, which fire nothing.
+    pub(crate) fn skip(&mut self, samples: u64)
+        ensures { self.new ≡ skipped samples self.old }
+    {
+        self.run = self.run.saturating_add(samples).min(RUN_LIMIT);
+    }
+}

@@ -1,0 +1,23 @@
+ghost use Rattle.std.specs.Prelude.{◌≡◌, ℕ, ◌<◌, ◌≤◌, ◌↔◌, List, length, reverse, drop, slice_index_or, IsTrue, IsFalse};
+ghost use Rattle.std.specs.List.{suffix_len};
+ghost use Rattle.limiter_core.specs.Rows.{Row, Entry, Side, OverThreshold, UnderThreshold, is_past, run, reaches, has_fired, fires};
+
+/// A run has fired exactly where the need was reached at one of its rows.
+pub fn fired_means()
+    ensures { (side : Side) (rows : List Row) → IsTrue (has_fired side rows)
+        ↔ ((k : ℕ) × (k < run side rows) × IsTrue (reaches side (drop k rows))) }
+{}
+
+/// A run is the longest row of samples past their thresholds that ends with the newest.
+pub fn run_means()
+    ensures within { (side : Side) (rows : List Row) → run side rows ≤ length rows }
+    ensures past { (side : Side) (rows : List Row) (k : ℕ) → k < run side rows → IsTrue (is_past side (slice_index_or rows k Entry)) }
+    ensures longest { (side : Side) (rows : List Row) → run side rows < length rows → IsFalse (is_past side (slice_index_or rows (run side rows) Entry)) }
+    // With the oldest first it is the longest suffix.
+    ensures suffix { (side : Side) (rows : List Row) → run side (reverse rows) ≡ suffix_len (is_past side) rows }
+{}
+
+/// No sample fires on both sides.
+pub fn one_side()
+    ensures { (rows : List Row) → IsTrue (fires OverThreshold rows) → ¬ IsTrue (fires UnderThreshold rows) }
+{}

@@ -1,0 +1,20 @@
+//! The limiter of DLMS/COSEM (IEC 62056-6-2, class 71), as it decides over samples of a monitored value: it counts how
+//! long the value has stayed over or under the active threshold, and says at which sample an action is due.
+//!
+//! Samples are `u32` watts, ten a second by definition. Contracts speak of the list of all samples ever taken; the code
+//! keeps two counters and two flags.
+#![tactic(auto)]
+
+mod count;
+mod kinds;
+mod laws;
+mod limiter;
+mod settings;
+#[cfg(test)]
+mod tests;
+
+pub use count::{Count, RUN_LIMIT};
+pub use kinds::{Fire, Kind};
+pub use laws::{fired_means, one_side, run_means};
+pub use limiter::Limiter;
+pub use settings::{Actions, MAX_GROUPS, Profile, Settings};

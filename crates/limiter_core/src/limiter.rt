@@ -1,0 +1,301 @@
+ghost use Rattle.std.specs.Prelude.{◌≡◌, ℕ, ◌+◌, ◌-◌, ◌<◌, ◌≤◌, ◌^◌, nat_lt, if◌then◌else◌, List, [], ◌∷◌, length, OnOk, OnErr};
+ghost use Rattle.limiter_core.specs.declared.kinds.Fire.TheVariants.{Quiet};
+ghost use Rattle.limiter_core.specs.Counting.{no_run};
+ghost use Rattle.limiter_core.specs.Rows.{Row, Entry, fire_of};
+ghost use Rattle.limiter_core.specs.Settings.{is_active, active_threshold, row_of, kind_of, new_settings};
+ghost use Rattle.limiter_core.specs.State.{Keeps, rows_after, IsQuiet, AreOfKind, fire_on, quiet_count, jumped, IsLimiter};
+
+use crate::count::Count;
+use crate::kinds::{Fire, Kind};
+use crate::settings::{Actions, MAX_GROUPS, Profile, Settings, samples_of};
+use listed::Listed;
+use std::alloc::{AllocError, Global};
+use std::marker::Model;
+use std::mem;
+
+/// A limiter (IEC 62056-6-2, class 71): its settings, the last sample, and for each side of the threshold a run and
+/// whether that has fired.
+#[derive(Debug, Drop)]
+pub struct Limiter {
+    settings: Settings,
+    last: u32,
+    over: Count,
+    under: Count,
+}
+
+impl Model for Limiter {
+    ghost use Rattle.limiter_core.specs.State.{State, IsLimiter};
+
+    ghost Value = { State };
+
+    ghost view = { λ l. record { settings = l.settings; last = l.last; over = l.over; under = l.under } };
+
+    ghost invariant = { λ l. IsLimiter (record { settings = l.settings; last = l.last; over = l.over; under = l.under }) };
+}
+
+impl Limiter {
+    /// A new limiter, with no samples. It takes no memory.
+    #[tactic(auto, using(crate::proofs::Firing::count_of_none))]
+    pub fn new(alloc: Global) -> Limiter
+        ensures state { result ≡ record { settings = new_settings; last = 0; over = no_run; under = no_run } }
+        ensures rows { Keeps result [] }
+    {
+        Limiter {
+            settings: Settings::new(alloc),
+            last: 0,
+            over: Count::none(),
+            under: Count::none(),
+        }
+    }
+
+    /// Takes a sample, in watts.
+    #[tactic(auto, using(crate::proofs::Firing::fire_counted, crate::proofs::Firing::counted))]
+    pub fn sample(&mut self, value: u32) -> Fire
+        ensures rows { (rows : List Row) → Keeps self.old rows → Keeps self.new (row_of self.old.settings value ∷ rows) }
+        ensures fire { (rows : List Row) → Keeps self.old rows → result ≡ fire_of (row_of self.old.settings value ∷ rows) }
+        ensures settings { self.new.settings ≡ self.old.settings }
+        ensures last { self.new.last ≡ value }
+    {
+        let threshold = self.settings.active_threshold();
+        let need_over = samples_of(self.settings.min_over_duration);
+        let need_under = samples_of(self.settings.min_under_duration);
+        self.last = value;
+        let over = self.over.take(value > threshold, need_over);
+        let under = self.under.take(value < threshold, need_under);
+        if over {
+            Fire::Over
+        } else if under {
+            Fire::Under
+        } else {
+            Fire::Quiet
+        }
+    }
+
+    /// The meter has entered Connected from another state: both runs end.
+    #[tactic(auto, using(crate::proofs::Firing::count_of_entry))]
+    pub fn closed(&mut self)
+        ensures rows { (rows : List Row) → Keeps self.old rows → Keeps self.new (Entry ∷ rows) }
+        ensures settings { self.new.settings ≡ self.old.settings }
+        ensures last { self.new.last ≡ self.old.last }
+    {
+        let ended = Count::none();
+        self.over = ended;
+        self.under = ended;
+    }
+
+    /// The greatest number of samples of a kind that fire nothing, by counter, flag and need.
+    fn quiet_samples(&self, kind: Kind) -> u64
+        ensures count { result ≡ quiet_count kind self.now }
+        ensures limiter { IsLimiter self.now }
+    {
+        let settings = &self.settings;
+        match kind {
+            Kind::Over => self
+                .over
+                .quiet_before(samples_of(settings.min_over_duration)),
+            Kind::Under => self
+                .under
+                .quiet_before(samples_of(settings.min_under_duration)),
+            Kind::Equal => u64::MAX,
+        }
+    }
+
+    /// How many samples of a kind fire nothing: the greatest such number, or `u64::MAX` where none ever would.
+    #[tactic(auto, using(crate::proofs::Skipping::quiet_up_to, crate::proofs::Skipping::quiet_for_ever, crate::proofs::Skipping::fires_next))]
+    pub fn before_fire(&self, kind: Kind) -> u64
+        ensures count { result ≡ quiet_count kind self.now }
+        ensures quiet { (rows : List Row) (values : List ℕ) → Keeps self.now rows → AreOfKind kind self.now.settings values
+            → length values ≤ result → IsQuiet self.now.settings values rows }
+        ensures next { (rows : List Row) (values : List ℕ) (value : ℕ) → Keeps self.now rows
+            → AreOfKind kind self.now.settings values → kind_of (active_threshold self.now.settings) value ≡ kind
+            → length values ≡ result → result < 2 ^ 64 - 1
+            → fire_of (row_of self.now.settings value ∷ rows_after self.now.settings values rows) ≡ fire_on kind }
+        ensures never { (rows : List Row) (values : List ℕ) → Keeps self.now rows → AreOfKind kind self.now.settings values
+            → result ≡ 2 ^ 64 - 1 → IsQuiet self.now.settings values rows }
+    {
+        self.quiet_samples(kind)
+    }
+
+    /// Counts n samples of a kind, of which `last` is the last.
+    #[tactic(auto, using(crate::proofs::Skipping::skip_fits))]
+    fn jump(&mut self, kind: Kind, n: u64, last: u32)
+        requires some { 0 < n }
+        requires quiet { n ≤ quiet_count kind self.old }
+        requires last { kind_of (active_threshold self.old.settings) last ≡ kind }
+        ensures state { self.new ≡ jumped kind n last self.old }
+        ensures limiter { IsLimiter self.old }
+    {
+        self.last = last;
+        match kind {
+            Kind::Over => {
+                self.over.skip(n);
+                self.under = Count::none();
+            }
+            Kind::Under => {
+                self.under.skip(n);
+                self.over = Count::none();
+            }
+            Kind::Equal => {
+                self.over = Count::none();
+                self.under = Count::none();
+            }
+        }
+    }
+
+    /// Takes n samples of a kind that fire nothing, as n calls of `sample` do. `last` is the last of them; where n is 0
+    /// it is not looked at.
+    #[tactic(auto, using(crate::proofs::Skipping::quiet_up_to))]
+    pub fn skip_run(&mut self, kind: Kind, n: u64, last: u32)
+        requires quiet { n ≤ quiet_count kind self.old }
+        requires last { 0 < n → kind_of (active_threshold self.old.settings) last ≡ kind }
+        ensures rows { (rows : List Row) (values : List ℕ) → Keeps self.old rows → AreOfKind kind self.old.settings values
+            → length values ≡ n → Keeps self.new (rows_after self.old.settings values rows) }
+        ensures quiet { (rows : List Row) (values : List ℕ) → Keeps self.old rows → AreOfKind kind self.old.settings values
+            → length values ≡ n → IsQuiet self.old.settings values rows }
+        ensures settings { self.new.settings ≡ self.old.settings }
+        ensures last { self.new.last ≡ (if nat_lt 0 n then last else self.old.last) }
+    {
+        if n > 0 {
+            self.jump(kind, n, last);
+        }
+    }
+
+    /// A moment of the clock has come, in seconds since 1 January 2000.
+    pub fn at(&mut self, moment: u32)
+        ensures { self.new ≡ record self.old { settings = record self.old.settings { moment = Some moment } } }
+    {
+        self.settings.moment = Some(moment);
+    }
+
+    /// The active threshold (attribute 3), in watts.
+    pub fn threshold(&self) -> u32
+        ensures { result ≡ active_threshold self.now.settings }
+    {
+        self.settings.active_threshold()
+    }
+
+    /// Whether the emergency profile is active (attribute 10).
+    pub fn emergency_active(&self) -> bool
+        ensures { result ≡ is_active self.now.settings }
+    {
+        self.settings.is_active()
+    }
+
+    /// The last sample, in watts; 0 before the first.
+    pub fn value(&self) -> u32
+        ensures { result ≡ self.now.last }
+    {
+        self.last
+    }
+
+    /// `threshold_normal` (attribute 4), in watts.
+    pub fn normal_threshold(&self) -> u32
+        ensures { result ≡ self.now.settings.normal_threshold }
+    {
+        self.settings.normal_threshold
+    }
+
+    /// Sets `threshold_normal` (attribute 4), in watts. The runs stay.
+    pub fn set_normal_threshold(&mut self, threshold: u32)
+        ensures { self.new ≡ record self.old { settings = record self.old.settings { normal_threshold = threshold } } }
+    {
+        self.settings.normal_threshold = threshold;
+    }
+
+    /// `threshold_emergency` (attribute 5), in watts.
+    pub fn emergency_threshold(&self) -> u32
+        ensures { result ≡ self.now.settings.emergency_threshold }
+    {
+        self.settings.emergency_threshold
+    }
+
+    /// Sets `threshold_emergency` (attribute 5), in watts. The runs stay.
+    pub fn set_emergency_threshold(&mut self, threshold: u32)
+        ensures { self.new ≡ record self.old { settings = record self.old.settings { emergency_threshold = threshold } } }
+    {
+        self.settings.emergency_threshold = threshold;
+    }
+
+    /// `min_over_threshold_duration` (attribute 6), in seconds.
+    pub fn min_over_duration(&self) -> u32
+        ensures { result ≡ self.now.settings.min_over_duration }
+    {
+        self.settings.min_over_duration
+    }
+
+    /// Sets `min_over_threshold_duration` (attribute 6), in seconds. The runs stay.
+    pub fn set_min_over_duration(&mut self, seconds: u32)
+        ensures { self.new ≡ record self.old { settings = record self.old.settings { min_over_duration = seconds } } }
+    {
+        self.settings.min_over_duration = seconds;
+    }
+
+    /// `min_under_threshold_duration` (attribute 7), in seconds.
+    pub fn min_under_duration(&self) -> u32
+        ensures { result ≡ self.now.settings.min_under_duration }
+    {
+        self.settings.min_under_duration
+    }
+
+    /// Sets `min_under_threshold_duration` (attribute 7), in seconds. The runs stay.
+    pub fn set_min_under_duration(&mut self, seconds: u32)
+        ensures { self.new ≡ record self.old { settings = record self.old.settings { min_under_duration = seconds } } }
+    {
+        self.settings.min_under_duration = seconds;
+    }
+
+    /// `emergency_profile` (attribute 8).
+    pub fn profile(&self) -> Profile
+        ensures { result ≡ self.now.settings.profile }
+    {
+        self.settings.profile
+    }
+
+    /// Sets `emergency_profile` (attribute 8). The runs stay.
+    pub fn set_profile(&mut self, profile: Profile)
+        ensures { self.new ≡ record self.old { settings = record self.old.settings { profile = profile } } }
+    {
+        self.settings.profile = profile;
+    }
+
+    /// `actions` (attribute 11).
+    pub fn actions(&self) -> Actions
+        ensures { result ≡ self.now.settings.actions }
+    {
+        self.settings.actions
+    }
+
+    /// Sets `actions` (attribute 11). The runs stay.
+    pub fn set_actions(&mut self, actions: Actions)
+        ensures { self.new ≡ record self.old { settings = record self.old.settings { actions = actions } } }
+    {
+        self.settings.actions = actions;
+    }
+
+    /// `emergency_profile_group_id_list` (attribute 9).
+    pub fn groups(&self) -> &[u16]
+        ensures ids { result.now ≡ self.now.settings.groups }
+        ensures few { length result.now ≤ MAX_GROUPS }
+    {
+        self.settings.groups.as_slice()
+    }
+
+    /// Sets `emergency_profile_group_id_list` (attribute 9), of which it takes a copy. Without memory nothing changes.
+    pub fn set_groups(&mut self, alloc: Global, ids: &[u16]) -> Result<(), AllocError>
+        requires { length ids.now ≤ MAX_GROUPS }
+        ensures ok { OnOk result (self.new ≡ record self.old { settings = record self.old.settings { groups = ids.now } }) }
+        ensures err { OnErr result (self.new ≡ self.old) }
+    {
+        let ids = Vec::from_slice(alloc, ids)?;
+        self.settings.groups = Listed::from_vec(ids);
+        Ok(())
+    }
+
+    /// Trades the group ids (attribute 9) of two limiters. It takes no memory.
+    pub fn swap_groups(&mut self, other: &mut Limiter)
+        ensures own { self.new ≡ record self.old { settings = record self.old.settings { groups = other.old.settings.groups } } }
+        ensures other { other.new ≡ record other.old { settings = record other.old.settings { groups = self.old.settings.groups } } }
+    {
+        mem::swap(&mut self.settings.groups, &mut other.settings.groups);
+    }
+}

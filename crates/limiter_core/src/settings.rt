@@ -1,0 +1,116 @@
+ghost use Rattle.std.specs.Prelude.{◌≡◌, ◌≤◌, ◌<◌, ◌^◌, [], length};
+ghost use Rattle.limiter_core.specs.Settings.{is_active, active_threshold, is_within, need_of, new_settings};
+
+use cosem_datetime::{DateTimeField, moment_of};
+use listed::Listed;
+use std::alloc::Global;
+
+/// The most group ids that a limiter holds.
+pub const MAX_GROUPS: usize = 32;
+
+/// Samples in a second.
+const SAMPLES_PER_SECOND: u64 = 10;
+
+/// An emergency profile (attribute 8): the group of meters that it is for, its first moment and its length in seconds.
+#[derive(Clone, Copy, Debug)]
+pub struct Profile {
+    /// `emergency_profile_id`.
+    pub id: u16,
+    /// `emergency_activation_time`.
+    pub start: DateTimeField,
+    /// `emergency_duration`, in seconds.
+    pub duration: u32,
+}
+
+/// The scripts that are run (attribute 11), each by its selector in the script table.
+#[derive(Clone, Copy, Debug, PartialEq, Eq)]
+pub struct Actions {
+    /// The selector of `action_over_threshold`.
+    pub over: u16,
+    /// The selector of `action_under_threshold`.
+    pub under: u16,
+}
+
+/// What is set of a limiter: its attributes that are written, and the moment that has come last.
+#[derive(Debug, Drop)]
+pub struct Settings {
+    /// `threshold_normal` (attribute 4), in watts.
+    pub normal_threshold: u32,
+    /// `threshold_emergency` (attribute 5), in watts.
+    pub emergency_threshold: u32,
+    /// `min_over_threshold_duration` (attribute 6), in seconds.
+    pub min_over_duration: u32,
+    /// `min_under_threshold_duration` (attribute 7), in seconds.
+    pub min_under_duration: u32,
+    /// `emergency_profile` (attribute 8).
+    pub profile: Profile,
+    /// `emergency_profile_group_id_list` (attribute 9).
+    pub groups: Listed<u16>,
+    /// `actions` (attribute 11).
+    pub actions: Actions,
+    /// The last moment of the clock, in seconds since 1 January 2000, or None before the first.
+    pub moment: Option<u32>,
+}
+
+/// Whether the moment lies from `start` to `start + duration`, that end left out.
+fn is_in_time(moment: Option<u32>, start: Option<u32>, duration: u32) -> bool
+    ensures { result ≡ is_within moment start duration }
+{
+    match (moment, start) {
+        (Some(now), Some(start)) => {
+            start <= now && u64::from(now) < u64::from(start) + u64::from(duration)
+        }
+        _ => false,
+    }
+}
+
+/// The samples that a duration in seconds needs: ten a second, and one at least.
+pub(crate) fn samples_of(duration: u32) -> u64
+    ensures { result ≡ need_of duration }
+{
+    (SAMPLES_PER_SECOND * u64::from(duration)).max(1)
+}
+
+impl Settings {
+    /// The settings of a new limiter: both thresholds at their greatest, all else zero, empty or unspecified.
+    pub(crate) fn new(alloc: Global) -> Settings
+        ensures { result ≡ new_settings }
+    {
+        Settings {
+            normal_threshold: u32::MAX,
+            emergency_threshold: u32::MAX,
+            min_over_duration: 0,
+            min_under_duration: 0,
+            profile: Profile {
+                id: 0,
+                start: DateTimeField::unspecified(),
+                duration: 0,
+            },
+            groups: Listed::new(alloc),
+            actions: Actions { over: 0, under: 0 },
+            moment: None,
+        }
+    }
+
+    /// Whether the emergency profile is active.
+    #[tactic(auto, unfolding(crate::specs::Settings::is_active))]
+    pub(crate) fn is_active(&self) -> bool
+        ensures { result ≡ is_active self.now }
+    {
+        let among = self.groups.as_slice().contains(&self.profile.id);
+        let start = moment_of(&self.profile.start);
+        among && is_in_time(self.moment, start, self.profile.duration)
+    }
+
+    /// The threshold that is active.
+    #[tactic(auto, unfolding(crate::specs::Settings::active_threshold))]
+    pub(crate) fn active_threshold(&self) -> u32
+        ensures { result ≡ active_threshold self.now }
+    {
+        if self.is_active() {
+            self.emergency_threshold
+        } else {
+            self.normal_threshold
+        }
+    }
+}
