@@ -7,7 +7,7 @@
 --     proposal_of, info_in            what the user information of an AARQ and of an AARE holds
 --     aarq_of, aare_of                whole APDUs
 --     is_release_text                 whether bytes are an RLRQ
-use Rattle.std.specs.Prelude.{◌≡◌, ℕ, zero, suc, ◌-◌, not, ◌&&◌, ◌||◌, ◌==◌, nat_lt, nat_le, if◌then◌else◌, Bool, true, false, Option, Some, None, unwrap_or, List, [], ◌∷◌, ◌++◌, length, take, drop, bytes_eq, Result, Ok, Err, is_ok}
+use Rattle.std.specs.Prelude.{◌≡◌, ℕ, zero, suc, not, ◌&&◌, ◌||◌, ◌==◌, nat_lt, nat_le, if◌then◌else◌, Bool, true, false, Option, Some, None, unwrap_or, List, [], ◌∷◌, length, take, drop, bytes_eq, Result, Ok, Err, is_ok}
 use Rattle.std.specs.Int.{w16, w32, from_be_bytes}
 use Rattle.byte_reading.specs.Outcome.{◌>>=◌, ◌>>◌, guard}
 use Rattle.acse_ber.specs.declared.aarq.Aarq.{Aarq}

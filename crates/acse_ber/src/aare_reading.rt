@@ -1,5 +1,7 @@
-ghost use Rattle.std.specs.Prelude.{◌≡◌, option_map};
+ghost use Rattle.std.specs.Prelude.{◌≡◌, Ok, IfOk, option_map};
 ghost use Rattle.acse_ber.specs.Reading.{Reads, whole, byte_behind, result_at, diagnostic_at, response_at, initiate_error_at, info_in, info_of, is_response, aare_of};
+ghost use Rattle.acse_ber.specs.Spelling.{SpellsAare};
+ghost use Rattle.acse_ber.specs.declared.aare.Aare.{Aare};
 
 use crate::aare::{Aare, Info};
 use crate::fault::AcseFault;
@@ -13,9 +15,23 @@ use std::alloc::Global;
 ///
 /// The result and the diagnostic have to be there, and with result 0 an InitiateResponse. Those two and the user information may not be there twice. All other fields are skipped.
 /// With another result, user information that is neither a response nor an error is taken as absent. It takes no memory.
-#[tactic(auto, unfolding(crate::specs::Reading::aare_of))]
 pub fn read_aare(_alloc: Global, bytes: &[u8]) -> Result<Aare, AcseFault>
+    // What is read is spelled by the bytes, all of them.
+    ensures found { IfOk result (SpellsAare bytes.now) }
+
+    // What the bytes spell is read.
+    ensures only { (aare : Aare) → SpellsAare bytes.now aare → result ≡ Ok aare }
+
+    // The fault is never want of memory.
     ensures exact { result ≡ aare_of bytes.now }
+{
+    read_whole(bytes)
+}
+
+// As `read_aare`, by the definition alone.
+#[tactic(auto, unfolding(crate::specs::Reading::aare_of))]
+fn read_whole(bytes: &[u8]) -> Result<Aare, AcseFault>
+    ensures { result ≡ aare_of bytes.now }
 {
     let body = read_tagged(tag::AARE, bytes)?;
     let result_field = find_field(tag::aare::RESULT, body)?.ok_or(AcseFault::Unreadable)?;

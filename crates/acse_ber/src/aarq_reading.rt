@@ -1,6 +1,8 @@
-ghost use Rattle.std.specs.Prelude.{◌≡◌, IfOk, option_map};
+ghost use Rattle.std.specs.Prelude.{◌≡◌, IfOk, MatchResult, option_map};
 ghost use Rattle.byte_reading.specs.Outcome.{Gives};
 ghost use Rattle.acse_ber.specs.Reading.{aarq_of};
+ghost use Rattle.acse_ber.specs.Spelling.{SpellsAarq};
+ghost use Rattle.acse_ber.specs.declared.aarq.Aarq.{Aarq};
 
 use crate::aarq::Aarq;
 use crate::fault::AcseFault;
@@ -12,9 +14,23 @@ use std::alloc::{AllocError, Global};
 /// Reads an AARQ: a length that ends where the bytes end, and fields, in any order, that fill it.
 ///
 /// The application context and the user information have to be there. Those two, the mechanism and the authentication value may not be there twice. All other fields are skipped.
-#[tactic(auto, unfolding(crate::specs::Reading::aarq_of))]
 pub fn read_aarq(alloc: Global, bytes: &[u8]) -> Result<Aarq, AcseFault>
+    // What is read is spelled by the bytes, all of them.
+    ensures found { IfOk result (SpellsAarq bytes.now) }
+
+    // What the bytes spell is read.
+    ensures only { (aarq : Aarq) → SpellsAarq bytes.now aarq → MatchResult result (λ read. read ≡ aarq) (λ fault. fault ≡ AcseFault.Memory) }
+
+    // Which fault is the answer, too.
     ensures exact { Gives AcseFault.Memory (λ aarq. aarq) result (aarq_of bytes.now) }
+{
+    read_whole(alloc, bytes)
+}
+
+// As `read_aarq`, by the definition alone.
+#[tactic(auto, unfolding(crate::specs::Reading::aarq_of))]
+fn read_whole(alloc: Global, bytes: &[u8]) -> Result<Aarq, AcseFault>
+    ensures { Gives AcseFault.Memory (λ aarq. aarq) result (aarq_of bytes.now) }
 {
     let body = read_tagged(tag::AARQ, bytes)?;
     let context = find_inner(tag::APPLICATION_CONTEXT_NAME, tag::OBJECT_IDENTIFIER, body)?.ok_or(

@@ -1,5 +1,5 @@
 -- The tests' counter: one more call is counted.
-use Rattle.std.proofs.Common.{◌≡◌, ℕ, List, [], ◌∷◌, ◌++◌, refl, sym, subst}
+use Rattle.std.proofs.Common.{◌≡◌, ℕ, List, [], ◌∷◌, ◌++◌, subst}
 use Rattle.turn_lock.specs.declared.turned.Entry.{Entry}
 use Rattle.turn_lock.specs.History.{entry}
 use Rattle.turn_lock.specs.Trials.{next, Counts, count_after}

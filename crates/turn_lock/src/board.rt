@@ -19,7 +19,7 @@ pub(crate) const SERVING: usize = 1;
 pub(crate) const HOME: usize = 0;
 
 /// The most turns that a lock may be made for.
-pub const MOST_TURNS: u64 = 4611686018427387904;
+pub const MOST_TURNS: u64 = 1 << 62;
 
 /// What the slot holds. `last` has no bytes but its tag: it tells the step that ends a turn which
 /// entry the turn adds to the history, if any.

@@ -1,7 +1,7 @@
-use Rattle.std.proofs.Common.{◌≡◌, ℕ, List, Bor, None, length, false, true, ◌<◌, option_map, refl}
+use Rattle.std.proofs.Common.{◌≡◌, ℕ, List, Bor, None, false, true, option_map, refl}
 use Rattle.std.proofs.lemmas.Bool.{eq-eqb, ne_eqb}
 use Rattle.std.proofs.lemmas.Result.{err_from_is_err_and}
-use Rattle.acse_ber.specs.Reading.{Field, fields_of, field_of}
+use Rattle.acse_ber.specs.Reading.{fields_of, field_of}
 use Rattle.acse_ber.proofs.Steps.{still, field_shorter, skips, finds, is_twice, is_refused, is_found}
 use Rattle.acse_ber.proofs.field.find_field.Goals as goal
 

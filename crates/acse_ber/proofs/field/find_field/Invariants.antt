@@ -1,4 +1,4 @@
-use Rattle.std.proofs.Common.{List, ℕ, None, length, option_map}
+use Rattle.std.proofs.Common.{None, length, option_map}
 use Rattle.acse_ber.specs.Reading.{fields_of}
 use Rattle.acse_ber.proofs.Steps.{Remaining, still}
 use Rattle.acse_ber.proofs.field.find_field.Given as goal

@@ -1,0 +1,128 @@
+-- What bytes spell which APDU.
+--     IsLength, IsTagged              a length in any of its forms, and the contents of a tag
+--     IsField, AreFields, IsApdu      fields, in any order, that fill an APDU
+--     HasNone, HasOne, HasInner       which fields of a tag there are
+--     IsResponse, IsInitiateError     user information of an AARE
+--     SpellsAarq, SpellsAare          whole APDUs
+use Rattle.std.specs.Prelude.{◌≡◌, ◌⊎◌, ℕ, ◌<◌, ◌≤◌, true, Option, Some, None, List, [], ◌∷◌, ◌++◌, length}
+use Rattle.std.specs.Int.{w16, w32, from_be_bytes}
+use Rattle.cosem_axdr.specs.Spelling.{IsUnsigned, IsJoined}
+use Rattle.acse_ber.specs.Reading.{Field, contents_of, is_response}
+use Rattle.acse_ber.specs.declared.aarq.Aarq.{Aarq}
+use Rattle.acse_ber.specs.declared.aare.Aare.{Aare}
+use Rattle.acse_ber.specs.declared.aare.Info.{Info}
+use Rattle.acse_ber.specs.declared.aare.Info.TheVariants.{Absent, Response, InitiateError}
+
+-- ---- lengths and tags
+
+-- a length: itself below 80, or 81 and one byte of it, or 82 and two, needed or not
+abbrev pub IsLength : List ℕ → ℕ → Type 0
+IsLength text n =
+    ((n < 0x80) × (text ≡ n ∷ [])) ⊎ ((text ≡ 0x81 ∷ n ∷ []) ⊎ ((two : List ℕ) × (text ≡ 0x82 ∷ two) × IsUnsigned w16 two n))
+
+-- a tag, the length of the contents, and these
+pub record IsTagged (tag : ℕ) (contents bytes : List ℕ) : Type 0 where
+  pub length_text : List ℕ
+  pub parts : bytes ≡ tag ∷ (length_text ++ contents)
+  pub is_length : IsLength length_text (length contents)
+
+-- ---- fields
+
+-- a field: its tag is context-specific
+pub record IsField (field : Field) (bytes : List ℕ) : Type 0 where
+  pub low : 0x80 ≤ field.tag
+  pub high : field.tag ≤ 0xBF
+  pub is_tagged : IsTagged field.tag field.contents bytes
+
+-- fields one after the other
+abbrev pub AreFields : List Field → List ℕ → Type 0
+AreFields [] bytes = bytes ≡ []
+AreFields (field ∷ fields) bytes = IsJoined (IsField field) (AreFields fields) bytes
+
+-- the tag of an APDU, and fields that fill it
+pub record IsApdu (tag : ℕ) (fields : List Field) (bytes : List ℕ) : Type 0 where
+  pub body : List ℕ
+  pub is_tagged : IsTagged tag body bytes
+  pub are_fields : AreFields fields body
+
+-- there is no field of the tag
+abbrev pub HasNone : ℕ → List Field → Type 0
+HasNone tag fields = contents_of tag fields ≡ []
+
+-- there is one field of the tag, no second one, and this holds of its contents
+pub record HasOne (tag : ℕ) (Holds : List ℕ → Type 0) (fields : List Field) : Type 0 where
+  pub contents : List ℕ
+  pub one : contents_of tag fields ≡ contents ∷ []
+  pub holds : Holds contents
+
+-- there is no field of the tag, or one that an inner tag with this text fills
+abbrev pub HasInner : ℕ → ℕ → List Field → Option (List ℕ) → Type 0
+HasInner tag inner fields None = HasNone tag fields
+HasInner tag inner fields (Some text) = HasOne tag (IsTagged inner text) fields
+
+-- ---- AARQ
+
+-- no mechanism is an empty one
+abbrev pub HasMechanism : List Field → List ℕ → Type 0
+HasMechanism fields mechanism = (HasNone 0x8B fields × (mechanism ≡ [])) ⊎ HasOne 0x8B (λ contents. contents ≡ mechanism) fields
+
+-- these bytes spell the AARQ
+pub record SpellsAarq (bytes : List ℕ) (aarq : Aarq) : Type 0 where
+  pub fields : List Field
+  pub is_apdu : IsApdu 0x60 fields bytes
+  pub context : HasInner 0xA1 0x06 fields (Some aarq.context)
+  pub mechanism : HasMechanism fields aarq.mechanism
+  pub password : HasInner 0xAC 0x80 fields aarq.password
+  pub user : HasInner 0xBE 0x04 fields (Some aarq.user)
+
+-- ---- AARE
+
+-- the association result: an integer of one byte
+abbrev pub IsResult : ℕ → List ℕ → Type 0
+IsResult outcome contents = contents ≡ 0x02 ∷ 0x01 ∷ outcome ∷ []
+
+-- a diagnostic of the service user or of the service provider: an integer of one byte
+abbrev pub IsDiagnostic : ℕ → List ℕ → Type 0
+IsDiagnostic diagnostic contents =
+    (source : ℕ) × ((source ≡ 0xA1) ⊎ (source ≡ 0xA2)) × (contents ≡ source ∷ 0x03 ∷ 0x02 ∷ 0x01 ∷ diagnostic ∷ [])
+
+-- nothing, or a byte that is not kept
+abbrev pub IsOptionalByte : List ℕ → Type 0
+IsOptionalByte bytes = (bytes ≡ 0x00 ∷ []) ⊎ ((value : ℕ) × (bytes ≡ 0x01 ∷ value ∷ []))
+
+-- an InitiateResponse: quality of service, version, the conformance block, the size and a name of two bytes
+pub record IsResponse (bits limit : ℕ) (text : List ℕ) : Type 0 where
+  pub quality : List ℕ
+  pub version : ℕ
+  pub conformance : List ℕ
+  pub size : List ℕ
+  pub name : List ℕ
+  pub parts : text ≡ 0x08 ∷ (quality ++ (version ∷ 0x5F ∷ 0x1F ∷ 0x04 ∷ 0x00 ∷ (conformance ++ (size ++ name))))
+  pub is_quality : IsOptionalByte quality
+  pub three : length conformance ≡ 3
+  pub are_bits : bits ≡ from_be_bytes w32 (0x00 ∷ conformance)
+  pub is_size : IsUnsigned w16 size limit
+  pub two : length name ≡ 2
+
+-- a ConfirmedServiceError of Initiate
+abbrev pub IsInitiateError : ℕ → List ℕ → Type 0
+IsInitiateError error text = text ≡ 0x0E ∷ 0x01 ∷ 0x06 ∷ error ∷ []
+
+-- the text of user information; none where it is neither a response nor an error
+abbrev pub IsInfo : Info → List ℕ → Type 0
+IsInfo Absent text = ((bits limit : ℕ) → IsResponse bits limit text → ⊥) × ((error : ℕ) → IsInitiateError error text → ⊥)
+IsInfo (Response bits limit) text = IsResponse bits limit text
+IsInfo (InitiateError error) text = IsInitiateError error text
+
+-- no user information, or some with a text
+abbrev pub HasInfo : List Field → Info → Type 0
+HasInfo fields info = (HasNone 0xBE fields × (info ≡ Absent)) ⊎ ((text : List ℕ) × HasInner 0xBE 0x04 fields (Some text) × IsInfo info text)
+
+-- these bytes spell the AARE; where it accepts, there is a response
+pub record SpellsAare (bytes : List ℕ) (aare : Aare) : Type 0 where
+  pub fields : List Field
+  pub is_apdu : IsApdu 0x61 fields bytes
+  pub result_field : HasOne 0xA2 (IsResult aare.result) fields
+  pub diagnostic_field : HasOne 0xA3 (IsDiagnostic aare.diagnostic) fields
+  pub user : HasInfo fields aare.info
+  pub responds : aare.result ≡ 0 → is_response aare.info ≡ true

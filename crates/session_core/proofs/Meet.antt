@@ -1,0 +1,427 @@
+-- The session by look-ups backwards and the session that keeps its state are one: each look-up over one more frame is the rule of that frame, applied to the look-up
+-- over the frames before it.
+use Rattle.std.proofs.Common.{◌≡◌, ℕ, ◌+◌, ◌*◌, ◌<◌, ◌≤◌, ◌==◌, ◌&&◌, ◌||◌, not, nat_lt, nat_le, Bool, true, false, cond, Option, Some, None, List, [], ◌∷◌, ◌++◌, length, map, refl, sym, ◌∙◌, ap, arith, length-append}
+use Rattle.std.specs.Prelude.{if◌then◌else◌, option_and_then, option_to_list, filter, find}
+use Rattle.std.specs.List.{list_any}
+use Rattle.std.proofs.lemmas.Bool.{le-leb, leb-true}
+use Rattle.relay_core.specs.declared.event.Event.{Event}
+use Rattle.relay_core.specs.declared.event.Reply.{Reply}
+use Rattle.session_core.specs.Answers.{answer_text, due_text}
+use Rattle.session_core.specs.Association.{opened_by}
+use Rattle.session_core.specs.Backwards.{since, unreleased, link_of, heard, goes_on, in_order, joined_so_far, blocks_so_far, First, incoming_by, incoming_among, incoming_of, Past, Heard, frames_past, heard_past, outgoing_after_nexts, begun_by_heard, begun_by_call, outgoing_among, outgoing_of, names_in_order, first_of_call, next_block, is_no_next_block, raw_of, named_block, is_none_of, Asks, Answers, asks_after, answers_after, to_server}
+use Rattle.session_core.specs.Incoming.{no_blocks, after_by_fault, block_after, transfer_of, later_after, service_of}
+use Rattle.xdlms_apdu.specs.declared.invoke_id.InvokeId.{InvokeId}
+use Rattle.xdlms_blocks.specs.Joining.{after_added}
+use Rattle.xdlms_blocks.specs.declared.fault.BlockFault.TheVariants.{WrongNumber, TooLong}
+use Rattle.session_core.specs.Outcome.{Outcome, asks, says, turn_event}
+use Rattle.session_core.specs.Outgoing.{sent, sending_by_fault, continued, begun_by}
+use Rattle.session_core.specs.Rules.{opens, is_heard, is_release, is_closing, call_in, turn_of, link_in, link_after, incoming_by_request, incoming_by_call, incoming_in, incoming_after, begun, outgoing_by_request, outgoing_by_call, outgoing_in, outgoing_after, resolved, outcome_at, state_after, reply_text}
+use Rattle.session_core.specs.Running.{Known, event_at, known_after, known_in, new_state, asks_on, answers_on}
+use Rattle.session_core.specs.Walks.{asks_along, answers_from, answers_along}
+use Rattle.session_core.specs.declared.asked.Asked.{Asked}
+use Rattle.session_core.specs.declared.asked.ReplyForm.TheVariants as form
+use Rattle.session_core.specs.declared.call.Call.{Call}
+use Rattle.session_core.specs.declared.call.Call.TheVariants as call
+use Rattle.session_core.specs.declared.incoming.Incoming.{Incoming}
+use Rattle.session_core.specs.declared.incoming.LongService.{LongService}
+use Rattle.session_core.specs.declared.incoming.LongService.TheVariants as service
+use Rattle.session_core.specs.declared.incoming.Purpose.{Purpose}
+use Rattle.session_core.specs.declared.incoming.Purpose.TheVariants as purpose
+use Rattle.session_core.specs.declared.link.Link.{Link}
+use Rattle.session_core.specs.declared.state.State.{State}
+use Rattle.wrapper_frame.specs.Messages.{frames_of}
+use Rattle.wrapper_frame.specs.declared.parts.Frame.{Frame}
+use Rattle.xdlms_apdu.specs.declared.block.Block.{Block}
+use Rattle.xdlms_apdu.specs.declared.response.Exception.{Exception}
+use Rattle.xdlms_apdu.specs.declared.request.Request.{Request}
+use Rattle.xdlms_apdu.specs.declared.request.Request.TheVariants as request
+use Rattle.xdlms_blocks.specs.Transfer.{Sending, Joining}
+use Rattle.xdlms_blocks.specs.declared.blocks.TheConstants.{MAX_JOINED}
+
+-- ---- the association
+
+unreleased_none : (link : Option Link) → unreleased link [] ≡ link
+unreleased_none None = refl
+unreleased_none (Some link) = refl
+
+unreleased_by : (closes others : Bool) (f : Frame) (link : Link)
+    → (if closes || others then None else Some link) ≡ option_and_then (λ (l : Link). if closes then None else Some l) (if others then None else Some link)
+unreleased_by true true f link = refl
+unreleased_by true false f link = refl
+unreleased_by false true f link = refl
+unreleased_by false false f link = refl
+
+unreleased_more : (f : Frame) (later : List Frame) (link : Option Link) → unreleased link (f ∷ later) ≡ link_in f (unreleased link later)
+unreleased_more f later None = refl
+unreleased_more f later (Some link) =
+    elim (list_any (is_closing link) later) as (λ b. (if is_closing link f || b then None else Some link) ≡ link_in f (if b then None else Some link)) [
+      | true ↦ elim (is_closing link f) as (λ c. (if c || true then None else Some link) ≡ None) [ true ↦ refl | false ↦ refl ]
+      | false ↦ elim (is_closing link f) as (λ c. (if c || false then None else Some link) ≡ (if c then None else Some link)) [ true ↦ refl | false ↦ refl ]
+    ]
+
+link_step : (password : List ℕ) (f : Frame) (last : Option Frame) (later : List Frame) (o : Bool)
+    → unreleased (option_and_then (opened_by password) (cond o (Some f) last)) (cond o [] (f ∷ later))
+    ≡ (if o then opened_by password f else link_in f (unreleased (option_and_then (opened_by password) last) later))
+link_step password f last later true = unreleased_none (opened_by password f)
+link_step password f last later false = unreleased_more f later (option_and_then (opened_by password) last)
+
+-- the association over one more frame
+pub link_more : (password : List ℕ) (f : Frame) (earlier : List Frame) → link_of password (f ∷ earlier) ≡ link_after password f (link_of password earlier)
+unfolding link_of link_after
+link_more password f earlier = link_step password f (find opens earlier) (since opens earlier) (opens f)
+
+-- ---- a long SET or ACTION
+
+-- a transfer that goes on
+abbrev going : Purpose → ℕ → List ℕ → Option Incoming
+going p n bytes = Some (record { purpose = p; blocks = record { number = n; bytes = bytes; is_open = true } })
+
+and_true : (b : Bool) → (b && true) ≡ b
+and_true true = refl
+and_true false = refl
+
+never : (b : Bool) (incoming : Option Incoming) → (if b && false then incoming else None) ≡ None
+never true incoming = refl
+never false incoming = refl
+
+last_by : (last : Bool) (incoming : Option Incoming) → (if last then None else incoming) ≡ (if not last && true then incoming else None)
+last_by true incoming = refl
+last_by false incoming = refl
+
+-- what a block does, by the tests of its number and its size
+added_by : (p : Purpose) (block : Block) (j : Joining) (right long : Bool)
+    → after_by_fault p block j (if not right then Some WrongNumber else if long then Some TooLong else None)
+    ≡ (if right && not block.last && not long then Some (record { purpose = p; blocks = after_added false block.raw j }) else None)
+added_by p block j false long = refl
+added_by p block j true true = sym (never (not block.last) (Some (record { purpose = p; blocks = after_added false block.raw j })))
+added_by p block j true false = last_by block.last (Some (record { purpose = p; blocks = after_added false block.raw j }))
+
+-- the joined bytes with a block, and whether they are too many
+abbrev too_long : List ℕ → Bool
+too_long bytes = nat_lt MAX_JOINED (length bytes)
+
+added : (p : Purpose) (block : Block) (n : ℕ) (bytes : List ℕ)
+    → block_after p block (record { number = n; bytes = bytes; is_open = true })
+    ≡ (if goes_on (n + 1) (Some block) && not (too_long (bytes ++ block.raw)) then going p (n + 1) (bytes ++ block.raw) else None)
+unfolding block_after
+added p block n bytes =
+    added_by p block (record { number = n; bytes = bytes; is_open = true }) (block.number == n + 1) (nat_lt MAX_JOINED (length bytes + length block.raw))
+    ∙ ap (λ (size : ℕ). if goes_on (n + 1) (Some block) && not (nat_lt MAX_JOINED size) then going p (n + 1) (bytes ++ block.raw) else None) (sym (length-append bytes block.raw))
+
+-- a first form
+first_block : (p : Purpose) (block : Block) → incoming_by [] (record { purpose = p; block = block }) ≡ block_after p block no_blocks
+first_block p block =
+    ap (λ (b : Bool). if b && not (too_long block.raw) then going p 1 block.raw else None) (and_true (goes_on 1 (Some block)))
+    ∙ sym (added p block 0 [])
+
+-- bytes that are too many stay too many
+longer : (bytes raw : List ℕ) → too_long bytes ≡ true → too_long (bytes ++ raw) ≡ true
+longer bytes raw e = let h = leb-true (MAX_JOINED + 1) (length bytes) e in le-leb (MAX_JOINED + 1) (length (bytes ++ raw)) (omega (arith, length-append bytes raw))
+
+-- one more block of the service
+later_long : (K : Option Incoming → Option Incoming) (p : Purpose) (n : ℕ) (bytes : List ℕ) (block : Block) (long : Bool) → too_long bytes ≡ long
+    → K None ≡ None → K (going p n bytes) ≡ block_after p block (record { number = n; bytes = bytes; is_open = true })
+    → (if goes_on (n + 1) (Some block) && not (too_long (bytes ++ block.raw)) then going p (n + 1) (bytes ++ block.raw) else None) ≡ K (if not long then going p n bytes else None)
+later_long K p n bytes block true e none some =
+    ap (λ (b : Bool). if goes_on (n + 1) (Some block) && not b then going p (n + 1) (bytes ++ block.raw) else None) (longer bytes block.raw e)
+    ∙ never (goes_on (n + 1) (Some block)) (going p (n + 1) (bytes ++ block.raw))
+    ∙ sym none
+later_long K p n bytes block false e none some = sym (added p block n bytes) ∙ sym some
+
+later_block : (K : Option Incoming → Option Incoming) (p : Purpose) (first others : Bool) (n : ℕ) (bytes : List ℕ) (block : Block)
+    → K None ≡ None → K (going p n bytes) ≡ block_after p block (record { number = n; bytes = bytes; is_open = true })
+    → (if first && (others && goes_on (n + 1) (Some block)) && not (too_long (bytes ++ block.raw)) then going p (n + 1) (bytes ++ block.raw) else None)
+    ≡ K (if first && others && not (too_long bytes) then going p n bytes else None)
+later_block K p false others n bytes block none some = sym none
+later_block K p true false n bytes block none some = sym none
+later_block K p true true n bytes block none some = later_long K p n bytes block (too_long bytes) refl none some
+
+-- a block of the other service
+other_block : (K : Option Incoming → Option Incoming) (next : Option Incoming) (p : Purpose) (first others short next_short : Bool) (n : ℕ) (bytes : List ℕ)
+    → K None ≡ None → K (going p n bytes) ≡ None
+    → (if first && (others && false) && next_short then next else None) ≡ K (if first && others && short then going p n bytes else None)
+other_block K next p false others short next_short n bytes none some = sym none
+other_block K next p true false short next_short n bytes none some = sym none
+other_block K next p true true true next_short n bytes none some = sym some
+other_block K next p true true false next_short n bytes none some = sym none
+
+set_block : (id : InvokeId) (block : Block) (later : List Call) (p : Purpose) (first : Block)
+    → incoming_by (call.Service (request.SetNext id block) ∷ later) (record { purpose = p; block = first })
+    ≡ later_after block (transfer_of service.Set (incoming_by later (record { purpose = p; block = first })))
+set_block id block later (purpose.Set target) first =
+    later_block (λ i. later_after block (transfer_of service.Set i)) (purpose.Set target) (goes_on 1 (Some first)) (in_order service.Set later) (blocks_so_far later)
+    (joined_so_far service.Set first.raw later) block refl refl
+set_block id block later (purpose.Action method) first =
+    other_block (λ i. later_after block (transfer_of service.Set i)) _ (purpose.Action method) (goes_on 1 (Some first)) (in_order service.Action later) _ _ (blocks_so_far later)
+    (joined_so_far service.Action first.raw later) refl refl
+
+action_block : (id : InvokeId) (block : Block) (later : List Call) (p : Purpose) (first : Block)
+    → incoming_by (call.Service (request.ActionNext id block) ∷ later) (record { purpose = p; block = first })
+    ≡ later_after block (transfer_of service.Action (incoming_by later (record { purpose = p; block = first })))
+action_block id block later (purpose.Action method) first =
+    later_block (λ i. later_after block (transfer_of service.Action i)) (purpose.Action method) (goes_on 1 (Some first)) (in_order service.Action later) (blocks_so_far later)
+    (joined_so_far service.Action first.raw later) block refl refl
+action_block id block later (purpose.Set target) first =
+    other_block (λ i. later_after block (transfer_of service.Action i)) _ (purpose.Set target) (goes_on 1 (Some first)) (in_order service.Set later) _ _ (blocks_so_far later)
+    (joined_so_far service.Set first.raw later) refl refl
+
+set_more : (id : InvokeId) (block : Block) (later : List Call) (first : Option First)
+    → option_and_then (incoming_by (call.Service (request.SetNext id block) ∷ later)) first
+    ≡ later_after block (transfer_of service.Set (option_and_then (incoming_by later) first))
+set_more id block later None = refl
+set_more id block later (Some first) = set_block id block later first.purpose first.block
+
+action_more : (id : InvokeId) (block : Block) (later : List Call) (first : Option First)
+    → option_and_then (incoming_by (call.Service (request.ActionNext id block) ∷ later)) first
+    ≡ later_after block (transfer_of service.Action (option_and_then (incoming_by later) first))
+action_more id block later None = refl
+action_more id block later (Some first) = action_block id block later first.purpose first.block
+
+-- the transfer over one more request
+request_more : (r : Request) (calls : List Call) → incoming_among (call.Service r ∷ calls) ≡ incoming_by_request r (incoming_among calls)
+request_more (request.Get id target) calls = refl
+request_more (request.GetNext id number) calls = refl
+request_more (request.GetList id targets) calls = refl
+request_more (request.Set id target value) calls = refl
+request_more (request.SetFirst id target block) calls = first_block (purpose.Set target) block
+request_more (request.SetNext id block) calls = set_more id block (since is_no_next_block calls) (option_and_then first_of_call (find is_no_next_block calls))
+request_more (request.Action id method parameter) calls = refl
+request_more (request.ActionFirst id method block) calls = first_block (purpose.Action method) block
+request_more (request.ActionNext id block) calls = action_more id block (since is_no_next_block calls) (option_and_then first_of_call (find is_no_next_block calls))
+
+-- one more call, which may release the association
+call_more : (c : Call) (calls : List Call) → (if is_release c then None else incoming_among (c ∷ calls)) ≡ incoming_by_call c (incoming_among calls)
+call_more call.Release calls = refl
+call_more (call.Service r) calls = request_more r calls
+call_more (call.Refused exception) calls = refl
+
+-- an association that a frame may release
+and_then_unless : {X : Type 0} (G : Link → Option X) (gone : Bool) (link : Link) → option_and_then G (if gone then None else Some link) ≡ (if gone then None else G link)
+and_then_unless G true link = refl
+and_then_unless G false link = refl
+
+-- one more frame, which is heard or not
+heard_by : (link : Link) (f : Frame) (fs : List Frame) (here : Bool)
+    → (if here && is_release (call_in link f) then None else incoming_among (map (call_in link) (cond here (f ∷ filter (is_heard link) fs) (filter (is_heard link) fs))))
+    ≡ (if here then incoming_by_call (call_in link f) (incoming_among (map (call_in link) (filter (is_heard link) fs))) else incoming_among (map (call_in link) (filter (is_heard link) fs)))
+heard_by link f fs false = refl
+heard_by link f fs true = call_more (call_in link f) (map (call_in link) (filter (is_heard link) fs))
+
+-- the transfer among frames of an association
+abbrev incoming_since : List Frame → Link → Option Incoming
+incoming_since fs link = incoming_among (map (call_in link) (filter (is_heard link) fs))
+
+heard_more : (f : Frame) (fs : List Frame) (link : Option Link)
+    → option_and_then (incoming_since (f ∷ fs)) (link_in f link) ≡ incoming_in link f (option_and_then (incoming_since fs) link)
+heard_more f fs None = refl
+heard_more f fs (Some link) = and_then_unless (incoming_since (f ∷ fs)) (is_closing link f) link ∙ heard_by link f fs (is_heard link f)
+
+opened_none : (link : Option Link) → option_and_then (incoming_since []) link ≡ None
+opened_none None = refl
+opened_none (Some link) = refl
+
+incoming_step : (password : List ℕ) (f : Frame) (fs : List Frame) (link : Option Link) (o : Bool)
+    → option_and_then (incoming_since (cond o [] (f ∷ fs))) (if o then opened_by password f else link_in f link)
+    ≡ (if o then None else incoming_in link f (option_and_then (incoming_since fs) link))
+incoming_step password f fs link true = opened_none (opened_by password f)
+incoming_step password f fs link false = heard_more f fs link
+
+-- the same of the look-ups, the association being known
+incoming_at_link : (password : List ℕ) (f : Frame) (earlier : List Frame) (link : Option Link)
+    → option_and_then (λ (l : Link). incoming_among (heard l (f ∷ earlier))) (link_after password f link)
+    ≡ incoming_after link f (option_and_then (λ (l : Link). incoming_among (heard l earlier)) link)
+unfolding link_after incoming_after
+incoming_at_link password f earlier link = incoming_step password f (since opens earlier) link (opens f)
+
+-- the long SET or ACTION over one more frame
+pub incoming_more : (password : List ℕ) (f : Frame) (earlier : List Frame) → incoming_of password (f ∷ earlier) ≡ incoming_after (link_of password earlier) f (incoming_of password earlier)
+unfolding incoming_of
+incoming_more password f earlier =
+    ap (option_and_then (λ (l : Link). incoming_among (heard l (f ∷ earlier)))) (link_more password f earlier)
+    ∙ incoming_at_link password f earlier (link_of password earlier)
+
+-- ---- a long GET
+
+-- a text that is all given stays so
+all_sent : (number : ℕ) (s : Sending) → nat_le (length s.text) (number * s.size) ≡ true → nat_le (length s.text) ((number + 1) * s.size) ≡ true
+all_sent number s e = let h = leb-true (length s.text) (number * s.size) e in le-leb (length s.text) ((number + 1) * s.size) (omega arith)
+
+none_by : (b : Bool) → (if b then None else None) ≡ (let none : Option Sending = None in none)
+none_by true = refl
+none_by false = refl
+
+next_by : (right : Bool) (number : ℕ) (s : Sending)
+    → (if right then sent (number + 1) s else None) ≡ sending_by_fault (record { text = s.text; number = number; size = s.size; is_open = true }) (if right then None else Some WrongNumber)
+next_by true number s = refl
+next_by false number s = refl
+
+next_sent : (named number : ℕ) (s : Sending) (all : Bool) → nat_le (length s.text) (number * s.size) ≡ all
+    → (if named == number then sent (number + 1) s else None) ≡ continued named (if all then None else Some (record { text = s.text; number = number; size = s.size; is_open = true }))
+unfolding continued
+next_sent named number s true e =
+    ap (λ (b : Bool). if named == number then (if b then None else Some (record { text = s.text; number = number + 1; size = s.size; is_open = true })) else None) (all_sent number s e)
+    ∙ none_by (named == number)
+next_sent named number s false e = next_by (named == number) number s
+
+-- the transfer over one more GET-next
+next_named : (named number : ℕ) (s : Sending) (others : Bool)
+    → (if others && named == number then sent (number + 1) s else None) ≡ continued named (if others then sent number s else None)
+unfolding continued
+next_named named number s false = refl
+next_named named number s true = next_sent named number s (nat_le (length s.text) (number * s.size)) refl
+
+next_more : (link : Link) (id : InvokeId) (named : ℕ) (reply : Option Reply) (later : List Heard) (first : Option Sending)
+    → option_and_then (outgoing_after_nexts (record { call = call.Service (request.GetNext id named); reply = reply } ∷ later)) first
+    ≡ continued named (option_and_then (outgoing_after_nexts later) first)
+unfolding continued
+next_more link id named reply later None = refl
+next_more link id named reply later (Some s) = next_named named (blocks_so_far later) s (names_in_order later)
+
+-- the transfer over one more call
+abbrev begins : Heard → Bool
+begins h = is_none_of (named_block h.call)
+
+get_more : (link : Link) (r : Request) (reply : Option Reply) (calls : List Heard)
+    → outgoing_among link (record { call = call.Service r; reply = reply } ∷ calls) ≡ outgoing_by_request link r reply (outgoing_among link calls)
+get_more link (request.Get id target) None calls = refl
+get_more link (request.Get id target) (Some reply) calls = refl
+get_more link (request.GetNext id number) reply calls = next_more link id number reply (since begins calls) (option_and_then (begun_by_heard link) (find begins calls))
+get_more link (request.GetList id targets) None calls = refl
+get_more link (request.GetList id targets) (Some reply) calls = refl
+get_more link (request.Set id target value) None calls = refl
+get_more link (request.Set id target value) (Some reply) calls = refl
+get_more link (request.SetFirst id target block) None calls = refl
+get_more link (request.SetFirst id target block) (Some reply) calls = refl
+get_more link (request.SetNext id block) None calls = refl
+get_more link (request.SetNext id block) (Some reply) calls = refl
+get_more link (request.Action id method parameter) None calls = refl
+get_more link (request.Action id method parameter) (Some reply) calls = refl
+get_more link (request.ActionFirst id method block) None calls = refl
+get_more link (request.ActionFirst id method block) (Some reply) calls = refl
+get_more link (request.ActionNext id block) None calls = refl
+get_more link (request.ActionNext id block) (Some reply) calls = refl
+
+refused_more : (link : Link) (exception : Exception) (reply : Option Reply) (calls : List Heard)
+    → outgoing_among link (record { call = call.Refused exception; reply = reply } ∷ calls) ≡ None
+refused_more link exception None calls = refl
+refused_more link exception (Some reply) calls = refl
+
+outgoing_call : (link : Link) (c : Call) (reply : Option Reply) (calls : List Heard)
+    → (if is_release c then None else outgoing_among link (record { call = c; reply = reply } ∷ calls)) ≡ outgoing_by_call link c reply (outgoing_among link calls)
+outgoing_call link call.Release reply calls = refl
+outgoing_call link (call.Service r) reply calls = get_more link r reply calls
+outgoing_call link (call.Refused exception) reply calls = refused_more link exception reply calls
+
+-- a frame of the past that is heard, and the calls among frames of the past
+abbrev is_heard_past : Link → Past → Bool
+is_heard_past link p = is_heard link p.frame
+
+abbrev as_heard : Link → Past → Heard
+as_heard link p = record { call = call_in link p.frame; reply = p.reply }
+
+abbrev outgoing_since : List Past → Link → Option Sending
+outgoing_since past link = outgoing_among link (map (as_heard link) (filter (is_heard_past link) past))
+
+past_by : (link : Link) (p : Past) (past : List Past) (here : Bool)
+    → (if here && is_release (call_in link p.frame) then None else outgoing_among link (map (as_heard link) (cond here (p ∷ filter (is_heard_past link) past) (filter (is_heard_past link) past))))
+    ≡ (if here then outgoing_by_call link (call_in link p.frame) p.reply (outgoing_since past link) else outgoing_since past link)
+past_by link p past false = refl
+past_by link p past true = outgoing_call link (call_in link p.frame) p.reply (map (as_heard link) (filter (is_heard_past link) past))
+
+past_more : (p : Past) (past : List Past) (link : Option Link)
+    → option_and_then (outgoing_since (p ∷ past)) (link_in p.frame link) ≡ outgoing_in link p.frame p.reply (option_and_then (outgoing_since past) link)
+past_more p past None = refl
+past_more p past (Some link) = and_then_unless (outgoing_since (p ∷ past)) (is_closing link p.frame) link ∙ past_by link p past (is_heard link p.frame)
+
+none_sent : (link : Option Link) → option_and_then (outgoing_since []) link ≡ None
+none_sent None = refl
+none_sent (Some link) = refl
+
+outgoing_step : (password : List ℕ) (p : Past) (past : List Past) (link : Option Link) (o : Bool)
+    → option_and_then (outgoing_since (cond o [] (p ∷ past))) (if o then opened_by password p.frame else link_in p.frame link)
+    ≡ (if o then None else outgoing_in link p.frame p.reply (option_and_then (outgoing_since past) link))
+outgoing_step password p past link true = none_sent (opened_by password p.frame)
+outgoing_step password p past link false = past_more p past link
+
+outgoing_at_link : (password : List ℕ) (p : Past) (past : List Past) (link : Option Link)
+    → option_and_then (λ (l : Link). outgoing_among l (heard_past l (p ∷ past))) (link_after password p.frame link)
+    ≡ outgoing_after link p.frame p.reply (option_and_then (λ (l : Link). outgoing_among l (heard_past l past)) link)
+unfolding link_after outgoing_after
+outgoing_at_link password p past link = outgoing_step password p (since (λ (q : Past). opens q.frame) past) link (opens p.frame)
+
+-- the long GET over one more frame and the reply to its event
+pub outgoing_more : (password : List ℕ) (p : Past) (past : List Past) → outgoing_of password (p ∷ past) ≡ outgoing_after (link_of password (frames_past past)) p.frame p.reply (outgoing_of password past)
+unfolding outgoing_of
+outgoing_more password p past =
+    ap (option_and_then (λ (l : Link). outgoing_among l (heard_past l (p ∷ past)))) (link_more password p.frame (frames_past past))
+    ∙ outgoing_at_link password p past (link_of password (frames_past past))
+
+-- ---- two walks whose states go together
+
+same_asks : {S T : Type 0} (h : S → T) (event_s : S → Frame → Option Event) (next_s : S → Frame → S) (event_t : T → Frame → Option Event) (next_t : T → Frame → T)
+    → ((s : S) (f : Frame) → event_s s f ≡ event_t (h s) f) → ((s : S) (f : Frame) → h (next_s s f) ≡ next_t (h s) f)
+    → (s : S) (fs : List Frame) → asks_along event_s next_s s fs ≡ asks_along event_t next_t (h s) fs
+same_asks h event_s next_s event_t next_t e n s [] = refl
+same_asks {T = T} h event_s next_s event_t next_t e n s (f ∷ fs) =
+    ap (λ (event : Option Event). option_to_list event ++ asks_along event_s next_s (next_s s f) fs) (e s f)
+    ∙ ap (λ (events : List Event). option_to_list (event_t (h s) f) ++ events)
+    (same_asks h event_s next_s event_t next_t e n (next_s s f) fs ∙ ap (λ (t : T). asks_along event_t next_t t fs) (n s f))
+
+same_from : (outcome : Outcome) (later_s later_t : Option Reply → List Reply → List (List ℕ)) → ((reply : Option Reply) (replies : List Reply) → later_s reply replies ≡ later_t reply replies)
+    → (replies : List Reply) → answers_from outcome later_s replies ≡ answers_from outcome later_t replies
+same_from (says to answer) later_s later_t same replies = ap (λ (texts : List (List ℕ)). due_text to (answer_text answer) ∷ texts) (same None replies)
+same_from (asks event asked) later_s later_t same [] = refl
+same_from (asks event asked) later_s later_t same (reply ∷ replies) = ap (λ (texts : List (List ℕ)). reply_text asked reply ∷ texts) (same (Some reply) replies)
+
+same_answers : {S T : Type 0} (h : S → T) (outcome_s : S → Frame → Outcome) (next_s : S → Frame → Option Reply → S) (outcome_t : T → Frame → Outcome) (next_t : T → Frame → Option Reply → T)
+    → ((s : S) (f : Frame) → outcome_s s f ≡ outcome_t (h s) f) → ((s : S) (f : Frame) (reply : Option Reply) → h (next_s s f reply) ≡ next_t (h s) f reply)
+    → (s : S) (fs : List Frame) (replies : List Reply) → answers_along outcome_s next_s s fs replies ≡ answers_along outcome_t next_t (h s) fs replies
+same_answers h outcome_s next_s outcome_t next_t e n s [] replies = refl
+same_answers {T = T} h outcome_s next_s outcome_t next_t e n s (f ∷ fs) replies =
+    ap (λ (outcome : Outcome). answers_from outcome (λ reply rest. answers_along outcome_s next_s (next_s s f reply) fs rest) replies) (e s f)
+    ∙ same_from (outcome_t (h s) f) _ _
+    (λ reply rest. same_answers h outcome_s next_s outcome_t next_t e n (next_s s f reply) fs rest ∙ ap (λ (t : T). answers_along outcome_t next_t t fs rest) (n s f reply))
+    replies
+
+-- ---- both sessions
+
+-- what the look-ups tell of the frames before
+abbrev known_of : List ℕ → List Frame → Known
+known_of password earlier = record { link = link_of password earlier; incoming = incoming_of password earlier }
+
+abbrev state_of : List ℕ → List Past → State
+state_of password past = record { link = link_of password (frames_past past); incoming = incoming_of password (frames_past past); outgoing = outgoing_of password past }
+
+known_more : (password : List ℕ) (earlier : List Frame) (f : Frame) → known_of password (f ∷ earlier) ≡ known_after password (known_of password earlier) f
+known_more password earlier f = let a = link_more password f earlier in let b = incoming_more password f earlier in cc
+
+state_more : (password : List ℕ) (past : List Past) (f : Frame) (reply : Option Reply) → state_of password (record { frame = f; reply = reply } ∷ past) ≡ state_after password (state_of password past) f reply
+state_more password past f reply =
+    let a = link_more password f (frames_past past) in
+    let b = incoming_more password f (frames_past past) in
+    let c = outgoing_more password (record { frame = f; reply = reply }) past in
+    cc
+
+known_none : (password : List ℕ) → known_of password [] ≡ known_in new_state
+unfolding link_of incoming_of
+known_none password = refl
+
+state_none : (password : List ℕ) → state_of password [] ≡ new_state
+unfolding link_of incoming_of outgoing_of
+state_none password = refl
+
+-- the events
+pub same_events : (password input : List ℕ) → Asks password input ≡ asks_on password (known_in new_state) (to_server (frames_of input))
+unfolding Asks
+same_events password input =
+    same_asks (known_of password) (λ earlier f. turn_event (turn_of password (link_of password earlier) (incoming_of password earlier) f)) (λ earlier f. f ∷ earlier) (event_at password) (known_after password) (λ earlier f. refl) (known_more password) []
+    (to_server (frames_of input))
+    ∙ ap (λ (k : Known). asks_on password k (to_server (frames_of input))) (known_none password)
+
+-- the answers
+pub same_texts : (password input : List ℕ) (replies : List Reply) → Answers password input replies ≡ answers_on password new_state (to_server (frames_of input)) replies
+unfolding Answers
+same_texts password input replies =
+    same_answers (state_of password) (λ past f. resolved (outgoing_of password past) (turn_of password (link_of password (frames_past past)) (incoming_of password (frames_past past)) f))
+    (λ past f reply. record { frame = f; reply = reply } ∷ past) (outcome_at password) (state_after password) (λ past f. refl) (state_more password) [] (to_server (frames_of input)) replies
+    ∙ ap (λ (s : State). answers_on password s (to_server (frames_of input)) replies) (state_none password)

@@ -1,0 +1,40 @@
+-- What an AARQ opens: the association, and its answer (IEC 62056-5-3, association control).
+use Rattle.std.specs.Prelude.{ℕ, ◌==◌, min, max, if◌then◌else◌, Option, Some, None, List, Result, Ok, Err}
+use Rattle.acse_ber.specs.Reading.{aarq_of}
+use Rattle.acse_ber.specs.Verdict.{verdict_of}
+use Rattle.acse_ber.specs.declared.fault.AcseFault.{AcseFault}
+use Rattle.acse_ber.specs.declared.aarq.Aarq.{Aarq}
+use Rattle.acse_ber.specs.declared.aare.Aare.{Aare}
+use Rattle.acse_ber.specs.declared.aare.Info.TheVariants.{Absent, Response}
+use Rattle.acse_ber.specs.declared.aare.Info.TheVariants as info
+use Rattle.acse_ber.specs.declared.verdict.Verdict.{Verdict}
+use Rattle.acse_ber.specs.declared.verdict.Verdict.TheVariants.{Accepted, Rejected, InitiateError}
+use Rattle.session_core.specs.declared.limit.TheConstants.{MIN_PDU, MAX_PDU}
+use Rattle.session_core.specs.declared.link.Link.{Link}
+use Rattle.session_core.specs.declared.link.TheConstants.{ACCEPTED, REJECTED, NULL_DIAGNOSTIC, NO_REASON_GIVEN}
+use Rattle.wrapper_frame.specs.declared.parts.Frame.{Frame}
+
+-- the longest PDU that a client takes: what it proposed, where 0 is no limit, held between 64 and 1,024 bytes
+abbrev pub limit_of : ℕ → ℕ
+limit_of proposed = if proposed == 0 then MAX_PDU else max MIN_PDU (min proposed MAX_PDU)
+
+-- the association of a client that is accepted
+abbrev pub link_by : ℕ → Verdict → Option Link
+link_by source (Accepted level bits limit) = Some (record { source = source; level = level; conformance = bits; limit = limit_of limit })
+link_by source (Rejected diagnostic) = None
+link_by source (InitiateError error) = None
+
+-- the answer to an AARQ that was judged; the server takes PDUs of 1,024 bytes
+abbrev pub aare_by : Verdict → Aare
+aare_by (Accepted level bits limit) = record { result = ACCEPTED; diagnostic = NULL_DIAGNOSTIC; info = Response bits MAX_PDU }
+aare_by (Rejected diagnostic) = record { result = REJECTED; diagnostic = diagnostic; info = Absent }
+aare_by (InitiateError error) = record { result = REJECTED; diagnostic = NO_REASON_GIVEN; info = info.InitiateError error }
+
+-- the association that an AARQ from a port opens, if it was read and is accepted
+abbrev pub link_from : List ℕ → ℕ → Result Aarq AcseFault → Option Link
+link_from password source (Ok aarq) = link_by source (verdict_of aarq source password)
+link_from password source (Err fault) = None
+
+-- the association that a frame with an AARQ opens
+unfoldable pub opened_by : List ℕ → Frame → Option Link
+opened_by password f = link_from password f.src (aarq_of f.payload)

@@ -1,0 +1,288 @@
+-- One client session, by looking back over the frames that came before (IEC 62056-5-3). A list of earlier frames has the last of them first.
+--     link_of        the association before a frame
+--     incoming_of    the long SET or ACTION before it
+--     outgoing_of    the long GET before it, which rests on the replies too
+--     Asks           the events of an input
+--     Answers        the texts of the answers, for the replies to the events
+--     end_of         how the session ends
+use Rattle.std.specs.Prelude.{ℕ, ◌+◌, ◌==◌, ◌&&◌, nat_lt, not, Bool, true, false, if◌then◌else◌, cond, Option, Some, None, option_and_then, List, [], ◌∷◌, ◌++◌, length, map, filter, find}
+use Rattle.std.specs.List.{list_any}
+use Rattle.relay_core.specs.declared.event.Event.{Event}
+use Rattle.relay_core.specs.declared.event.Reply.{Reply}
+use Rattle.session_core.specs.Association.{opened_by}
+use Rattle.session_core.specs.Outcome.{turn_event}
+use Rattle.session_core.specs.Outgoing.{sent, begun_by}
+use Rattle.session_core.specs.Rules.{opens, is_heard, is_closing, call_in, turn_of, resolved}
+use Rattle.session_core.specs.Walks.{asks_along, answers_along}
+use Rattle.session_core.specs.declared.answer.TheConstants.{SERVER_PORT}
+use Rattle.session_core.specs.declared.asked.ReplyForm.TheVariants as form
+use Rattle.session_core.specs.declared.call.Call.{Call}
+use Rattle.session_core.specs.declared.call.Call.TheVariants as call
+use Rattle.session_core.specs.declared.incoming.Incoming.{Incoming}
+use Rattle.session_core.specs.declared.incoming.LongService.{LongService}
+use Rattle.session_core.specs.declared.incoming.LongService.TheVariants as service
+use Rattle.session_core.specs.declared.incoming.Purpose.{Purpose}
+use Rattle.session_core.specs.declared.incoming.Purpose.TheVariants as purpose
+use Rattle.session_core.specs.Incoming.{service_of}
+use Rattle.session_core.specs.declared.end.SessionEnd.{SessionEnd}
+use Rattle.session_core.specs.declared.end.SessionEnd.TheVariants as ending
+use Rattle.session_core.specs.declared.link.Link.{Link}
+use Rattle.wrapper_frame.specs.Header.{head_of}
+use Rattle.wrapper_frame.specs.Messages.{frames_of, rest_of}
+use Rattle.wrapper_frame.specs.declared.header.Head.{Head}
+use Rattle.wrapper_frame.specs.declared.header.Head.TheVariants as head
+use Rattle.wrapper_frame.specs.declared.parts.Frame.{Frame}
+use Rattle.xdlms_apdu.specs.declared.block.Block.{Block}
+use Rattle.xdlms_apdu.specs.declared.request.Request.{Request}
+use Rattle.xdlms_apdu.specs.declared.request.Request.TheVariants as request
+use Rattle.xdlms_blocks.specs.Transfer.{Sending}
+use Rattle.xdlms_blocks.specs.declared.blocks.TheConstants.{MAX_JOINED}
+
+-- what came after the last that passes
+abbrev pub since : {X : Type 0} → (X → Bool) → List X → List X
+since test [] = []
+since test (x ∷ earlier) = cond (test x) [] (x ∷ since test earlier)
+
+-- ---- the association
+
+-- an association, unless one of these frames released it
+abbrev pub unreleased : Option Link → List Frame → Option Link
+unreleased None later = None
+unreleased (Some link) later = if list_any (is_closing link) later then None else Some link
+
+-- the association before a frame: the last AARQ opened it, if it was accepted, and no frame after that released it
+unfoldable pub link_of : List ℕ → List Frame → Option Link
+link_of password earlier = unreleased (option_and_then (opened_by password) (find opens earlier)) (since opens earlier)
+
+-- the calls of the client since its association was opened
+abbrev pub heard : Link → List Frame → List Call
+heard link earlier = map (call_in link) (filter (is_heard link) (since opens earlier))
+
+-- ---- a long SET or ACTION
+
+-- the block of a later form of a service
+abbrev pub next_request : LongService → Request → Option Block
+next_request service.Set (request.SetNext id block) = Some block
+next_request service.Set (request.Get id target) = None
+next_request service.Set (request.GetNext id number) = None
+next_request service.Set (request.GetList id targets) = None
+next_request service.Set (request.Set id target value) = None
+next_request service.Set (request.SetFirst id target block) = None
+next_request service.Set (request.Action id method parameter) = None
+next_request service.Set (request.ActionFirst id method block) = None
+next_request service.Set (request.ActionNext id block) = None
+next_request service.Action (request.ActionNext id block) = Some block
+next_request service.Action (request.Get id target) = None
+next_request service.Action (request.GetNext id number) = None
+next_request service.Action (request.GetList id targets) = None
+next_request service.Action (request.Set id target value) = None
+next_request service.Action (request.SetFirst id target block) = None
+next_request service.Action (request.SetNext id block) = None
+next_request service.Action (request.Action id method parameter) = None
+next_request service.Action (request.ActionFirst id method block) = None
+
+abbrev pub next_block : LongService → Call → Option Block
+next_block service call.Release = None
+next_block service (call.Service request) = next_request service request
+next_block service (call.Refused exception) = None
+
+-- not a later form of any service
+abbrev pub is_no_next_request : Request → Bool
+is_no_next_request (request.Get id target) = true
+is_no_next_request (request.GetNext id number) = true
+is_no_next_request (request.GetList id targets) = true
+is_no_next_request (request.Set id target value) = true
+is_no_next_request (request.SetFirst id target block) = true
+is_no_next_request (request.SetNext id block) = false
+is_no_next_request (request.Action id method parameter) = true
+is_no_next_request (request.ActionFirst id method block) = true
+is_no_next_request (request.ActionNext id block) = false
+
+abbrev pub is_no_next_block : Call → Bool
+is_no_next_block call.Release = true
+is_no_next_block (call.Service request) = is_no_next_request request
+is_no_next_block (call.Refused exception) = true
+
+-- a first form: what it is for, and the first block
+pub record First : Type 0 where
+  pub purpose : Purpose
+  pub block : Block
+
+abbrev pub first_request : Request → Option First
+first_request (request.Get id target) = None
+first_request (request.GetNext id number) = None
+first_request (request.GetList id targets) = None
+first_request (request.Set id target value) = None
+first_request (request.SetFirst id target block) = Some (record { purpose = purpose.Set target; block = block })
+first_request (request.SetNext id block) = None
+first_request (request.Action id method parameter) = None
+first_request (request.ActionFirst id method block) = Some (record { purpose = purpose.Action method; block = block })
+first_request (request.ActionNext id block) = None
+
+abbrev pub first_of_call : Call → Option First
+first_of_call call.Release = None
+first_of_call (call.Service request) = first_request request
+first_of_call (call.Refused exception) = None
+
+-- the number of the last block: the first has 1, and each later form one more
+abbrev pub blocks_so_far : {X : Type 0} → List X → ℕ
+blocks_so_far [] = 1
+blocks_so_far (x ∷ later) = blocks_so_far later + 1
+
+-- a block with this number, and not the last
+abbrev pub goes_on : ℕ → Option Block → Bool
+goes_on number None = false
+goes_on number (Some block) = block.number == number && not block.last
+
+-- the bytes of a block
+abbrev pub raw_of : Option Block → List ℕ
+raw_of None = []
+raw_of (Some block) = block.raw
+
+-- all later forms are of the service, numbered by ones, and none is the last
+abbrev pub in_order : LongService → List Call → Bool
+in_order service [] = true
+in_order service (c ∷ later) = in_order service later && goes_on (blocks_so_far later + 1) (next_block service c)
+
+-- the bytes of the blocks, end to end
+abbrev pub joined_so_far : LongService → List ℕ → List Call → List ℕ
+joined_so_far service first [] = first
+joined_so_far service first (c ∷ later) = joined_so_far service first later ++ raw_of (next_block service c)
+
+-- the transfer of a first form and the later forms
+abbrev pub incoming_by : List Call → First → Option Incoming
+incoming_by later first =
+    if goes_on 1 (Some first.block) && in_order (service_of first.purpose) later && not (nat_lt MAX_JOINED (length (joined_so_far (service_of first.purpose) first.block.raw later)))
+    then Some (record { purpose = first.purpose; blocks = record { number = blocks_so_far later; bytes = joined_so_far (service_of first.purpose) first.block.raw later; is_open = true } })
+    else None
+
+-- the transfer before a call: the last call that was no later form is its first form, and all after it are its later forms
+abbrev pub incoming_among : List Call → Option Incoming
+incoming_among calls = option_and_then (incoming_by (since is_no_next_block calls)) (option_and_then first_of_call (find is_no_next_block calls))
+
+-- the long SET or ACTION before a frame
+unfoldable pub incoming_of : List ℕ → List Frame → Option Incoming
+incoming_of password earlier = option_and_then (λ link. incoming_among (heard link earlier)) (link_of password earlier)
+
+-- ---- a long GET
+
+-- an earlier frame, and the reply to its event, if it has one
+pub record Past : Type 0 where
+  pub frame : Frame
+  pub reply : Option Reply
+
+-- an earlier call, and the reply to its event
+pub record Heard : Type 0 where
+  pub call : Call
+  pub reply : Option Reply
+
+-- the frames of what is past
+abbrev pub frames_past : List Past → List Frame
+frames_past past = map (λ p. p.frame) past
+
+-- the calls of the client since its association was opened, with the replies
+abbrev pub heard_past : Link → List Past → List Heard
+heard_past link past = map (λ p. record { call = call_in link p.frame; reply = p.reply }) (filter (λ p. is_heard link p.frame) (since (λ p. opens p.frame) past))
+
+-- the number that a GET-next names
+abbrev pub named_request : Request → Option ℕ
+named_request (request.Get id target) = None
+named_request (request.GetNext id number) = Some number
+named_request (request.GetList id targets) = None
+named_request (request.Set id target value) = None
+named_request (request.SetFirst id target block) = None
+named_request (request.SetNext id block) = None
+named_request (request.Action id method parameter) = None
+named_request (request.ActionFirst id method block) = None
+named_request (request.ActionNext id block) = None
+
+abbrev pub named_block : Call → Option ℕ
+named_block call.Release = None
+named_block (call.Service request) = named_request request
+named_block (call.Refused exception) = None
+
+abbrev pub is_none_of : Option ℕ → Bool
+is_none_of None = true
+is_none_of (Some number) = false
+
+-- a GET-next that names this block
+abbrev pub names : ℕ → Option ℕ → Bool
+names number None = false
+names number (Some named) = named == number
+
+-- each GET-next names the block that was given last before it
+abbrev pub names_in_order : List Heard → Bool
+names_in_order [] = true
+names_in_order (h ∷ later) = names_in_order later && names (blocks_so_far later) (named_block h.call)
+
+-- the text that goes out in blocks, where the reply to a first form is too long for one answer
+abbrev pub begun_by_request : Link → Request → Reply → Option Sending
+begun_by_request link (request.Get id target) reply = begun_by (record { link = link; form = form.Get id }) reply
+begun_by_request link (request.GetNext id number) reply = None
+begun_by_request link (request.GetList id targets) reply = begun_by (record { link = link; form = form.GetList id }) reply
+begun_by_request link (request.Set id target value) reply = None
+begun_by_request link (request.SetFirst id target block) reply = None
+begun_by_request link (request.SetNext id block) reply = None
+begun_by_request link (request.Action id method parameter) reply = None
+begun_by_request link (request.ActionFirst id method block) reply = None
+begun_by_request link (request.ActionNext id block) reply = None
+
+abbrev pub begun_by_call : Link → Call → Reply → Option Sending
+begun_by_call link call.Release reply = None
+begun_by_call link (call.Service request) reply = begun_by_request link request reply
+begun_by_call link (call.Refused exception) reply = None
+
+abbrev pub begun_by_heard : Link → Heard → Option Sending
+begun_by_heard link h = option_and_then (begun_by_call link h.call) h.reply
+
+-- the transfer of a text after the GET-nexts, if they were in order and it isn't all given
+abbrev pub outgoing_after_nexts : List Heard → Sending → Option Sending
+outgoing_after_nexts later s = if names_in_order later then sent (blocks_so_far later) s else None
+
+-- the transfer before a call: the last call that was no GET-next began it
+abbrev pub outgoing_among : Link → List Heard → Option Sending
+outgoing_among link calls =
+    option_and_then (outgoing_after_nexts (since (λ h. is_none_of (named_block h.call)) calls))
+    (option_and_then (begun_by_heard link) (find (λ h. is_none_of (named_block h.call)) calls))
+
+-- the long GET before a frame
+unfoldable pub outgoing_of : List ℕ → List Past → Option Sending
+outgoing_of password past = option_and_then (λ link. outgoing_among link (heard_past link past)) (link_of password (frames_past past))
+
+-- ---- a whole session
+
+-- the frames for the server
+abbrev pub to_server : List Frame → List Frame
+to_server frames = filter (λ f. f.dst == SERVER_PORT) frames
+
+-- the events of frames after these, in order
+abbrev pub asks_after : List ℕ → List Frame → List Frame → List Event
+asks_after password = asks_along
+    (λ earlier f. turn_event (turn_of password (link_of password earlier) (incoming_of password earlier) f))
+    (λ earlier f. f ∷ earlier)
+
+-- the answers to frames after these, in order
+abbrev pub answers_after : List ℕ → List Past → List Frame → List Reply → List (List ℕ)
+answers_after password = answers_along
+    (λ past f. resolved (outgoing_of password past) (turn_of password (link_of password (frames_past past)) (incoming_of password (frames_past past)) f))
+    (λ past f reply. record { frame = f; reply = reply } ∷ past)
+
+-- the events of an input, in order
+unfoldable pub Asks : List ℕ → List ℕ → List Event
+Asks password input = asks_after password [] (to_server (frames_of input))
+
+-- the texts that are sent for it, up to the first event without a reply
+unfoldable pub Answers : List ℕ → List ℕ → List Reply → List (List ℕ)
+Answers password input replies = answers_after password [] (to_server (frames_of input)) replies
+
+-- the end by what stands after the frames, and whether it has bytes
+abbrev pub end_by : Head → List ℕ → SessionEnd
+end_by head.Part [] = ending.Closed
+end_by head.Part (byte ∷ bytes) = ending.Cut
+end_by (head.Whole n) rest = ending.Cut
+end_by head.BadVersion rest = ending.BadVersion
+end_by head.TooLong rest = ending.TooLong
+
+-- how the session of an input ends
+unfoldable pub end_of : List ℕ → SessionEnd
+end_of input = end_by (head_of (rest_of input)) (rest_of input)

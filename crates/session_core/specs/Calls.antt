@@ -1,0 +1,57 @@
+-- What the payload of a frame asks for.
+--     tag_is, is_opening, is_call     by its first byte
+--     is_negotiated                   by its form, which has to be known and negotiated
+--     call_of                         by all of it
+use Rattle.std.specs.Prelude.{ℕ, Bool, false, ◌||◌, ◌&&◌, ◌==◌, bit_and, find, Option, Some, None, if◌then◌else◌, List, [], ◌∷◌, Result, Ok, Err}
+use Rattle.acse_ber.specs.Reading.{is_release_text}
+use Rattle.session_core.specs.declared.call.Call.{Call}
+use Rattle.session_core.specs.declared.call.Call.TheVariants.{Release, Service, Refused}
+use Rattle.session_core.specs.declared.call.TheConstants.{AARQ, RLRQ}
+use Rattle.session_core.specs.declared.conformance.RequestForm.{RequestForm}
+use Rattle.session_core.specs.declared.conformance.TheConstants.{REQUEST_FORMS, GET_REQUEST, SET_REQUEST, ACTION_REQUEST}
+use Rattle.xdlms_apdu.specs.Reading.{request_of}
+use Rattle.xdlms_apdu.specs.declared.fault.ApduFault.{ApduFault}
+use Rattle.xdlms_apdu.specs.declared.request.Request.{Request}
+use Rattle.xdlms_apdu.specs.declared.response.Exception.TheVariants.{Unknown, Unreadable}
+
+-- the payload begins with this tag
+abbrev pub tag_is : ℕ → List ℕ → Bool
+tag_is tag [] = false
+tag_is tag (first ∷ rest) = first == tag
+
+-- an AARQ, readable or not
+abbrev pub is_opening : List ℕ → Bool
+is_opening payload = tag_is AARQ payload
+
+-- a release or a service, readable or not
+abbrev pub is_call : List ℕ → Bool
+is_call payload = tag_is RLRQ payload || tag_is GET_REQUEST payload || tag_is SET_REQUEST payload || tag_is ACTION_REQUEST payload
+
+-- the form of a tag and a number
+unfoldable pub request_form : ℕ → ℕ → Option RequestForm
+request_form tag number = find (λ form. form.tag == tag && form.number == number) REQUEST_FORMS
+
+-- the bits that a form needs were negotiated
+abbrev pub has_bits : ℕ → Option RequestForm → Bool
+has_bits conformance None = false
+has_bits conformance (Some form) = bit_and conformance form.needs == form.needs
+
+-- the form is one that the server knows, and the bits that it needs were negotiated
+unfoldable pub is_negotiated : ℕ → ℕ → ℕ → Bool
+is_negotiated conformance tag number = has_bits conformance (request_form tag number)
+
+-- a request that was read, or its refusal
+abbrev pub call_by : Result Request ApduFault → Call
+call_by (Ok request) = Service request
+call_by (Err fault) = Refused Unreadable
+
+-- what the payload of a service asks for: a tag alone is not readable, and the form is judged before the body
+abbrev pub request_call : ℕ → List ℕ → Call
+request_call conformance [] = Refused Unreadable
+request_call conformance (tag ∷ []) = Refused Unreadable
+request_call conformance (tag ∷ form ∷ body) = if is_negotiated conformance tag form then call_by (request_of (tag ∷ form ∷ body)) else Refused Unknown
+
+-- what a payload asks for where these bits were negotiated
+unfoldable pub call_of : ℕ → List ℕ → Call
+call_of conformance payload =
+    if tag_is RLRQ payload then (if is_release_text payload then Release else Refused Unreadable) else request_call conformance payload

@@ -1,0 +1,171 @@
+-- Requests that come in blocks (IEC 62056-5-3, SET and ACTION with datablocks).
+--     received, refused, block_code     the answers to a block, and the results that they have
+--     fault_of                          why a block is not added
+--     whole_outcome                     what the joined bytes ask for
+--     block_outcome_of, block_after     what comes of a block, and the transfer after it
+use Rattle.std.specs.Prelude.{ℕ, Bool, ◌+◌, ◌==◌, nat_lt, not, false, true, if◌then◌else◌, Option, Some, None, List, [], ◌++◌, length, Result, Ok, Err}
+use Rattle.cosem_axdr.specs.Reading.{first_data}
+use Rattle.cosem_axdr.specs.declared.fault.DataFault.{DataFault}
+use Rattle.cosem_axdr.specs.declared.value.Data.{Data}
+use Rattle.cosem_names.specs.declared.level.Level.{Level}
+use Rattle.cosem_names.specs.declared.result_code.ResultCode.{ResultCode}
+use Rattle.cosem_names.specs.declared.result_code.ResultCode.TheVariants.{NoLongGetInProgress, NoLongSetInProgress, DataBlockNumberInvalid, OtherReason}
+use Rattle.relay_core.specs.declared.event.Event.{Event}
+use Rattle.relay_core.specs.declared.event.Event.TheVariants as event
+use Rattle.session_core.specs.Outcome.{Outcome, asks, says}
+use Rattle.session_core.specs.declared.answer.Answer.TheVariants.{Service}
+use Rattle.session_core.specs.declared.asked.ReplyForm.{ReplyForm}
+use Rattle.session_core.specs.declared.asked.ReplyForm.TheVariants as form
+use Rattle.session_core.specs.declared.incoming.Added.{Added}
+use Rattle.session_core.specs.declared.incoming.Added.TheVariants.{GoesOn, Refused, Whole}
+use Rattle.session_core.specs.declared.incoming.Incoming.{Incoming}
+use Rattle.session_core.specs.declared.incoming.Joined.{Joined}
+use Rattle.session_core.specs.declared.incoming.LongService.{LongService}
+use Rattle.session_core.specs.declared.incoming.LongService.TheVariants as service
+use Rattle.session_core.specs.declared.incoming.Purpose.{Purpose}
+use Rattle.session_core.specs.declared.incoming.Purpose.TheVariants as purpose
+use Rattle.session_core.specs.declared.link.Link.{Link}
+use Rattle.xdlms_apdu.specs.declared.block.Block.{Block}
+use Rattle.xdlms_apdu.specs.declared.invoke_id.InvokeId.{InvokeId}
+use Rattle.xdlms_apdu.specs.declared.response.Response.{Response}
+use Rattle.xdlms_apdu.specs.declared.response.Response.TheVariants as response
+use Rattle.xdlms_blocks.specs.Joining.{after_added}
+use Rattle.xdlms_blocks.specs.Transfer.{Joining}
+use Rattle.xdlms_blocks.specs.declared.blocks.TheConstants.{MAX_JOINED}
+use Rattle.xdlms_blocks.specs.declared.fault.BlockFault.{BlockFault}
+use Rattle.xdlms_blocks.specs.declared.fault.BlockFault.TheVariants.{NoTransfer, WrongNumber, TooLong, Memory}
+
+-- ---- answers
+
+-- a block came that isn't the last
+abbrev pub received : LongService → InvokeId → ℕ → Response
+received service.Set id number = response.SetBlock id number
+received service.Action id number = response.ActionBlock id number
+
+-- a transfer ends with this result
+abbrev pub refused : LongService → InvokeId → ℕ → ResultCode → Response
+refused service.Set id number code = response.SetLastBlock id code number
+refused service.Action id number code = response.Action id code
+
+-- the result that stands for a fault
+abbrev pub block_code : LongService → BlockFault → ResultCode
+block_code service.Set NoTransfer = NoLongSetInProgress
+block_code service.Set WrongNumber = DataBlockNumberInvalid
+block_code service.Set TooLong = OtherReason
+block_code service.Set Memory = OtherReason
+block_code service.Action NoTransfer = NoLongGetInProgress
+block_code service.Action WrongNumber = OtherReason
+block_code service.Action TooLong = OtherReason
+block_code service.Action Memory = OtherReason
+
+-- the service of a transfer
+abbrev pub service_of : Purpose → LongService
+service_of (purpose.Set target) = service.Set
+service_of (purpose.Action method) = service.Action
+
+-- ---- what the joined bytes ask for
+
+-- the one Data that bytes are
+abbrev pub whole_by : ℕ → Result (Data × ℕ) DataFault → Option Data
+whole_by size (Ok read) = if read.1 == size then Some read.0 else None
+whole_by size (Err fault) = None
+
+unfoldable pub whole_data : List ℕ → Option Data
+whole_data bytes = whole_by (length bytes) (first_data bytes)
+
+-- the event of a transfer whose blocks hold this value
+abbrev pub event_by : Level → Purpose → Data → Event
+event_by level (purpose.Set target) value = event.Set level target.attr target.selected value
+event_by level (purpose.Action method) value = event.Execute level method (Some value)
+
+-- the form of the answer to its reply
+abbrev pub form_by : Purpose → InvokeId → ℕ → ReplyForm
+form_by (purpose.Set target) id number = form.SetLastBlock id number
+form_by (purpose.Action method) id number = form.Action id
+
+-- the event, or where the bytes are no Data and nothing more, a refusal
+abbrev pub whole_by_data : Joined → Option Data → Outcome
+whole_by_data j (Some value) = asks (event_by j.link.level j.purpose value) (record { link = j.link; form = form_by j.purpose j.id j.number })
+whole_by_data j None = says j.link.source (Service (refused (service_of j.purpose) j.id j.number OtherReason))
+
+unfoldable pub whole_outcome : Joined → Outcome
+whole_outcome j = whole_by_data j (whole_data j.bytes)
+
+-- ---- one block
+
+-- why a block is not added: there is no transfer, it isn't the next by its number, or too many bytes came
+abbrev pub fault_of : Block → Joining → Option BlockFault
+fault_of block j =
+    if not j.is_open then Some NoTransfer
+    else if not (block.number == j.number + 1) then Some WrongNumber
+    else if nat_lt MAX_JOINED (length j.bytes + length block.raw) then Some TooLong
+    else None
+
+-- a transfer of which no block has come
+abbrev pub no_blocks : Joining
+no_blocks = record { number = 0; bytes = []; is_open = true }
+
+-- all blocks, joined
+abbrev pub joined_by : Link → InvokeId → Purpose → Block → Joining → Joined
+joined_by link id purpose block j = record { link = link; purpose = purpose; id = id; number = block.number; bytes = j.bytes ++ block.raw }
+
+abbrev pub outcome_by_fault : Link → InvokeId → Purpose → Block → Joining → Option BlockFault → Outcome
+outcome_by_fault link id purpose block j (Some fault) = says link.source (Service (refused (service_of purpose) id block.number (block_code (service_of purpose) fault)))
+outcome_by_fault link id purpose block j None =
+    if block.last then whole_outcome (joined_by link id purpose block j)
+    else says link.source (Service (received (service_of purpose) id block.number))
+
+-- what comes of a block
+unfoldable pub block_outcome_of : Link → InvokeId → Purpose → Block → Joining → Outcome
+block_outcome_of link id purpose block j = outcome_by_fault link id purpose block j (fault_of block j)
+
+abbrev pub after_by_fault : Purpose → Block → Joining → Option BlockFault → Option Incoming
+after_by_fault purpose block j (Some fault) = None
+after_by_fault purpose block j None = if block.last then None else Some (record { purpose = purpose; blocks = after_added false block.raw j })
+
+-- the transfer after it: each refusal ends it, and so does the last block
+unfoldable pub block_after : Purpose → Block → Joining → Option Incoming
+block_after purpose block j = after_by_fault purpose block j (fault_of block j)
+
+-- ---- a later block
+
+-- a transfer of this service
+abbrev pub is_of : LongService → Purpose → Bool
+is_of service.Set (purpose.Set target) = true
+is_of service.Set (purpose.Action method) = false
+is_of service.Action (purpose.Set target) = false
+is_of service.Action (purpose.Action method) = true
+
+abbrev pub transfer_of : LongService → Option Incoming → Option Incoming
+transfer_of service None = None
+transfer_of service (Some incoming) = if is_of service incoming.purpose then Some incoming else None
+
+-- what comes of a later block of a transfer
+abbrev pub later_outcome : Link → LongService → InvokeId → Block → Option Incoming → Outcome
+later_outcome link service id block None = says link.source (Service (refused service id block.number (block_code service NoTransfer)))
+later_outcome link service id block (Some incoming) = block_outcome_of link id incoming.purpose block incoming.blocks
+
+-- the transfer after a later block
+abbrev pub later_after : Block → Option Incoming → Option Incoming
+later_after block None = None
+later_after block (Some incoming) = block_after incoming.purpose block incoming.blocks
+
+-- ---- what the code says of a block
+
+-- what comes of it
+abbrev pub outcome_of_added : Added → Outcome
+outcome_of_added (GoesOn due) = says due.to due.answer
+outcome_of_added (Refused due) = says due.to due.answer
+outcome_of_added (Whole joined) = whole_outcome joined
+
+-- the transfer after it
+abbrev pub after_adding : Added → Incoming → Option Incoming
+after_adding (GoesOn due) incoming = Some incoming
+after_adding (Refused due) incoming = None
+after_adding (Whole joined) incoming = None
+
+-- whether it is over
+abbrev pub is_over : Added → Bool
+is_over (GoesOn due) = false
+is_over (Refused due) = true
+is_over (Whole joined) = true

@@ -1,0 +1,11 @@
+pub mod Association
+pub mod Calls
+pub mod Outcome
+pub mod Answers
+pub mod Incoming
+pub mod Outgoing
+pub mod Rules
+pub mod Walks
+pub mod Backwards
+pub mod Running
+pub mod Law

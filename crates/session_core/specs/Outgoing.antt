@@ -1,0 +1,144 @@
+-- Answers that go out in blocks (IEC 62056-5-3, GET with datablocks).
+--     sent                                a transfer once so many blocks were given
+--     continued, continued_response       the transfer after a GET-next, and the answer
+--     LongAnswer .. reply_response        the answer to the reply of an event
+--     begun_by, outgoing_by               the transfer that this answer begins
+use Rattle.std.specs.Prelude.{ℕ, ◌+◌, ◌-◌, ◌*◌, ◌==◌, ◌&&◌, nat_le, bit_and, not, false, true, if◌then◌else◌, Bool, Option, Some, None, option_and_then, List, length}
+use Rattle.cosem_names.specs.declared.result_code.ResultCode.{ResultCode}
+use Rattle.cosem_names.specs.declared.result_code.ResultCode.TheVariants.{NoLongGetInProgress, DataBlockNumberInvalid, OtherReason}
+use Rattle.cosem_names.specs.declared.service.GetResult.TheVariants as result
+use Rattle.relay_core.specs.declared.event.Reply.{Reply}
+use Rattle.relay_core.specs.declared.event.Reply.TheVariants.{Value, Values, Code}
+use Rattle.session_core.specs.declared.asked.Asked.{Asked}
+use Rattle.session_core.specs.declared.asked.ReplyForm.{ReplyForm}
+use Rattle.session_core.specs.declared.asked.ReplyForm.TheVariants as form
+use Rattle.session_core.specs.declared.conformance.TheConstants.{GET_IN_BLOCKS}
+use Rattle.session_core.specs.declared.limit.TheConstants.{BLOCK_HEADER}
+use Rattle.session_core.specs.declared.link.Link.{Link}
+use Rattle.xdlms_apdu.specs.Text.{data_text, list_text, result_text, response_text}
+use Rattle.xdlms_apdu.specs.declared.block.Block.{Block}
+use Rattle.xdlms_apdu.specs.declared.invoke_id.InvokeId.{InvokeId}
+use Rattle.xdlms_apdu.specs.declared.response.Response.{Response}
+use Rattle.xdlms_apdu.specs.declared.response.Response.TheVariants as response
+use Rattle.xdlms_blocks.specs.Blocks.{unsent}
+use Rattle.xdlms_blocks.specs.Sending.{next_piece}
+use Rattle.xdlms_blocks.specs.Transfer.{Sending}
+use Rattle.xdlms_blocks.specs.declared.blocks.Piece.{Piece}
+use Rattle.xdlms_blocks.specs.declared.blocks.TheConstants.{MAX_BLOCKS}
+use Rattle.xdlms_blocks.specs.declared.fault.BlockFault.{BlockFault}
+use Rattle.xdlms_blocks.specs.declared.fault.BlockFault.TheVariants.{NoTransfer, WrongNumber, TooLong, Memory}
+
+-- ---- a GET-next
+
+-- a transfer once so many blocks were given, if this isn't all of the text
+abbrev pub sent : ℕ → Sending → Option Sending
+sent number s = if nat_le (length s.text) (number * s.size) then None else Some (record { text = s.text; number = number; size = s.size; is_open = true })
+
+-- the result that stands for a fault
+abbrev pub get_code : BlockFault → ResultCode
+get_code NoTransfer = NoLongGetInProgress
+get_code WrongNumber = DataBlockNumberInvalid
+get_code TooLong = OtherReason
+get_code Memory = OtherReason
+
+-- why there is no next block after this one: there is no transfer, or another block was the last given
+abbrev pub next_fault : ℕ → Sending → Option BlockFault
+next_fault number s = if not s.is_open then Some NoTransfer else if number == s.number then None else Some WrongNumber
+
+-- the answer with a block
+abbrev pub block_response : InvokeId → Piece → Response
+block_response id piece = response.GetBlock id (record { last = piece.last; number = piece.number; raw = piece.raw })
+
+abbrev pub response_by_fault : InvokeId → ℕ → Sending → Option BlockFault → Response
+response_by_fault id number s (Some fault) = response.GetBlockRefused id true number (get_code fault)
+response_by_fault id number s None = block_response id (next_piece s)
+
+-- the answer to a GET-next, which names the block last received
+unfoldable pub continued_response : InvokeId → ℕ → Option Sending → Response
+continued_response id number None = response.GetBlockRefused id true number (get_code NoTransfer)
+continued_response id number (Some s) = response_by_fault id number s (next_fault number s)
+
+abbrev pub sending_by_fault : Sending → Option BlockFault → Option Sending
+sending_by_fault s (Some fault) = None
+sending_by_fault s None = sent (s.number + 1) s
+
+-- the transfer after it: each refusal ends it
+unfoldable pub continued : ℕ → Option Sending → Option Sending
+continued number None = None
+continued number (Some s) = sending_by_fault s (next_fault number s)
+
+-- ---- the reply to an event
+
+-- a text of which no block is given, for a client of this limit
+abbrev pub unsent_by : ℕ → List ℕ → Sending
+unsent_by limit raw = unsent raw (limit - BLOCK_HEADER)
+
+-- a normal answer that may be too long, and the bytes that would go in blocks
+pub record LongAnswer : Type 0 where
+  pub id : InvokeId
+  pub normal : Response
+  pub raw : List ℕ
+
+-- the values that a reply has, where the form asks for values
+abbrev pub long_answer : ReplyForm → Reply → Option LongAnswer
+long_answer (form.Get id) (Value value) = Some (record { id = id; normal = response.Get id (result.Value value); raw = data_text value })
+long_answer (form.Get id) (Values results) = None
+long_answer (form.Get id) (Code code) = None
+long_answer (form.GetList id) (Values results) = Some (record { id = id; normal = response.GetList id results; raw = list_text result_text results })
+long_answer (form.GetList id) (Value value) = None
+long_answer (form.GetList id) (Code code) = None
+long_answer (form.Set id) reply = None
+long_answer (form.SetLastBlock id number) reply = None
+long_answer (form.Action id) reply = None
+
+-- the result that a reply is; a reply of values is none
+abbrev pub reply_code : Reply → ResultCode
+reply_code (Code code) = code
+reply_code (Value value) = OtherReason
+reply_code (Values results) = OtherReason
+
+-- the answer with a result alone
+abbrev pub code_response : ReplyForm → ResultCode → Response
+code_response (form.Get id) code = response.Get id (result.Code code)
+code_response (form.GetList id) code = response.Get id (result.Code code)
+code_response (form.Set id) code = response.Set id code
+code_response (form.SetLastBlock id number) code = response.SetLastBlock id code number
+code_response (form.Action id) code = response.Action id code
+
+-- a text has room in an answer to the client
+abbrev pub has_room : Link → Response → Bool
+has_room link normal = nat_le (length (response_text normal)) link.limit
+
+-- bytes may go to the client in blocks: this was negotiated, and there are numbers for all blocks
+abbrev pub can_go_in_blocks : Link → List ℕ → Bool
+can_go_in_blocks link raw = bit_and link.conformance GET_IN_BLOCKS == GET_IN_BLOCKS && nat_le (length raw) (MAX_BLOCKS * (link.limit - BLOCK_HEADER))
+
+-- the answer with values: as it is where it has room, else its first block, else other-reason
+abbrev pub long_response : Link → LongAnswer → Response
+long_response link answer =
+    if has_room link answer.normal then answer.normal
+    else if can_go_in_blocks link answer.raw then block_response answer.id (next_piece (unsent_by link.limit answer.raw))
+    else response.Get answer.id (result.Code OtherReason)
+
+-- the text that it begins to send
+abbrev pub long_text : Link → LongAnswer → Option Sending
+long_text link answer =
+    if has_room link answer.normal then None
+    else if can_go_in_blocks link answer.raw then Some (unsent_by link.limit answer.raw)
+    else None
+
+abbrev pub response_by : Asked → Reply → Option LongAnswer → Response
+response_by asked reply (Some answer) = long_response asked.link answer
+response_by asked reply None = code_response asked.form (reply_code reply)
+
+-- the answer to the reply of an event
+unfoldable pub reply_response : Asked → Reply → Response
+reply_response asked reply = response_by asked reply (long_answer asked.form reply)
+
+-- the text that goes out in blocks, where the reply is too long for one answer
+unfoldable pub begun_by : Asked → Reply → Option Sending
+begun_by asked reply = option_and_then (long_text asked.link) (long_answer asked.form reply)
+
+-- the long GET that goes on after the answer, which has the first block
+abbrev pub outgoing_by : Asked → Reply → Option Sending
+outgoing_by asked reply = option_and_then (sent 1) (begun_by asked reply)

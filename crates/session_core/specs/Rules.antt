@@ -1,0 +1,203 @@
+-- What one frame does, given the association and the transfers before it. It is judged in this order: an AARQ opens an association anew; what is no release and
+-- no service is unknown; what comes from a port that has no association is not allowed; then the call decides.
+--     turn_of                                      what comes of the frame
+--     link_after, incoming_after, outgoing_after   the association, the long SET or ACTION and the long GET after it
+--     outcome_at, state_after                      the same of all that a session keeps
+use Rattle.std.specs.Prelude.{ℕ, Bool, false, true, ◌&&◌, ◌==◌, if◌then◌else◌, Option, Some, None, List, Result, Ok, Err}
+use Rattle.acse_ber.specs.Reading.{aarq_of}
+use Rattle.acse_ber.specs.Verdict.{verdict_of}
+use Rattle.acse_ber.specs.declared.fault.AcseFault.{AcseFault}
+use Rattle.acse_ber.specs.declared.aarq.Aarq.{Aarq}
+use Rattle.relay_core.specs.declared.event.Event.TheVariants as event
+use Rattle.relay_core.specs.declared.event.Reply.{Reply}
+use Rattle.session_core.specs.Answers.{answer_text, due_text}
+use Rattle.session_core.specs.Association.{aare_by, opened_by}
+use Rattle.session_core.specs.Calls.{is_opening, is_call, call_of}
+use Rattle.session_core.specs.Incoming.{no_blocks, block_outcome_of, block_after, transfer_of, later_outcome, later_after, whole_outcome}
+use Rattle.session_core.specs.Outcome.{Outcome, Turn, asks, says, settled, continues}
+use Rattle.session_core.specs.Outgoing.{continued, continued_response, outgoing_by, reply_response}
+use Rattle.session_core.specs.declared.answer.Answer.{Answer}
+use Rattle.session_core.specs.declared.answer.Answer.TheVariants.{Association, Release, Service}
+use Rattle.session_core.specs.declared.asked.Asked.{Asked}
+use Rattle.session_core.specs.declared.asked.ReplyForm.{ReplyForm}
+use Rattle.session_core.specs.declared.asked.ReplyForm.TheVariants as form
+use Rattle.session_core.specs.declared.call.Call.{Call}
+use Rattle.session_core.specs.declared.call.Call.TheVariants as call
+use Rattle.session_core.specs.declared.incoming.Incoming.{Incoming}
+use Rattle.session_core.specs.declared.incoming.LongService.TheVariants as service
+use Rattle.session_core.specs.declared.incoming.Purpose.TheVariants as purpose
+use Rattle.session_core.specs.declared.link.Link.{Link}
+use Rattle.session_core.specs.declared.state.State.{State}
+use Rattle.session_core.specs.declared.step.Step.{Step}
+use Rattle.session_core.specs.declared.step.Step.TheVariants.{Ask, Say, Join}
+use Rattle.wrapper_frame.specs.declared.parts.Frame.{Frame}
+use Rattle.xdlms_apdu.specs.Text.{response_text}
+use Rattle.xdlms_apdu.specs.declared.request.Request.{Request}
+use Rattle.xdlms_apdu.specs.declared.request.Request.TheVariants as request
+use Rattle.xdlms_apdu.specs.declared.response.Exception.{Exception}
+use Rattle.xdlms_apdu.specs.declared.response.Exception.TheVariants.{NotAllowed, Unknown, Unreadable}
+use Rattle.xdlms_apdu.specs.declared.response.Response.TheVariants as response
+use Rattle.xdlms_blocks.specs.Transfer.{Sending}
+
+-- ---- which frames are heard
+
+-- a frame opens an association, or tries to
+abbrev pub opens : Frame → Bool
+opens f = is_opening f.payload
+
+-- a frame is a call from the client of this association
+abbrev pub is_heard : Link → Frame → Bool
+is_heard link f = is_call f.payload && link.source == f.src
+
+-- what it asks for
+abbrev pub call_in : Link → Frame → Call
+call_in link f = call_of link.conformance f.payload
+
+-- a release
+abbrev pub is_release : Call → Bool
+is_release call.Release = true
+is_release (call.Service request) = false
+is_release (call.Refused exception) = false
+
+-- a frame releases this association
+abbrev pub is_closing : Link → Frame → Bool
+is_closing link f = is_heard link f && is_release (call_in link f)
+
+-- ---- what comes of a frame
+
+-- an exception
+abbrev pub exception_answer : Exception → Answer
+exception_answer exception = Service (response.Exception exception)
+
+-- the answer to an AARQ from a port
+abbrev pub opening_answer : List ℕ → ℕ → Result Aarq AcseFault → Answer
+opening_answer password source (Ok aarq) = Association (aare_by (verdict_of aarq source password))
+opening_answer password source (Err fault) = exception_answer Unreadable
+
+-- what comes of a request
+abbrev pub request_turn : Link → Option Incoming → Request → Turn
+request_turn link incoming (request.Get id target) = settled (asks (event.Get link.level target.attr target.selected) (record { link = link; form = form.Get id }))
+request_turn link incoming (request.GetNext id number) = continues link.source id number
+request_turn link incoming (request.GetList id targets) = settled (asks (event.GetList link.level targets) (record { link = link; form = form.GetList id }))
+request_turn link incoming (request.Set id target value) = settled (asks (event.Set link.level target.attr target.selected value) (record { link = link; form = form.Set id }))
+request_turn link incoming (request.SetFirst id target block) = settled (block_outcome_of link id (purpose.Set target) block no_blocks)
+request_turn link incoming (request.SetNext id block) = settled (later_outcome link service.Set id block (transfer_of service.Set incoming))
+request_turn link incoming (request.Action id method parameter) = settled (asks (event.Execute link.level method parameter) (record { link = link; form = form.Action id }))
+request_turn link incoming (request.ActionFirst id method block) = settled (block_outcome_of link id (purpose.Action method) block no_blocks)
+request_turn link incoming (request.ActionNext id block) = settled (later_outcome link service.Action id block (transfer_of service.Action incoming))
+
+-- what comes of a call
+abbrev pub call_turn : Link → Option Incoming → Call → Turn
+call_turn link incoming call.Release = settled (says link.source Release)
+call_turn link incoming (call.Service request) = request_turn link incoming request
+call_turn link incoming (call.Refused exception) = settled (says link.source (exception_answer exception))
+
+-- what comes of a frame that is a release or a service
+abbrev pub turn_in : Option Link → Option Incoming → Frame → Turn
+turn_in None incoming f = settled (says f.src (exception_answer NotAllowed))
+turn_in (Some link) incoming f =
+    if link.source == f.src then call_turn link incoming (call_in link f) else settled (says f.src (exception_answer NotAllowed))
+
+-- what comes of a frame
+unfoldable pub turn_of : List ℕ → Option Link → Option Incoming → Frame → Turn
+turn_of password link incoming f =
+    if opens f then settled (says f.src (opening_answer password f.src (aarq_of f.payload)))
+    else if is_call f.payload then turn_in link incoming f
+    else settled (says f.src (exception_answer Unknown))
+
+-- ---- the association after a frame
+
+abbrev pub link_in : Frame → Option Link → Option Link
+link_in f None = None
+link_in f (Some link) = if is_closing link f then None else Some link
+
+unfoldable pub link_after : List ℕ → Frame → Option Link → Option Link
+link_after password f link = if opens f then opened_by password f else link_in f link
+
+-- ---- the long SET or ACTION after a frame: any call but its later block ends it
+
+abbrev pub incoming_by_request : Request → Option Incoming → Option Incoming
+incoming_by_request (request.Get id target) incoming = None
+incoming_by_request (request.GetNext id number) incoming = None
+incoming_by_request (request.GetList id targets) incoming = None
+incoming_by_request (request.Set id target value) incoming = None
+incoming_by_request (request.SetFirst id target block) incoming = block_after (purpose.Set target) block no_blocks
+incoming_by_request (request.SetNext id block) incoming = later_after block (transfer_of service.Set incoming)
+incoming_by_request (request.Action id method parameter) incoming = None
+incoming_by_request (request.ActionFirst id method block) incoming = block_after (purpose.Action method) block no_blocks
+incoming_by_request (request.ActionNext id block) incoming = later_after block (transfer_of service.Action incoming)
+
+abbrev pub incoming_by_call : Call → Option Incoming → Option Incoming
+incoming_by_call call.Release incoming = None
+incoming_by_call (call.Service request) incoming = incoming_by_request request incoming
+incoming_by_call (call.Refused exception) incoming = None
+
+abbrev pub incoming_in : Option Link → Frame → Option Incoming → Option Incoming
+incoming_in None f incoming = incoming
+incoming_in (Some link) f incoming = if is_heard link f then incoming_by_call (call_in link f) incoming else incoming
+
+unfoldable pub incoming_after : Option Link → Frame → Option Incoming → Option Incoming
+incoming_after link f incoming = if opens f then None else incoming_in link f incoming
+
+-- ---- the long GET after a frame and the reply to its event: any call but a GET-next ends it
+
+-- the transfer that a reply begins, if it came
+abbrev pub begun : Link → ReplyForm → Option Reply → Option Sending
+begun link form None = None
+begun link form (Some reply) = outgoing_by (record { link = link; form = form }) reply
+
+abbrev pub outgoing_by_request : Link → Request → Option Reply → Option Sending → Option Sending
+outgoing_by_request link (request.Get id target) reply outgoing = begun link (form.Get id) reply
+outgoing_by_request link (request.GetNext id number) reply outgoing = continued number outgoing
+outgoing_by_request link (request.GetList id targets) reply outgoing = begun link (form.GetList id) reply
+outgoing_by_request link (request.Set id target value) reply outgoing = None
+outgoing_by_request link (request.SetFirst id target block) reply outgoing = None
+outgoing_by_request link (request.SetNext id block) reply outgoing = None
+outgoing_by_request link (request.Action id method parameter) reply outgoing = None
+outgoing_by_request link (request.ActionFirst id method block) reply outgoing = None
+outgoing_by_request link (request.ActionNext id block) reply outgoing = None
+
+abbrev pub outgoing_by_call : Link → Call → Option Reply → Option Sending → Option Sending
+outgoing_by_call link call.Release reply outgoing = None
+outgoing_by_call link (call.Service request) reply outgoing = outgoing_by_request link request reply outgoing
+outgoing_by_call link (call.Refused exception) reply outgoing = None
+
+abbrev pub outgoing_in : Option Link → Frame → Option Reply → Option Sending → Option Sending
+outgoing_in None f reply outgoing = outgoing
+outgoing_in (Some link) f reply outgoing = if is_heard link f then outgoing_by_call link (call_in link f) reply outgoing else outgoing
+
+unfoldable pub outgoing_after : Option Link → Frame → Option Reply → Option Sending → Option Sending
+outgoing_after link f reply outgoing = if opens f then None else outgoing_in link f reply outgoing
+
+-- ---- all that a session keeps
+
+-- a turn, the long GET being known
+abbrev pub resolved : Option Sending → Turn → Outcome
+resolved outgoing (settled outcome) = outcome
+resolved outgoing (continues to id number) = says to (Service (continued_response id number outgoing))
+
+-- what comes of a frame
+abbrev pub outcome_at : List ℕ → State → Frame → Outcome
+outcome_at password s f = resolved s.outgoing (turn_of password s.link s.incoming f)
+
+-- what is kept after it, and after the reply to its event
+abbrev pub state_after : List ℕ → State → Frame → Option Reply → State
+state_after password s f reply = record { link = link_after password f s.link; incoming = incoming_after s.link f s.incoming; outgoing = outgoing_after s.link f reply s.outgoing }
+
+-- what is kept after a call
+abbrev pub state_by_call : Link → Call → State → State
+state_by_call link call s = record {
+  link = (if is_release call then None else s.link);
+  incoming = incoming_by_call call s.incoming;
+  outgoing = outgoing_by_call link call None s.outgoing;
+}
+
+-- the bytes of the answer to a reply
+abbrev pub reply_text : Asked → Reply → List ℕ
+reply_text asked reply = due_text asked.link.source (answer_text (Service (reply_response asked reply)))
+
+-- the outcome of a step of the code, where joined bytes are still to be read
+abbrev pub step_outcome : Step → Outcome
+step_outcome (Ask event asked) = asks event asked
+step_outcome (Say due) = says due.to due.answer
+step_outcome (Join joined) = whole_outcome joined

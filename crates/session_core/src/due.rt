@@ -1,0 +1,73 @@
+ghost use Rattle.std.specs.Prelude.{◌≡◌, ◌≤◌, length, IfOk};
+ghost use Rattle.session_core.specs.Answers.{answer_text, due_text, IsSmall};
+ghost use Rattle.session_core.specs.declared.answer.Answer.TheVariants as answer;
+ghost use Rattle.session_core.specs.declared.limit.TheConstants.{MAX_PDU};
+
+use crate::answer::{Answer, framed};
+use acse_ber::Aare;
+use cosem_axdr::Octets;
+use std::alloc::{AllocError, Global};
+use xdlms_apdu::{Exception, Response};
+
+/// An answer that is to be sent, and the port that it goes to. It has room in a PDU.
+#[derive(Debug, Drop)]
+pub(crate) struct Due {
+    pub(crate) to: u16,
+    pub(crate) answer: Answer,
+    ghost short: { length (answer_text answer) ≤ MAX_PDU },
+}
+
+impl Due {
+    /// The answer to an AARQ.
+    #[tactic(auto, using(crate::proofs::Short::short_association))]
+    pub(crate) fn association(to: u16, aare: Aare) -> Due
+        ensures to { result.to ≡ to }
+        ensures answer { result.answer ≡ answer.Association aare }
+    {
+        Due {
+            to,
+            answer: Answer::Association(aare),
+        }
+    }
+
+    /// The answer to a release.
+    #[tactic(auto, using(crate::proofs::Short::short_release))]
+    pub(crate) fn release(to: u16) -> Due
+        ensures to { result.to ≡ to }
+        ensures answer { result.answer ≡ answer.Release }
+    {
+        Due {
+            to,
+            answer: Answer::Release,
+        }
+    }
+
+    /// A response without values, or with a block.
+    #[tactic(auto, using(crate::proofs::Short::short_response))]
+    pub(crate) fn response(to: u16, response: Response) -> Due
+        requires { IsSmall response }
+        ensures to { result.to ≡ to }
+        ensures answer { result.answer ≡ answer.Service response }
+    {
+        Due {
+            to,
+            answer: Answer::Service(response),
+        }
+    }
+
+    /// An exception.
+    pub(crate) fn exception(to: u16, exception: Exception) -> Due
+        ensures to { result.to ≡ to }
+        ensures answer { result.answer ≡ answer.Service (Response.Exception exception) }
+    {
+        Due::response(to, Response::Exception(exception))
+    }
+
+    /// The frame with the answer.
+    pub(crate) fn text(&self, alloc: Global) -> Result<Octets, AllocError>
+        ensures { IfOk result (λ text. text ≡ due_text self.now.to (answer_text self.now.answer)) }
+    {
+        let payload = self.answer.text(alloc)?;
+        framed(alloc, self.to, &payload)
+    }
+}

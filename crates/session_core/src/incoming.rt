@@ -1,0 +1,202 @@
+ghost use Rattle.std.specs.Prelude.{◌≡◌, IfOk, OnOk, OnErr};
+ghost use Rattle.session_core.specs.Incoming.{received, refused, block_code, service_of, block_outcome_of, block_after, outcome_of_added, after_adding, is_over, is_of, transfer_of, later_outcome, later_after};
+ghost use Rattle.session_core.specs.Answers.{IsSmall};
+ghost use Rattle.session_core.specs.declared.answer.Answer.TheVariants.{Service};
+
+use crate::due::Due;
+use crate::link::Link;
+use cosem_axdr::Octets;
+use cosem_names::{AttributeSelection, MethodRef, ResultCode};
+use std::alloc::AllocError;
+use xdlms_apdu::{Block, InvokeId, Response};
+use xdlms_blocks::{BlockFault, JoinBlocks};
+
+/// The services whose requests may come in blocks.
+#[derive(Clone, Copy, Debug, PartialEq, Eq)]
+pub(crate) enum LongService {
+    Set,
+    Action,
+}
+
+impl LongService {
+    /// The answer to a block that came and isn't the last.
+    pub(crate) fn received(self, id: InvokeId, number: u32) -> Response
+        ensures response { result ≡ received self id number }
+        ensures small { IsSmall result }
+    {
+        match self {
+            LongService::Set => Response::SetBlock { id, number },
+            LongService::Action => Response::ActionBlock { id, number },
+        }
+    }
+
+    /// The answer that ends a transfer with this result.
+    pub(crate) fn refused(self, id: InvokeId, number: u32, code: ResultCode) -> Response
+        ensures response { result ≡ refused self id number code }
+        ensures small { IsSmall result }
+    {
+        match self {
+            LongService::Set => Response::SetLastBlock { id, code, number },
+            LongService::Action => Response::Action { id, code },
+        }
+    }
+
+    /// The answer to a block that isn't added.
+    pub(crate) fn fault(self, to: u16, id: InvokeId, number: u32, fault: BlockFault) -> Due
+        ensures to { result.to ≡ to }
+        ensures answer { result.answer ≡ Service (refused self id number (block_code self fault)) }
+    {
+        Due::response(to, self.refused(id, number, self.code(fault)))
+    }
+
+    /// The result that stands for a fault of a transfer.
+    pub(crate) fn code(self, fault: BlockFault) -> ResultCode
+        ensures { result ≡ block_code self fault }
+    {
+        match (self, fault) {
+            (LongService::Set, BlockFault::NoTransfer) => ResultCode::NoLongSetInProgress,
+            (LongService::Set, BlockFault::WrongNumber) => ResultCode::DataBlockNumberInvalid,
+            (LongService::Action, BlockFault::NoTransfer) => ResultCode::NoLongGetInProgress,
+            (LongService::Action, BlockFault::WrongNumber) => ResultCode::OtherReason,
+            (_, BlockFault::TooLong | BlockFault::Memory) => ResultCode::OtherReason,
+        }
+    }
+}
+
+/// What a request that comes in blocks is for.
+#[derive(Clone, Copy, Debug)]
+pub(crate) enum Purpose {
+    /// To set an attribute.
+    Set(AttributeSelection),
+    /// To execute a method.
+    Action(MethodRef),
+}
+
+impl Purpose {
+    /// The service.
+    pub(crate) fn service(self) -> LongService
+        ensures { result ≡ service_of self }
+    {
+        match self {
+            Purpose::Set(_) => LongService::Set,
+            Purpose::Action(_) => LongService::Action,
+        }
+    }
+}
+
+impl Purpose {
+    /// Whether a transfer is one of this service.
+    pub(crate) fn is_of(self, service: LongService) -> bool
+        ensures { result ≡ is_of service self }
+    {
+        match (service, self) {
+            (LongService::Set, Purpose::Set(_)) | (LongService::Action, Purpose::Action(_)) => true,
+            (LongService::Set, Purpose::Action(_)) | (LongService::Action, Purpose::Set(_)) =>
+                false,
+        }
+    }
+}
+
+/// A long SET or ACTION of which blocks came, and not the last.
+#[derive(Debug, Drop)]
+pub(crate) struct Incoming {
+    pub(crate) purpose: Purpose,
+    pub(crate) blocks: JoinBlocks,
+}
+
+/// A long SET or ACTION of which all blocks came.
+#[derive(Debug, Drop)]
+pub(crate) struct Joined {
+    pub(crate) link: Link,
+    pub(crate) purpose: Purpose,
+    pub(crate) id: InvokeId,
+    /// The number of the last block.
+    pub(crate) number: u32,
+    /// What the blocks hold, end to end.
+    pub(crate) bytes: Octets,
+}
+
+/// What became of a transfer by one more block.
+#[derive(Debug, Drop)]
+pub(crate) enum Added {
+    /// It goes on, and this is the answer.
+    GoesOn(Due),
+    /// It is over, and this is the answer.
+    Refused(Due),
+    /// The block was the last.
+    Whole(Joined),
+}
+
+impl Added {
+    /// Whether the transfer is over.
+    pub(crate) fn is_over(&self) -> bool
+        ensures { result ≡ is_over self.now }
+    {
+        match self {
+            Added::GoesOn(_) => false,
+            Added::Refused(_) | Added::Whole(_) => true,
+        }
+    }
+}
+
+impl Incoming {
+    /// Adds a block. Want of memory changes nothing.
+    #[tactic(auto, unfolding(crate::specs::Incoming::block_outcome_of, crate::specs::Incoming::block_after))]
+    pub(crate) fn add(
+        &mut self,
+        link: Link,
+        id: InvokeId,
+        block: &Block,
+    ) -> Result<Added, AllocError>
+        ensures outcome { IfOk result (λ added. outcome_of_added added ≡ block_outcome_of link id self.old.purpose block.now self.old.blocks) }
+        ensures after { IfOk result (λ added. after_adding added self.new ≡ block_after self.old.purpose block.now self.old.blocks) }
+        ensures err { OnErr result (self.new ≡ self.old) }
+    {
+        let service = self.purpose.service();
+        match self
+            .blocks
+            .add(block.last, block.number, block.raw.as_slice())
+        {
+            Ok(None) => {
+                let response = service.received(id, block.number);
+                Ok(Added::GoesOn(Due::response(link.source, response)))
+            }
+            Ok(Some(bytes)) => Ok(Added::Whole(Joined {
+                link,
+                purpose: self.purpose,
+                id,
+                number: block.number,
+                bytes,
+            })),
+            Err(BlockFault::Memory) => Err(AllocError),
+            Err(fault) => Ok(Added::Refused(service.fault(link.source, id, block.number, fault))),
+        }
+    }
+}
+
+/// Adds a block to a transfer of this service. Want of memory changes nothing.
+pub(crate) fn add_to(
+    transfer: &mut Option<Incoming>,
+    link: Link,
+    id: InvokeId,
+    service: LongService,
+    block: &Block,
+) -> Result<Added, AllocError>
+    ensures outcome { IfOk result (λ added. outcome_of_added added ≡ later_outcome link service id block.now (transfer_of service transfer.old)) }
+    ensures after { OnOk result (transfer.new ≡ later_after block.now (transfer_of service transfer.old)) }
+    ensures err { OnErr result (transfer.new ≡ transfer.old) }
+{
+    match transfer {
+        Some(incoming) if incoming.purpose.is_of(service) => {
+            let added = incoming.add(link, id, block)?;
+            if added.is_over() {
+                *transfer = None;
+            }
+            Ok(added)
+        }
+        Some(_) | None => {
+            *transfer = None;
+            Ok(Added::Refused(service.fault(link.source, id, block.number, BlockFault::NoTransfer)))
+        }
+    }
+}

@@ -1,0 +1,19 @@
+//! One session of a client with the server: frames in, events and answers out (IEC 62056-5-3, IEC 62056-4-7).
+#![tactic(auto)]
+
+mod answer;
+mod asked;
+mod call;
+mod conformance;
+mod due;
+mod end;
+mod incoming;
+mod law;
+mod limit;
+mod link;
+mod outgoing;
+mod state;
+mod step;
+
+pub use end::SessionEnd;
+pub use law::one_session;

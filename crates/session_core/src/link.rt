@@ -1,0 +1,69 @@
+ghost use Rattle.std.specs.Prelude.{◌≡◌};
+ghost use Rattle.session_core.specs.Association.{aare_by, link_by};
+
+use crate::limit::{Limit, MAX_PDU};
+use acse_ber::{Aare, Info, Verdict};
+use cosem_names::Level;
+
+/// An open association: what the client and the server agreed on.
+#[derive(Clone, Copy, Debug)]
+pub(crate) struct Link {
+    /// The port of the client.
+    pub(crate) source: u16,
+    /// What the client may do.
+    pub(crate) level: Level,
+    /// The negotiated conformance block.
+    pub(crate) conformance: u32,
+    /// The longest PDU that the client takes.
+    pub(crate) limit: Limit,
+}
+
+/// The association of a client that is accepted.
+pub(crate) fn opened(source: u16, verdict: Verdict) -> Option<Link>
+    ensures { result ≡ link_by source verdict }
+{
+    match verdict {
+        Verdict::Accepted { level, bits, limit } => Some(Link {
+            source,
+            level,
+            conformance: bits,
+            limit: Limit::of(limit),
+        }),
+        Verdict::Rejected(_) | Verdict::InitiateError(_) => None,
+    }
+}
+
+/// The answer to an AARQ that was judged.
+pub(crate) fn answer_to(verdict: Verdict) -> Aare
+    ensures { result ≡ aare_by verdict }
+{
+    match verdict {
+        Verdict::Accepted { bits, .. } => Aare {
+            result: ACCEPTED,
+            diagnostic: NULL_DIAGNOSTIC,
+            info: Info::Response {
+                bits,
+                limit: MAX_PDU,
+            },
+        },
+        Verdict::Rejected(diagnostic) => Aare {
+            result: REJECTED,
+            diagnostic,
+            info: Info::Absent,
+        },
+        Verdict::InitiateError(error) => Aare {
+            result: REJECTED,
+            diagnostic: NO_REASON_GIVEN,
+            info: Info::InitiateError(error),
+        },
+    }
+}
+
+/// accepted
+pub(crate) const ACCEPTED: u8 = 0;
+/// rejected-permanent
+pub(crate) const REJECTED: u8 = 1;
+/// null
+pub(crate) const NULL_DIAGNOSTIC: u8 = 0;
+/// no-reason-given
+pub(crate) const NO_REASON_GIVEN: u8 = 1;

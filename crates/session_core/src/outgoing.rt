@@ -1,0 +1,124 @@
+ghost use Rattle.std.specs.Prelude.{◌≡◌, ◌≢◌, ◌*◌, ◌-◌, ◌<◌, ◌≤◌, ◌↔◌, length, true, false, IsErrOf, IfOk, IfErr, OnOk, OnErr, Err};
+ghost use Rattle.session_core.specs.Outgoing.{unsent_by, get_code, continued_response, continued};
+ghost use Rattle.session_core.specs.declared.answer.Answer.TheVariants.{Service};
+ghost use Rattle.xdlms_blocks.specs.Sending.{next_piece, after_next, sending_by};
+ghost use Rattle.xdlms_blocks.specs.declared.blocks.TheConstants.{MAX_BLOCKS};
+
+use crate::due::Due;
+use crate::limit::{BLOCK_HEADER, Limit, MAX_RAW};
+use cosem_axdr::Octets;
+use cosem_names::ResultCode;
+use std::alloc::{AllocError, Global};
+use std::marker::Model;
+use xdlms_apdu::{Block, InvokeId, Response};
+use xdlms_blocks::{BlockFault, GetBlocks, Piece};
+
+/// A long answer to a GET that goes out in blocks, each of which has room in a PDU. Contracts see what `xdlms_blocks` says of it.
+#[derive(Debug, Drop)]
+pub(crate) struct Outgoing {
+    blocks: GetBlocks,
+}
+
+impl Model for Outgoing {
+    ghost use Rattle.std.specs.Prelude.{◌≤◌};
+    ghost use Rattle.session_core.specs.declared.limit.TheConstants.{MAX_RAW};
+    ghost use Rattle.xdlms_blocks.specs.Transfer.{Sending};
+
+    ghost Value = { Sending };
+
+    ghost view = { λ outgoing. outgoing.blocks };
+
+    ghost invariant = { λ outgoing. outgoing.blocks.size ≤ MAX_RAW };
+}
+
+impl Outgoing {
+    /// A transfer of which no block is given.
+    pub(crate) fn new(raw: Octets, limit: Limit) -> Outgoing
+        requires some { 0 < length raw }
+        requires numbered { length raw ≤ MAX_BLOCKS * (limit - BLOCK_HEADER) }
+        ensures { result ≡ unsent_by limit raw }
+    {
+        Outgoing {
+            blocks: GetBlocks::new(raw, limit.raw()),
+        }
+    }
+
+    /// The next block, where `after` is the number of the block last given.
+    pub(crate) fn next(&mut self, alloc: Global, after: u32) -> Result<Piece, BlockFault>
+        ensures no_transfer { IsErrOf result BlockFault.NoTransfer ↔ (self.old.is_open ≡ false) }
+        ensures wrong_number { IsErrOf result BlockFault.WrongNumber ↔ ((self.old.is_open ≡ true) × (after ≢ self.old.number)) }
+        ensures never { result ≢ Err BlockFault.TooLong }
+        ensures piece { IfOk result (λ piece. piece ≡ next_piece self.old) }
+        ensures room { IfOk result (λ piece. length piece.raw ≤ MAX_RAW) }
+        ensures ok { OnOk result (self.new ≡ after_next self.old) }
+        ensures err { IfErr result (λ fault. self.new ≡ sending_by fault self.old) }
+    {
+        self.blocks.next(alloc, after)
+    }
+}
+
+/// The result that stands for a fault of a long GET.
+fn code(fault: BlockFault) -> ResultCode
+    ensures { result ≡ get_code fault }
+{
+    match fault {
+        BlockFault::NoTransfer => ResultCode::NoLongGetInProgress,
+        BlockFault::WrongNumber => ResultCode::DataBlockNumberInvalid,
+        BlockFault::TooLong | BlockFault::Memory => ResultCode::OtherReason,
+    }
+}
+
+/// The answer to a GET-next, which names the block last received. Want of memory changes nothing.
+#[tactic(auto, unfolding(crate::specs::Outgoing::continued_response, crate::specs::Outgoing::continued))]
+pub(crate) fn continue_by(
+    transfer: &mut Option<Outgoing>,
+    alloc: Global,
+    to: u16,
+    id: InvokeId,
+    number: u32,
+) -> Result<Due, AllocError>
+    ensures to { IfOk result (λ due. due.to ≡ to) }
+    ensures answer { IfOk result (λ due. due.answer ≡ Service (continued_response id number transfer.old)) }
+    ensures after { OnOk result (transfer.new ≡ continued number transfer.old) }
+    ensures err { OnErr result (transfer.new ≡ transfer.old) }
+{
+    let Some(outgoing) = transfer else {
+        return Ok(block_refused(to, id, number, BlockFault::NoTransfer));
+    };
+    match outgoing.next(alloc, number) {
+        Ok(piece) => {
+            let Piece { last, number, raw } = piece;
+            if last {
+                *transfer = None;
+            }
+            Ok(Due::response(
+                to,
+                Response::GetBlock {
+                    id,
+                    block: Block { last, number, raw },
+                },
+            ))
+        }
+        Err(BlockFault::Memory) => Err(AllocError),
+        Err(fault) => {
+            *transfer = None;
+            Ok(block_refused(to, id, number, fault))
+        }
+    }
+}
+
+// The answer to a GET-next that gets no block: it repeats the number that was asked for.
+fn block_refused(to: u16, id: InvokeId, number: u32, fault: BlockFault) -> Due
+    ensures to { result.to ≡ to }
+    ensures answer { result.answer ≡ Service (Response.GetBlockRefused id true number (get_code fault)) }
+{
+    Due::response(
+        to,
+        Response::GetBlockRefused {
+            id,
+            last: true,
+            number,
+            code: code(fault),
+        },
+    )
+}

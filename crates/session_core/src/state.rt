@@ -1,0 +1,265 @@
+ghost use Rattle.std.specs.Prelude.{◌≡◌, ◌≤◌, Some, None, length, true, false, IfOk, OnOk, OnErr};
+ghost use Rattle.acse_ber.specs.Reading.{aarq_of};
+ghost use Rattle.session_core.specs.Association.{opened_by};
+ghost use Rattle.session_core.specs.Rules.{opening_answer};
+ghost use Rattle.session_core.specs.Calls.{call_of};
+ghost use Rattle.session_core.specs.Incoming.{block_outcome_of, block_after, no_blocks, transfer_of, later_outcome, later_after};
+ghost use Rattle.session_core.specs.declared.answer.Answer.TheVariants.{Service};
+
+use crate::answer::Answer;
+use crate::asked::{Asked, ReplyForm};
+use crate::call::{AARQ, Call, has_tag, is_call, read_call};
+use crate::due::Due;
+use crate::incoming::{Incoming, LongService, Purpose, add_to};
+use crate::link::{Link, answer_to, opened};
+use crate::outgoing::{Outgoing, continue_by};
+use crate::step::Step;
+use acse_ber::{AcseFault, judge, read_aarq};
+use cosem_axdr::Octets;
+use relay_core::Event;
+use std::alloc::{AllocError, Global};
+use wrapper_frame::Frame;
+use xdlms_apdu::{Block, Exception, InvokeId, Request};
+use xdlms_blocks::JoinBlocks;
+
+/// What a session keeps from one frame to the next: the association and the transfers in blocks.
+#[derive(Debug, Drop)]
+pub(crate) struct State {
+    pub(crate) link: Option<Link>,
+    pub(crate) incoming: Option<Incoming>,
+    pub(crate) outgoing: Option<Outgoing>,
+}
+
+impl State {
+    ghost use Rattle.session_core.specs.Rules.{outcome_at, state_after, state_by_call, step_outcome, resolved, call_turn, request_turn};
+    ghost use Rattle.session_core.specs.Outcome.{asks, says};
+    ghost use Rattle.session_core.specs.Outgoing.{continued, continued_response};
+
+    /// No association, and no transfer.
+    pub(crate) fn new() -> State
+        ensures { result ≡ record { link = None; incoming = None; outgoing = None } }
+    {
+        State {
+            link: None,
+            incoming: None,
+            outgoing: None,
+        }
+    }
+
+    /// Takes in a frame. Want of memory changes nothing.
+    #[tactic(auto, unfolding(crate::specs::Rules::turn_of, crate::specs::Rules::link_after, crate::specs::Rules::incoming_after, crate::specs::Rules::outgoing_after))]
+    pub(crate) fn hear(
+        &mut self,
+        alloc: Global,
+        password: &Octets,
+        frame: &Frame,
+    ) -> Result<Step, AllocError>
+        ensures outcome { IfOk result (λ step. step_outcome step ≡ outcome_at password.now self.old frame.now) }
+        ensures after { OnOk result (self.new ≡ state_after password.now self.old frame.now None) }
+        ensures err { OnErr result (self.new ≡ self.old) }
+    {
+        let payload = frame.payload.as_slice();
+        if has_tag(AARQ, payload) {
+            return self.open(alloc, password, frame);
+        }
+        if !is_call(payload) {
+            return Ok(Step::Say(Due::exception(frame.src, Exception::Unknown)));
+        }
+        match self.link {
+            Some(link) if link.source == frame.src => self.call(alloc, link, payload),
+            Some(_) | None => Ok(Step::Say(Due::exception(frame.src, Exception::NotAllowed))),
+        }
+    }
+
+    // An AARQ ends the association, and opens another if it is accepted.
+    fn open(&mut self, alloc: Global, password: &Octets, frame: &Frame) -> Result<Step, AllocError>
+        ensures outcome { IfOk result (λ step. step_outcome step ≡ says frame.now.src (opening_answer password.now frame.now.src (aarq_of frame.now.payload))) }
+        ensures after { OnOk result (self.new ≡ record { link = opened_by password.now frame.now; incoming = None; outgoing = None }) }
+        ensures err { OnErr result (self.new ≡ self.old) }
+    {
+        let (link, due) = read_opening(alloc, password, frame)?;
+        *self = State {
+            link,
+            incoming: None,
+            outgoing: None,
+        };
+        Ok(Step::Say(due))
+    }
+
+    // What the client of the association asks for.
+    fn call(&mut self, alloc: Global, link: Link, payload: &[u8]) -> Result<Step, AllocError>
+        ensures outcome { IfOk result (λ step. step_outcome step ≡ resolved self.old.outgoing (call_turn link self.old.incoming (call_of link.conformance payload.now))) }
+        ensures after { OnOk result (self.new ≡ state_by_call link (call_of link.conformance payload.now) self.old) }
+        ensures err { OnErr result (self.new ≡ self.old) }
+    {
+        match read_call(alloc, link.conformance, payload)? {
+            Call::Service(request) => self.serve(alloc, link, request),
+            Call::Release => {
+                *self = State::new();
+                Ok(Step::Say(Due::release(link.source)))
+            }
+            Call::Refused(exception) => {
+                self.incoming = None;
+                self.outgoing = None;
+                Ok(Step::Say(Due::exception(link.source, exception)))
+            }
+        }
+    }
+
+    // A service.
+    fn serve(&mut self, alloc: Global, link: Link, request: Request) -> Result<Step, AllocError>
+        ensures outcome { IfOk result (λ step. step_outcome step ≡ resolved self.old.outgoing (request_turn link self.old.incoming request)) }
+        ensures after { OnOk result (self.new ≡ state_by_call link (Call.Service request) self.old) }
+        ensures err { OnErr result (self.new ≡ self.old) }
+    {
+        let level = link.level;
+        match request {
+            Request::Get { id, target } => Ok(self.ask(
+                Event::Get {
+                    level,
+                    attr: target.attr,
+                    selected: target.selected,
+                },
+                link,
+                ReplyForm::Get(id),
+            )),
+            Request::GetList { id, targets } => Ok(self.ask(
+                Event::GetList {
+                    level,
+                    items: targets,
+                },
+                link,
+                ReplyForm::GetList(id),
+            )),
+            Request::Set { id, target, value } => Ok(self.ask(
+                Event::Set {
+                    level,
+                    attr: target.attr,
+                    selected: target.selected,
+                    value,
+                },
+                link,
+                ReplyForm::Set(id),
+            )),
+            Request::Action {
+                id,
+                method,
+                parameter,
+            } => Ok(self.ask(
+                Event::Execute {
+                    level,
+                    method,
+                    parameter,
+                },
+                link,
+                ReplyForm::Action(id),
+            )),
+            Request::GetNext { id, number } => self.give(alloc, link, id, number),
+            Request::SetFirst { id, target, block } => {
+                self.begin(alloc, link, id, Purpose::Set(target), &block)
+            }
+            Request::ActionFirst { id, method, block } => {
+                self.begin(alloc, link, id, Purpose::Action(method), &block)
+            }
+            Request::SetNext { id, block } => self.join(link, id, LongService::Set, &block),
+            Request::ActionNext { id, block } => self.join(link, id, LongService::Action, &block),
+        }
+    }
+
+    // An event for the meter. It ends the transfers.
+    fn ask(&mut self, event: Event, link: Link, form: ReplyForm) -> Step
+        ensures step { step_outcome result ≡ asks event (record { link = link; form = form }) }
+        ensures after { self.new ≡ record { link = self.old.link; incoming = None; outgoing = None } }
+    {
+        self.incoming = None;
+        self.outgoing = None;
+        Step::Ask(event, Asked { link, form })
+    }
+
+    // The next block of a long GET. It ends a long SET or ACTION.
+    fn give(
+        &mut self,
+        alloc: Global,
+        link: Link,
+        id: InvokeId,
+        number: u32,
+    ) -> Result<Step, AllocError>
+        ensures outcome { IfOk result (λ step. step_outcome step ≡ says link.source (Service (continued_response id number self.old.outgoing))) }
+        ensures after { OnOk result (self.new ≡ record { link = self.old.link; incoming = None; outgoing = continued number self.old.outgoing }) }
+        ensures err { OnErr result (self.new ≡ self.old) }
+    {
+        let due = continue_by(&mut self.outgoing, alloc, link.source, id, number)?;
+        self.incoming = None;
+        Ok(Step::Say(due))
+    }
+
+    // The first block of a long SET or ACTION. It ends the transfers before it.
+    fn begin(
+        &mut self,
+        alloc: Global,
+        link: Link,
+        id: InvokeId,
+        purpose: Purpose,
+        block: &Block,
+    ) -> Result<Step, AllocError>
+        ensures outcome { IfOk result (λ step. step_outcome step ≡ block_outcome_of link id purpose block.now no_blocks) }
+        ensures after { OnOk result (self.new ≡ record { link = self.old.link; incoming = block_after purpose block.now no_blocks; outgoing = None }) }
+        ensures err { OnErr result (self.new ≡ self.old) }
+    {
+        let mut incoming = Incoming {
+            purpose,
+            blocks: JoinBlocks::new(alloc),
+        };
+        let added = incoming.add(link, id, block)?;
+        self.incoming = if added.is_over() {
+            None
+        } else {
+            Some(incoming)
+        };
+        self.outgoing = None;
+        Ok(Step::from(added))
+    }
+
+    // A later block of a long SET or ACTION. It ends a long GET.
+    fn join(
+        &mut self,
+        link: Link,
+        id: InvokeId,
+        service: LongService,
+        block: &Block,
+    ) -> Result<Step, AllocError>
+        ensures outcome { IfOk result (λ step. step_outcome step ≡ later_outcome link service id block.now (transfer_of service self.old.incoming)) }
+        ensures after { OnOk result (self.new ≡ record { link = self.old.link; incoming = later_after block.now (transfer_of service self.old.incoming); outgoing = None }) }
+        ensures err { OnErr result (self.new ≡ self.old) }
+    {
+        let added = add_to(&mut self.incoming, link, id, service, block)?;
+        self.outgoing = None;
+        Ok(Step::from(added))
+    }
+}
+
+// The association that a frame with an AARQ opens, and the answer.
+#[tactic(auto, unfolding(crate::specs::Association::opened_by))]
+fn read_opening(
+    alloc: Global,
+    password: &Octets,
+    frame: &Frame,
+) -> Result<(Option<Link>, Due), AllocError>
+    ensures link { IfOk result (λ opening. opening.0 ≡ opened_by password.now frame.now) }
+    ensures to { IfOk result (λ opening. opening.1.to ≡ frame.now.src) }
+    ensures answer { IfOk result (λ opening. opening.1.answer ≡ opening_answer password.now frame.now.src (aarq_of frame.now.payload)) }
+{
+    match read_aarq(alloc, frame.payload.as_slice()) {
+        Ok(aarq) => {
+            let verdict = judge(&aarq, frame.src, password);
+            Ok((
+                opened(frame.src, verdict),
+                Due::association(frame.src, answer_to(verdict)),
+            ))
+        }
+        Err(AcseFault::Unreadable) => {
+            Ok((None, Due::exception(frame.src, Exception::Unreadable)))
+        }
+        Err(AcseFault::Memory) => Err(AllocError),
+    }
+}

@@ -1,0 +1,30 @@
+use crate::asked::Asked;
+use crate::due::Due;
+use crate::incoming::{Added, Joined};
+use relay_core::Event;
+
+/// What comes of a frame.
+#[derive(Debug, Drop)]
+pub(crate) enum Step {
+    /// An event, whose reply is awaited.
+    Ask(Event, Asked),
+    /// An answer.
+    Say(Due),
+    /// Joined bytes, which are to be read.
+    Join(Joined),
+}
+
+impl From<Added> for Step {
+    ghost use Rattle.std.specs.Prelude.{◌≡◌};
+    ghost use Rattle.session_core.specs.Incoming.{outcome_of_added};
+    ghost use Rattle.session_core.specs.Rules.{step_outcome};
+
+    ghost from_gives = { λ added step. step_outcome step ≡ outcome_of_added added };
+
+    fn from(added: Added) -> Step {
+        match added {
+            Added::GoesOn(due) | Added::Refused(due) => Step::Say(due),
+            Added::Whole(joined) => Step::Join(joined),
+        }
+    }
+}
