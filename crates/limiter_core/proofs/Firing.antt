@@ -27,7 +27,7 @@ run_other side row rows e = ap (λ b. cond b (1 + run side rows) 0) e
 long_enough : (n r : ℕ) → (nat_lt 0 (suc r) && nat_le n (suc r)) ≡ nat_le n (suc r)
 long_enough n r = grind (arith, nat_tests)
 
-reaches_past : (side : Side) (row : Row) (rows : List Row) → is_past side row ≡ true → reaches side (row ∷ rows) ≡ nat_le (need side row) (suc (run side rows))
+pub reaches_past : (side : Side) (row : Row) (rows : List Row) → is_past side row ≡ true → reaches side (row ∷ rows) ≡ nat_le (need side row) (suc (run side rows))
 unfolding reaches
 reaches_past side row rows e =
     ap (λ r. nat_lt 0 r && nat_le (need side row) r) (run_past side row rows e) ∙ long_enough (need side row) (run side rows)
@@ -36,7 +36,7 @@ reaches_other : (side : Side) (row : Row) (rows : List Row) → is_past side row
 unfolding reaches
 reaches_other side row rows e = ap (λ r. nat_lt 0 r && nat_le (need side row) r) (run_other side row rows e)
 
-has_fired_past : (side : Side) (row : Row) (rows : List Row) → is_past side row ≡ true → has_fired side (row ∷ rows) ≡ (reaches side (row ∷ rows) || has_fired side rows)
+pub has_fired_past : (side : Side) (row : Row) (rows : List Row) → is_past side row ≡ true → has_fired side (row ∷ rows) ≡ (reaches side (row ∷ rows) || has_fired side rows)
 unfolding has_fired any_below
 has_fired_past side row rows e = ap (any_below (λ k. reaches side (drop k (row ∷ rows)))) (run_past side row rows e)
 
@@ -59,7 +59,7 @@ or_swap false false = refl
 reaches_capped : (side : Side) (row : Row) (rows : List Row) → is_past side row ≡ true → need side row ≤ cap → reaches side (row ∷ rows) ≡ nat_le (need side row) (min (min (run side rows) cap + 1) cap)
 reaches_capped side row rows e h = reaches_past side row rows e ∙ need_capped (need side row) (run side rows) h
 
-counted_by : (b : Bool) (side : Side) (row : Row) (rows : List Row) → is_past side row ≡ b → (is_past side row ≡ true → need side row ≤ cap) → count_of side (row ∷ rows) ≡ taken b (need side row) (count_of side rows)
+pub counted_by : (b : Bool) (side : Side) (row : Row) (rows : List Row) → is_past side row ≡ b → (is_past side row ≡ true → need side row ≤ cap) → count_of side (row ∷ rows) ≡ taken b (need side row) (count_of side rows)
 unfolding count_of
 counted_by true side row rows e h =
     same_count (count_of side (row ∷ rows)) (taken true (need side row) (count_of side rows))

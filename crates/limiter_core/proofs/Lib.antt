@@ -1,3 +1,4 @@
 mod Firing
 mod Meaning
+mod Opening
 mod Skipping

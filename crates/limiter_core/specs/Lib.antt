@@ -1,4 +1,5 @@
 pub mod Counting
+pub mod Opening
 pub mod Rows
 pub mod Settings
 pub mod State

@@ -22,13 +22,13 @@ pub record Keeps (state : State) (rows : List Row) : Type 0 where
   pub over : state.over ≡ count_of OverThreshold rows
   pub under : state.under ≡ count_of UnderThreshold rows
 
--- a run of this count can be one of that many samples
+-- samples can give this count: no run has not fired, and the greatest run has
 pub record IsFitCount (count : Count) : Type 0 where
   pub within : count.run ≤ cap
   pub none : count.run ≡ 0 → count.fired ≡ false
   pub full : count.run ≡ cap → count.fired ≡ true
 
--- counts that some samples, of which the last is the last one, can give
+-- samples that end with the last one can give both counts: one run at most, of a value that some threshold lies under or over
 pub record IsFit (last : ℕ) (over under : Count) : Type 0 where
   pub over_fits : IsFitCount over
   pub under_fits : IsFitCount under
@@ -61,11 +61,6 @@ abbrev pub AreOfKind : Kind → Settings → List ℕ → Type 0
 AreOfKind kind settings [] = Unit {0}
 AreOfKind kind settings (value ∷ values) =
     (kind_of (active_threshold settings) value ≡ kind) × AreOfKind kind settings values
-
--- the last value, or what was last before there were any
-abbrev pub last_of : ℕ → List ℕ → ℕ
-last_of last [] = last
-last_of last (value ∷ values) = last_of value values
 
 -- how many samples of a kind fire nothing, or the greatest u64 where none ever would
 abbrev pub quiet_count : Kind → State → ℕ

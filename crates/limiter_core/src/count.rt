@@ -1,5 +1,6 @@
-ghost use Rattle.std.specs.Prelude.{◌≡◌};
+ghost use Rattle.std.specs.Prelude.{◌≡◌, ◌↔◌, IsTrue};
 ghost use Rattle.limiter_core.specs.Counting.{no_run, taken, fires_at, before, skipped};
+ghost use Rattle.limiter_core.specs.State.{IsFit, IsFitCount};
 
 /// The greatest run that is counted: the samples that a duration of 4,294,967,295 seconds needs.
 pub const RUN_LIMIT: u64 = 42_949_672_950;
@@ -55,5 +56,32 @@ impl Count {
         ensures { self.new ≡ skipped samples self.old }
     {
         self.run = self.run.saturating_add(samples).min(RUN_LIMIT);
+    }
+
+    /// Whether samples can give this count: no run has not fired, and the greatest has.
+    fn is_fit(&self) -> bool
+        ensures { IsTrue result ↔ IsFitCount self.now }
+    {
+        match self.run {
+            0 => !self.fired,
+            RUN_LIMIT => self.fired,
+            run => run < RUN_LIMIT,
+        }
+    }
+}
+
+/// Whether samples, of which the last is `last`, can give both counts: one run at most, and a value that can be on its
+/// side of a threshold.
+pub(crate) fn are_fit(last: u32, over: Count, under: Count) -> bool
+    ensures { IsTrue result ↔ IsFit last over under }
+{
+    if !over.is_fit() || !under.is_fit() {
+        return false;
+    }
+    match (over.run, under.run) {
+        (0, 0) => true,
+        (_, 0) => last > 0,
+        (0, _) => last < u32::MAX,
+        _ => false,
     }
 }

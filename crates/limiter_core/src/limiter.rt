@@ -1,11 +1,12 @@
-ghost use Rattle.std.specs.Prelude.{◌≡◌, ℕ, ◌+◌, ◌-◌, ◌<◌, ◌≤◌, ◌^◌, nat_lt, if◌then◌else◌, List, [], ◌∷◌, length, OnOk, OnErr};
+ghost use Rattle.std.specs.Prelude.{◌≡◌, ℕ, ◌+◌, ◌-◌, ◌<◌, ◌≤◌, ◌^◌, nat_lt, if◌then◌else◌, List, [], ◌∷◌, length, OnOk, OnErr, IsSome, IfSome, ◌↔◌};
 ghost use Rattle.limiter_core.specs.declared.kinds.Fire.TheVariants.{Quiet};
 ghost use Rattle.limiter_core.specs.Counting.{no_run};
+ghost use Rattle.limiter_core.specs.Opening.{opened_rows};
 ghost use Rattle.limiter_core.specs.Rows.{Row, Entry, fire_of};
 ghost use Rattle.limiter_core.specs.Settings.{is_active, active_threshold, row_of, kind_of, new_settings};
-ghost use Rattle.limiter_core.specs.State.{Keeps, rows_after, IsQuiet, AreOfKind, fire_on, quiet_count, jumped, IsLimiter};
+ghost use Rattle.limiter_core.specs.State.{Keeps, rows_after, IsQuiet, AreOfKind, fire_on, quiet_count, jumped, IsLimiter, IsFit};
 
-use crate::count::Count;
+use crate::count::{Count, are_fit};
 use crate::kinds::{Fire, Kind};
 use crate::settings::{Actions, MAX_GROUPS, Profile, Settings, samples_of};
 use listed::Listed;
@@ -297,5 +298,38 @@ impl Limiter {
         ensures other { other.new ≡ record other.old { settings = record other.old.settings { groups = self.old.settings.groups } } }
     {
         mem::swap(&mut self.settings.groups, &mut other.settings.groups);
+    }
+
+    /// The run of samples over the threshold.
+    pub fn over_run(&self) -> Count
+        ensures count { result ≡ self.now.over }
+        ensures limiter { IsLimiter self.now }
+    {
+        self.over
+    }
+
+    /// The run of samples under the threshold.
+    pub fn under_run(&self) -> Count
+        ensures count { result ≡ self.now.under }
+        ensures limiter { IsLimiter self.now }
+    {
+        self.under
+    }
+
+    /// This limiter's settings with a last sample and runs that were written down, or None where no samples give these.
+    pub fn with_runs(self, last: u32, over: Count, under: Count) -> Option<Limiter>
+        ensures fit { IsSome result ↔ IsFit last over under }
+        ensures state { IfSome result (λ limiter. limiter ≡ record self { last = last; over = over; under = under }) }
+        ensures rows { IfSome result (λ limiter. Keeps limiter (opened_rows last over under)) }
+    {
+        if !are_fit(last, over, under) {
+            return None;
+        }
+        Some(Limiter {
+            last,
+            over,
+            under,
+            ..self
+        })
     }
 }

@@ -122,6 +122,31 @@ fn the_emergency_profile_ends_before_start_and_duration(rt: HostRuntime) -> Resu
 }
 
 #[test]
+fn runs_are_written_down_and_read_back(rt: HostRuntime) -> Result<(), Fail> {
+    let mut first = limiter(rt.alloc(), 1);
+    assert!(rt; after_quiet(&mut first, 9, 5001) == Some(Fire::Quiet));
+    let (over, under) = (first.over_run(), first.under_run());
+    assert!(rt;
+        over == Count {
+            run: 9,
+            fired: false
+        } && under
+            == Count {
+                run: 0,
+                fired: false
+            }
+    );
+    let second = limiter(rt.alloc(), 1).with_runs(first.value(), over, under);
+    let Some(mut second) = second else {
+        return Err(Fail::from(std::alloc::AllocError));
+    };
+    assert!(rt; second.sample(5001) == Fire::Over);
+    assert!(rt; limiter(rt.alloc(), 1).with_runs(0, over, under).is_none());
+    assert!(rt; limiter(rt.alloc(), 1).with_runs(5001, over, over).is_none());
+    Ok(())
+}
+
+#[test]
 fn the_actions_are_kept(rt: HostRuntime) -> Result<(), Fail> {
     let mut limiter = Limiter::new(rt.alloc());
     assert!(rt; limiter.threshold() == 4_294_967_295 && limiter.value() == 0);
