@@ -1,2 +1,3 @@
+pub mod ObjectList
 pub mod Objects
 pub mod ResultCode

@@ -1,11 +1,12 @@
 //! The names of the meter's objects, and what each client may do with them.
 //!
-//! `objects` has the one table of the objects; `access` reads it.
+//! `objects` has the one table of the objects; `access` reads it, and `object_list` tells it to a client.
 #![tactic(auto)]
 
 mod access;
 mod level;
 mod name;
+mod object_entries;
 mod objects;
 mod result_code;
 mod service;
@@ -15,6 +16,7 @@ mod tests;
 pub use access::{attribute, find, may_execute, object, rights};
 pub use level::{Level, Rights};
 pub use name::{AttrRef, ClassId, MethodRef, Obis};
+pub use object_entries::object_list;
 pub use objects::{ATTRIBUTES, Access, Attribute, Instance, METHODS, Method, OBJECTS, Object};
 pub use result_code::ResultCode;
 pub use service::{AttributeSelection, GetResult};

@@ -11,6 +11,7 @@ pub enum Access {
 /// Which object of the meter a row of the table speaks of.
 #[derive(Clone, Copy, Debug, PartialEq, Eq)]
 pub enum Instance {
+    Association,
     DeviceName,
     DisconnectControl,
 }
@@ -42,13 +43,21 @@ pub struct Method {
     pub management: bool,
 }
 
+/// Association LN (IEC 62056-6-2, class 15).
+pub const ASSOCIATION_LN: ClassId = ClassId(15);
 /// Data (IEC 62056-6-2, class 1).
 pub const DATA: ClassId = ClassId(1);
 /// Disconnect control (IEC 62056-6-2, class 70).
 pub const DISCONNECT_CONTROL: ClassId = ClassId(70);
 
 /// The meter's objects, in the order of the object list.
-pub const OBJECTS: [Object; 2] = [
+pub const OBJECTS: [Object; 3] = [
+    Object {
+        instance: Instance::Association,
+        class: ASSOCIATION_LN,
+        version: 1,
+        name: Obis([0, 0, 40, 0, 0, 255]),
+    },
     Object {
         instance: Instance::DeviceName,
         class: DATA,
@@ -75,7 +84,9 @@ macro_rules! attribute {
 }
 
 /// The attributes of the classes: what each level may do with them.
-pub const ATTRIBUTES: [Attribute; 6] = [
+pub const ATTRIBUTES: [Attribute; 8] = [
+    attribute!(ASSOCIATION_LN 1: ReadOnly, ReadOnly),
+    attribute!(ASSOCIATION_LN 2: ReadOnly, ReadOnly),
     attribute!(DATA 1: ReadOnly, ReadOnly),
     attribute!(DATA 2: ReadOnly, ReadOnly),
     attribute!(DISCONNECT_CONTROL 1: ReadOnly, ReadOnly),

@@ -1,6 +1,11 @@
 use super::*;
+use cosem_axdr::{Octets, write};
+use std::alloc::{AllocError, Global};
+use std::test::Fail;
 
 const DISCONNECT_CONTROL_NAME: Obis = Obis([0, 0, 96, 3, 10, 255]);
+
+const ASSOCIATION: Obis = Obis([0, 0, 40, 0, 0, 255]);
 
 const DEVICE_NAME: Obis = Obis([0, 0, 42, 0, 0, 255]);
 
@@ -17,6 +22,7 @@ fn attribute_of(class: u16, name: Obis, number: u8) -> AttrRef {
 #[test]
 fn names_have_their_class(rt: HostRuntime) {
     assert_eq!(rt; find(DISCONNECT_CONTROL_NAME), Some(ClassId(70)));
+    assert_eq!(rt; find(ASSOCIATION), Some(ClassId(15)));
     assert_eq!(rt; find(DEVICE_NAME), Some(ClassId(1)));
     assert_eq!(rt; find(UNKNOWN), None);
     assert!(rt; object(DEVICE_NAME).is_some_and(|row| row.instance == Instance::DeviceName));
@@ -25,6 +31,9 @@ fn names_have_their_class(rt: HostRuntime) {
 #[test]
 fn each_level_has_its_rights(rt: HostRuntime) {
     for (name, class, number, public, management) in [
+        (ASSOCIATION, 15, 1, (true, false), (true, false)),
+        (ASSOCIATION, 15, 2, (true, false), (true, false)),
+        (ASSOCIATION, 15, 3, (false, false), (false, false)),
         (DEVICE_NAME, 1, 1, (true, false), (true, false)),
         (DEVICE_NAME, 1, 2, (true, false), (true, false)),
         (DEVICE_NAME, 1, 3, (false, false), (false, false)),
@@ -101,4 +110,50 @@ fn results_have_their_numbers(rt: HostRuntime) {
     for number in [5u8, 11, 14, 17, 249, 251, 255] {
         assert!(rt; ResultCode::of_code(number).is_none(), "{number}");
     }
+}
+
+/// The text of the object_list that a client of this level reads.
+fn object_list_text(alloc: Global, level: Level) -> Result<Octets, AllocError> {
+    let list = object_list(alloc, level)?;
+    let mut text = Octets::new(alloc);
+    write(alloc, &list, &mut text)?;
+    Ok(text)
+}
+
+/// Association LN, class 15, version 1: attributes 1 and 2 are read, and no method is there.
+const ASSOCIATION_ENTRY: &[u8] = b"\x02\x04\x12\x00\x0F\x11\x01\x09\x06\x00\x00\x28\x00\x00\xFF\
+    \x02\x02\x01\x02\x02\x03\x0F\x01\x16\x01\x00\x02\x03\x0F\x02\x16\x01\x00\x01\x00";
+
+/// The device name, class 1, version 0: attributes 1 and 2 are read, and no method is there.
+const DEVICE_NAME_ENTRY: &[u8] = b"\x02\x04\x12\x00\x01\x11\x00\x09\x06\x00\x00\x2A\x00\x00\xFF\
+    \x02\x02\x01\x02\x02\x03\x0F\x01\x16\x01\x00\x02\x03\x0F\x02\x16\x01\x00\x01\x00";
+
+/// Disconnect control, class 70, version 0, for the public client: attributes 1 to 4 are read, and there is no
+/// access to methods 1 and 2.
+const PUBLIC_CONTROL_ENTRY: &[u8] = b"\x02\x04\x12\x00\x46\x11\x00\x09\x06\x00\x00\x60\x03\x0A\xFF\
+    \x02\x02\x01\x04\x02\x03\x0F\x01\x16\x01\x00\x02\x03\x0F\x02\x16\x01\x00\
+    \x02\x03\x0F\x03\x16\x01\x00\x02\x03\x0F\x04\x16\x01\x00\
+    \x01\x02\x02\x02\x0F\x01\x16\x00\x02\x02\x0F\x02\x16\x00";
+
+/// The same for the management client: attribute 4 is read and written, and methods 1 and 2 are executed.
+const MANAGEMENT_CONTROL_ENTRY: &[u8] =
+    b"\x02\x04\x12\x00\x46\x11\x00\x09\x06\x00\x00\x60\x03\x0A\xFF\
+    \x02\x02\x01\x04\x02\x03\x0F\x01\x16\x01\x00\x02\x03\x0F\x02\x16\x01\x00\
+    \x02\x03\x0F\x03\x16\x01\x00\x02\x03\x0F\x04\x16\x03\x00\
+    \x01\x02\x02\x02\x0F\x01\x16\x01\x02\x02\x0F\x02\x16\x01";
+
+#[test]
+fn the_object_list_tells_each_level_its_access(rt: HostRuntime) -> Result<(), Fail> {
+    for (level, control_entry) in [
+        (Level::Public, PUBLIC_CONTROL_ENTRY),
+        (Level::Management, MANAGEMENT_CONTROL_ENTRY),
+    ] {
+        let mut expected = Octets::from_slice(rt.alloc(), b"\x01\x03")?;
+        expected.extend_from_slice(ASSOCIATION_ENTRY)?;
+        expected.extend_from_slice(DEVICE_NAME_ENTRY)?;
+        expected.extend_from_slice(control_entry)?;
+        let text = object_list_text(rt.alloc(), level)?;
+        assert_eq!(rt; text.as_slice(), expected.as_slice(), "{level:?}");
+    }
+    Ok(())
 }

@@ -2,7 +2,7 @@ use Rattle.std.specs.Prelude.{ℕ, Bool, false, Option, Some, None, Result, Ok, 
 use Rattle.cosem_names.specs.declared.name.MethodRef.{MethodRef}
 use Rattle.cosem_names.specs.declared.level.Level.{Level}
 use Rattle.cosem_names.specs.declared.objects.Instance.{Instance}
-use Rattle.cosem_names.specs.declared.objects.Instance.TheVariants.{DeviceName, DisconnectControl}
+use Rattle.cosem_names.specs.declared.objects.Instance.TheVariants.{Association, DeviceName, DisconnectControl}
 use Rattle.cosem_names.specs.declared.result_code.ResultCode.{ResultCode}
 use Rattle.cosem_names.specs.declared.result_code.ResultCode.TheVariants.{ReadWriteDenied}
 use Rattle.cosem_names.specs.Objects.{may_execute_of}
@@ -16,6 +16,7 @@ use Rattle.relay_core.specs.World.{World, Outcome}
 
 -- the trigger that a method of an object pulls
 unfoldable pub method_trigger : Instance → ℕ → Option Trigger
+method_trigger Association number = None
 method_trigger DeviceName number = None
 method_trigger DisconnectControl number = if number == 1 then Some RemoteDisconnect else if number == 2 then Some RemoteReconnect else None
 

@@ -4,39 +4,41 @@ use Rattle.cosem_axdr.specs.declared.value.Data.TheVariants.{OctetString, Boolea
 use Rattle.cosem_names.specs.declared.name.AttrRef.{AttrRef}
 use Rattle.cosem_names.specs.declared.level.Level.{Level}
 use Rattle.cosem_names.specs.declared.objects.Instance.{Instance}
-use Rattle.cosem_names.specs.declared.objects.Instance.TheVariants.{DeviceName, DisconnectControl}
+use Rattle.cosem_names.specs.declared.objects.Instance.TheVariants.{Association, DeviceName, DisconnectControl}
 use Rattle.cosem_names.specs.declared.result_code.ResultCode.{ResultCode}
 use Rattle.cosem_names.specs.declared.result_code.ResultCode.TheVariants.{ReadWriteDenied}
 use Rattle.cosem_names.specs.declared.service.AttributeSelection.{AttributeSelection}
 use Rattle.cosem_names.specs.declared.service.GetResult.{GetResult}
 use Rattle.cosem_names.specs.declared.service.GetResult.TheVariants.{Value, Code}
+use Rattle.cosem_names.specs.ObjectList.{object_list_of}
 use Rattle.cosem_names.specs.Objects.{rights_of}
 use Rattle.disconnect_control.specs.declared.state.ControlState.TheVariants.{Connected}
 use Rattle.disconnect_control.specs.Transitions.{state_number, mode_number, is_state}
 use Rattle.relay_core.specs.Access.{target_of}
 use Rattle.relay_core.specs.World.{World}
 
--- the attributes of an object past its logical name
-abbrev pub own_value_in : Instance → ℕ → World → GetResult
-own_value_in DeviceName number w = if number == 2 then Value (OctetString w.device) else Code ReadWriteDenied
-own_value_in DisconnectControl number w =
+-- the attributes of an object past its logical name, as a client of this level reads them
+abbrev pub own_value_in : Level → Instance → ℕ → World → GetResult
+own_value_in level Association number w = if number == 2 then Value (object_list_of level) else Code ReadWriteDenied
+own_value_in level DeviceName number w = if number == 2 then Value (OctetString w.device) else Code ReadWriteDenied
+own_value_in level DisconnectControl number w =
     if number == 2 then Value (Boolean (is_state w.control.state Connected))
     else if number == 3 then Value (Enum (state_number w.control.state))
     else if number == 4 then Value (Enum (mode_number w.control.mode))
     else Code ReadWriteDenied
 
 -- the value of an attribute: attribute 1 is the logical name
-unfoldable pub value_in : Instance → AttrRef → World → GetResult
-value_in instance attr w = if attr.number == 1 then Value (OctetString attr.name.0) else own_value_in instance attr.number w
+unfoldable pub value_in : Level → Instance → AttrRef → World → GetResult
+value_in level instance attr w = if attr.number == 1 then Value (OctetString attr.name.0) else own_value_in level instance attr.number w
 
 -- what a read of an object that was reached gives
-abbrev pub read_at : Result Instance ResultCode → AttrRef → World → GetResult
-read_at (Err refusal) attr w = Code refusal
-read_at (Ok instance) attr w = value_in instance attr w
+abbrev pub read_at : Level → Result Instance ResultCode → AttrRef → World → GetResult
+read_at level (Err refusal) attr w = Code refusal
+read_at level (Ok instance) attr w = value_in level instance attr w
 
 -- what a client of this level reads of an attribute
 unfoldable pub get_result : Level → AttrRef → Bool → World → GetResult
-get_result level attr selected w = read_at (target_of attr.name attr.class (rights_of level attr).read selected) attr w
+get_result level attr selected w = read_at level (target_of attr.name attr.class (rights_of level attr).read selected) attr w
 
 -- what it reads of several, all of them of one world
 abbrev pub get_results : Level → List AttributeSelection → World → List GetResult
@@ -44,6 +46,7 @@ get_results level items w = map (λ item. get_result level item.attr item.select
 
 -- whether the value of an attribute is a boolean, an enum or a number, which takes no memory
 abbrev pub is_plain : Instance → ℕ → Bool
+is_plain Association number = not (number == 1 || number == 2)
 is_plain DeviceName number = not (number == 1 || number == 2)
 is_plain DisconnectControl number = not (number == 1)
 

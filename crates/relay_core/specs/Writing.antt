@@ -4,7 +4,7 @@ use Rattle.cosem_axdr.specs.Forms.{enumerated_of}
 use Rattle.cosem_names.specs.declared.name.AttrRef.{AttrRef}
 use Rattle.cosem_names.specs.declared.level.Level.{Level}
 use Rattle.cosem_names.specs.declared.objects.Instance.{Instance}
-use Rattle.cosem_names.specs.declared.objects.Instance.TheVariants.{DeviceName, DisconnectControl}
+use Rattle.cosem_names.specs.declared.objects.Instance.TheVariants.{Association, DeviceName, DisconnectControl}
 use Rattle.cosem_names.specs.declared.result_code.ResultCode.{ResultCode}
 use Rattle.cosem_names.specs.declared.result_code.ResultCode.TheVariants.{ReadWriteDenied, TypeUnmatched, OtherReason}
 use Rattle.cosem_names.specs.Objects.{rights_of}
@@ -32,6 +32,7 @@ mode_form value = mode_written (enumerated_of value)
 
 -- the change that a write of an attribute asks for, or why its value is refused
 unfoldable pub change_of : Instance → ℕ → Data → Result Change ResultCode
+change_of Association number value = Err ReadWriteDenied
 change_of DeviceName number value = Err ReadWriteDenied
 change_of DisconnectControl number value = if number == 4 then mode_form value else Err ReadWriteDenied
 

@@ -6,24 +6,28 @@ ghost use Rattle.relay_core.specs.Reading.{value_in, get_result, get_results, is
 use crate::access::target;
 use crate::relay::RelayCore;
 use cosem_axdr::{Data, Octets};
-use cosem_names::{AttrRef, AttributeSelection, GetResult, Instance, Level, ResultCode, rights};
+use cosem_names::{
+    AttrRef, AttributeSelection, GetResult, Instance, Level, ResultCode, object_list, rights,
+};
 use listed::Listed;
 use std::alloc::{AllocError, Global};
 
 impl RelayCore {
-    /// The value of an attribute.
+    /// The value of an attribute, for a client of this level.
     #[tactic(auto, unfolding(crate::specs::Reading::value_in))]
     fn value(
         &self,
         alloc: Global,
+        level: Level,
         instance: Instance,
         attr: &AttrRef,
     ) -> Result<GetResult, AllocError>
-        ensures value { IfOk result (λ r. (w : World) → StandsFor self.now w → r ≡ value_in instance attr.now w) }
+        ensures value { IfOk result (λ r. (w : World) → StandsFor self.now w → r ≡ value_in level instance attr.now w) }
         ensures plain { IsTrue (is_plain instance attr.now.number) → IsOk result }
     {
         let data = match (instance, attr.number) {
             (_, 1) => Data::OctetString(Octets::from_slice(alloc, &attr.name.0)?),
+            (Instance::Association, 2) => object_list(alloc, level)?,
             (Instance::DeviceName, 2) => Data::OctetString(self.device.try_clone(alloc)?),
             (Instance::DisconnectControl, 2) => Data::Boolean(self.control.output()),
             (Instance::DisconnectControl, 3) => Data::Enum(self.control.state().number()),
@@ -46,7 +50,7 @@ impl RelayCore {
         ensures plain { IsTrue (reads_plainly level attr.now selected) → IsOk result }
     {
         match target(attr.name, attr.class, rights(level, attr).read, selected) {
-            Ok(instance) => self.value(alloc, instance, attr),
+            Ok(instance) => self.value(alloc, level, instance, attr),
             Err(refusal) => Ok(GetResult::Code(refusal)),
         }
     }

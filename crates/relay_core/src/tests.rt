@@ -2,6 +2,7 @@ use super::*;
 use cosem_axdr::{Data, Octets};
 use cosem_names::{
     AttrRef, AttributeSelection, ClassId, GetResult, Level, MethodRef, Obis, ResultCode,
+    object_list,
 };
 use disconnect_control::{ControlMode, ControlState};
 use listed::Listed;
@@ -10,6 +11,8 @@ use std::process::Abort;
 use std::test::Fail;
 
 const DISCONNECT_CONTROL: Obis = Obis([0, 0, 96, 3, 10, 255]);
+
+const ASSOCIATION: Obis = Obis([0, 0, 40, 0, 0, 255]);
 
 const DEVICE_NAME: Obis = Obis([0, 0, 42, 0, 0, 255]);
 
@@ -239,5 +242,69 @@ fn a_list_is_read_at_one_moment(rt: HostRuntime) -> Result<(), Fail> {
             GetResult::Code(ResultCode::ObjectUndefined)
         )
     );
+    Ok(())
+}
+
+/// Whether a client of this level reads its own object_list of a new core.
+fn reads_its_object_list(rt: &impl Abort, alloc: Global, level: Level) -> Result<bool, AllocError> {
+    let mut core = new_core(rt, alloc)?;
+    let reply = core.step(
+        alloc,
+        &Event::Get {
+            level,
+            attr: attribute(15, ASSOCIATION, 2),
+            selected: false,
+        },
+    )?;
+    let list = object_list(alloc, level)?;
+    Ok(matches!(reply, Reply::Value(value) if value == list))
+}
+
+#[test]
+fn each_level_reads_its_object_list(rt: HostRuntime) -> Result<(), Fail> {
+    assert!(rt; reads_its_object_list(&rt, rt.alloc(), Level::Public)?);
+    assert!(rt; reads_its_object_list(&rt, rt.alloc(), Level::Management)?);
+    Ok(())
+}
+
+#[test]
+fn the_association_has_a_name_and_no_attribute_3(rt: HostRuntime) -> Result<(), Fail> {
+    let name = read(&rt, rt.alloc(), attribute(15, ASSOCIATION, 1))?;
+    assert!(rt; is_octets(&name, [0, 0, 40, 0, 0, 255].as_slice()));
+    assert_eq!(rt;
+        read_refusal(&rt, rt.alloc(), attribute(15, ASSOCIATION, 3), false)?,
+        3
+    );
+    Ok(())
+}
+
+/// The object_list read twice in one list.
+fn object_list_twice(alloc: Global) -> Result<Event, AllocError> {
+    let mut items = Listed::new(alloc);
+    for _ in 0..2 {
+        items.push(AttributeSelection {
+            attr: attribute(15, ASSOCIATION, 2),
+            selected: false,
+        })?;
+    }
+    Ok(Event::GetList {
+        level: Level::Management,
+        items,
+    })
+}
+
+fn is_value(read: &GetResult, expected: &Data) -> bool {
+    matches!(read, GetResult::Value(value) if value == expected)
+}
+
+#[test]
+fn a_list_reads_the_object_list_twice(rt: HostRuntime) -> Result<(), Fail> {
+    let mut core = new_core(&rt, rt.alloc())?;
+    let list = object_list(rt.alloc(), Level::Management)?;
+    let Reply::Values(results) = core.step(rt.alloc(), &object_list_twice(rt.alloc())?)? else {
+        return Err(Fail::from(AllocError));
+    };
+    assert_eq!(rt; results.len(), 2);
+    assert!(rt; results.as_slice().iter().all(|read| is_value(read, &list)));
     Ok(())
 }
