@@ -3,7 +3,7 @@
 --     IsField, AreFields, IsApdu      fields, in any order, that fill an APDU
 --     HasNone, HasOne, HasInner       which fields of a tag there are
 --     IsResponse, IsInitiateError     user information of an AARE
---     SpellsAarq, SpellsAare          whole APDUs
+--     SpellsAarq, SpellsAare, SpellsRelease    whole APDUs
 use Rattle.std.specs.Prelude.{◌≡◌, ◌⊎◌, ℕ, ◌<◌, ◌≤◌, true, Option, Some, None, List, [], ◌∷◌, ◌++◌, length}
 use Rattle.std.specs.Int.{w16, w32, from_be_bytes}
 use Rattle.cosem_axdr.specs.Spelling.{IsUnsigned, IsJoined}
@@ -126,3 +126,9 @@ pub record SpellsAare (bytes : List ℕ) (aare : Aare) : Type 0 where
   pub diagnostic_field : HasOne 0xA3 (IsDiagnostic aare.diagnostic) fields
   pub user : HasInfo fields aare.info
   pub responds : aare.result ≡ 0 → is_response aare.info ≡ true
+
+-- ---- RLRQ
+
+-- these bytes are an RLRQ, whatever fields it has
+abbrev pub SpellsRelease : List ℕ → Type 0
+SpellsRelease bytes = (fields : List Field) × IsApdu 0x62 fields bytes

@@ -2,6 +2,7 @@
 --     tagged_text                     a tag, the length and the contents
 --     aarq_body, aare_body            the fields
 --     aarq_text, aare_text            whole APDUs
+--     low_level_aarq                  the AARQ of a client that gives a password
 use Rattle.std.specs.Prelude.{ℕ, Option, Some, None, List, [], ◌∷◌, ◌++◌}
 use Rattle.std.specs.Int.{w16, to_be_bytes, bytes_high_first}
 use Rattle.cosem_axdr.specs.Spelling.{string_text}
@@ -59,6 +60,18 @@ info_text (InitiateError e) = user_text (0x0E ∷ 0x01 ∷ 0x06 ∷ e ∷ [])
 -- the application context without ciphering, by logical names
 abbrev pub ln_context : List ℕ
 ln_context = 0x60 ∷ 0x85 ∷ 0x74 ∷ 0x05 ∷ 0x08 ∷ 0x01 ∷ 0x01 ∷ []
+
+-- the mechanism of low-level security
+abbrev pub low_level : List ℕ
+low_level = 0x60 ∷ 0x85 ∷ 0x74 ∷ 0x05 ∷ 0x08 ∷ 0x02 ∷ 0x01 ∷ []
+
+-- an InitiateRequest: no dedicated key, nothing of response-allowed and of quality of service, version 6, the bits and the size
+abbrev pub request_text : ℕ → ℕ → List ℕ
+request_text bits limit = (0x01 ∷ 0x00 ∷ 0x00 ∷ 0x00 ∷ 0x06 ∷ 0x5F ∷ 0x1F ∷ 0x04 ∷ 0x00 ∷ []) ++ (bytes_high_first 3 bits ++ to_be_bytes w16 limit)
+
+-- the AARQ of a client with this password, which proposes these bits and this size
+unfoldable pub low_level_aarq : List ℕ → ℕ → ℕ → Aarq
+low_level_aarq password bits limit = record { context = ln_context; mechanism = low_level; password = Some password; user = request_text bits limit }
 
 -- the fields of an AARE
 abbrev pub aare_body : Aare → List ℕ

@@ -7,19 +7,16 @@ use Rattle.byte_reading.specs.Outcome.{◌>>=◌, ◌>>◌, guard}
 use Rattle.cosem_names.specs.declared.level.Level.{Level}
 use Rattle.cosem_names.specs.declared.level.Level.TheVariants.{Public, Management}
 use Rattle.acse_ber.specs.Reading.{proposal_of}
-use Rattle.acse_ber.specs.Text.{ln_context}
+use Rattle.acse_ber.specs.Text.{ln_context, low_level}
 use Rattle.acse_ber.specs.declared.aarq.Aarq.{Aarq}
 use Rattle.acse_ber.specs.declared.fault.AcseFault.{AcseFault}
 use Rattle.acse_ber.specs.declared.initiate.Proposal.{Proposal}
 use Rattle.acse_ber.specs.declared.verdict.Verdict.{Verdict}
 use Rattle.acse_ber.specs.declared.verdict.Verdict.TheVariants.{Accepted, Rejected, InitiateError}
 
--- the names of the authentication mechanisms of lowest level and of low level
+-- the name of the authentication mechanism of lowest level
 abbrev pub lowest_level : List ℕ
 lowest_level = 0x60 ∷ 0x85 ∷ 0x74 ∷ 0x05 ∷ 0x08 ∷ 0x02 ∷ 0x00 ∷ []
-
-abbrev pub low_level : List ℕ
-low_level = 0x60 ∷ 0x85 ∷ 0x74 ∷ 0x05 ∷ 0x08 ∷ 0x02 ∷ 0x01 ∷ []
 
 -- no mechanism, or the lowest level, which is none
 abbrev pub is_no_mechanism : List ℕ → Bool

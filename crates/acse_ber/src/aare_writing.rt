@@ -4,7 +4,9 @@ ghost use Rattle.acse_ber.specs.Text.{user_text, result_text, diagnostic_text, r
 use crate::aare::{Aare, Info};
 use crate::field_writing::{put_context, put_tagged, put_user};
 use crate::identifier::LN_WITHOUT_CIPHERING;
-use crate::initiate::{CONFORMANCE_HEAD, INITIATE_ERROR_HEAD, RESPONSE_TAG, VAA_NAME, VERSION};
+use crate::initiate::{
+    ABSENT, CONFORMANCE_HEAD, INITIATE_ERROR_HEAD, RESPONSE_TAG, VAA_NAME, VERSION,
+};
 use crate::tag;
 use cosem_axdr::Octets;
 use std::alloc::{AllocError, Global};
@@ -64,15 +66,13 @@ fn put_response(alloc: Global, bits: u32, limit: u16, out: &mut Octets) -> Resul
     ensures { OnOk result (out.new ≡ out.old ++ user_text (response_text bits limit)) }
 {
     let mut response = Octets::new(alloc);
-    response.extend_from_slice(&[RESPONSE_TAG, NO_QUALITY, VERSION])?;
+    response.extend_from_slice(&[RESPONSE_TAG, ABSENT, VERSION])?;
     response.extend_from_slice(&CONFORMANCE_HEAD)?;
     response.extend_from_slice(&bits.to_be_bytes()[1..])?;
     response.extend_from_slice(&limit.to_be_bytes())?;
     response.extend_from_slice(&VAA_NAME)?;
     put_user(alloc, response.as_slice(), out)
 }
-
-const NO_QUALITY: u8 = 0;
 
 // A ConfirmedServiceError of Initiate.
 fn put_initiate_error(alloc: Global, error: u8, out: &mut Octets) -> Result<(), AllocError>

@@ -6,7 +6,7 @@ use crate::fault::AcseFault;
 use crate::reader::Reader;
 
 /// The tag of an InitiateRequest, and no dedicated key.
-const REQUEST_HEAD: [u8; 2] = [0x01, 0x00];
+pub(crate) const REQUEST_HEAD: [u8; 2] = [0x01, 0x00];
 
 /// The tag of an InitiateResponse.
 pub(crate) const RESPONSE_TAG: u8 = 0x08;
@@ -23,7 +23,8 @@ pub(crate) const VERSION: u8 = 6;
 /// The name of the virtual application entity, for logical names.
 pub(crate) const VAA_NAME: [u8; 2] = [0x00, 0x07];
 
-const ABSENT: u8 = 0;
+/// Whether an optional part stands behind it.
+pub(crate) const ABSENT: u8 = 0;
 
 const PRESENT: u8 = 1;
 

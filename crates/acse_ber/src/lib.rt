@@ -5,6 +5,7 @@ mod aare;
 mod aare_reading;
 mod aare_writing;
 mod aarq;
+mod aarq_making;
 mod aarq_reading;
 mod aarq_writing;
 mod fault;
@@ -13,6 +14,7 @@ mod field_writing;
 mod identifier;
 mod initiate;
 mod judging;
+mod laws;
 mod reader;
 mod release;
 mod tag;
@@ -22,10 +24,16 @@ pub use aare::{Aare, Info};
 pub use aare_reading::read_aare;
 pub use aare_writing::write_aare;
 pub use aarq::Aarq;
+pub use aarq_making::low_level_aarq;
 pub use aarq_reading::read_aarq;
 pub use aarq_writing::write_aarq;
 pub use fault::AcseFault;
 pub use judging::judge;
+pub use laws::{
+    management_needs_the_password, no_spelling_begins_another, spelled_aare_is_fit,
+    spelled_aarq_is_fit, text_of_fit_aare_spells, text_of_fit_aarq_spells,
+    written_length_is_shortest,
+};
 pub use release::{RELEASE_REQUEST, RELEASE_RESPONSE, is_release};
 pub use verdict::Verdict;
 

@@ -1,6 +1,7 @@
 //! The release of an association (IEC 62056-5-3, RLRQ and RLRE).
-ghost use Rattle.std.specs.Prelude.{◌≡◌};
+ghost use Rattle.std.specs.Prelude.{◌≡◌, ◌↔◌, IsTrue};
 ghost use Rattle.acse_ber.specs.Reading.{is_release_text};
+ghost use Rattle.acse_ber.specs.Spelling.{SpellsRelease};
 
 use crate::field::{are_fields, read_tagged};
 use crate::tag;
@@ -12,8 +13,17 @@ pub const RELEASE_REQUEST: [u8; 5] = [0x62, 0x03, 0x80, 0x01, 0x00];
 pub const RELEASE_RESPONSE: [u8; 5] = [0x63, 0x03, 0x80, 0x01, 0x00];
 
 /// Whether bytes are an RLRQ: a length that ends where the bytes end, and fields, whatever they are, that fill it.
-#[tactic(auto, unfolding(crate::specs::Reading::is_release_text))]
 pub fn is_release(bytes: &[u8]) -> bool
+    // So it is exactly where the bytes spell one.
+    ensures spelled { IsTrue result ↔ SpellsRelease bytes.now }
+    ensures exact { result ≡ is_release_text bytes.now }
+{
+    is_whole_release(bytes)
+}
+
+// As `is_release`, by the definition alone.
+#[tactic(auto, unfolding(crate::specs::Reading::is_release_text))]
+fn is_whole_release(bytes: &[u8]) -> bool
     ensures { result ≡ is_release_text bytes.now }
 {
     match read_tagged(tag::RLRQ, bytes) {

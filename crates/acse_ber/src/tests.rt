@@ -1,6 +1,6 @@
 use crate::{
     Aare, Aarq, AcseFault, Info, RELEASE_REQUEST, RELEASE_RESPONSE, Verdict, is_release, judge,
-    read_aare, read_aarq, write_aare, write_aarq,
+    low_level_aarq, read_aare, read_aarq, write_aare, write_aarq,
 };
 use cosem_axdr::Octets;
 use cosem_names::Level;
@@ -122,9 +122,11 @@ fn the_management_client_needs_its_password(rt: HostRuntime) -> Result<(), Fail>
         verdict_on(alloc, &PUBLIC_AARQ, 1, PASSWORD)?,
         Verdict::Rejected(14)
     );
+    // The example of the Green Book proposes 007E1F and 1,200 bytes.
     let mut example = MANAGEMENT_AARQ;
     example[52] = 0x7E;
     example[53] = 0x1F;
+    example[55] = 0xB0;
     let accepted = verdict_on(alloc, &example, 1, PASSWORD)?;
     assert!(rt;
         matches!(
@@ -132,7 +134,7 @@ fn the_management_client_needs_its_password(rt: HostRuntime) -> Result<(), Fail>
             Verdict::Accepted {
                 level: Level::Management,
                 bits: 0x1E19,
-                limit: 1024
+                limit: 1200
             }
         )
     );
@@ -188,6 +190,18 @@ fn a_proposal_is_checked(rt: HostRuntime) -> Result<(), Fail> {
     assert_eq!(rt;
         verdict_on(alloc, &short, 16, PASSWORD)?,
         Verdict::InitiateError(3)
+    );
+    short[30] = 0x00;
+    let unlimited = verdict_on(alloc, &short, 16, PASSWORD)?;
+    assert!(rt;
+        matches!(
+            unlimited,
+            Verdict::Accepted {
+                level: Level::Public,
+                bits: 0x1E19,
+                limit: 0
+            }
+        )
     );
     short[30] = 0x40;
     short[27] = 0x00;
@@ -280,6 +294,54 @@ fn an_aarq_is_written(rt: HostRuntime) -> Result<(), Fail> {
 }
 
 #[test]
+fn a_clients_aarq_is_made(rt: HostRuntime) -> Result<(), Fail> {
+    let alloc = rt.alloc();
+    let aarq = low_level_aarq(alloc, PASSWORD, 0x1C19, 1024)?;
+    assert_eq!(rt;
+        write_aarq(alloc, &aarq)?.as_slice(),
+        MANAGEMENT_AARQ.as_slice()
+    );
+    Ok(())
+}
+
+#[test]
+fn the_first_check_that_fails_decides(rt: HostRuntime) -> Result<(), Fail> {
+    let alloc = rt.alloc();
+    let mut aarq = MANAGEMENT_AARQ;
+    aarq[55] = 0x3F;
+    aarq[54] = 0x00;
+    assert_eq!(rt;
+        verdict_on(alloc, &aarq, 1, PASSWORD)?,
+        Verdict::InitiateError(3)
+    );
+    aarq[52] = 0x00;
+    aarq[53] = 0x00;
+    assert_eq!(rt;
+        verdict_on(alloc, &aarq, 1, PASSWORD)?,
+        Verdict::InitiateError(2)
+    );
+    aarq[46] = 0x05;
+    assert_eq!(rt;
+        verdict_on(alloc, &aarq, 1, PASSWORD)?,
+        Verdict::InitiateError(1)
+    );
+    aarq[42] = 0x21;
+    assert_eq!(rt;
+        verdict_on(alloc, &aarq, 1, PASSWORD)?,
+        Verdict::Rejected(1)
+    );
+    assert_eq!(rt; verdict_on(alloc, &aarq, 1, b"")?, Verdict::Rejected(13));
+    aarq[25] = 0x00;
+    assert_eq!(rt; verdict_on(alloc, &aarq, 1, b"")?, Verdict::Rejected(14));
+    aarq[25] = 0x02;
+    assert_eq!(rt; verdict_on(alloc, &aarq, 1, b"")?, Verdict::Rejected(11));
+    aarq[12] = 0x02;
+    assert_eq!(rt; verdict_on(alloc, &aarq, 1, b"")?, Verdict::Rejected(2));
+    assert_eq!(rt; verdict_on(alloc, &aarq, 15, b"")?, Verdict::Rejected(1));
+    Ok(())
+}
+
+#[test]
 fn an_aare_is_written(rt: HostRuntime) -> Result<(), Fail> {
     let alloc = rt.alloc();
     let accepting = Aare {
@@ -312,6 +374,26 @@ fn an_aare_is_written(rt: HostRuntime) -> Result<(), Fail> {
         write_aare(alloc, &error)?.as_slice(),
         INITIATE_ERROR_AARE.as_slice()
     );
+    let size_error = Aare {
+        info: Info::InitiateError(3),
+        ..error
+    };
+    let mut expected = INITIATE_ERROR_AARE;
+    expected[32] = 0x03;
+    assert_eq!(rt;
+        write_aare(alloc, &size_error)?.as_slice(),
+        expected.as_slice()
+    );
+    let wrong_password = Aare {
+        diagnostic: 13,
+        ..refusing
+    };
+    let mut expected = REFUSING_AARE;
+    expected[24] = 0x0D;
+    assert_eq!(rt;
+        write_aare(alloc, &wrong_password)?.as_slice(),
+        expected.as_slice()
+    );
     Ok(())
 }
 
@@ -342,4 +424,45 @@ fn an_aare_is_read(rt: HostRuntime) -> Result<(), Fail> {
     unknown[31] = 0x07;
     assert_eq!(rt; read_aare(alloc, &unknown)?.info, Info::Absent);
     Ok(())
+}
+
+// An AARE whose fields come in another order, the context twice, the result's length in the long form, with another field.
+const REORDERED_AARE: [u8; 36] = [
+    0x61, 0x81, 0x20, 0xBE, 0x06, 0x04, 0x04, 0x0E, 0x01, 0x06, 0x03, 0xA3, 0x05, 0xA2, 0x03, 0x02,
+    0x01, 0x02, 0xA1, 0x00, 0xA1, 0x02, 0x06, 0x00, 0x80, 0x02, 0x07, 0x80, 0xA2, 0x82, 0x00, 0x03,
+    0x02, 0x01, 0x02, 0xFF,
+];
+
+#[test]
+fn an_aares_fields_come_in_any_order(rt: HostRuntime) -> Result<(), Fail> {
+    let alloc = rt.alloc();
+    let aare = read_aare(alloc, &REORDERED_AARE[..35])?;
+    assert!(rt; aare.result == 2 && aare.diagnostic == 2);
+    assert_eq!(rt; aare.info, Info::InitiateError(3));
+    assert!(rt;
+        matches!(
+            read_aare(alloc, &REORDERED_AARE),
+            Err(AcseFault::Unreadable)
+        )
+    );
+    let mut no_octet_string = INITIATE_ERROR_AARE;
+    no_octet_string[27] = 0x09;
+    assert!(rt;
+        matches!(
+            read_aare(alloc, &no_octet_string),
+            Err(AcseFault::Unreadable)
+        )
+    );
+    Ok(())
+}
+
+#[test]
+fn lengths_of_no_or_three_bytes_are_unreadable(rt: HostRuntime) {
+    assert!(rt; is_release(&[0x62, 0x81, 0x02, 0x80, 0x00]));
+    assert!(rt; is_release(&[0x62, 0x82, 0x00, 0x02, 0x80, 0x00]));
+    assert!(rt; !is_release(&[0x62, 0x83, 0x00, 0x00, 0x02, 0x80, 0x00]));
+    assert!(rt; !is_release(&[0x62, 0x80, 0x80, 0x00]));
+    assert!(rt; !is_release(&[0x62, 0x02, 0xC0, 0x00]));
+    assert!(rt; !is_release(&[0x62, 0x02, 0x7F, 0x00]));
+    assert!(rt; !is_release(&[0x62, 0x02, 0x80, 0x01]));
 }

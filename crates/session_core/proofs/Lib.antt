@@ -1,2 +1,3 @@
 pub mod Short
 pub mod Meet
+pub mod Tasks

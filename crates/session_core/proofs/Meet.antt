@@ -1,6 +1,6 @@
 -- The session by look-ups backwards and the session that keeps its state are one: each look-up over one more frame is the rule of that frame, applied to the look-up
 -- over the frames before it.
-use Rattle.std.proofs.Common.{◌≡◌, ℕ, ◌+◌, ◌*◌, ◌<◌, ◌≤◌, ◌==◌, ◌&&◌, ◌||◌, not, nat_lt, nat_le, Bool, true, false, cond, Option, Some, None, List, [], ◌∷◌, ◌++◌, length, map, refl, sym, ◌∙◌, ap, arith, length-append}
+use Rattle.std.proofs.Common.{◌≡◌, ℕ, ◌+◌, ◌*◌, ◌==◌, ◌&&◌, ◌||◌, not, nat_lt, nat_le, Bool, true, false, cond, Option, Some, None, List, [], ◌∷◌, ◌++◌, length, map, refl, sym, ◌∙◌, ap, arith, length-append}
 use Rattle.std.specs.Prelude.{if◌then◌else◌, option_and_then, option_to_list, filter, find}
 use Rattle.std.specs.List.{list_any}
 use Rattle.std.proofs.lemmas.Bool.{le-leb, leb-true}
@@ -8,22 +8,19 @@ use Rattle.relay_core.specs.declared.event.Event.{Event}
 use Rattle.relay_core.specs.declared.event.Reply.{Reply}
 use Rattle.session_core.specs.Answers.{answer_text, due_text}
 use Rattle.session_core.specs.Association.{opened_by}
-use Rattle.session_core.specs.Backwards.{since, unreleased, link_of, heard, goes_on, in_order, joined_so_far, blocks_so_far, First, incoming_by, incoming_among, incoming_of, Past, Heard, frames_past, heard_past, outgoing_after_nexts, begun_by_heard, begun_by_call, outgoing_among, outgoing_of, names_in_order, first_of_call, next_block, is_no_next_block, raw_of, named_block, is_none_of, Asks, Answers, asks_after, answers_after, to_server}
-use Rattle.session_core.specs.Incoming.{no_blocks, after_by_fault, block_after, transfer_of, later_after, service_of}
+use Rattle.session_core.specs.Backwards.{since, unreleased, link_of, heard, goes_on, in_order, joined_so_far, blocks_so_far, First, incoming_by, incoming_among, incoming_of, Past, Heard, frames_past, heard_past, outgoing_after_nexts, begun_by_heard, outgoing_among, outgoing_of, names_in_order, first_of_call, is_no_next_block, named_block, is_none_of, Asks, Answers, to_server}
+use Rattle.session_core.specs.Incoming.{no_blocks, after_by_fault, block_after, transfer_of, later_after}
 use Rattle.xdlms_apdu.specs.declared.invoke_id.InvokeId.{InvokeId}
 use Rattle.xdlms_blocks.specs.Joining.{after_added}
 use Rattle.xdlms_blocks.specs.declared.fault.BlockFault.TheVariants.{WrongNumber, TooLong}
 use Rattle.session_core.specs.Outcome.{Outcome, asks, says, turn_event}
-use Rattle.session_core.specs.Outgoing.{sent, sending_by_fault, continued, begun_by}
-use Rattle.session_core.specs.Rules.{opens, is_heard, is_release, is_closing, call_in, turn_of, link_in, link_after, incoming_by_request, incoming_by_call, incoming_in, incoming_after, begun, outgoing_by_request, outgoing_by_call, outgoing_in, outgoing_after, resolved, outcome_at, state_after, reply_text}
+use Rattle.session_core.specs.Outgoing.{sent, sending_by_fault, continued}
+use Rattle.session_core.specs.Rules.{opens, is_heard, is_release, is_closing, call_in, turn_of, link_in, link_after, incoming_by_request, incoming_by_call, incoming_in, incoming_after, outgoing_by_request, outgoing_by_call, outgoing_in, outgoing_after, resolved, outcome_at, state_after, reply_text}
 use Rattle.session_core.specs.Running.{Known, event_at, known_after, known_in, new_state, asks_on, answers_on}
 use Rattle.session_core.specs.Walks.{asks_along, answers_from, answers_along}
-use Rattle.session_core.specs.declared.asked.Asked.{Asked}
-use Rattle.session_core.specs.declared.asked.ReplyForm.TheVariants as form
 use Rattle.session_core.specs.declared.call.Call.{Call}
 use Rattle.session_core.specs.declared.call.Call.TheVariants as call
 use Rattle.session_core.specs.declared.incoming.Incoming.{Incoming}
-use Rattle.session_core.specs.declared.incoming.LongService.{LongService}
 use Rattle.session_core.specs.declared.incoming.LongService.TheVariants as service
 use Rattle.session_core.specs.declared.incoming.Purpose.{Purpose}
 use Rattle.session_core.specs.declared.incoming.Purpose.TheVariants as purpose
@@ -367,7 +364,7 @@ same_asks {T = T} h event_s next_s event_t next_t e n s (f ∷ fs) =
     ∙ ap (λ (events : List Event). option_to_list (event_t (h s) f) ++ events)
     (same_asks h event_s next_s event_t next_t e n (next_s s f) fs ∙ ap (λ (t : T). asks_along event_t next_t t fs) (n s f))
 
-same_from : (outcome : Outcome) (later_s later_t : Option Reply → List Reply → List (List ℕ)) → ((reply : Option Reply) (replies : List Reply) → later_s reply replies ≡ later_t reply replies)
+pub same_from : (outcome : Outcome) (later_s later_t : Option Reply → List Reply → List (List ℕ)) → ((reply : Option Reply) (replies : List Reply) → later_s reply replies ≡ later_t reply replies)
     → (replies : List Reply) → answers_from outcome later_s replies ≡ answers_from outcome later_t replies
 same_from (says to answer) later_s later_t same replies = ap (λ (texts : List (List ℕ)). due_text to (answer_text answer) ∷ texts) (same None replies)
 same_from (asks event asked) later_s later_t same [] = refl

@@ -19,7 +19,7 @@ use Rattle.session_core.specs.declared.asked.ReplyForm.TheVariants as form
 use Rattle.session_core.specs.declared.incoming.Added.{Added}
 use Rattle.session_core.specs.declared.incoming.Added.TheVariants.{GoesOn, Refused, Whole}
 use Rattle.session_core.specs.declared.incoming.Incoming.{Incoming}
-use Rattle.session_core.specs.declared.incoming.Joined.{Joined}
+use Rattle.session_core.specs.declared.joined.Joined.{Joined}
 use Rattle.session_core.specs.declared.incoming.LongService.{LongService}
 use Rattle.session_core.specs.declared.incoming.LongService.TheVariants as service
 use Rattle.session_core.specs.declared.incoming.Purpose.{Purpose}

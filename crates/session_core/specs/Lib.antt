@@ -9,3 +9,5 @@ pub mod Walks
 pub mod Backwards
 pub mod Running
 pub mod Law
+pub mod Remaining
+pub mod Progress

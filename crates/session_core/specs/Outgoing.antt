@@ -3,9 +3,11 @@
 --     continued, continued_response       the transfer after a GET-next, and the answer
 --     LongAnswer .. reply_response        the answer to the reply of an event
 --     begun_by, outgoing_by               the transfer that this answer begins
-use Rattle.std.specs.Prelude.{ℕ, ◌+◌, ◌-◌, ◌*◌, ◌==◌, ◌&&◌, nat_le, bit_and, not, false, true, if◌then◌else◌, Bool, Option, Some, None, option_and_then, List, length}
+use Rattle.std.specs.Prelude.{ℕ, ◌+◌, ◌-◌, ◌*◌, ◌==◌, ◌&&◌, nat_le, bit_and, not, true, if◌then◌else◌, Bool, Option, Some, None, option_and_then, List, length, drop}
+use Rattle.cosem_axdr.specs.declared.value.Data.{Data}
 use Rattle.cosem_names.specs.declared.result_code.ResultCode.{ResultCode}
 use Rattle.cosem_names.specs.declared.result_code.ResultCode.TheVariants.{NoLongGetInProgress, DataBlockNumberInvalid, OtherReason}
+use Rattle.cosem_names.specs.declared.service.GetResult.{GetResult}
 use Rattle.cosem_names.specs.declared.service.GetResult.TheVariants as result
 use Rattle.relay_core.specs.declared.event.Reply.{Reply}
 use Rattle.relay_core.specs.declared.event.Reply.TheVariants.{Value, Values, Code}
@@ -16,7 +18,6 @@ use Rattle.session_core.specs.declared.conformance.TheConstants.{GET_IN_BLOCKS}
 use Rattle.session_core.specs.declared.limit.TheConstants.{BLOCK_HEADER}
 use Rattle.session_core.specs.declared.link.Link.{Link}
 use Rattle.xdlms_apdu.specs.Text.{data_text, list_text, result_text, response_text}
-use Rattle.xdlms_apdu.specs.declared.block.Block.{Block}
 use Rattle.xdlms_apdu.specs.declared.invoke_id.InvokeId.{InvokeId}
 use Rattle.xdlms_apdu.specs.declared.response.Response.{Response}
 use Rattle.xdlms_apdu.specs.declared.response.Response.TheVariants as response
@@ -79,12 +80,18 @@ pub record LongAnswer : Type 0 where
   pub normal : Response
   pub raw : List ℕ
 
+abbrev pub value_answer : InvokeId → Data → LongAnswer
+value_answer id value = record { id = id; normal = response.Get id (result.Value value); raw = data_text value }
+
+abbrev pub values_answer : InvokeId → List GetResult → LongAnswer
+values_answer id results = record { id = id; normal = response.GetList id results; raw = list_text result_text results }
+
 -- the values that a reply has, where the form asks for values
 abbrev pub long_answer : ReplyForm → Reply → Option LongAnswer
-long_answer (form.Get id) (Value value) = Some (record { id = id; normal = response.Get id (result.Value value); raw = data_text value })
+long_answer (form.Get id) (Value value) = Some (value_answer id value)
 long_answer (form.Get id) (Values results) = None
 long_answer (form.Get id) (Code code) = None
-long_answer (form.GetList id) (Values results) = Some (record { id = id; normal = response.GetList id results; raw = list_text result_text results })
+long_answer (form.GetList id) (Values results) = Some (values_answer id results)
 long_answer (form.GetList id) (Value value) = None
 long_answer (form.GetList id) (Code code) = None
 long_answer (form.Set id) reply = None
@@ -142,3 +149,23 @@ begun_by asked reply = option_and_then (long_text asked.link) (long_answer asked
 -- the long GET that goes on after the answer, which has the first block
 abbrev pub outgoing_by : Asked → Reply → Option Sending
 outgoing_by asked reply = option_and_then (sent 1) (begun_by asked reply)
+
+-- ---- what the code says of a long answer
+
+-- an answer of which so many bytes don't go in blocks
+abbrev pub answer_cut : InvokeId → Response → ℕ → LongAnswer
+answer_cut id normal header = record { id = id; normal = normal; raw = drop header (response_text normal) }
+
+-- the reply whose values it has
+abbrev pub reply_in : Response → Reply
+reply_in (response.Get id (result.Value value)) = Value value
+reply_in (response.Get id (result.Code code)) = Code code
+reply_in (response.GetBlock id block) = Code OtherReason
+reply_in (response.GetBlockRefused id last number code) = Code OtherReason
+reply_in (response.GetList id results) = Values results
+reply_in (response.Set id code) = Code OtherReason
+reply_in (response.SetBlock id number) = Code OtherReason
+reply_in (response.SetLastBlock id code number) = Code OtherReason
+reply_in (response.Action id code) = Code OtherReason
+reply_in (response.ActionBlock id number) = Code OtherReason
+reply_in (response.Exception exception) = Code OtherReason

@@ -31,7 +31,6 @@ use Rattle.session_core.specs.declared.state.State.{State}
 use Rattle.session_core.specs.declared.step.Step.{Step}
 use Rattle.session_core.specs.declared.step.Step.TheVariants.{Ask, Say, Join}
 use Rattle.wrapper_frame.specs.declared.parts.Frame.{Frame}
-use Rattle.xdlms_apdu.specs.Text.{response_text}
 use Rattle.xdlms_apdu.specs.declared.request.Request.{Request}
 use Rattle.xdlms_apdu.specs.declared.request.Request.TheVariants as request
 use Rattle.xdlms_apdu.specs.declared.response.Exception.{Exception}
@@ -201,3 +200,9 @@ abbrev pub step_outcome : Step → Outcome
 step_outcome (Ask event asked) = asks event asked
 step_outcome (Say due) = says due.to due.answer
 step_outcome (Join joined) = whole_outcome joined
+
+-- the bytes are read, if any were joined
+abbrev pub is_settled : Step → Bool
+is_settled (Ask event asked) = true
+is_settled (Say due) = true
+is_settled (Join joined) = false

@@ -4,8 +4,8 @@ ghost use Rattle.session_core.specs.Answers.{IsSmall};
 ghost use Rattle.session_core.specs.declared.answer.Answer.TheVariants.{Service};
 
 use crate::due::Due;
+use crate::joined::Joined;
 use crate::link::Link;
-use cosem_axdr::Octets;
 use cosem_names::{AttributeSelection, MethodRef, ResultCode};
 use std::alloc::AllocError;
 use xdlms_apdu::{Block, InvokeId, Response};
@@ -102,18 +102,6 @@ impl Purpose {
 pub(crate) struct Incoming {
     pub(crate) purpose: Purpose,
     pub(crate) blocks: JoinBlocks,
-}
-
-/// A long SET or ACTION of which all blocks came.
-#[derive(Debug, Drop)]
-pub(crate) struct Joined {
-    pub(crate) link: Link,
-    pub(crate) purpose: Purpose,
-    pub(crate) id: InvokeId,
-    /// The number of the last block.
-    pub(crate) number: u32,
-    /// What the blocks hold, end to end.
-    pub(crate) bytes: Octets,
 }
 
 /// What became of a transfer by one more block.

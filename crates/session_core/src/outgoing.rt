@@ -1,5 +1,5 @@
 ghost use Rattle.std.specs.Prelude.{◌≡◌, ◌≢◌, ◌*◌, ◌-◌, ◌<◌, ◌≤◌, ◌↔◌, length, true, false, IsErrOf, IfOk, IfErr, OnOk, OnErr, Err};
-ghost use Rattle.session_core.specs.Outgoing.{unsent_by, get_code, continued_response, continued};
+ghost use Rattle.session_core.specs.Outgoing.{unsent_by, get_code, block_response, continued_response, continued};
 ghost use Rattle.session_core.specs.declared.answer.Answer.TheVariants.{Service};
 ghost use Rattle.xdlms_blocks.specs.Sending.{next_piece, after_next, sending_by};
 ghost use Rattle.xdlms_blocks.specs.declared.blocks.TheConstants.{MAX_BLOCKS};
@@ -87,17 +87,10 @@ pub(crate) fn continue_by(
     };
     match outgoing.next(alloc, number) {
         Ok(piece) => {
-            let Piece { last, number, raw } = piece;
-            if last {
+            if piece.last {
                 *transfer = None;
             }
-            Ok(Due::response(
-                to,
-                Response::GetBlock {
-                    id,
-                    block: Block { last, number, raw },
-                },
-            ))
+            Ok(block_given(to, id, piece))
         }
         Err(BlockFault::Memory) => Err(AllocError),
         Err(fault) => {
@@ -105,6 +98,22 @@ pub(crate) fn continue_by(
             Ok(block_refused(to, id, number, fault))
         }
     }
+}
+
+/// The answer with a block.
+pub(crate) fn block_given(to: u16, id: InvokeId, piece: Piece) -> Due
+    requires { length piece.raw ≤ MAX_RAW }
+    ensures to { result.to ≡ to }
+    ensures answer { result.answer ≡ Service (block_response id piece) }
+{
+    let Piece { last, number, raw } = piece;
+    Due::response(
+        to,
+        Response::GetBlock {
+            id,
+            block: Block { last, number, raw },
+        },
+    )
 }
 
 // The answer to a GET-next that gets no block: it repeats the number that was asked for.

@@ -1,6 +1,7 @@
 use crate::asked::Asked;
 use crate::due::Due;
-use crate::incoming::{Added, Joined};
+use crate::incoming::Added;
+use crate::joined::Joined;
 use relay_core::Event;
 
 /// What comes of a frame.

@@ -1,0 +1,24 @@
+-- Which APDUs have a text that is read back.
+--     IsFitAarq, IsFitAare            an AARQ that is not too long, and an AARE of its numbers' ranges
+use Rattle.std.specs.Prelude.{◌≡◌, ◌^◌, ◌<◌, true, length}
+use Rattle.acse_ber.specs.Reading.{is_response}
+use Rattle.acse_ber.specs.Text.{aarq_body}
+use Rattle.acse_ber.specs.declared.aarq.Aarq.{Aarq}
+use Rattle.acse_ber.specs.declared.aare.Aare.{Aare}
+use Rattle.acse_ber.specs.declared.aare.Info.{Info}
+use Rattle.acse_ber.specs.declared.aare.Info.TheVariants.{Absent, Response, InitiateError}
+
+-- an AARQ whose fields have a length that two bytes hold
+abbrev pub IsFitAarq : Aarq → Type 0
+IsFitAarq aarq = length (aarq_body aarq) < 2 ^ 16
+
+-- 24 bits, and a size that two bytes hold
+abbrev pub IsFitInfo : Info → Type 0
+IsFitInfo Absent = Unit {0}
+IsFitInfo (Response bits limit) = (bits < 2 ^ 24) × (limit < 2 ^ 16)
+IsFitInfo (InitiateError error) = Unit {0}
+
+-- an AARE with such user information, and with a response where it accepts
+pub record IsFitAare (aare : Aare) : Type 0 where
+  pub info : IsFitInfo aare.info
+  pub responds : aare.result ≡ 0 → is_response aare.info ≡ true

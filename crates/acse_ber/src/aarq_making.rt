@@ -1,0 +1,42 @@
+//! The AARQ of a client that gives a password.
+ghost use Rattle.std.specs.Prelude.{◌≡◌, IfOk};
+ghost use Rattle.acse_ber.specs.Text.{request_text, low_level_aarq};
+
+use crate::aarq::Aarq;
+use crate::identifier::{LN_WITHOUT_CIPHERING, LOW_LEVEL_SECURITY};
+use crate::initiate::{ABSENT, CONFORMANCE_HEAD, REQUEST_HEAD, VERSION};
+use cosem_axdr::Octets;
+use std::alloc::{AllocError, Global};
+
+/// Makes the AARQ of a client with low-level security: with this password, of the application context of logical names without ciphering, and with an InitiateRequest of version 6.
+///
+/// It proposes the conformance `bits`, of which the lowest 24 are taken, the first bit the highest of them, and says that the client takes APDUs of at most `limit` bytes; 0 is no limit.
+#[tactic(auto, unfolding(crate::specs::Text::low_level_aarq))]
+pub fn low_level_aarq(
+    alloc: Global,
+    password: &[u8],
+    bits: u32,
+    limit: u16,
+) -> Result<Aarq, AllocError>
+    ensures { IfOk result (λ aarq. aarq ≡ low_level_aarq password.now bits limit) }
+{
+    Ok(Aarq {
+        context: Octets::from_slice(alloc, &LN_WITHOUT_CIPHERING)?,
+        mechanism: Octets::from_slice(alloc, &LOW_LEVEL_SECURITY)?,
+        password: Some(Octets::from_slice(alloc, password)?),
+        user: initiate_request(alloc, bits, limit)?,
+    })
+}
+
+// An InitiateRequest: no dedicated key, nothing of response-allowed and of quality of service, the version, the conformance and the size.
+fn initiate_request(alloc: Global, bits: u32, limit: u16) -> Result<Octets, AllocError>
+    ensures { IfOk result (λ request. request ≡ request_text bits limit) }
+{
+    let mut request = Octets::new(alloc);
+    request.extend_from_slice(&REQUEST_HEAD)?;
+    request.extend_from_slice(&[ABSENT, ABSENT, VERSION])?;
+    request.extend_from_slice(&CONFORMANCE_HEAD)?;
+    request.extend_from_slice(&bits.to_be_bytes()[1..])?;
+    request.extend_from_slice(&limit.to_be_bytes())?;
+    Ok(request)
+}

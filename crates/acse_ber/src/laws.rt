@@ -1,0 +1,61 @@
+//! What holds of spellings and written texts as such: each function is a law, which its contract states and a call of it makes known.
+ghost use Rattle.std.specs.Prelude.{◌≡◌, ◌≢◌, ◌⊎◌, ℕ, ◌^◌, ◌<◌, ◌≤◌, Some, List, [], ◌++◌, length, bit_and, Ok};
+ghost use Rattle.cosem_axdr.specs.Spelling.{IsBytes, length_text};
+ghost use Rattle.acse_ber.specs.Fit.{IsFitAarq, IsFitAare};
+ghost use Rattle.acse_ber.specs.Reading.{aarq_of, aare_of};
+ghost use Rattle.acse_ber.specs.Spelling.{IsLength, SpellsAarq, SpellsAare, SpellsRelease};
+ghost use Rattle.acse_ber.specs.Text.{low_level, low_level_aarq, aarq_text, aare_text};
+ghost use Rattle.acse_ber.specs.Verdict.{offered, verdict_of};
+ghost use Rattle.acse_ber.specs.declared.aarq.Aarq.{Aarq};
+ghost use Rattle.acse_ber.specs.declared.aare.Aare.{Aare};
+ghost use Rattle.acse_ber.specs.declared.verdict.Verdict.TheVariants.{Accepted};
+ghost use Rattle.cosem_names.specs.declared.level.Level.TheVariants.{Public, Management};
+
+/// The written text of an AARQ that fits spells it, and is read back. An AARQ fits if its fields have at most 65,535 bytes.
+pub fn text_of_fit_aarq_spells()
+    ensures fit { (aarq : Aarq) → IsFitAarq aarq → SpellsAarq (aarq_text aarq) aarq }
+    ensures read_back { (aarq : Aarq) → IsFitAarq aarq → aarq_of (aarq_text aarq) ≡ Ok aarq }
+{}
+
+/// Whatever AARQ is spelled by at most 65,535 bytes, as many as the header of a frame can announce, fits: so its written text spells it.
+///
+/// Of a longer one that names a mechanism without the ACSE requirements, the written text may be too long by the four bytes of these.
+pub fn spelled_aarq_is_fit()
+    ensures fit { (bytes : List ℕ) (aarq : Aarq) → IsBytes bytes → length bytes ≤ 65535 → SpellsAarq bytes aarq → IsFitAarq aarq }
+    ensures spelled { (bytes : List ℕ) (aarq : Aarq) → IsBytes bytes → length bytes ≤ 65535 → SpellsAarq bytes aarq → SpellsAarq (aarq_text aarq) aarq }
+{}
+
+/// The written text of an AARE that fits spells it, and is read back. An AARE fits if its numbers are of their fields' ranges, and if it has a response where it accepts.
+pub fn text_of_fit_aare_spells()
+    ensures fit { (aare : Aare) → IsFitAare aare → SpellsAare (aare_text aare) aare }
+    ensures read_back { (aare : Aare) → IsFitAare aare → aare_of (aare_text aare) ≡ Ok aare }
+{}
+
+/// Whatever AARE bytes spell fits: so its written text spells it.
+pub fn spelled_aare_is_fit()
+    ensures fit { (bytes : List ℕ) (aare : Aare) → IsBytes bytes → SpellsAare bytes aare → IsFitAare aare }
+    ensures spelled { (bytes : List ℕ) (aare : Aare) → IsBytes bytes → SpellsAare bytes aare → SpellsAare (aare_text aare) aare }
+{}
+
+/// No spelling begins another one, and no bytes spell two values.
+pub fn no_spelling_begins_another()
+    ensures aarq { (bytes rest : List ℕ) (one other : Aarq) → SpellsAarq bytes one → SpellsAarq (bytes ++ rest) other → (rest ≡ []) × (one ≡ other) }
+    ensures aare { (bytes rest : List ℕ) (one other : Aare) → SpellsAare bytes one → SpellsAare (bytes ++ rest) other → (rest ≡ []) × (one ≡ other) }
+    ensures release { (bytes rest : List ℕ) → SpellsRelease bytes → SpellsRelease (bytes ++ rest) → rest ≡ [] }
+{}
+
+/// Of the forms of a length none is shorter than the written one.
+pub fn written_length_is_shortest()
+    ensures { (bytes : List ℕ) (n : ℕ) → IsBytes bytes → IsLength bytes n → length (length_text n) ≤ length bytes }
+{}
+
+/// Management is opened from port 1, to low-level security and to the password alone; the public client's association from port 16 alone.
+///
+/// And the AARQ of a management client that has the password is accepted, if a service that the meter offers is proposed and if the size is no limit or long enough.
+pub fn management_needs_the_password()
+    ensures management { (aarq : Aarq) (sap : ℕ) (password : List ℕ) (bits limit : ℕ) → verdict_of aarq sap password ≡ Accepted Management bits limit
+        → (sap ≡ 1) × (aarq.mechanism ≡ low_level) × (aarq.password ≡ Some password) }
+    ensures public { (aarq : Aarq) (sap : ℕ) (password : List ℕ) (bits limit : ℕ) → verdict_of aarq sap password ≡ Accepted Public bits limit → sap ≡ 16 }
+    ensures accepted { (password : List ℕ) (bits limit : ℕ) → bits < 2 ^ 24 → limit < 2 ^ 16 → bit_and offered bits ≢ 0 → (limit ≡ 0) ⊎ (64 ≤ limit)
+        → verdict_of (low_level_aarq password bits limit) 1 password ≡ Accepted Management (bit_and offered bits) limit }
+{}

@@ -1,0 +1,122 @@
+-- What the calls of a session do to what it still asks and sends.
+--     Owes          a new session owes all that a session of its input does
+--     Feeds         bytes come first of those that are to come
+--     Finishes      no more bytes are to come
+--     Steps         events and texts are taken off the front
+--     Takes         a reply is the first of those to come
+--     Leaves        what the caller may rely on after each `Next`
+use Rattle.std.specs.Prelude.{◌≡◌, ◌⊎◌, ◌<◌, ℕ, true, false, Option, Some, None, List, [], ◌∷◌, ◌++◌, Result, Ok, Err}
+use Rattle.relay_core.specs.declared.event.Event.{Event}
+use Rattle.relay_core.specs.declared.event.Reply.{Reply}
+use Rattle.session_core.specs.Backwards.{Asks, Answers, end_of}
+use Rattle.session_core.specs.Remaining.{still_asks, still_sends, still_ends, is_asking, ended, is_finished, load}
+use Rattle.session_core.specs.declared.end.SessionEnd.{SessionEnd}
+use Rattle.session_core.specs.declared.next.Next.{Next}
+use Rattle.session_core.specs.declared.next.Next.TheVariants.{Ask, Send, Wait, End}
+use Rattle.session_core.specs.declared.session.Session.{Session}
+use Rattle.session_core.specs.declared.step.Step.{Step}
+use Rattle.session_core.specs.declared.step.Step.TheVariants as step
+use Rattle.session_core.specs.declared.task.Task.{Task}
+use Rattle.session_core.specs.declared.task.Task.TheVariants as task
+
+-- a session owes what one with this password does, whatever its input is
+pub record Owes (password : List ℕ) (s : Session) : Type 0 where
+  pub asks : (input : List ℕ) → still_asks s input ≡ Asks password input
+  pub sends : (input : List ℕ) (replies : List Reply) → still_sends s input replies ≡ Answers password input replies
+  pub ends : (input : List ℕ) → still_ends s input ≡ end_of input
+  pub silent : is_asking s ≡ false
+  pub goes_on : is_finished s ≡ false
+
+-- bytes came
+pub record Feeds (old : Session) (bytes : List ℕ) (new : Session) : Type 0 where
+  pub asks : (more : List ℕ) → still_asks new more ≡ still_asks old (bytes ++ more)
+  pub sends : (more : List ℕ) (replies : List Reply) → still_sends new more replies ≡ still_sends old (bytes ++ more) replies
+  pub ends : (more : List ℕ) → still_ends new more ≡ still_ends old (bytes ++ more)
+  pub asking : is_asking new ≡ is_asking old
+  pub over : ended new ≡ ended old
+  pub finished : is_finished new ≡ is_finished old
+
+-- the input ended
+pub record Finishes (old new : Session) : Type 0 where
+  pub asks : (more : List ℕ) → still_asks new more ≡ still_asks old []
+  pub sends : (more : List ℕ) (replies : List Reply) → still_sends new more replies ≡ still_sends old [] replies
+  pub ends : (more : List ℕ) → still_ends new more ≡ still_ends old []
+  pub asking : is_asking new ≡ is_asking old
+  pub over : ended new ≡ ended old
+  pub finished : is_finished new ≡ true
+
+-- these events were asked and these texts sent
+pub record Steps (old : Session) (asked : List Event) (sent : List (List ℕ)) (new : Session) : Type 0 where
+  pub asks : (more : List ℕ) → still_asks old more ≡ asked ++ still_asks new more
+  pub sends : (more : List ℕ) (replies : List Reply) → still_sends old more replies ≡ sent ++ still_sends new more replies
+  pub ends : (more : List ℕ) → still_ends old more ≡ still_ends new more
+  pub finished : is_finished new ≡ is_finished old
+
+-- a reply came
+pub record Takes (old : Session) (reply : Reply) (new : Session) : Type 0 where
+  pub asks : (more : List ℕ) → still_asks new more ≡ still_asks old more
+  pub sends : (more : List ℕ) (replies : List Reply) → still_sends new more replies ≡ still_sends old more (reply ∷ replies)
+  pub ends : (more : List ℕ) → still_ends new more ≡ still_ends old more
+  pub silent : is_asking new ≡ false
+  pub finished : is_finished new ≡ is_finished old
+  pub less : load new < load old
+
+-- the events and the texts of a `Next`
+abbrev pub asked_by : Next → List Event
+asked_by (Ask event) = event ∷ []
+asked_by (Send text) = []
+asked_by Wait = []
+asked_by (End end) = []
+
+abbrev pub sent_by : Next → List (List ℕ)
+sent_by (Ask event) = []
+sent_by (Send text) = text ∷ []
+sent_by Wait = []
+sent_by (End end) = []
+
+-- a call of `next` took off what it gives; want of memory nothing
+abbrev pub StepsBy : {E : Type 0} → Session → Result Next E → Session → Type 0
+StepsBy old (Ok next) new = Steps old (asked_by next) (sent_by next) new
+StepsBy old (Err error) new = Steps old [] [] new
+
+-- nothing is asked and nothing sent without more input
+pub record IsQuiet (s : Session) : Type 0 where
+  pub asks : still_asks s [] ≡ []
+  pub sends : (replies : List Reply) → still_sends s [] replies ≡ []
+  pub goes_on : is_finished s ≡ false
+
+-- the reply to an event is awaited, and nothing is sent before it
+pub record IsAwaiting (s : Session) : Type 0 where
+  pub asking : is_asking s ≡ true
+  pub sends : (more : List ℕ) → still_sends s more [] ≡ []
+
+-- nothing is asked and nothing sent any more
+pub record IsOver (end : SessionEnd) (s : Session) : Type 0 where
+  pub asks : (more : List ℕ) → still_asks s more ≡ []
+  pub sends : (more : List ℕ) (replies : List Reply) → still_sends s more replies ≡ []
+  pub ends : (more : List ℕ) → still_ends s more ≡ end
+  pub over : ended s ≡ Some end
+
+-- what stands after each `Next`. What is asked or sent is work done, so that not all calls give an event or a text.
+abbrev pub Leaves : Session → Next → Session → Type 0
+Leaves old (Ask event) new = IsAwaiting new × (load new < load old)
+Leaves old (Send text) new = (is_asking new ≡ false) × (load new < load old)
+Leaves old Wait new = IsAwaiting new ⊎ IsQuiet new
+Leaves old (End end) new = IsOver end new
+
+-- what a task does
+abbrev pub WorksBy : {E : Type 0} → Session → Result (Option Next) E → Session → Type 0
+WorksBy old (Ok None) new = Steps old [] [] new × (load new < load old)
+WorksBy old (Ok (Some next)) new = Steps old (asked_by next) (sent_by next) new × Leaves old next new
+WorksBy old (Err error) new = Steps old [] [] new
+
+-- the task that a step leaves, and what it wants of the caller
+abbrev pub task_by : Step → Task
+task_by (step.Ask event asked) = task.Await asked
+task_by (step.Say due) = task.Say due
+task_by (step.Join joined) = task.Read joined
+
+abbrev pub next_by : Step → Option Next
+next_by (step.Ask event asked) = Some (Ask event)
+next_by (step.Say due) = None
+next_by (step.Join joined) = None

@@ -1,0 +1,145 @@
+-- What a session still does, by what it keeps, for every way that its input goes on and for every list of replies.
+--     still_asks, still_sends, still_ends     the events, the texts of the answers, and the end
+--     is_asking, ended, is_finished           what it waits for
+--     load                                    how much work is in what it keeps
+use Rattle.std.specs.Prelude.{ℕ, ◌+◌, Bool, true, false, if◌then◌else◌, Option, Some, None, option_to_list, List, [], ◌∷◌, ◌++◌, length}
+use Rattle.relay_core.specs.declared.event.Event.{Event}
+use Rattle.relay_core.specs.declared.event.Reply.{Reply}
+use Rattle.session_core.specs.Answers.{answer_text, due_text}
+use Rattle.session_core.specs.Backwards.{to_server, end_of}
+use Rattle.session_core.specs.Incoming.{whole_outcome}
+use Rattle.session_core.specs.Outcome.{Outcome, asks, says, event_of}
+use Rattle.session_core.specs.Outgoing.{outgoing_by}
+use Rattle.session_core.specs.Rules.{reply_text}
+use Rattle.session_core.specs.Running.{known_in, asks_on, answers_on}
+use Rattle.session_core.specs.Walks.{answers_from}
+use Rattle.session_core.specs.declared.asked.Asked.{Asked}
+use Rattle.session_core.specs.declared.end.SessionEnd.{SessionEnd}
+use Rattle.session_core.specs.declared.session.Session.{Session}
+use Rattle.session_core.specs.declared.state.State.{State}
+use Rattle.session_core.specs.declared.task.Task.{Task}
+use Rattle.session_core.specs.declared.task.Task.TheVariants.{Listen, Hear, Read, Await, Say, Send, Over}
+use Rattle.wrapper_frame.specs.Messages.{frames_of}
+use Rattle.wrapper_frame.specs.declared.parts.Frame.{Frame}
+
+-- the bytes that are not yet taken as frames: those that are pending, and unless the input has ended those that are to come
+abbrev pub bytes_ahead : Session → List ℕ → List ℕ
+bytes_ahead s more = s.deframer ++ (if s.is_finished then [] else more)
+
+-- the frames for the server among them
+abbrev pub frames_ahead : Session → List ℕ → List Frame
+frames_ahead s more = to_server (frames_of (bytes_ahead s more))
+
+-- ---- the events
+
+-- the events of a task, and of the frames after it
+abbrev pub asks_of : List ℕ → State → Task → List Frame → List Event
+asks_of password state Listen fs = asks_on password (known_in state) fs
+asks_of password state (Hear frame) fs = asks_on password (known_in state) (frame ∷ fs)
+asks_of password state (Read joined) fs = option_to_list (event_of (whole_outcome joined)) ++ asks_on password (known_in state) fs
+asks_of password state (Await asked) fs = asks_on password (known_in state) fs
+asks_of password state (Say due) fs = asks_on password (known_in state) fs
+asks_of password state (Send text) fs = asks_on password (known_in state) fs
+asks_of password state (Over end) fs = []
+
+-- the events that are still to be asked
+unfoldable pub still_asks : Session → List ℕ → List Event
+still_asks s more = asks_of s.password s.state s.task (frames_ahead s more)
+
+-- ---- the answers
+
+-- what is kept after the reply to an event: the long GET that the answer begins
+abbrev pub replied : Asked → Reply → State → State
+replied asked reply state = record { link = state.link; incoming = state.incoming; outgoing = outgoing_by asked reply }
+
+-- what is kept after an outcome, and after the reply to its event
+abbrev pub after_outcome : Outcome → Option Reply → State → State
+after_outcome (says to answer) reply state = state
+after_outcome (asks event asked) None state = state
+after_outcome (asks event asked) (Some reply) state = replied asked reply state
+
+-- the texts from an outcome on
+abbrev pub texts_from : List ℕ → State → Outcome → List Frame → List Reply → List (List ℕ)
+texts_from password state outcome fs replies = answers_from outcome (λ reply rest. answers_on password (after_outcome outcome reply state) fs rest) replies
+
+-- the texts from a reply on
+abbrev pub texts_after : List ℕ → State → Asked → List Frame → List Reply → List (List ℕ)
+texts_after password state asked fs [] = []
+texts_after password state asked fs (reply ∷ replies) = reply_text asked reply ∷ answers_on password (replied asked reply state) fs replies
+
+-- the texts of a task, and of the frames after it
+abbrev pub texts_of : List ℕ → State → Task → List Frame → List Reply → List (List ℕ)
+texts_of password state Listen fs replies = answers_on password state fs replies
+texts_of password state (Hear frame) fs replies = answers_on password state (frame ∷ fs) replies
+texts_of password state (Read joined) fs replies = texts_from password state (whole_outcome joined) fs replies
+texts_of password state (Await asked) fs replies = texts_after password state asked fs replies
+texts_of password state (Say due) fs replies = due_text due.to (answer_text due.answer) ∷ answers_on password state fs replies
+texts_of password state (Send text) fs replies = text ∷ answers_on password state fs replies
+texts_of password state (Over end) fs replies = []
+
+-- the texts that are still to be sent, up to the first event without a reply
+unfoldable pub still_sends : Session → List ℕ → List Reply → List (List ℕ)
+still_sends s more replies = texts_of s.password s.state s.task (frames_ahead s more) replies
+
+-- ---- the end
+
+-- how a task goes, where the input ends so
+abbrev pub ends_of : Task → SessionEnd → SessionEnd
+ends_of Listen end = end
+ends_of (Hear frame) end = end
+ends_of (Read joined) end = end
+ends_of (Await asked) end = end
+ends_of (Say due) end = end
+ends_of (Send text) end = end
+ends_of (Over over) end = over
+
+-- how the session will end
+unfoldable pub still_ends : Session → List ℕ → SessionEnd
+still_ends s more = ends_of s.task (end_of (bytes_ahead s more))
+
+-- ---- what it waits for
+
+abbrev pub awaits : Task → Bool
+awaits Listen = false
+awaits (Hear frame) = false
+awaits (Read joined) = false
+awaits (Await asked) = true
+awaits (Say due) = false
+awaits (Send text) = false
+awaits (Over end) = false
+
+-- the reply to an event is awaited
+unfoldable pub is_asking : Session → Bool
+is_asking s = awaits s.task
+
+abbrev pub end_in : Task → Option SessionEnd
+end_in Listen = None
+end_in (Hear frame) = None
+end_in (Read joined) = None
+end_in (Await asked) = None
+end_in (Say due) = None
+end_in (Send text) = None
+end_in (Over end) = Some end
+
+-- the end that was told
+unfoldable pub ended : Session → Option SessionEnd
+ended s = end_in s.task
+
+-- the input has ended
+unfoldable pub is_finished : Session → Bool
+is_finished s = s.is_finished
+
+-- ---- how much work is left
+
+-- each task is more work than what comes of it, and a frame has more bytes than its tasks are work
+abbrev pub task_load : Task → ℕ
+task_load Listen = 0
+task_load (Hear frame) = 5
+task_load (Read joined) = 4
+task_load (Await asked) = 3
+task_load (Say due) = 2
+task_load (Send text) = 1
+task_load (Over end) = 0
+
+unfoldable pub load : Session → ℕ
+load s = length s.deframer + task_load s.task

@@ -1,0 +1,94 @@
+ghost use Rattle.std.specs.Prelude.{◌≡◌, IfOk, IsTrue};
+ghost use Rattle.session_core.specs.Incoming.{whole_data, whole_outcome, event_by, form_by};
+ghost use Rattle.session_core.specs.Outcome.{asks};
+ghost use Rattle.session_core.specs.Rules.{step_outcome, is_settled};
+
+use crate::asked::{Asked, ReplyForm};
+use crate::due::Due;
+use crate::incoming::Purpose;
+use crate::link::Link;
+use crate::step::Step;
+use cosem_axdr::{Data, DataFault, Octets, read};
+use cosem_names::ResultCode;
+use relay_core::Event;
+use std::alloc::{AllocError, Global};
+use xdlms_apdu::InvokeId;
+
+/// A long SET or ACTION of which all blocks came.
+#[derive(Debug, Drop)]
+pub(crate) struct Joined {
+    pub(crate) link: Link,
+    pub(crate) purpose: Purpose,
+    pub(crate) id: InvokeId,
+    /// The number of the last block.
+    pub(crate) number: u32,
+    /// What the blocks hold, end to end.
+    pub(crate) bytes: Octets,
+}
+
+impl Joined {
+    /// What the blocks ask for. They hold one Data and nothing more, or they are refused.
+    #[tactic(auto, unfolding(crate::specs::Incoming::whole_outcome))]
+    pub(crate) fn read(&self, alloc: Global) -> Result<Step, AllocError>
+        ensures outcome { IfOk result (λ step. step_outcome step ≡ whole_outcome self.now) }
+        ensures settled { IfOk result (λ step. IsTrue (is_settled step)) }
+    {
+        match read_whole(alloc, self.bytes.as_slice())? {
+            Some(value) => Ok(self.ask(value)),
+            None => {
+                let service = self.purpose.service();
+                let refusal = service.refused(self.id, self.number, ResultCode::OtherReason);
+                Ok(Step::Say(Due::response(self.link.source, refusal)))
+            }
+        }
+    }
+
+    // The event of a transfer that holds this value.
+    fn ask(&self, value: Data) -> Step
+        ensures step { step_outcome result ≡ asks (event_by self.now.link.level self.now.purpose value) (record { link = self.now.link; form = form_by self.now.purpose self.now.id self.now.number }) }
+        ensures settled { IsTrue (is_settled result) }
+    {
+        let link = self.link;
+        let level = link.level;
+        match self.purpose {
+            Purpose::Set(target) => Step::Ask(
+                Event::Set {
+                    level,
+                    attr: target.attr,
+                    selected: target.selected,
+                    value,
+                },
+                Asked {
+                    link,
+                    form: ReplyForm::SetLastBlock(self.id, self.number),
+                },
+            ),
+            Purpose::Action(method) => Step::Ask(
+                Event::Execute {
+                    level,
+                    method,
+                    parameter: Some(value),
+                },
+                Asked {
+                    link,
+                    form: ReplyForm::Action(self.id),
+                },
+            ),
+        }
+    }
+}
+
+// The one Data that bytes are, or None.
+#[tactic(auto, unfolding(crate::specs::Incoming::whole_data))]
+fn read_whole(alloc: Global, bytes: &[u8]) -> Result<Option<Data>, AllocError>
+    ensures { IfOk result (λ value. value ≡ whole_data bytes.now) }
+{
+    match read(alloc, bytes) {
+        Ok((value, size)) if size == bytes.len() => Ok(Some(value)),
+        Ok(_) => Ok(None),
+        Err(DataFault::Memory) => Err(AllocError),
+        Err(
+            DataFault::Truncated | DataFault::UnknownTag | DataFault::TooDeep | DataFault::TooLong,
+        ) => Ok(None),
+    }
+}

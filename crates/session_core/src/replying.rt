@@ -1,0 +1,215 @@
+ghost use Rattle.std.specs.Prelude.{◌≡◌, ◌≤◌, ◌<◌, ◌*◌, ◌-◌, None, length, option_and_then, IfOk, IfErr};
+ghost use Rattle.session_core.specs.Answers.{answer_text, due_text};
+ghost use Rattle.session_core.specs.Outgoing.{sent, unsent_by, can_go_in_blocks, long_response, long_text, block_response, code_response, reply_code, answer_cut, reply_in, outgoing_by};
+ghost use Rattle.session_core.specs.Rules.{reply_text};
+ghost use Rattle.session_core.specs.declared.answer.Answer.TheVariants.{Service};
+ghost use Rattle.xdlms_blocks.specs.Sending.{next_piece};
+ghost use Rattle.xdlms_blocks.specs.declared.blocks.TheConstants.{MAX_BLOCKS};
+
+use crate::answer::framed;
+use crate::asked::{Asked, ReplyForm};
+use crate::conformance::GET_IN_BLOCKS;
+use crate::due::Due;
+use crate::limit::BLOCK_HEADER;
+use crate::link::Link;
+use crate::outgoing::{Outgoing, block_given};
+use cosem_axdr::Octets;
+use cosem_names::{GetResult, ResultCode};
+use relay_core::Reply;
+use std::alloc::{AllocError, Global};
+use xdlms_apdu::{InvokeId, Response, write_response};
+use xdlms_blocks::{BlockFault, MAX_BLOCKS};
+
+/// The bytes of a Get-Response-Normal before its value's.
+const GET_HEADER: usize = 4;
+/// The bytes of a Get-Response-With-List before those of its results.
+const GET_LIST_HEADER: usize = 3;
+
+/// The frame that answers a reply, and the long GET that goes on after it.
+#[derive(Debug, Drop)]
+pub(crate) struct Answered {
+    pub(crate) text: Octets,
+    pub(crate) outgoing: Option<Outgoing>,
+}
+
+/// The answer to a reply. Want of memory gives the reply back.
+#[tactic(auto, unfolding(crate::specs::Outgoing::reply_response, crate::specs::Outgoing::begun_by), using(crate::proofs::Tasks::value_cut, crate::proofs::Tasks::values_cut))]
+pub(crate) fn answer_reply(
+    alloc: Global,
+    asked: Asked,
+    reply: Reply,
+) -> Result<Answered, (AllocError, Reply)>
+    ensures text { IfOk result (λ answered. answered.text ≡ reply_text asked reply) }
+    ensures outgoing { IfOk result (λ answered. answered.outgoing ≡ outgoing_by asked reply) }
+    ensures err { IfErr result (λ failed. failed.1 ≡ reply) }
+{
+    match reply {
+        Reply::Value(value) => match asked.form {
+            ReplyForm::Get(id) => {
+                let normal = Response::Get {
+                    id,
+                    result: GetResult::Value(value),
+                };
+                answer_values(alloc, asked.link, id, normal, GET_HEADER)
+            }
+            ReplyForm::GetList(_)
+            | ReplyForm::Set(_)
+            | ReplyForm::SetLastBlock(_, _)
+            | ReplyForm::Action(_) => answer_result(alloc, asked, Reply::Value(value)),
+        },
+        Reply::Values(results) => match asked.form {
+            ReplyForm::GetList(id) => {
+                let normal = Response::GetList { id, results };
+                answer_values(alloc, asked.link, id, normal, GET_LIST_HEADER)
+            }
+            ReplyForm::Get(_)
+            | ReplyForm::Set(_)
+            | ReplyForm::SetLastBlock(_, _)
+            | ReplyForm::Action(_) => answer_result(alloc, asked, Reply::Values(results)),
+        },
+        Reply::Code(code) => answer_result(alloc, asked, Reply::Code(code)),
+    }
+}
+
+// The answer to values. Want of memory gives them back.
+fn answer_values(
+    alloc: Global,
+    link: Link,
+    id: InvokeId,
+    normal: Response,
+    header: usize,
+) -> Result<Answered, (AllocError, Reply)>
+    requires { header ≤ GET_HEADER }
+    ensures text { IfOk result (λ answered. answered.text ≡ due_text link.source (answer_text (Service (long_response link (answer_cut id normal header))))) }
+    ensures outgoing { IfOk result (λ answered. answered.outgoing ≡ option_and_then (sent 1) (long_text link (answer_cut id normal header))) }
+    ensures err { IfErr result (λ failed. failed.1 ≡ reply_in normal) }
+{
+    match answer_long(alloc, link, id, &normal, header) {
+        Ok(answered) => Ok(answered),
+        Err(error) => Err((error, reply_in(normal))),
+    }
+}
+
+// The reply whose values a response has.
+fn reply_in(normal: Response) -> Reply
+    ensures { result ≡ reply_in normal }
+{
+    match normal {
+        Response::Get { result, .. } => match result {
+            GetResult::Value(value) => Reply::Value(value),
+            GetResult::Code(code) => Reply::Code(code),
+        },
+        Response::GetList { results, .. } => Reply::Values(results),
+        Response::GetBlock { .. }
+        | Response::GetBlockRefused { .. }
+        | Response::Set { .. }
+        | Response::SetBlock { .. }
+        | Response::SetLastBlock { .. }
+        | Response::Action { .. }
+        | Response::ActionBlock { .. }
+        | Response::Exception(_) => Reply::Code(ResultCode::OtherReason),
+    }
+}
+
+// The answer to a reply that is a result, or that is taken as one.
+fn answer_result(alloc: Global, asked: Asked, reply: Reply) -> Result<Answered, (AllocError, Reply)>
+    ensures text { IfOk result (λ answered. answered.text ≡ due_text asked.link.source (answer_text (Service (code_response asked.form (reply_code reply))))) }
+    ensures outgoing { IfOk result (λ answered. answered.outgoing ≡ None) }
+    ensures err { IfErr result (λ failed. failed.1 ≡ reply) }
+{
+    let code = match &reply {
+        Reply::Code(code) => *code,
+        Reply::Value(_) | Reply::Values(_) => ResultCode::OtherReason,
+    };
+    match answer_code(alloc, asked, code) {
+        Ok(answered) => Ok(answered),
+        Err(error) => Err((error, reply)),
+    }
+}
+
+// The answer with a result alone.
+fn answer_code(alloc: Global, asked: Asked, code: ResultCode) -> Result<Answered, AllocError>
+    ensures text { IfOk result (λ answered. answered.text ≡ due_text asked.link.source (answer_text (Service (code_response asked.form code)))) }
+    ensures outgoing { IfOk result (λ answered. answered.outgoing ≡ None) }
+{
+    let response = match asked.form {
+        ReplyForm::Get(id) | ReplyForm::GetList(id) => Response::Get {
+            id,
+            result: GetResult::Code(code),
+        },
+        ReplyForm::Set(id) => Response::Set { id, code },
+        ReplyForm::SetLastBlock(id, number) => Response::SetLastBlock { id, code, number },
+        ReplyForm::Action(id) => Response::Action { id, code },
+    };
+    let due = Due::response(asked.link.source, response);
+    Ok(Answered {
+        text: due.text(alloc)?,
+        outgoing: None,
+    })
+}
+
+// The answer with values: as it is where it has room, else its first block, else a refusal. So many of its bytes don't go in blocks.
+#[tactic(auto, unfolding(crate::specs::Answers::answer_text))]
+fn answer_long(
+    alloc: Global,
+    link: Link,
+    id: InvokeId,
+    normal: &Response,
+    header: usize,
+) -> Result<Answered, AllocError>
+    requires { header ≤ GET_HEADER }
+    ensures text { IfOk result (λ answered. answered.text ≡ due_text link.source (answer_text (Service (long_response link (answer_cut id normal.now header))))) }
+    ensures outgoing { IfOk result (λ answered. answered.outgoing ≡ option_and_then (sent 1) (long_text link (answer_cut id normal.now header))) }
+{
+    let text = write_response(alloc, normal)?;
+    if text.len() <= usize::from(link.limit.bytes()) {
+        return Ok(Answered {
+            text: framed(alloc, link.source, &text)?,
+            outgoing: None,
+        });
+    }
+    let raw = &text.as_slice()[header..];
+    if can_go_in_blocks(link, raw) {
+        return begin(alloc, link, id, Octets::from_slice(alloc, raw)?);
+    }
+    let refusal = Response::Get {
+        id,
+        result: GetResult::Code(ResultCode::OtherReason),
+    };
+    Ok(Answered {
+        text: Due::response(link.source, refusal).text(alloc)?,
+        outgoing: None,
+    })
+}
+
+// Whether bytes may go to the client in blocks: this was negotiated, and there are numbers for all blocks.
+fn can_go_in_blocks(link: Link, raw: &[u8]) -> bool
+    ensures { result ≡ can_go_in_blocks link raw.now }
+{
+    link.conformance & GET_IN_BLOCKS == GET_IN_BLOCKS
+        && raw.len() <= MAX_BLOCKS * usize::from(link.limit.raw())
+}
+
+// Begins to send bytes in blocks: the answer has the first.
+fn begin(alloc: Global, link: Link, id: InvokeId, raw: Octets) -> Result<Answered, AllocError>
+    requires some { 0 < length raw }
+    requires numbered { length raw ≤ MAX_BLOCKS * (link.limit - BLOCK_HEADER) }
+    ensures text { IfOk result (λ answered. answered.text ≡ due_text link.source (answer_text (Service (block_response id (next_piece (unsent_by link.limit raw)))))) }
+    ensures outgoing { IfOk result (λ answered. answered.outgoing ≡ sent 1 (unsent_by link.limit raw)) }
+{
+    let mut outgoing = Outgoing::new(raw, link.limit);
+    match outgoing.next(alloc, 0) {
+        Ok(piece) => {
+            let is_last = piece.last;
+            let text = block_given(link.source, id, piece).text(alloc)?;
+            Ok(Answered {
+                text,
+                outgoing: if is_last { None } else { Some(outgoing) },
+            })
+        }
+        Err(BlockFault::Memory) => Err(AllocError),
+        Err(BlockFault::NoTransfer | BlockFault::WrongNumber | BlockFault::TooLong) => {
+            unreachable!()
+        }
+    }
+}

@@ -1,0 +1,226 @@
+ghost use Rattle.std.specs.Prelude.{◌≡◌, true, Some, IfOk, IfErr, OnOk, OnErr, Ok};
+ghost use Rattle.session_core.specs.declared.task.Task.TheVariants.{Listen, Over};
+
+use crate::answer::SERVER_PORT;
+use crate::end::SessionEnd;
+use crate::next::Next;
+use crate::replying::{Answered, answer_reply};
+use crate::state::State;
+use crate::step::Step;
+use crate::task::Task;
+use cosem_axdr::Octets;
+use relay_core::Reply;
+use std::alloc::{AllocError, Global};
+use std::mem::replace;
+use wrapper_frame::{Deframer, WrapperFault};
+
+/// A client's session with the server, from the bytes that come to the frames that are sent.
+///
+/// Its caller feeds it the bytes of the stream, in any cut, and asks it what is next: an event for the meter, whose reply it is then given, a frame for the client,
+/// or more input.
+#[derive(Debug, Drop)]
+pub struct Session {
+    password: Octets,
+    deframer: Deframer,
+    is_finished: bool,
+    state: State,
+    task: Task,
+}
+
+impl Session {
+    ghost use Rattle.session_core.specs.Remaining.{is_asking, ended};
+    ghost use Rattle.session_core.specs.Progress.{Owes, Feeds, Finishes, StepsBy, Leaves, Takes, WorksBy, task_by, next_by};
+
+    /// A session of which no byte has come. The management client has this password.
+    pub fn new(alloc: Global, password: &Octets) -> Result<Session, AllocError>
+        ensures { IfOk result (Owes password.now) }
+    {
+        Ok(Session {
+            password: password.try_clone(alloc)?,
+            deframer: Deframer::new(alloc),
+            is_finished: false,
+            state: State::new(),
+            task: Task::Listen,
+        })
+    }
+
+    /// The next bytes of the stream, in any cut. A session that is over, or whose input has ended, takes none.
+    pub fn feed(&mut self, bytes: &[u8]) -> Result<(), AllocError>
+        ensures ok { OnOk result (Feeds self.old bytes.now self.new) }
+        ensures err { OnErr result (self.new ≡ self.old) }
+    {
+        if self.is_finished {
+            return Ok(());
+        }
+        match self.deframer.feed(bytes) {
+            Ok(()) => Ok(()),
+            Err(WrapperFault::Version) => Ok(()),
+            Err(WrapperFault::TooLong) => Ok(()),
+            Err(WrapperFault::Memory) => Err(AllocError),
+        }
+    }
+
+    /// The input has ended.
+    pub fn finish(&mut self)
+        ensures { Finishes self.old self.new }
+    {
+        self.is_finished = true;
+    }
+
+    /// Whether the reply to an event is awaited.
+    #[tactic(auto, unfolding(crate::specs::Remaining::is_asking))]
+    pub fn asking(&self) -> bool
+        ensures { result ≡ is_asking self.now }
+    {
+        match &self.task {
+            Task::Await(_) => true,
+            Task::Listen
+            | Task::Hear(_)
+            | Task::Read(_)
+            | Task::Say(_)
+            | Task::Send(_)
+            | Task::Over(_) => false,
+        }
+    }
+
+    /// What the session wants next. Want of memory changes nothing of what it still asks and sends.
+    pub fn next(&mut self, alloc: Global) -> Result<Next, AllocError>
+        ensures steps { StepsBy self.old result self.new }
+        ensures leaves { IfOk result (λ next. Leaves self.old next self.new) }
+        // While a reply is awaited, and once the session is over, this is said again.
+        ensures waits { is_asking self.old ≡ true → (result ≡ Ok Next.Wait) × (self.new ≡ self.old) }
+        ensures again { (end : SessionEnd) → ended self.old ≡ Some end → (result ≡ Ok (Next.End end)) × (self.new ≡ self.old) }
+    {
+        if self.asking() {
+            return Ok(Next::Wait);
+        }
+        if let Some(end) = self.ended() {
+            return Ok(Next::End(end));
+        }
+        'tasks: loop {
+            if let Some(next) = self.work(alloc)? {
+                return Ok(next);
+            }
+        }
+    }
+
+    /// Takes in the reply to the event that was asked. Want of memory gives it back.
+    #[tactic(auto, unfolding(crate::specs::Remaining::is_asking))]
+    pub fn answer(&mut self, alloc: Global, reply: Reply) -> Result<(), (AllocError, Reply)>
+        requires { is_asking self.now ≡ true }
+        ensures ok { OnOk result (Takes self.old reply self.new) }
+        ensures err { OnErr result (self.new ≡ self.old) }
+        ensures back { IfErr result (λ failed. failed.1 ≡ reply) }
+    {
+        let Task::Await(asked) = self.task else {
+            unreachable!()
+        };
+        let Answered { text, outgoing } = answer_reply(alloc, asked, reply)?;
+        self.state.outgoing = outgoing;
+        self.turn_to(Task::Send(text));
+        Ok(())
+    }
+
+    // The end that was told.
+    #[tactic(auto, unfolding(crate::specs::Remaining::ended))]
+    fn ended(&self) -> Option<SessionEnd>
+        ensures { result ≡ ended self.now }
+    {
+        match &self.task {
+            Task::Over(end) => Some(*end),
+            Task::Listen
+            | Task::Hear(_)
+            | Task::Read(_)
+            | Task::Await(_)
+            | Task::Say(_)
+            | Task::Send(_) => None,
+        }
+    }
+
+    // Does the next task.
+    fn work(&mut self, alloc: Global) -> Result<Option<Next>, AllocError>
+        ensures { WorksBy self.old result self.new }
+    {
+        match &self.task {
+            Task::Listen => self.listen(alloc),
+            Task::Hear(frame) => {
+                let step = self.state.hear(alloc, &self.password, frame)?;
+                Ok(self.take(step))
+            }
+            Task::Read(joined) => {
+                let step = joined.read(alloc)?;
+                Ok(self.take(step))
+            }
+            Task::Await(_) => Ok(Some(Next::Wait)),
+            Task::Say(due) => {
+                let text = due.text(alloc)?;
+                self.turn_to(Task::Listen);
+                Ok(Some(Next::Send(text)))
+            }
+            Task::Send(_) => {
+                let Task::Send(text) = replace(&mut self.task, Task::Listen) else {
+                    unreachable!()
+                };
+                Ok(Some(Next::Send(text)))
+            }
+            Task::Over(end) => Ok(Some(Next::End(*end))),
+        }
+    }
+
+    // Takes the next frame. Those for other ports are passed over.
+    fn listen(&mut self, alloc: Global) -> Result<Option<Next>, AllocError>
+        requires { self.now.task ≡ Listen }
+        ensures { WorksBy self.old result self.new }
+    {
+        match self.deframer.take(alloc) {
+            Ok(Some(frame)) if frame.dst == SERVER_PORT => {
+                self.turn_to(Task::Hear(frame));
+                Ok(None)
+            }
+            Ok(Some(_)) => Ok(None),
+            Ok(None) if !self.is_finished => Ok(Some(Next::Wait)),
+            Ok(None) if self.deframer.is_empty() => Ok(self.end(SessionEnd::Closed)),
+            Ok(None) => Ok(self.end(SessionEnd::Cut)),
+            Err(WrapperFault::Version) => Ok(self.end(SessionEnd::BadVersion)),
+            Err(WrapperFault::TooLong) => Ok(self.end(SessionEnd::TooLong)),
+            Err(WrapperFault::Memory) => Err(AllocError),
+        }
+    }
+
+    // The session is over.
+    fn end(&mut self, end: SessionEnd) -> Option<Next>
+        ensures after { self.new ≡ record self.old { task = Over end } }
+        ensures next { result ≡ Some (Next.End end) }
+    {
+        self.turn_to(Task::Over(end));
+        Some(Next::End(end))
+    }
+
+    // What comes of a frame, or of a value that came in blocks.
+    fn take(&mut self, step: Step) -> Option<Next>
+        ensures after { self.new ≡ record self.old { task = task_by step } }
+        ensures next { result ≡ next_by step }
+    {
+        match step {
+            Step::Ask(event, asked) => {
+                self.turn_to(Task::Await(asked));
+                Some(Next::Ask(event))
+            }
+            Step::Say(due) => {
+                self.turn_to(Task::Say(due));
+                None
+            }
+            Step::Join(joined) => {
+                self.turn_to(Task::Read(joined));
+                None
+            }
+        }
+    }
+
+    // The next task.
+    fn turn_to(&mut self, task: Task)
+        ensures { self.new ≡ record self.old { task = task } }
+    {
+        self.task = task;
+    }
+}
