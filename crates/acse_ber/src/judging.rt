@@ -39,7 +39,7 @@ mod initiate_error {
 const LOWEST_VERSION: u8 = 6;
 
 /// Block transfer with GET, SET and ACTION, multiple references, GET, SET and ACTION.
-const OFFERED_CONFORMANCE: u32 = 0x00_1E19;
+pub const OFFERED_CONFORMANCE: u32 = 0x00_1E19;
 
 const NO_SIZE_LIMIT: u16 = 0;
 

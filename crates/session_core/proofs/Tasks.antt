@@ -1,5 +1,5 @@
 -- What each task does to what the session still asks and sends.
-use Rattle.std.proofs.Common.{◌≡◌, ◌≢◌, ℕ, ◌+◌, ◌<◌, ◌≤◌, ◌==◌, ◌&&◌, nat_lt, Bool, true, false, cond, Option, Some, None, Ok, List, [], ◌∷◌, ◌++◌, length, refl, sym, ◌∙◌, ap, arith, inl, inr, subst}
+use Rattle.std.proofs.Common.{◌≡◌, ◌≢◌, ℕ, ◌+◌, ◌<◌, ◌≤◌, ◌==◌, ◌&&◌, nat_lt, Bool, true, false, cond, Option, Some, None, Ok, List, [], ◌∷◌, ◌++◌, length, refl, sym, ◌∙◌, ap, arith, inl, inr, subst, drop}
 use Rattle.std.specs.Prelude.{if◌then◌else◌, option_to_list, IsTrue}
 use Rattle.std.proofs.lemmas.Bool.{ltb-false}
 use Rattle.std.proofs.lemmas.List.{append_assoc, append-nil, length-drop}
@@ -11,7 +11,7 @@ use Rattle.session_core.specs.Answers.{answer_text, due_text}
 use Rattle.session_core.specs.Backwards.{to_server, end_by, end_of}
 use Rattle.session_core.specs.Incoming.{fault_of, outcome_by_fault, block_outcome_of, whole_by_data, whole_data, whole_outcome, event_by, form_by, later_outcome, transfer_of, no_blocks}
 use Rattle.session_core.specs.Outcome.{Outcome, asks, says, Turn, settled, continues, event_of, turn_event}
-use Rattle.session_core.specs.Outgoing.{answer_cut, value_answer, values_answer, outgoing_by, begun_by}
+use Rattle.session_core.specs.Outgoing.{reply_response, answer_cut, value_answer, values_answer, outgoing_by, begun_by}
 use Rattle.session_core.specs.declared.replying.TheConstants.{GET_HEADER, GET_LIST_HEADER}
 use Rattle.cosem_axdr.specs.declared.value.Data.{Data}
 use Rattle.cosem_names.specs.declared.service.GetResult.{GetResult}
@@ -23,6 +23,7 @@ use Rattle.session_core.specs.Remaining.{asks_of, texts_of, texts_from, texts_af
 use Rattle.session_core.specs.Rules.{exception_answer, opens, call_in, call_turn, request_turn, turn_in, turn_of, outgoing_by_request, outgoing_by_call, outgoing_in, outgoing_after, resolved, outcome_at, state_after, step_outcome, is_settled, opening_answer, reply_text}
 use Rattle.session_core.specs.Calls.{is_call}
 use Rattle.session_core.specs.Running.{known_in, asks_on, answers_on, new_state}
+use Rattle.session_core.specs.declared.answer.Answer.TheVariants.{Service}
 use Rattle.session_core.specs.declared.answer.TheConstants.{SERVER_PORT}
 use Rattle.session_core.specs.declared.asked.Asked.{Asked}
 use Rattle.session_core.specs.declared.call.Call.{Call}
@@ -45,6 +46,7 @@ use Rattle.session_core.specs.declared.step.Step.{Step}
 use Rattle.session_core.specs.declared.step.Step.TheVariants as step
 use Rattle.session_core.specs.declared.task.Task.{Task}
 use Rattle.session_core.specs.declared.task.Task.TheVariants.{Listen, Hear, Read, Await, Say, Send, Over}
+use Rattle.wrapper_frame.specs.Text.{frame_text}
 use Rattle.wrapper_frame.specs.Header.{head_of}
 use Rattle.wrapper_frame.specs.Messages.{frames_of, rest_of, after_first}
 use Rattle.wrapper_frame.specs.Stream.{IsFirst, IsPart, TakesFirst, GoesOn, Stops, StopsBy}
@@ -246,8 +248,8 @@ works_to : (E : Type 0) (password pending : List ℕ) (finished : Bool) (s t : S
 unfolding load is_asking still_sends
 works_to E password pending finished s t task (step.Ask event asked) c less =
     (steps_to password pending finished s t task (step.Ask event asked) c, (record { asking = refl; sends = λ more. refl }, omega arith))
-works_to E password pending finished s t task (step.Say due) c less = (steps_to password pending finished s t task (step.Say due) c, omega arith)
-works_to E password pending finished s t task (step.Join joined) c less = (steps_to password pending finished s t task (step.Join joined) c, omega arith)
+works_to E password pending finished s t task (step.Say due) c less = (steps_to password pending finished s t task (step.Say due) c, (refl, omega arith))
+works_to E password pending finished s t task (step.Join joined) c less = (steps_to password pending finished s t task (step.Join joined) c, (refl, omega arith))
 
 hear_load : (st : Step) → task_load (task_by st) < 5
 hear_load (step.Ask event asked) = omega arith
@@ -320,7 +322,7 @@ stays s = record { asks = λ more. refl; sends = λ more replies. refl; ends = �
 pub awaits_reply : (E : Type 0) (password pending : List ℕ) (finished : Bool) (s : State) (asked : Asked)
     → WorksBy {E = E} (session password pending finished s (Await asked)) (Ok (Some next.Wait)) (session password pending finished s (Await asked))
 unfolding is_asking still_sends
-awaits_reply E password pending finished s asked = (stays (session password pending finished s (Await asked)), inl (record { asking = refl; sends = λ more. refl }))
+awaits_reply E password pending finished s asked = (stays (session password pending finished s (Await asked)), inl (refl, record { asking = refl; sends = λ more. refl }))
 
 -- ---- frames are taken
 
@@ -367,33 +369,34 @@ takes_steps password old new finished s frame task goes_on events texts ends = r
 pub takes_frame : (E : Type 0) (password old new : List ℕ) (finished : Bool) (s : State) (frame : Frame)
     → IsFirst old frame new → GoesOn old (Some frame) new → (frame.dst == SERVER_PORT) ≡ true
     → WorksBy {E = E} (session password old finished s Listen) (Ok None) (session password new finished s (Hear frame))
-unfolding load
+unfolding load is_asking
 takes_frame E password old new finished s frame first goes_on here = (
   takes_steps password old new finished s frame (Hear frame) goes_on
       (λ fs. ap (asks_on password (known_in s)) (sym (to_server_by true frame fs here)))
       (λ fs replies. ap (λ (heard : List Frame). answers_on password s heard replies) (sym (to_server_by true frame fs here)))
       (λ end. refl),
-  (let less = shorter old frame new first in omega arith),
+  (refl, (let less = shorter old frame new first in omega arith)),
 )
 
 -- a frame for another port
 pub passes_frame : (E : Type 0) (password old new : List ℕ) (finished : Bool) (s : State) (frame : Frame)
     → IsFirst old frame new → GoesOn old (Some frame) new → (frame.dst == SERVER_PORT) ≡ false
     → WorksBy {E = E} (session password old finished s Listen) (Ok None) (session password new finished s Listen)
-unfolding load
+unfolding load is_asking
 passes_frame E password old new finished s frame first goes_on elsewhere = (
   takes_steps password old new finished s frame Listen goes_on
       (λ fs. ap (asks_on password (known_in s)) (sym (to_server_by false frame fs elsewhere)))
       (λ fs replies. ap (λ (heard : List Frame). answers_on password s heard replies) (sym (to_server_by false frame fs elsewhere)))
       (λ end. refl),
-  (let less = shorter old frame new first in omega arith),
+  (refl, (let less = shorter old frame new first in omega arith)),
 )
 
 is_quiet : (password pending : List ℕ) (s : State) → IsPart pending → IsQuiet (session password pending false s Listen)
-unfolding still_asks still_sends is_finished
+unfolding still_asks still_sends is_asking is_finished
 is_quiet password pending s part = record {
   asks = ap (λ (fs : List Frame). asks_on password (known_in s) (to_server fs)) (ap frames_of (append-nil pending) ∙ part.frames);
   sends = λ replies. ap (λ (fs : List Frame). answers_on password s (to_server fs) replies) (ap frames_of (append-nil pending) ∙ part.frames);
+  silent = refl;
   goes_on = refl;
 }
 
@@ -733,3 +736,20 @@ over_again s end e = by_parts (λ (u : Session). IsOver end u) s s.is_finished (
 pub asks_or_ends : (s : Session) (end : SessionEnd) → is_asking s ≡ true → ended s ≡ Some end → ⊥
 unfolding is_asking
 asks_or_ends s end asking e = let over : awaits (Over end) ≡ true = subst (λ (t : Task). awaits t ≡ true) (ends_again s end e) asking in absurd cc
+
+-- ---- the payload of a frame
+
+framed_long : (to : ℕ) (payload : List ℕ) → HEADER_SIZE ≤ length (due_text to payload)
+unfolding due_text frame_text
+framed_long to payload = omega arith
+
+framed_payload : (to : ℕ) (payload : List ℕ) → drop HEADER_SIZE (due_text to payload) ≡ payload
+unfolding due_text frame_text
+framed_payload to payload = refl
+
+pub long_frame : (bytes : List ℕ) (asked : Asked) (reply : Reply) → bytes ≡ reply_text asked reply → HEADER_SIZE ≤ length bytes
+long_frame bytes asked reply e =
+    subst (λ (b : List ℕ). HEADER_SIZE ≤ length b) (sym e) (framed_long asked.link.source (answer_text (Service (reply_response asked reply))))
+
+pub payload_of : (bytes : List ℕ) (asked : Asked) (reply : Reply) → bytes ≡ reply_text asked reply → drop HEADER_SIZE bytes ≡ answer_text (Service (reply_response asked reply))
+payload_of bytes asked reply e = ap (drop HEADER_SIZE) e ∙ framed_payload asked.link.source (answer_text (Service (reply_response asked reply)))

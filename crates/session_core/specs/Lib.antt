@@ -9,5 +9,6 @@ pub mod Walks
 pub mod Backwards
 pub mod Running
 pub mod Law
+pub mod Unframed
 pub mod Remaining
 pub mod Progress

@@ -83,6 +83,7 @@ StepsBy old (Err error) new = Steps old [] [] new
 pub record IsQuiet (s : Session) : Type 0 where
   pub asks : still_asks s [] ≡ []
   pub sends : (replies : List Reply) → still_sends s [] replies ≡ []
+  pub silent : is_asking s ≡ false
   pub goes_on : is_finished s ≡ false
 
 -- the reply to an event is awaited, and nothing is sent before it
@@ -101,12 +102,12 @@ pub record IsOver (end : SessionEnd) (s : Session) : Type 0 where
 abbrev pub Leaves : Session → Next → Session → Type 0
 Leaves old (Ask event) new = IsAwaiting new × (load new < load old)
 Leaves old (Send text) new = (is_asking new ≡ false) × (load new < load old)
-Leaves old Wait new = IsAwaiting new ⊎ IsQuiet new
+Leaves old Wait new = ((is_asking old ≡ true) × IsAwaiting new) ⊎ IsQuiet new
 Leaves old (End end) new = IsOver end new
 
 -- what a task does
 abbrev pub WorksBy : {E : Type 0} → Session → Result (Option Next) E → Session → Type 0
-WorksBy old (Ok None) new = Steps old [] [] new × (load new < load old)
+WorksBy old (Ok None) new = Steps old [] [] new × ((is_asking new ≡ false) × (load new < load old))
 WorksBy old (Ok (Some next)) new = Steps old (asked_by next) (sent_by next) new × Leaves old next new
 WorksBy old (Err error) new = Steps old [] [] new
 

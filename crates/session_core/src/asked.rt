@@ -3,7 +3,7 @@ use xdlms_apdu::InvokeId;
 
 /// What the answer to an event's reply needs to know of the request.
 #[derive(Clone, Copy, Debug)]
-pub(crate) struct Asked {
+pub struct Asked {
     pub(crate) link: Link,
     pub(crate) form: ReplyForm,
 }

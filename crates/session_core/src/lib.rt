@@ -19,8 +19,13 @@ mod session;
 mod state;
 mod step;
 mod task;
+#[cfg(test)]
+mod tests;
+mod unframed;
 
+pub use asked::Asked;
 pub use end::SessionEnd;
 pub use law::one_session;
 pub use next::Next;
 pub use session::Session;
+pub use unframed::{Unframed, answer_unframed, ask_unframed};

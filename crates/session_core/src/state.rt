@@ -86,8 +86,13 @@ impl State {
         Ok(Step::Say(due))
     }
 
-    // What the client of the association asks for.
-    fn call(&mut self, alloc: Global, link: Link, payload: &[u8]) -> Result<Step, AllocError>
+    /// What the client of the association asks for.
+    pub(crate) fn call(
+        &mut self,
+        alloc: Global,
+        link: Link,
+        payload: &[u8],
+    ) -> Result<Step, AllocError>
         ensures outcome { IfOk result (λ step. step_outcome step ≡ resolved self.old.outgoing (call_turn link self.old.incoming (call_of link.conformance payload.now))) }
         ensures after { OnOk result (self.new ≡ state_by_call link (call_of link.conformance payload.now) self.old) }
         ensures err { OnErr result (self.new ≡ self.old) }

@@ -15,6 +15,7 @@ mod text;
 
 pub use deframer::Deframer;
 pub use fault::WrapperFault;
+pub use header::HEADER_SIZE;
 pub use law::one_reading;
 pub use parts::Frame;
 pub use text::frame;

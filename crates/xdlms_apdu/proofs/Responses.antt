@@ -54,7 +54,7 @@ two_form tag form tag' form' make first second P Q one two t f heads bodies more
     subst (λ (q : Response). SpellsResponse (tag ∷ form ∷ more) q) s.3 (record { body = s.4.others; parts = parts; is_body = bodies s.0 s.1 s.2 s.4.others s.4.are_others })
 
 -- no return parameters
-abbrev IsNothing : Unit {0} → List ℕ → Type 0
+abbrev pub IsNothing : Unit {0} → List ℕ → Type 0
 IsNothing nothing text = IsByte 0 text
 
 -- ---- a block of a GET
@@ -75,7 +75,7 @@ HasNumber id last r text = (number : ℕ) × IsJoined (IsNumber number) (HasPart
 abbrev HasLast : InvokeId → Response → List ℕ → Type 0
 HasLast id r text = (last : Bool) × IsJoined (IsFlag last) (HasNumber id last r) text
 
-abbrev IsGetBlock : Response → List ℕ → Type 0
+abbrev pub IsGetBlock : Response → List ℕ → Type 0
 IsGetBlock r text = (id : InvokeId) × IsJoined (IsId id) (HasLast id r) text
 
 -- what stands behind the invoke-id-and-priority, the flag and the number
@@ -88,7 +88,7 @@ numbered_at id last bytes = number_at bytes >>= λ number. part_at id last numbe
 abbrev last_at : InvokeId → List ℕ → Read Response
 last_at id bytes = flag_at bytes >>= λ last. numbered_at id last.0 last.1
 
-get_block_agrees : Agrees Response get_block_at IsGetBlock
+pub get_block_agrees : Agrees Response get_block_at IsGetBlock
 unfolding get_block_at
 get_block_agrees =
     then_agrees invoke_id_at last_at IsId HasLast IsGetBlock invoke_id_agrees
@@ -114,11 +114,11 @@ block_found tag form t f more r s =
           (record { body = j.others; parts = parts; is_body = with_others k (with_others l (with_others m m.are_others.2)) })
     ]
 
-is_get_block : (id : InvokeId) (block : Block) (body : List ℕ) → IsResponseBody (response.GetBlock id block) body → IsGetBlock (response.GetBlock id block) (id.0 ∷ body)
+pub is_get_block : (id : InvokeId) (block : Block) (body : List ℕ) → IsResponseBody (response.GetBlock id block) body → IsGetBlock (response.GetBlock id block) (id.0 ∷ body)
 is_get_block id block body s =
     (id, join (id.0 ∷ []) body refl (block.last, behind body (λ t k. (block.number, behind t (λ u l. inl (behind u (λ v raw. (block.raw, refl, raw)) l)) k)) s))
 
-is_refused_block : (id : InvokeId) (last : Bool) (number : ℕ) (code : ResultCode) (body : List ℕ) → IsResponseBody (response.GetBlockRefused id last number code) body → IsGetBlock (response.GetBlockRefused id last number code) (id.0 ∷ body)
+pub is_refused_block : (id : InvokeId) (last : Bool) (number : ℕ) (code : ResultCode) (body : List ℕ) → IsResponseBody (response.GetBlockRefused id last number code) body → IsGetBlock (response.GetBlockRefused id last number code) (id.0 ∷ body)
 is_refused_block id last number code body s =
     (id, join (id.0 ∷ []) body refl (last, behind body (λ t k. (number, behind t (λ u l. inr (behind u (λ v c. (code, refl, c)) l)) k)) s))
 

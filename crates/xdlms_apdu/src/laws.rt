@@ -1,5 +1,5 @@
 //! What holds of written texts as such: each function is a law, which its contract states and a call of it makes known.
-ghost use Rattle.std.specs.Prelude.{◌≡◌, ℕ, List};
+ghost use Rattle.std.specs.Prelude.{◌≡◌, ℕ, List, [], ◌++◌};
 ghost use Rattle.cosem_axdr.specs.Spelling.{IsBytes};
 ghost use Rattle.xdlms_apdu.specs.Fit.{IsFitRequest, IsFitResponse};
 ghost use Rattle.xdlms_apdu.specs.Reading.{request_of, response_of};
@@ -25,4 +25,10 @@ pub fn text_of_response_spells()
     // So it does where the numbers, the lengths and each Data are within their limits, and then it is read back.
     ensures fit { (response : Response) → IsFitResponse response → SpellsResponse (response_text response) response }
     ensures read_back { (response : Response) → IsFitResponse response → response_of (response_text response) ≡ Ok response }
+{}
+
+/// No spelling of a request begins another one, and no bytes spell two requests; so it is of responses.
+pub fn no_spelling_begins_another()
+    ensures request { (bytes rest : List ℕ) (one other : Request) → SpellsRequest bytes one → SpellsRequest (bytes ++ rest) other → (rest ≡ []) × (one ≡ other) }
+    ensures response { (bytes rest : List ℕ) (one other : Response) → SpellsResponse bytes one → SpellsResponse (bytes ++ rest) other → (rest ≡ []) × (one ≡ other) }
 {}

@@ -24,7 +24,7 @@ mod tests;
 pub use block::Block;
 pub use fault::ApduFault;
 pub use invoke_id::InvokeId;
-pub use laws::{text_of_request_spells, text_of_response_spells};
+pub use laws::{no_spelling_begins_another, text_of_request_spells, text_of_response_spells};
 pub use request::Request;
 pub use request_reading::read_request;
 pub use request_writing::write_request;
