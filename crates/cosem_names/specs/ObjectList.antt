@@ -51,16 +51,20 @@ attribute_entries level class rows = map (attribute_entry level) (filter (λ row
 unfoldable pub method_entries : Level → ClassId → List Method → List Data
 method_entries level class rows = map (method_entry level) (filter (λ row. row.class.0 == class.0) rows)
 
--- the access rights to the attributes and methods of a class
-unfoldable pub access_rights : Level → ClassId → Data
-access_rights level class = structure_with
-    (array_with (attribute_entries level class ATTRIBUTES) ∷ array_with (method_entries level class METHODS) ∷ [])
+-- the access rights to the attributes and methods of a class, as rows give them
+unfoldable pub access_rights : Level → ClassId → List Attribute → List Method → Data
+access_rights level class attributes methods = structure_with
+    (array_with (attribute_entries level class attributes) ∷ array_with (method_entries level class methods) ∷ [])
 
 -- an object: its class, version and logical name, and the access rights of its class
-unfoldable pub object_entry : Level → Object → Data
-object_entry level row = structure_with
-    (LongUnsigned row.class.0 ∷ Unsigned row.version ∷ OctetString row.name.0 ∷ access_rights level row.class ∷ [])
+unfoldable pub object_entry : Level → List Attribute → List Method → Object → Data
+object_entry level attributes methods row = structure_with
+    (LongUnsigned row.class.0 ∷ Unsigned row.version ∷ OctetString row.name.0 ∷ access_rights level row.class attributes methods ∷ [])
+
+-- objects in their order
+unfoldable pub object_entries : Level → List Attribute → List Method → List Object → List Data
+object_entries level attributes methods rows = map (object_entry level attributes methods) rows
 
 -- the list of all objects
 unfoldable pub object_list_of : Level → Data
-object_list_of level = array_with (map (object_entry level) OBJECTS)
+object_list_of level = array_with (object_entries level ATTRIBUTES METHODS OBJECTS)

@@ -17,6 +17,8 @@ pub use access::{attribute, find, may_execute, object, rights};
 pub use level::{Level, Rights};
 pub use name::{AttrRef, ClassId, MethodRef, Obis};
 pub use object_entries::object_list;
-pub use objects::{ATTRIBUTES, Access, Attribute, Instance, METHODS, Method, OBJECTS, Object};
+pub use objects::{
+    ATTRIBUTES, Access, Attribute, Instance, METHODS, Method, OBJECTS, Object, ScheduleNumber,
+};
 pub use result_code::ResultCode;
 pub use service::{AttributeSelection, GetResult};

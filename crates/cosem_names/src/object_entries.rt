@@ -1,6 +1,6 @@
-ghost use Rattle.std.specs.Prelude.{◌≡◌, IfOk, map};
+ghost use Rattle.std.specs.Prelude.{◌≡◌, IfOk};
 ghost use Rattle.cosem_names.specs.Objects.{access_by, execution_by};
-ghost use Rattle.cosem_names.specs.ObjectList.{access_number, execution_number, attribute_entry, method_entry, attribute_entries, method_entries, access_rights, object_entry, object_list_of};
+ghost use Rattle.cosem_names.specs.ObjectList.{access_number, execution_number, attribute_entry, method_entry, attribute_entries, method_entries, access_rights, object_entry, object_entries, object_list_of};
 
 use crate::level::Level;
 use crate::name::ClassId;
@@ -11,46 +11,64 @@ use std::alloc::{AllocError, Global};
 /// The object_list of the Association LN object (IEC 62056-6-2, class 15, attribute 2), as a client of this
 /// level reads it: each object of the table with its class, version and logical name, and this level's access
 /// modes of its attributes and methods.
-#[tactic(auto, unfolding(crate::specs::ObjectList::object_list_of))]
 pub fn object_list(alloc: Global, level: Level) -> Result<Data, AllocError>
     ensures { IfOk result (λ list. list ≡ object_list_of level) }
 {
-    let entries = object_entries(alloc, level, &OBJECTS)?;
+    let entries = object_entries(alloc, level, &ATTRIBUTES, &METHODS, &OBJECTS)?;
     Ok(Data::Array(Items::from_vec(entries)))
 }
 
-// The entries of objects, in order.
-fn object_entries(alloc: Global, level: Level, rows: &[Object]) -> Result<Vec<Data>, AllocError>
-    ensures { IfOk result (λ entries. entries.items ≡ map (object_entry level) rows.now) }
+// The entries of objects, in order, with the attributes and methods that rows give to their classes.
+#[tactic(auto, unfolding(crate::specs::ObjectList::object_entries))]
+fn object_entries(
+    alloc: Global,
+    level: Level,
+    attributes: &[Attribute],
+    methods: &[Method],
+    rows: &[Object],
+) -> Result<Vec<Data>, AllocError>
+    ensures { IfOk result (λ entries. entries.items ≡ object_entries level attributes.now methods.now rows.now) }
 {
     let mut entries = Vec::with_capacity(alloc, rows.len())?;
     for row in rows {
-        entries.push(object_entry(alloc, level, row)?)?;
+        entries.push(object_entry(alloc, level, attributes, methods, row)?)?;
     }
     Ok(entries)
 }
 
 // The entry of an object: its class, version and logical name, and the access rights of its class.
 #[tactic(auto, unfolding(crate::specs::ObjectList::object_entry))]
-fn object_entry(alloc: Global, level: Level, row: &Object) -> Result<Data, AllocError>
-    ensures { IfOk result (λ entry. entry ≡ object_entry level row.now) }
+fn object_entry(
+    alloc: Global,
+    level: Level,
+    attributes: &[Attribute],
+    methods: &[Method],
+    row: &Object,
+) -> Result<Data, AllocError>
+    ensures { IfOk result (λ entry. entry ≡ object_entry level attributes.now methods.now row.now) }
 {
     let entry = vec![in alloc;
         Data::LongUnsigned(row.class.0),
         Data::Unsigned(row.version),
         Data::OctetString(Octets::from_slice(alloc, &row.name.0)?),
-        access_rights(alloc, level, row.class)?,
+        access_rights(alloc, level, row.class, attributes, methods)?,
     ]?;
     Ok(Data::Structure(Items::from_vec(entry)))
 }
 
 // The access rights of a class: those to its attributes, and those to its methods.
 #[tactic(auto, unfolding(crate::specs::ObjectList::access_rights))]
-fn access_rights(alloc: Global, level: Level, class: ClassId) -> Result<Data, AllocError>
-    ensures { IfOk result (λ rights. rights ≡ access_rights level class) }
+fn access_rights(
+    alloc: Global,
+    level: Level,
+    class: ClassId,
+    attributes: &[Attribute],
+    methods: &[Method],
+) -> Result<Data, AllocError>
+    ensures { IfOk result (λ rights. rights ≡ access_rights level class attributes.now methods.now) }
 {
-    let attributes = attribute_entries(alloc, level, class, &ATTRIBUTES)?;
-    let methods = method_entries(alloc, level, class, &METHODS)?;
+    let attributes = attribute_entries(alloc, level, class, attributes)?;
+    let methods = method_entries(alloc, level, class, methods)?;
     let rights = vec![in alloc;
         Data::Array(Items::from_vec(attributes)),
         Data::Array(Items::from_vec(methods)),

@@ -8,11 +8,26 @@ pub enum Access {
     ReadAndWrite,
 }
 
+/// Which of the four schedules: the value group B of its logical name.
+#[derive(Clone, Copy, Debug, PartialEq, Eq)]
+pub enum ScheduleNumber {
+    /// 0.0.15.0.1.255
+    First,
+    /// 0.1.15.0.1.255
+    Second,
+    /// 0.2.15.0.1.255
+    Third,
+    /// 0.3.15.0.1.255
+    Fourth,
+}
+
 /// Which object of the meter a row of the table speaks of.
 #[derive(Clone, Copy, Debug, PartialEq, Eq)]
 pub enum Instance {
     Association,
     DeviceName,
+    ScriptTable,
+    Schedule(ScheduleNumber),
     DisconnectControl,
 }
 
@@ -47,11 +62,15 @@ pub struct Method {
 pub const ASSOCIATION_LN: ClassId = ClassId(15);
 /// Data (IEC 62056-6-2, class 1).
 pub const DATA: ClassId = ClassId(1);
+/// Script table (IEC 62056-6-2, class 9).
+pub const SCRIPT_TABLE: ClassId = ClassId(9);
+/// Single action schedule (IEC 62056-6-2, class 22).
+pub const SINGLE_ACTION_SCHEDULE: ClassId = ClassId(22);
 /// Disconnect control (IEC 62056-6-2, class 70).
 pub const DISCONNECT_CONTROL: ClassId = ClassId(70);
 
 /// The meter's objects, in the order of the object list.
-pub const OBJECTS: [Object; 3] = [
+pub const OBJECTS: [Object; 8] = [
     Object {
         instance: Instance::Association,
         class: ASSOCIATION_LN,
@@ -63,6 +82,36 @@ pub const OBJECTS: [Object; 3] = [
         class: DATA,
         version: 0,
         name: Obis([0, 0, 42, 0, 0, 255]),
+    },
+    Object {
+        instance: Instance::ScriptTable,
+        class: SCRIPT_TABLE,
+        version: 0,
+        name: Obis([0, 0, 10, 0, 106, 255]),
+    },
+    Object {
+        instance: Instance::Schedule(ScheduleNumber::First),
+        class: SINGLE_ACTION_SCHEDULE,
+        version: 0,
+        name: Obis([0, 0, 15, 0, 1, 255]),
+    },
+    Object {
+        instance: Instance::Schedule(ScheduleNumber::Second),
+        class: SINGLE_ACTION_SCHEDULE,
+        version: 0,
+        name: Obis([0, 1, 15, 0, 1, 255]),
+    },
+    Object {
+        instance: Instance::Schedule(ScheduleNumber::Third),
+        class: SINGLE_ACTION_SCHEDULE,
+        version: 0,
+        name: Obis([0, 2, 15, 0, 1, 255]),
+    },
+    Object {
+        instance: Instance::Schedule(ScheduleNumber::Fourth),
+        class: SINGLE_ACTION_SCHEDULE,
+        version: 0,
+        name: Obis([0, 3, 15, 0, 1, 255]),
     },
     Object {
         instance: Instance::DisconnectControl,
@@ -84,11 +133,17 @@ macro_rules! attribute {
 }
 
 /// The attributes of the classes: what each level may do with them.
-pub const ATTRIBUTES: [Attribute; 8] = [
+pub const ATTRIBUTES: [Attribute; 14] = [
     attribute!(ASSOCIATION_LN 1: ReadOnly, ReadOnly),
     attribute!(ASSOCIATION_LN 2: ReadOnly, ReadOnly),
     attribute!(DATA 1: ReadOnly, ReadOnly),
     attribute!(DATA 2: ReadOnly, ReadOnly),
+    attribute!(SCRIPT_TABLE 1: ReadOnly, ReadOnly),
+    attribute!(SCRIPT_TABLE 2: NoAccess, ReadAndWrite),
+    attribute!(SINGLE_ACTION_SCHEDULE 1: ReadOnly, ReadOnly),
+    attribute!(SINGLE_ACTION_SCHEDULE 2: NoAccess, ReadAndWrite),
+    attribute!(SINGLE_ACTION_SCHEDULE 3: NoAccess, ReadAndWrite),
+    attribute!(SINGLE_ACTION_SCHEDULE 4: NoAccess, ReadAndWrite),
     attribute!(DISCONNECT_CONTROL 1: ReadOnly, ReadOnly),
     attribute!(DISCONNECT_CONTROL 2: ReadOnly, ReadOnly),
     attribute!(DISCONNECT_CONTROL 3: ReadOnly, ReadOnly),
@@ -96,7 +151,13 @@ pub const ATTRIBUTES: [Attribute; 8] = [
 ];
 
 /// The methods of the classes: which levels may execute them.
-pub const METHODS: [Method; 2] = [
+pub const METHODS: [Method; 3] = [
+    Method {
+        class: SCRIPT_TABLE,
+        number: 1,
+        public: false,
+        management: true,
+    },
     Method {
         class: DISCONNECT_CONTROL,
         number: 1,

@@ -7,6 +7,10 @@ const DISCONNECT_CONTROL_NAME: Obis = Obis([0, 0, 96, 3, 10, 255]);
 
 const ASSOCIATION: Obis = Obis([0, 0, 40, 0, 0, 255]);
 
+const SCRIPT_TABLE_NAME: Obis = Obis([0, 0, 10, 0, 106, 255]);
+
+const LAST_SCHEDULE_NAME: Obis = Obis([0, 3, 15, 0, 1, 255]);
+
 const DEVICE_NAME: Obis = Obis([0, 0, 42, 0, 0, 255]);
 
 const UNKNOWN: Obis = Obis([0, 0, 96, 3, 11, 255]);
@@ -24,6 +28,9 @@ fn names_have_their_class(rt: HostRuntime) {
     assert_eq!(rt; find(DISCONNECT_CONTROL_NAME), Some(ClassId(70)));
     assert_eq!(rt; find(ASSOCIATION), Some(ClassId(15)));
     assert_eq!(rt; find(DEVICE_NAME), Some(ClassId(1)));
+    assert_eq!(rt; find(SCRIPT_TABLE_NAME), Some(ClassId(9)));
+    assert_eq!(rt; find(LAST_SCHEDULE_NAME), Some(ClassId(22)));
+    assert_eq!(rt; find(Obis([0, 4, 15, 0, 1, 255])), None);
     assert_eq!(rt; find(UNKNOWN), None);
     assert!(rt; object(DEVICE_NAME).is_some_and(|row| row.instance == Instance::DeviceName));
 }
@@ -34,6 +41,11 @@ fn each_level_has_its_rights(rt: HostRuntime) {
         (ASSOCIATION, 15, 1, (true, false), (true, false)),
         (ASSOCIATION, 15, 2, (true, false), (true, false)),
         (ASSOCIATION, 15, 3, (false, false), (false, false)),
+        (LAST_SCHEDULE_NAME, 22, 1, (true, false), (true, false)),
+        (LAST_SCHEDULE_NAME, 22, 2, (false, false), (true, true)),
+        (LAST_SCHEDULE_NAME, 22, 4, (false, false), (true, true)),
+        (SCRIPT_TABLE_NAME, 9, 1, (true, false), (true, false)),
+        (SCRIPT_TABLE_NAME, 9, 2, (false, false), (true, true)),
         (DEVICE_NAME, 1, 1, (true, false), (true, false)),
         (DEVICE_NAME, 1, 2, (true, false), (true, false)),
         (DEVICE_NAME, 1, 3, (false, false), (false, false)),
@@ -78,16 +90,18 @@ fn each_level_has_its_rights(rt: HostRuntime) {
 
 #[test]
 fn the_management_client_alone_executes(rt: HostRuntime) {
-    for (class, number, executes) in [
-        (70, 1, true),
-        (70, 2, true),
-        (70, 3, false),
-        (70, 0, false),
-        (71, 1, false),
+    for (name, class, number, executes) in [
+        (DISCONNECT_CONTROL_NAME, 70, 1, true),
+        (DISCONNECT_CONTROL_NAME, 70, 2, true),
+        (DISCONNECT_CONTROL_NAME, 70, 3, false),
+        (DISCONNECT_CONTROL_NAME, 70, 0, false),
+        (DISCONNECT_CONTROL_NAME, 71, 1, false),
+        (SCRIPT_TABLE_NAME, 9, 1, true),
+        (SCRIPT_TABLE_NAME, 9, 2, false),
     ] {
         let method = MethodRef {
             class: ClassId(class),
-            name: DISCONNECT_CONTROL_NAME,
+            name,
             number,
         };
         assert!(rt; !may_execute(Level::Public, &method));
@@ -128,6 +142,29 @@ const ASSOCIATION_ENTRY: &[u8] = b"\x02\x04\x12\x00\x0F\x11\x01\x09\x06\x00\x00\
 const DEVICE_NAME_ENTRY: &[u8] = b"\x02\x04\x12\x00\x01\x11\x00\x09\x06\x00\x00\x2A\x00\x00\xFF\
     \x02\x02\x01\x02\x02\x03\x0F\x01\x16\x01\x00\x02\x03\x0F\x02\x16\x01\x00\x01\x00";
 
+/// The script table, class 9, version 0, for the public client: attribute 1 is read, and nothing else is there for it.
+const PUBLIC_SCRIPTS_ENTRY: &[u8] = b"\x02\x04\x12\x00\x09\x11\x00\x09\x06\x00\x00\x0A\x00\x6A\xFF\
+    \x02\x02\x01\x02\x02\x03\x0F\x01\x16\x01\x00\x02\x03\x0F\x02\x16\x00\x00\x01\x01\x02\x02\x0F\x01\x16\x00";
+
+/// The same for the management client: attribute 2 is read and written, and method 1 is executed.
+const MANAGEMENT_SCRIPTS_ENTRY: &[u8] =
+    b"\x02\x04\x12\x00\x09\x11\x00\x09\x06\x00\x00\x0A\x00\x6A\xFF\
+    \x02\x02\x01\x02\x02\x03\x0F\x01\x16\x01\x00\x02\x03\x0F\x02\x16\x03\x00\x01\x01\x02\x02\x0F\x01\x16\x01";
+
+/// The start of a schedule's entry, class 22, version 0, up to the value group A of its logical name.
+const SCHEDULE_START: &[u8] = b"\x02\x04\x12\x00\x16\x11\x00\x09\x06\x00";
+
+/// The rest of it behind the value group B, for the public client: attribute 1 is read, there is no access to
+/// attributes 2 to 4, and no method is there.
+const PUBLIC_SCHEDULE_REST: &[u8] = b"\x0F\x00\x01\xFF\
+    \x02\x02\x01\x04\x02\x03\x0F\x01\x16\x01\x00\x02\x03\x0F\x02\x16\x00\x00\
+    \x02\x03\x0F\x03\x16\x00\x00\x02\x03\x0F\x04\x16\x00\x00\x01\x00";
+
+/// The same for the management client: attributes 2 to 4 are read and written.
+const MANAGEMENT_SCHEDULE_REST: &[u8] = b"\x0F\x00\x01\xFF\
+    \x02\x02\x01\x04\x02\x03\x0F\x01\x16\x01\x00\x02\x03\x0F\x02\x16\x03\x00\
+    \x02\x03\x0F\x03\x16\x03\x00\x02\x03\x0F\x04\x16\x03\x00\x01\x00";
+
 /// Disconnect control, class 70, version 0, for the public client: attributes 1 to 4 are read, and there is no
 /// access to methods 1 and 2.
 const PUBLIC_CONTROL_ENTRY: &[u8] = b"\x02\x04\x12\x00\x46\x11\x00\x09\x06\x00\x00\x60\x03\x0A\xFF\
@@ -142,18 +179,48 @@ const MANAGEMENT_CONTROL_ENTRY: &[u8] =
     \x02\x03\x0F\x03\x16\x01\x00\x02\x03\x0F\x04\x16\x03\x00\
     \x01\x02\x02\x02\x0F\x01\x16\x01\x02\x02\x0F\x02\x16\x01";
 
-#[test]
-fn the_object_list_tells_each_level_its_access(rt: HostRuntime) -> Result<(), Fail> {
-    for (level, control_entry) in [
-        (Level::Public, PUBLIC_CONTROL_ENTRY),
-        (Level::Management, MANAGEMENT_CONTROL_ENTRY),
-    ] {
-        let mut expected = Octets::from_slice(rt.alloc(), b"\x01\x03")?;
-        expected.extend_from_slice(ASSOCIATION_ENTRY)?;
-        expected.extend_from_slice(DEVICE_NAME_ENTRY)?;
-        expected.extend_from_slice(control_entry)?;
-        let text = object_list_text(rt.alloc(), level)?;
-        assert_eq!(rt; text.as_slice(), expected.as_slice(), "{level:?}");
+/// The object_list of a level, of which these are the parts that differ.
+fn expected_list(
+    alloc: Global,
+    scripts_entry: &[u8],
+    schedule_rest: &[u8],
+    control_entry: &[u8],
+) -> Result<Octets, AllocError> {
+    let mut expected = Octets::from_slice(alloc, b"\x01\x08")?;
+    expected.extend_from_slice(ASSOCIATION_ENTRY)?;
+    expected.extend_from_slice(DEVICE_NAME_ENTRY)?;
+    expected.extend_from_slice(scripts_entry)?;
+    for number in 0..4 {
+        expected.extend_from_slice(SCHEDULE_START)?;
+        expected.push(number)?;
+        expected.extend_from_slice(schedule_rest)?;
     }
+    expected.extend_from_slice(control_entry)?;
+    Ok(expected)
+}
+
+#[test]
+fn the_object_list_tells_the_public_client_its_access(rt: HostRuntime) -> Result<(), Fail> {
+    let text = object_list_text(rt.alloc(), Level::Public)?;
+    let expected = expected_list(
+        rt.alloc(),
+        PUBLIC_SCRIPTS_ENTRY,
+        PUBLIC_SCHEDULE_REST,
+        PUBLIC_CONTROL_ENTRY,
+    )?;
+    assert_eq!(rt; text.as_slice(), expected.as_slice());
+    Ok(())
+}
+
+#[test]
+fn the_object_list_tells_the_management_client_its_access(rt: HostRuntime) -> Result<(), Fail> {
+    let text = object_list_text(rt.alloc(), Level::Management)?;
+    let expected = expected_list(
+        rt.alloc(),
+        MANAGEMENT_SCRIPTS_ENTRY,
+        MANAGEMENT_SCHEDULE_REST,
+        MANAGEMENT_CONTROL_ENTRY,
+    )?;
+    assert_eq!(rt; text.as_slice(), expected.as_slice());
     Ok(())
 }

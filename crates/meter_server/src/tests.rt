@@ -117,3 +117,19 @@ fn what_is_no_request_has_an_exception(rt: HostRuntime) -> Result<(), Fail> {
         ],
     )
 }
+
+#[test]
+fn a_list_is_read(rt: HostRuntime) -> Result<(), Fail> {
+    ask_all(
+        &rt,
+        rt.alloc(),
+        &[
+            (
+                "C003C1020046000060030AFF03000046000060030BFF0300",
+                "C403C1020016010104",
+            ),
+            ("C003C100", "C403C100"),
+            ("C003C101", "D80103"),
+        ],
+    )
+}

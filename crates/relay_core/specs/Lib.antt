@@ -1,8 +1,12 @@
 pub mod Access
 pub mod Acting
+pub mod Clock
 pub mod Machine
 pub mod Reading
 pub mod Runs
+pub mod Schedules
+pub mod Scripts
 pub mod Stands
+pub mod Switch
 pub mod World
 pub mod Writing

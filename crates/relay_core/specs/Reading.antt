@@ -1,10 +1,9 @@
-use Rattle.std.specs.Prelude.{ℕ, Bool, true, false, List, Result, Ok, Err, ◌==◌, ◌||◌, ◌&&◌, not, map, if◌then◌else◌}
-use Rattle.cosem_axdr.specs.declared.value.Data.{Data}
+use Rattle.std.specs.Prelude.{ℕ, Bool, true, List, Result, Ok, Err, ◌==◌, ◌||◌, not, map, if◌then◌else◌}
 use Rattle.cosem_axdr.specs.declared.value.Data.TheVariants.{OctetString, Boolean, Enum}
 use Rattle.cosem_names.specs.declared.name.AttrRef.{AttrRef}
 use Rattle.cosem_names.specs.declared.level.Level.{Level}
 use Rattle.cosem_names.specs.declared.objects.Instance.{Instance}
-use Rattle.cosem_names.specs.declared.objects.Instance.TheVariants.{Association, DeviceName, DisconnectControl}
+use Rattle.cosem_names.specs.declared.objects.Instance.TheVariants.{Association, DeviceName, ScriptTable, Schedule, DisconnectControl}
 use Rattle.cosem_names.specs.declared.result_code.ResultCode.{ResultCode}
 use Rattle.cosem_names.specs.declared.result_code.ResultCode.TheVariants.{ReadWriteDenied}
 use Rattle.cosem_names.specs.declared.service.AttributeSelection.{AttributeSelection}
@@ -13,19 +12,28 @@ use Rattle.cosem_names.specs.declared.service.GetResult.TheVariants.{Value, Code
 use Rattle.cosem_names.specs.ObjectList.{object_list_of}
 use Rattle.cosem_names.specs.Objects.{rights_of}
 use Rattle.disconnect_control.specs.declared.state.ControlState.TheVariants.{Connected}
+use Rattle.disconnect_control.specs.Control.{Control}
 use Rattle.disconnect_control.specs.Transitions.{state_number, mode_number, is_state}
 use Rattle.relay_core.specs.Access.{target_of}
+use Rattle.relay_core.specs.Schedules.{schedule_of, schedule_value}
 use Rattle.relay_core.specs.World.{World}
+use Rattle.script_steps.specs.Writing.{data_of}
+
+-- the attributes of the switch past its logical name
+abbrev pub control_value : Control → ℕ → GetResult
+control_value control number =
+    if number == 2 then Value (Boolean (is_state control.state Connected))
+    else if number == 3 then Value (Enum (state_number control.state))
+    else if number == 4 then Value (Enum (mode_number control.mode))
+    else Code ReadWriteDenied
 
 -- the attributes of an object past its logical name, as a client of this level reads them
 abbrev pub own_value_in : Level → Instance → ℕ → World → GetResult
 own_value_in level Association number w = if number == 2 then Value (object_list_of level) else Code ReadWriteDenied
 own_value_in level DeviceName number w = if number == 2 then Value (OctetString w.device) else Code ReadWriteDenied
-own_value_in level DisconnectControl number w =
-    if number == 2 then Value (Boolean (is_state w.control.state Connected))
-    else if number == 3 then Value (Enum (state_number w.control.state))
-    else if number == 4 then Value (Enum (mode_number w.control.mode))
-    else Code ReadWriteDenied
+own_value_in level ScriptTable number w = if number == 2 then Value (data_of w.scripts) else Code ReadWriteDenied
+own_value_in level (Schedule which) number w = schedule_value (schedule_of which w.schedules) number
+own_value_in level DisconnectControl number w = control_value w.control number
 
 -- the value of an attribute: attribute 1 is the logical name
 unfoldable pub value_in : Level → Instance → AttrRef → World → GetResult
@@ -48,6 +56,8 @@ get_results level items w = map (λ item. get_result level item.attr item.select
 abbrev pub is_plain : Instance → ℕ → Bool
 is_plain Association number = not (number == 1 || number == 2)
 is_plain DeviceName number = not (number == 1 || number == 2)
+is_plain ScriptTable number = not (number == 1 || number == 2)
+is_plain (Schedule which) number = not (number == 1 || (number == 2 || number == 4))
 is_plain DisconnectControl number = not (number == 1)
 
 -- whether a read of an object that was reached takes no memory

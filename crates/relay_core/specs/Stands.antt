@@ -6,3 +6,6 @@ use Rattle.relay_core.specs.World.{World}
 pub record StandsFor (core : RelayCore) (w : World) : Type 0 where
   pub device : core.device ≡ w.device
   pub control : core.control ≡ w.control
+  pub moment : core.moment ≡ w.moment
+  pub scripts : core.scripts ≡ w.scripts
+  pub schedules : core.schedules ≡ w.schedules

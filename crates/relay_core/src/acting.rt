@@ -1,48 +1,88 @@
 ghost use Rattle.std.specs.Prelude.{◌≡◌};
 ghost use Rattle.relay_core.specs.World.{World};
 ghost use Rattle.relay_core.specs.Stands.{StandsFor};
-ghost use Rattle.relay_core.specs.Acting.{method_trigger, at_trigger, at_execute, at_button};
+ghost use Rattle.relay_core.specs.Acting.{switch_trigger, at_execution, at_method, at_execute, at_button};
+ghost use Rattle.relay_core.specs.Switch.{at_trigger};
 
 use crate::access::target;
 use crate::relay::RelayCore;
+use crate::scripts::Origin;
+use cosem_axdr::Data;
 use cosem_names::{Instance, Level, MethodRef, ResultCode, may_execute};
 use disconnect_control::Trigger;
 
-/// The trigger that a method of an object pulls.
-#[tactic(auto, unfolding(crate::specs::Acting::method_trigger))]
-fn trigger(instance: Instance, number: u8) -> Option<Trigger>
-    ensures { result ≡ method_trigger instance number }
+/// The trigger that a method of the switch pulls.
+#[tactic(auto, unfolding(crate::specs::Acting::switch_trigger))]
+fn switch_trigger(number: u8) -> Option<Trigger>
+    ensures { result ≡ switch_trigger number }
 {
-    match (instance, number) {
-        (Instance::DisconnectControl, 1) => Some(Trigger::RemoteDisconnect),
-        (Instance::DisconnectControl, 2) => Some(Trigger::RemoteReconnect),
+    match number {
+        1 => Some(Trigger::RemoteDisconnect),
+        2 => Some(Trigger::RemoteReconnect),
         _ => None,
     }
 }
 
 impl RelayCore {
     /// Pulls a trigger of the switch.
-    #[tactic(auto, unfolding(crate::specs::Acting::at_trigger))]
-    fn pull(&mut self, trigger: Trigger) -> ResultCode
+    #[tactic(auto, unfolding(crate::specs::Switch::at_trigger))]
+    pub(crate) fn pull(&mut self, trigger: Trigger) -> ResultCode
         ensures world { (w : World) → StandsFor self.old w → StandsFor self.new (at_trigger trigger w).world }
         ensures code { (w : World) → StandsFor self.old w → result ≡ (at_trigger trigger w).code }
+        ensures scripts { self.new.scripts ≡ self.old.scripts }
+        ensures schedules { self.new.schedules ≡ self.old.schedules }
     {
         self.control.apply(trigger)
     }
 
+    /// Runs the script that a client selects by a long-unsigned.
+    #[tactic(auto, unfolding(crate::specs::Acting::at_execution))]
+    fn execute_script(&mut self, parameter: &Option<Data>) -> ResultCode
+        ensures world { (w : World) → StandsFor self.old w → StandsFor self.new (at_execution parameter.now w).world }
+        ensures code { (w : World) → StandsFor self.old w → result ≡ (at_execution parameter.now w).code }
+    {
+        let Some(value) = parameter else {
+            return ResultCode::TypeUnmatched;
+        };
+        let Some(selector) = value.long_unsigned() else {
+            return ResultCode::TypeUnmatched;
+        };
+        match self.scripts.step_count(selector) {
+            Some(count) => self.run_steps(Origin::Remote, selector, count),
+            None => ResultCode::OtherReason,
+        }
+    }
+
+    /// A method of an object.
+    #[tactic(auto, unfolding(crate::specs::Acting::at_method))]
+    fn call(&mut self, instance: Instance, number: u8, parameter: &Option<Data>) -> ResultCode
+        ensures world { (w : World) → StandsFor self.old w → StandsFor self.new (at_method instance number parameter.now w).world }
+        ensures code { (w : World) → StandsFor self.old w → result ≡ (at_method instance number parameter.now w).code }
+    {
+        match (instance, number) {
+            (Instance::ScriptTable, 1) => self.execute_script(parameter),
+            (Instance::DisconnectControl, _) => match switch_trigger(number) {
+                Some(trigger) => self.pull(trigger),
+                None => ResultCode::ReadWriteDenied,
+            },
+            _ => ResultCode::ReadWriteDenied,
+        }
+    }
+
     /// A client's execution of a method.
     #[tactic(auto, unfolding(crate::specs::Acting::at_execute))]
-    pub(crate) fn execute(&mut self, level: Level, method: &MethodRef) -> ResultCode
-        ensures world { (w : World) → StandsFor self.old w → StandsFor self.new (at_execute level method.now w).world }
-        ensures code { (w : World) → StandsFor self.old w → result ≡ (at_execute level method.now w).code }
+    pub(crate) fn execute(
+        &mut self,
+        level: Level,
+        method: &MethodRef,
+        parameter: &Option<Data>,
+    ) -> ResultCode
+        ensures world { (w : World) → StandsFor self.old w → StandsFor self.new (at_execute level method.now parameter.now w).world }
+        ensures code { (w : World) → StandsFor self.old w → result ≡ (at_execute level method.now parameter.now w).code }
     {
-        let instance = match target(method.name, method.class, may_execute(level, method), false) {
-            Ok(instance) => instance,
-            Err(refusal) => return refusal,
-        };
-        match trigger(instance, method.number) {
-            Some(trigger) => self.pull(trigger),
-            None => ResultCode::ReadWriteDenied,
+        match target(method.name, method.class, may_execute(level, method), false) {
+            Ok(instance) => self.call(instance, method.number, parameter),
+            Err(refusal) => refusal,
         }
     }
 

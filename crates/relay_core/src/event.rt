@@ -3,7 +3,8 @@ use cosem_names::{AttrRef, AttributeSelection, GetResult, Level, MethodRef, Resu
 use disconnect_control::ControlState;
 use listed::Listed;
 
-/// What reaches the meter: a client's call or a press of the button. Each is one step of the core.
+/// What reaches the meter: a client's call, a press of the button or a moment of its clock. Each is one step of
+/// the core.
 #[derive(Debug, Drop)]
 pub enum Event {
     /// GET: a client reads an attribute, `selected` where it asks for a part of it.
@@ -32,6 +33,8 @@ pub enum Event {
     },
     /// A press of the meter's button.
     Button,
+    /// A moment of the clock has come: seconds since 2000-01-01 00:00:00 of the meter's time.
+    Moment(u32),
 }
 
 /// What the core answers to an event.
@@ -41,8 +44,12 @@ pub enum Reply {
     Value(Data),
     /// To a GetList: a result for each item, in order.
     Values(Listed<GetResult>),
-    /// The result of any other event, or why an attribute isn't read.
+    /// To a Set, an Execute or a Button: its result. To a Get: why the attribute isn't read.
     Code(ResultCode),
+    /// To a Moment: how many schedules were due.
+    Ran(u8),
+    /// To a Moment before the last one, which changes nothing: the last one.
+    Stale { last: u32 },
 }
 
 /// A line of a run: the reply to an event, and the switch after it.

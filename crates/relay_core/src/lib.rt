@@ -6,10 +6,13 @@
 
 mod access;
 mod acting;
+mod clock;
 mod event;
 mod reading;
 mod relay;
 mod running;
+mod schedules;
+mod scripts;
 #[cfg(test)]
 mod tests;
 mod writing;

@@ -1,10 +1,11 @@
-ghost use Rattle.std.specs.Prelude.{◌≡◌, IfOk, IsOk, IsTrue, map};
+ghost use Rattle.std.specs.Prelude.{◌≡◌, ◌≢◌, IfOk, IsOk, IsTrue};
 ghost use Rattle.relay_core.specs.World.{World};
 ghost use Rattle.relay_core.specs.Stands.{StandsFor};
-ghost use Rattle.relay_core.specs.Reading.{value_in, get_result, get_results, is_plain, reads_plainly};
+ghost use Rattle.relay_core.specs.Reading.{control_value, own_value_in, value_in, get_result, get_results, is_plain, reads_plainly};
 
 use crate::access::target;
 use crate::relay::RelayCore;
+use crate::schedules::read_schedule;
 use cosem_axdr::{Data, Octets};
 use cosem_names::{
     AttrRef, AttributeSelection, GetResult, Instance, Level, ResultCode, object_list, rights,
@@ -13,6 +14,45 @@ use listed::Listed;
 use std::alloc::{AllocError, Global};
 
 impl RelayCore {
+    /// An attribute of the switch past its logical name.
+    fn control_value(&self, number: u8) -> GetResult
+        ensures { (w : World) → StandsFor self.now w → result ≡ control_value w.control number }
+    {
+        let data = match number {
+            2 => Data::Boolean(self.control.output()),
+            3 => Data::Enum(self.control.state().number()),
+            4 => Data::Enum(self.control.mode().number()),
+            _ => return GetResult::Code(ResultCode::ReadWriteDenied),
+        };
+        GetResult::Value(data)
+    }
+
+    /// An attribute of an object past its logical name, for a client of this level.
+    fn own_value(
+        &self,
+        alloc: Global,
+        level: Level,
+        instance: Instance,
+        number: u8,
+    ) -> Result<GetResult, AllocError>
+        ensures value { IfOk result (λ r. (w : World) → StandsFor self.now w → r ≡ own_value_in level instance number w) }
+        ensures plain { IsTrue (is_plain instance number) → number ≢ 1 → IsOk result }
+    {
+        let data = match instance {
+            Instance::Association if number == 2 => object_list(alloc, level)?,
+            Instance::DeviceName if number == 2 => {
+                Data::OctetString(self.device.try_clone(alloc)?)
+            }
+            Instance::ScriptTable if number == 2 => self.scripts.to_data(alloc)?,
+            Instance::Schedule(which) => {
+                return read_schedule(alloc, self.schedules.get(which), number);
+            }
+            Instance::DisconnectControl => return Ok(self.control_value(number)),
+            _ => return Ok(GetResult::Code(ResultCode::ReadWriteDenied)),
+        };
+        Ok(GetResult::Value(data))
+    }
+
     /// The value of an attribute, for a client of this level.
     #[tactic(auto, unfolding(crate::specs::Reading::value_in))]
     fn value(
@@ -25,16 +65,11 @@ impl RelayCore {
         ensures value { IfOk result (λ r. (w : World) → StandsFor self.now w → r ≡ value_in level instance attr.now w) }
         ensures plain { IsTrue (is_plain instance attr.now.number) → IsOk result }
     {
-        let data = match (instance, attr.number) {
-            (_, 1) => Data::OctetString(Octets::from_slice(alloc, &attr.name.0)?),
-            (Instance::Association, 2) => object_list(alloc, level)?,
-            (Instance::DeviceName, 2) => Data::OctetString(self.device.try_clone(alloc)?),
-            (Instance::DisconnectControl, 2) => Data::Boolean(self.control.output()),
-            (Instance::DisconnectControl, 3) => Data::Enum(self.control.state().number()),
-            (Instance::DisconnectControl, 4) => Data::Enum(self.control.mode().number()),
-            _ => return Ok(GetResult::Code(ResultCode::ReadWriteDenied)),
-        };
-        Ok(GetResult::Value(data))
+        if attr.number == 1 {
+            let name = Octets::from_slice(alloc, &attr.name.0)?;
+            return Ok(GetResult::Value(Data::OctetString(name)));
+        }
+        self.own_value(alloc, level, instance, attr.number)
     }
 
     /// What a client of this level reads of an attribute.

@@ -37,13 +37,14 @@ impl RelayCore {
                 attr,
                 selected,
                 value,
-            } => { Reply::Code(self.set(*level, attr, *selected, value)) }
+            } => { Reply::Code(self.set(alloc, *level, attr, *selected, value)?) }
             Event::Execute {
                 level,
                 method,
-                parameter: _,
-            } => Reply::Code(self.execute(*level, method)),
+                parameter,
+            } => Reply::Code(self.execute(*level, method, parameter)),
             Event::Button => Reply::Code(self.press()),
+            Event::Moment(now) => self.tick(*now),
         })
     }
 }
@@ -71,8 +72,8 @@ fn line_after(core: &mut RelayCore, alloc: Global, event: &Event) -> Result<Line
 }
 
 /// Takes events one after the other. The line of each has its reply, and the state and the supply output after
-/// it. So for every interleaving of remote calls and button presses, each line is what the mode and transition
-/// tables say.
+/// it. So for every interleaving of remote calls, button presses and clock moments, each line is what the mode and
+/// transition tables say.
 ///
 /// Where memory runs out, the run stops before the event that wanted it, or before the first.
 pub fn run(core: &mut RelayCore, alloc: Global, events: &Events) -> Result<Lines, RunStop>

@@ -1,8 +1,6 @@
-use Rattle.std.proofs.Common.{◌≡◌, ◌<◌, ◌+◌, take, List, [], ◌∷◌, ◌++◌, length, get_or, arith, subst, sym, ◌∙◌, ap, IsTrue, vec_len, vec_capacity}
-use Rattle.relay_core.specs.declared.event.Event.{Event}
+use Rattle.std.proofs.Common.{◌≡◌, ◌<◌, ◌+◌, take, List, length, get_or, arith, subst, sym, ◌∙◌, ap}
 use Rattle.relay_core.specs.declared.event.Line.{Line}
-use Rattle.relay_core.specs.Machine.{is_sure}
-use Rattle.relay_core.specs.Runs.{Runs, StopsEarly}
+use Rattle.relay_core.specs.Runs.{Runs}
 use Rattle.relay_core.proofs.RunLemmas.{ran_further, stops_at}
 use Rattle.relay_core.proofs.running.run.Goals as goal
 

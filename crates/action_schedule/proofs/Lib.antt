@@ -1,0 +1,5 @@
+pub mod Again
+pub mod Falling
+pub mod Parts
+pub mod Steps
+pub mod Times

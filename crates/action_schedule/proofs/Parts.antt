@@ -1,0 +1,17 @@
+-- The parts of an entry that is written.
+use Rattle.std.proofs.Common.{◌≡◌, ℕ, List, [], ◌∷◌, length, Option, Some, ap₂, arith}
+use Rattle.std.proofs.lemmas.Bool.Decides.{nat_tests}
+use Rattle.cosem_axdr.specs.declared.value.Data.TheVariants.{OctetString}
+use Rattle.action_schedule.specs.Forms.{◌>>=◌, so_many, entry_parts_of}
+use Rattle.action_schedule.specs.Writing.{structure_with}
+
+-- so many bytes as are wanted
+so_many_again : (n : ℕ) (bytes : List ℕ) → length bytes ≡ n → so_many n bytes ≡ Some bytes
+so_many_again n bytes e = grind (arith, nat_tests, e)
+
+pub entry_parts_again : (time date : List ℕ) → length time ≡ 4 → length date ≡ 5
+    → entry_parts_of (structure_with (OctetString time ∷ OctetString date ∷ [])) ≡ Some (time, date)
+entry_parts_again time date four five = ap₂ (λ (o p : Option (List ℕ)). o >>= λ t. p >>= λ d. pair t d) (so_many_again 4 time four) (so_many_again 5 date five)
+  where
+    pair : List ℕ → List ℕ → Option (List ℕ × List ℕ)
+    pair t d = Some (t, d)

@@ -1,0 +1,64 @@
+-- When a schedule fits its type, and when it is due.
+use Rattle.std.specs.Prelude.{◌≡◌, ℕ, ◌-◌, ◌<◌, ◌≤◌, max, Bool, true, false, ◌&&◌, ◌==◌, List, [], ◌∷◌, length, Option, Some, None}
+use Rattle.std.specs.List.{list_any, list_all}
+use Rattle.cosem_datetime.specs.Fields.{TimeFields}
+use Rattle.cosem_datetime.specs.Matching.{is_plain, matches, matches_in}
+use Rattle.cosem_datetime.specs.declared.entry.EntryPattern.{EntryPattern}
+use Rattle.action_schedule.specs.Schedule.{Schedule}
+use Rattle.action_schedule.specs.declared.kind.ScheduleType.{ScheduleType}
+use Rattle.action_schedule.specs.declared.kind.ScheduleType.TheVariants.{Type1, Type2, Type3, Type4, Type5}
+
+-- both are not specified, or both are the same number
+abbrev pub is_same_field : Option ℕ → Option ℕ → Bool
+is_same_field None None = true
+is_same_field (Some m) (Some n) = m == n
+is_same_field _ _ = false
+
+-- the same hour, minute and second, as they are written
+abbrev pub is_same_time : TimeFields → TimeFields → Bool
+is_same_time one other = is_same_field one.hour other.hour && (is_same_field one.minute other.minute && is_same_field one.second other.second)
+
+-- all entries have the time of the first
+abbrev pub have_one_time : List EntryPattern → Bool
+have_one_time [] = true
+have_one_time (entry ∷ entries) = list_all (λ other. is_same_time entry.time other.time) entries
+
+-- all dates have plain numbers
+abbrev pub have_plain_dates : List EntryPattern → Bool
+have_plain_dates entries = list_all (λ entry. is_plain entry.date) entries
+
+-- the entries are such as the type wants
+abbrev pub fits_type : ScheduleType → List EntryPattern → Bool
+fits_type Type1 entries = length entries == 1
+fits_type Type2 entries = have_one_time entries && have_plain_dates entries
+fits_type Type3 entries = have_one_time entries
+fits_type Type4 entries = have_plain_dates entries
+fits_type Type5 entries = true
+
+-- the schedule fits its type
+unfoldable pub fits : Schedule → Bool
+fits schedule = fits_type schedule.kind schedule.entries
+
+-- how far back seconds count: a day
+abbrev pub seconds_looked_back : ℕ
+seconds_looked_back = 86400
+
+-- the moment after which seconds count: the previous one, or that a day before now
+abbrev pub window_start : ℕ → ℕ → ℕ
+window_start previous now = max previous (now - seconds_looked_back)
+
+-- some second after that and up to now matches one of the entries
+abbrev pub has_match : List EntryPattern → ℕ → ℕ → Bool
+has_match entries after upto = list_any (λ entry. matches_in entry after upto) entries
+
+-- the schedule is due between the previous moment and now
+unfoldable pub is_due : Schedule → ℕ → ℕ → Bool
+is_due schedule previous now = fits schedule && has_match schedule.entries (window_start previous now) now
+
+-- what that says: it fits, and a second of the window matches one of its entries
+pub record IsDue (schedule : Schedule) (previous now : ℕ) : Type 0 where
+  pub fit : fits schedule ≡ true
+  pub second : ℕ
+  pub late : window_start previous now < second
+  pub early : second ≤ now
+  pub matched : list_any (λ entry. matches entry second) schedule.entries ≡ true

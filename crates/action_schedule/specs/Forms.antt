@@ -1,0 +1,58 @@
+-- The parts of an attribute of a schedule as they are written: nothing where the type is another.
+use Rattle.std.specs.Prelude.{ℕ, List, [], ◌∷◌, Option, Some, None, length, ◌==◌, if◌then◌else◌}
+use Rattle.cosem_axdr.specs.declared.value.Data.{Data}
+use Rattle.cosem_axdr.specs.declared.value.Data.TheVariants.{OctetString, Date, Time}
+use Rattle.cosem_axdr.specs.Forms.{structure_of, octets_of, long_unsigned_of}
+use Rattle.cosem_names.specs.declared.name.Obis.{Obis}
+
+infixl 10 ◌>>=◌
+-- the next part, where the first one is there
+abbrev pub ◌>>=◌ : {A B : Type 0} → Option A → (A → Option B) → Option B
+None >>= next = None
+(Some x) >>= next = next x
+
+-- a logical name: an octet-string of six bytes
+abbrev name_in : List ℕ → Option Obis
+name_in (a ∷ b ∷ c ∷ d ∷ e ∷ f ∷ []) = Some (record { 0 = a ∷ b ∷ c ∷ d ∷ e ∷ f ∷ [] })
+name_in _ = None
+
+abbrev pub name_of : Data → Option Obis
+name_of value = octets_of value >>= name_in
+
+-- a script: a structure of the script table's name and a selector
+abbrev script_parts_in : List Data → Option (Obis × ℕ)
+script_parts_in (name ∷ selector ∷ []) = do
+  logical_name ← name_of name
+  number ← long_unsigned_of selector
+  Some (logical_name, number)
+script_parts_in _ = None
+
+abbrev pub script_parts_of : Data → Option (Obis × ℕ)
+script_parts_of value = structure_of value >>= script_parts_in
+
+-- so many bytes
+abbrev pub so_many : ℕ → List ℕ → Option (List ℕ)
+so_many n bytes = if length bytes == n then Some bytes else None
+
+-- a time, or an octet-string of its four bytes
+abbrev pub time_bytes_of : Data → Option (List ℕ)
+time_bytes_of (OctetString bytes) = so_many 4 bytes
+time_bytes_of (Time bytes) = so_many 4 bytes
+time_bytes_of _ = None
+
+-- a date, or an octet-string of its five bytes
+abbrev pub date_bytes_of : Data → Option (List ℕ)
+date_bytes_of (OctetString bytes) = so_many 5 bytes
+date_bytes_of (Date bytes) = so_many 5 bytes
+date_bytes_of _ = None
+
+-- an entry: a structure of a time and a date
+abbrev entry_parts_in : List Data → Option (List ℕ × List ℕ)
+entry_parts_in (time ∷ date ∷ []) = do
+  of_time ← time_bytes_of time
+  of_date ← date_bytes_of date
+  Some (of_time, of_date)
+entry_parts_in _ = None
+
+abbrev pub entry_parts_of : Data → Option (List ℕ × List ℕ)
+entry_parts_of value = structure_of value >>= entry_parts_in

@@ -1,0 +1,6 @@
+pub mod Fitting
+pub mod Forms
+pub mod Kinds
+pub mod Reading
+pub mod Schedule
+pub mod Writing

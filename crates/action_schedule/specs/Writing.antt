@@ -1,0 +1,41 @@
+-- The attributes of a schedule as they are read: times and dates are octet-strings.
+use Rattle.std.specs.Prelude.{◌≡◌, ℕ, List, [], ◌∷◌, map, Ok}
+use Rattle.cosem_axdr.specs.Tree.{trees_of}
+use Rattle.cosem_axdr.specs.View.{all_trees}
+use Rattle.cosem_axdr.specs.declared.value.Data.{Data}
+use Rattle.cosem_axdr.specs.declared.value.Data.TheVariants.{Array, Structure, OctetString, LongUnsigned, Enum}
+use Rattle.cosem_datetime.specs.Fields.{time_bytes, date_bytes}
+use Rattle.cosem_datetime.specs.declared.entry.EntryPattern.{EntryPattern}
+use Rattle.action_schedule.specs.Kinds.{number_of}
+use Rattle.action_schedule.specs.Reading.{selector_of, kind_of, entries_of}
+use Rattle.action_schedule.specs.Schedule.{Schedule}
+use Rattle.action_schedule.specs.declared.attribute.ScheduleAttribute.{ScheduleAttribute}
+use Rattle.action_schedule.specs.declared.attribute.ScheduleAttribute.TheVariants.{ExecutedScript, Kind, ExecutionTime}
+use Rattle.action_schedule.specs.declared.names.TheConstants.{SCRIPT_TABLE_NAME}
+
+abbrev pub array_with : List Data → Data
+array_with items = Array (trees_of (all_trees items))
+
+abbrev pub structure_with : List Data → Data
+structure_with items = Structure (trees_of (all_trees items))
+
+unfoldable pub script_data : ℕ → Data
+script_data selector = structure_with (OctetString SCRIPT_TABLE_NAME.0 ∷ LongUnsigned selector ∷ [])
+
+unfoldable pub entry_data : EntryPattern → Data
+entry_data entry = structure_with (OctetString (time_bytes entry.time) ∷ OctetString (date_bytes entry.date) ∷ [])
+
+unfoldable pub entries_data : List EntryPattern → Data
+entries_data entries = array_with (map entry_data entries)
+
+-- an attribute
+abbrev pub data_at : ScheduleAttribute → Schedule → Data
+data_at ExecutedScript schedule = script_data schedule.selector
+data_at Kind schedule = Enum (number_of schedule.kind)
+data_at ExecutionTime schedule = entries_data schedule.entries
+
+-- written again, a Data gives the attribute back
+abbrev pub ReadsBack : ScheduleAttribute → Data → Schedule → Type 0
+ReadsBack ExecutedScript value schedule = selector_of value ≡ Ok schedule.selector
+ReadsBack Kind value schedule = kind_of value ≡ Ok schedule.kind
+ReadsBack ExecutionTime value schedule = entries_of value ≡ Ok schedule.entries

@@ -1,0 +1,67 @@
+ghost use Rattle.std.specs.Prelude.{◌≡◌};
+ghost use Rattle.std.specs.List.{list_all};
+ghost use Rattle.action_schedule.specs.Fitting.{is_same_time, have_one_time, have_plain_dates, fits_type, has_match, window_start};
+
+use crate::kind::ScheduleType;
+use cosem_datetime::{EntryPattern, TimePattern};
+
+/// How far back of a moment entries are looked for: a day.
+pub const SECONDS_LOOKED_BACK: u32 = 86_400;
+
+/// Whether two times are the same as they are written.
+fn is_same_time(one: &TimePattern, other: &TimePattern) -> bool
+    ensures { result ≡ is_same_time one.now other.now }
+{
+    one.same_time(other)
+}
+
+/// Whether all entries have this time.
+fn have_time(time: &TimePattern, entries: &[EntryPattern]) -> bool
+    ensures { result ≡ list_all (λ entry. is_same_time time.now entry.time) entries.now }
+{
+    entries.iter().all(|entry| is_same_time(time, &entry.time))
+}
+
+/// Whether all entries have one time.
+fn have_one_time(entries: &[EntryPattern]) -> bool
+    ensures { result ≡ have_one_time entries.now }
+{
+    match entries {
+        [] => true,
+        [first, rest @ ..] => have_time(&first.time, rest),
+    }
+}
+
+/// Whether no date has a wildcard.
+fn have_plain_dates(entries: &[EntryPattern]) -> bool
+    ensures { result ≡ have_plain_dates entries.now }
+{
+    entries.iter().all(|entry| entry.date_is_plain())
+}
+
+/// Whether entries are such as a type wants.
+pub(crate) fn fits_type(kind: ScheduleType, entries: &[EntryPattern]) -> bool
+    ensures { result ≡ fits_type kind entries.now }
+{
+    match kind {
+        ScheduleType::Type1 => entries.len() == 1,
+        ScheduleType::Type2 => have_one_time(entries) && have_plain_dates(entries),
+        ScheduleType::Type3 => have_one_time(entries),
+        ScheduleType::Type4 => have_plain_dates(entries),
+        ScheduleType::Type5 => true,
+    }
+}
+
+/// The moment after which seconds count.
+pub(crate) fn window_start(previous: u32, now: u32) -> u32
+    ensures { result ≡ window_start previous now }
+{
+    previous.max(now.saturating_sub(SECONDS_LOOKED_BACK))
+}
+
+/// Whether some second after `after` and up to `upto` matches one of the entries.
+pub(crate) fn has_match(entries: &[EntryPattern], after: u32, upto: u32) -> bool
+    ensures { result ≡ has_match entries.now after upto }
+{
+    entries.iter().any(|entry| entry.matches_in(after, upto))
+}

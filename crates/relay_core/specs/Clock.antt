@@ -1,0 +1,42 @@
+-- Moments of the meter's clock: seconds since 2000-01-01 00:00:00 of its time. A moment runs the scripts of the schedules
+-- that are due.
+use Rattle.std.specs.Prelude.{ℕ, List, [], ◌∷◌, Option, Some, None, ◌==◌, nat_lt, if◌then◌else◌}
+use Rattle.std.specs.List.{count_by}
+use Rattle.action_schedule.specs.Fitting.{is_due}
+use Rattle.action_schedule.specs.Schedule.{Schedule}
+use Rattle.relay_core.specs.declared.event.Reply.TheVariants.{Ran, Stale}
+use Rattle.relay_core.specs.declared.scripts.Origin.TheVariants.{Remote}
+use Rattle.relay_core.specs.Schedules.{all_schedules}
+use Rattle.relay_core.specs.Scripts.{at_script}
+use Rattle.relay_core.specs.World.{World, Stepped}
+use Rattle.script_steps.specs.Table.{running_steps}
+
+-- a schedule that is due runs its script once, whatever the result
+unfoldable pub after_schedule : ℕ → ℕ → Schedule → World → World
+after_schedule last now schedule w =
+    if is_due schedule last now then (at_script Remote (running_steps schedule.selector w.scripts) w).world else w
+
+-- schedules in order
+abbrev pub after_schedules : ℕ → ℕ → List Schedule → World → World
+after_schedules last now [] w = w
+after_schedules last now (schedule ∷ schedules) w = after_schedules last now schedules (after_schedule last now schedule w)
+
+-- the schedules of a world, where this moment is its last and another was before
+abbrev pub ran : ℕ → ℕ → World → Stepped
+ran last now w = record {
+  world = after_schedules last now (all_schedules w.schedules) w;
+  reply = Ran (count_by (λ schedule. is_due schedule last now) (all_schedules w.schedules));
+}
+
+-- a moment that comes after the last one, or as the first, which runs nothing: one before the last is stale, and the last
+-- again changes nothing
+abbrev pub moment_after : Option ℕ → ℕ → World → Stepped
+moment_after None now w = record { world = record w { moment = Some now }; reply = Ran 0 }
+moment_after (Some last) now w =
+    if nat_lt now last then record { world = w; reply = Stale last }
+    else if now == last then record { world = w; reply = Ran 0 }
+    else ran last now (record w { moment = Some now })
+
+-- a moment of the clock
+unfoldable pub at_moment : ℕ → World → Stepped
+at_moment now w = moment_after w.moment now w

@@ -1,0 +1,68 @@
+-- The four single action schedules, and their attributes as they are read and written.
+use Rattle.std.specs.Prelude.{ℕ, List, [], ◌∷◌, Result, Ok, Err, ◌==◌, if◌then◌else◌}
+use Rattle.action_schedule.specs.declared.attribute.ScheduleAttribute.TheVariants.{ExecutedScript, Kind, ExecutionTime}
+use Rattle.action_schedule.specs.declared.fault.ScheduleFault.{ScheduleFault}
+use Rattle.action_schedule.specs.declared.fault.ScheduleFault.TheVariants as fault
+use Rattle.action_schedule.specs.Reading.{selector_of, kind_of, entries_of}
+use Rattle.action_schedule.specs.Schedule.{Schedule, with_selector, with_kind, with_entries}
+use Rattle.action_schedule.specs.Writing.{data_at}
+use Rattle.cosem_axdr.specs.declared.value.Data.{Data}
+use Rattle.cosem_names.specs.declared.objects.ScheduleNumber.{ScheduleNumber}
+use Rattle.cosem_names.specs.declared.objects.ScheduleNumber.TheVariants.{First, Second, Third, Fourth}
+use Rattle.cosem_names.specs.declared.result_code.ResultCode.{ResultCode}
+use Rattle.cosem_names.specs.declared.result_code.ResultCode.TheVariants.{Success, ReadWriteDenied, TypeUnmatched, OtherReason}
+use Rattle.cosem_names.specs.declared.service.GetResult.{GetResult}
+use Rattle.cosem_names.specs.declared.service.GetResult.TheVariants.{Value, Code}
+use Rattle.relay_core.specs.declared.schedules.Schedules.{Schedules}
+
+-- one of the schedules
+abbrev pub schedule_of : ScheduleNumber → Schedules → Schedule
+schedule_of First s = s.first
+schedule_of Second s = s.second
+schedule_of Third s = s.third
+schedule_of Fourth s = s.fourth
+
+-- the schedules with another in its place
+abbrev pub with_schedule : ScheduleNumber → Schedule → Schedules → Schedules
+with_schedule First schedule s = record s { first = schedule }
+with_schedule Second schedule s = record s { second = schedule }
+with_schedule Third schedule s = record s { third = schedule }
+with_schedule Fourth schedule s = record s { fourth = schedule }
+
+-- the schedules in the order in which they run
+abbrev pub all_schedules : Schedules → List Schedule
+all_schedules s = s.first ∷ s.second ∷ s.third ∷ s.fourth ∷ []
+
+-- the attributes of a schedule past its logical name
+unfoldable pub schedule_value : Schedule → ℕ → GetResult
+schedule_value schedule number =
+    if number == 2 then Value (data_at ExecutedScript schedule)
+    else if number == 3 then Value (data_at Kind schedule)
+    else if number == 4 then Value (data_at ExecutionTime schedule)
+    else Code ReadWriteDenied
+
+-- why a written attribute is refused; memory is no fault of what is written
+abbrev pub fault_code : ScheduleFault → ResultCode
+fault_code fault.Unmatched = TypeUnmatched
+fault_code fault.Value = OtherReason
+fault_code fault.Memory = OtherReason
+
+-- the result of a write
+abbrev pub write_code : {A : Type 0} → Result A ScheduleFault → ResultCode
+write_code (Ok x) = Success
+write_code (Err fault) = fault_code fault
+
+-- a schedule after a write of an attribute, and the result
+unfoldable pub schedule_written : ℕ → Data → Schedule → Schedule
+schedule_written number value schedule =
+    if number == 2 then with_selector (selector_of value) schedule
+    else if number == 3 then with_kind (kind_of value) schedule
+    else if number == 4 then with_entries (entries_of value) schedule
+    else schedule
+
+unfoldable pub schedule_code : ℕ → Data → ResultCode
+schedule_code number value =
+    if number == 2 then write_code (selector_of value)
+    else if number == 3 then write_code (kind_of value)
+    else if number == 4 then write_code (entries_of value)
+    else ReadWriteDenied

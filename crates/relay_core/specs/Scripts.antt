@@ -1,0 +1,40 @@
+-- What a script does: its steps in order, up to and with the first that is refused.
+use Rattle.std.specs.Prelude.{Bool, true, false, List, [], ◌∷◌, if◌then◌else◌}
+use Rattle.cosem_names.specs.declared.result_code.ResultCode.{ResultCode}
+use Rattle.cosem_names.specs.declared.result_code.ResultCode.TheVariants.{Success, OtherReason}
+use Rattle.disconnect_control.specs.declared.state.Trigger.{Trigger}
+use Rattle.disconnect_control.specs.declared.state.Trigger.TheVariants.{RemoteDisconnect, RemoteReconnect, LocalDisconnect, LocalReconnect}
+use Rattle.relay_core.specs.declared.scripts.Origin.{Origin}
+use Rattle.relay_core.specs.declared.scripts.Origin.TheVariants.{Remote, Local}
+use Rattle.relay_core.specs.Switch.{at_trigger}
+use Rattle.relay_core.specs.World.{World, Outcome}
+use Rattle.relay_core.specs.Writing.{at_mode}
+use Rattle.script_steps.specs.declared.step.Step.{Step}
+use Rattle.script_steps.specs.declared.step.Step.TheVariants.{WriteMode, Disconnect, Reconnect}
+
+-- the trigger that a step's method pulls: a remote one where a client or a schedule runs the script, a local one where the
+-- meter itself does
+abbrev pub disconnect_by : Origin → Trigger
+disconnect_by Remote = RemoteDisconnect
+disconnect_by Local = LocalDisconnect
+
+abbrev pub reconnect_by : Origin → Trigger
+reconnect_by Remote = RemoteReconnect
+reconnect_by Local = LocalReconnect
+
+-- a step acts as the same write or method would; there is no limiter that a step could write
+unfoldable pub at_step : Origin → Step → World → Outcome
+at_step origin (WriteMode mode) w = at_mode mode w
+at_step origin Disconnect w = at_trigger (disconnect_by origin) w
+at_step origin Reconnect w = at_trigger (reconnect_by origin) w
+at_step origin _ w = record { world = w; code = OtherReason }
+
+abbrev pub is_success : ResultCode → Bool
+is_success Success = true
+is_success _ = false
+
+-- steps in order: a refused one is the last, and its code is the result
+unfoldable pub at_script : Origin → List Step → World → Outcome
+at_script origin [] w = record { world = w; code = Success }
+at_script origin (step ∷ steps) w =
+    if is_success (at_step origin step w).code then at_script origin steps (at_step origin step w).world else at_step origin step w

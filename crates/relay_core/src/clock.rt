@@ -1,0 +1,65 @@
+ghost use Rattle.std.specs.Prelude.{◌≡◌};
+ghost use Rattle.std.specs.List.{count_by};
+ghost use Rattle.action_schedule.specs.Fitting.{is_due};
+ghost use Rattle.relay_core.specs.Clock.{after_schedule, after_schedules, at_moment};
+ghost use Rattle.relay_core.specs.Machine.{IsOfClock};
+ghost use Rattle.relay_core.specs.Schedules.{schedule_of, all_schedules};
+ghost use Rattle.relay_core.specs.Stands.{StandsFor};
+ghost use Rattle.relay_core.specs.World.{World};
+
+use crate::event::Reply;
+use crate::relay::RelayCore;
+use crate::scripts::Origin;
+use cosem_names::ScheduleNumber;
+
+impl RelayCore {
+    /// A moment of the clock: one before the last is stale, and the last again changes nothing. Any other runs the
+    /// schedules that are due since the last.
+    #[tactic(auto, unfolding(crate::specs::Clock::at_moment))]
+    pub(crate) fn tick(&mut self, now: u32) -> Reply
+        ensures world { (w : World) → StandsFor self.old w → StandsFor self.new (at_moment now w).world }
+        ensures reply { (w : World) → StandsFor self.old w → result ≡ (at_moment now w).reply }
+        ensures fits { IsOfClock result }
+    {
+        match self.moment {
+            Some(last) if now < last => Reply::Stale { last },
+            Some(last) if now == last => Reply::Ran(0),
+            Some(last) => {
+                self.moment = Some(now);
+                Reply::Ran(self.run_schedules(last, now))
+            }
+            None => {
+                self.moment = Some(now);
+                Reply::Ran(0)
+            }
+        }
+    }
+
+    /// Runs the schedules that are due at a moment after the last, in order, and counts them.
+    fn run_schedules(&mut self, last: u32, now: u32) -> u8
+        ensures world { (w : World) → StandsFor self.old w → StandsFor self.new (after_schedules last now (all_schedules w.schedules) w) }
+        ensures count { result ≡ count_by (λ schedule. is_due schedule last now) (all_schedules self.old.schedules) }
+    {
+        let first = self.run_schedule(ScheduleNumber::First, last, now);
+        let second = self.run_schedule(ScheduleNumber::Second, last, now);
+        let third = self.run_schedule(ScheduleNumber::Third, last, now);
+        let fourth = self.run_schedule(ScheduleNumber::Fourth, last, now);
+        u8::from(first) + u8::from(second) + u8::from(third) + u8::from(fourth)
+    }
+
+    /// Runs the script of a schedule where it is due, and says whether it was.
+    #[tactic(auto, unfolding(crate::specs::Clock::after_schedule))]
+    fn run_schedule(&mut self, which: ScheduleNumber, last: u32, now: u32) -> bool
+        ensures world { (w : World) → StandsFor self.old w → StandsFor self.new (after_schedule last now (schedule_of which self.old.schedules) w) }
+        ensures due { result ≡ is_due (schedule_of which self.old.schedules) last now }
+        ensures schedules { self.new.schedules ≡ self.old.schedules }
+    {
+        let schedule = self.schedules.get(which);
+        if !schedule.due(last, now) {
+            return false;
+        }
+        let selector = schedule.selector();
+        let _code = self.run_script(Origin::Remote, selector);
+        true
+    }
+}

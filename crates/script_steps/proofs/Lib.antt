@@ -1,0 +1,4 @@
+pub mod Again
+pub mod Profiles
+pub mod Steps
+pub mod Tables

@@ -1,0 +1,16 @@
+-- The parts of an emergency profile that is written.
+use Rattle.std.proofs.Common.{◌≡◌, ℕ, ◌==◌, cond, List, [], ◌∷◌, length, Option, Some, None, ap}
+use Rattle.cosem_axdr.specs.declared.value.Data.TheVariants.{OctetString, LongUnsigned, DoubleLongUnsigned}
+use Rattle.script_steps.specs.Forms.{◌>>=◌, start_bytes_of, profile_parts_of}
+use Rattle.script_steps.specs.Writing.{structure_with}
+
+-- twelve bytes are those of a start
+start_again : (bytes : List ℕ) → length bytes ≡ 12 → start_bytes_of (OctetString bytes) ≡ Some bytes
+start_again bytes twelve = ap (λ (n : ℕ). cond (n == 12) (Some bytes) None) twelve
+
+pub profile_parts_again : (id duration : ℕ) (bytes : List ℕ) → length bytes ≡ 12
+    → profile_parts_of (structure_with (LongUnsigned id ∷ OctetString bytes ∷ DoubleLongUnsigned duration ∷ [])) ≡ Some (id, bytes, duration)
+profile_parts_again id duration bytes twelve = ap (λ (o : Option (List ℕ)). o >>= next) (start_again bytes twelve)
+  where
+    next : List ℕ → Option (ℕ × List ℕ × ℕ)
+    next b = Some (id, b, duration)

@@ -1,0 +1,115 @@
+-- A Data as a script table: its scripts, or why it is refused. Another type anywhere is told before any value.
+use Rattle.std.specs.Prelude.{ℕ, Bool, true, false, not, ◌&&◌, ◌==◌, nat_le, List, [], ◌∷◌, length, ok_or, Result, Ok, Err, is_err, if◌then◌else◌}
+use Rattle.std.specs.List.{list_any, filter_map}
+use Rattle.std.specs.Result.{result_ok}
+use Rattle.byte_reading.specs.Outcome.{◌>>=◌, ◌>>◌, guard}
+use Rattle.cosem_axdr.specs.declared.value.Data.{Data}
+use Rattle.cosem_axdr.specs.declared.value.Data.TheVariants.{Null, Integer}
+use Rattle.cosem_axdr.specs.Forms.{array_of, enumerated_of, double_long_unsigned_of}
+use Rattle.cosem_datetime.specs.Reading.{date_time_of}
+use Rattle.disconnect_control.specs.Transitions.{mode_of}
+use Rattle.limiter_core.specs.declared.settings.Profile.{Profile}
+use Rattle.script_steps.specs.Addresses.{action_at}
+use Rattle.script_steps.specs.Forms.{step_parts_of, script_parts_of, profile_parts_of, identifier_of}
+use Rattle.script_steps.specs.declared.action.Action.{Action}
+use Rattle.script_steps.specs.declared.action.Action.TheVariants as action
+use Rattle.script_steps.specs.declared.fault.ScriptFault.{ScriptFault}
+use Rattle.script_steps.specs.declared.fault.ScriptFault.TheVariants.{Unmatched, Value, Memory}
+use Rattle.script_steps.specs.declared.step.Script.{Script}
+use Rattle.script_steps.specs.declared.step.Step.{Step}
+use Rattle.script_steps.specs.declared.step.Step.TheVariants.{WriteMode, WriteNormal, WriteEmergency, WriteMinOver, WriteMinUnder, WriteProfile, Disconnect, Reconnect}
+
+-- the most scripts of a table, and the most steps of a script
+abbrev pub max_scripts : ℕ
+max_scripts = 16
+
+abbrev pub max_steps : ℕ
+max_steps = 8
+
+-- a threshold in watts or a duration in seconds
+abbrev pub number_of : Data → Result ℕ ScriptFault
+number_of value = ok_or (double_long_unsigned_of value) Unmatched
+
+-- an emergency profile, whose start is a date-time without a fault
+unfoldable pub profile_of : Data → Result Profile ScriptFault
+profile_of value = do
+  parts ← ok_or (profile_parts_of value) Unmatched
+  start ← ok_or (result_ok (date_time_of parts.1)) Value
+  Ok (record { id = parts.0; start = start; duration = parts.2 })
+
+-- the parameter of a method: null-data or an integer
+abbrev pub method_parameter_of : Data → Result (Unit {0}) ScriptFault
+method_parameter_of Null = Ok tt
+method_parameter_of (Integer n) = Ok tt
+method_parameter_of _ = Err Unmatched
+
+-- the step of an action, with its parameter
+unfoldable pub step_with : Action → Data → Result Step ScriptFault
+step_with action.Mode parameter = do
+  number ← ok_or (enumerated_of parameter) Unmatched
+  mode ← ok_or (mode_of number) Value
+  Ok (WriteMode mode)
+step_with (action.Normal which) parameter = number_of parameter >>= λ watts. Ok (WriteNormal which watts)
+step_with (action.Emergency which) parameter = number_of parameter >>= λ watts. Ok (WriteEmergency which watts)
+step_with (action.MinOver which) parameter = number_of parameter >>= λ seconds. Ok (WriteMinOver which seconds)
+step_with (action.MinUnder which) parameter = number_of parameter >>= λ seconds. Ok (WriteMinUnder which seconds)
+step_with (action.Profile which) parameter = profile_of parameter >>= λ profile. Ok (WriteProfile which profile)
+step_with action.Disconnect parameter = method_parameter_of parameter >>= λ _. Ok Disconnect
+step_with action.Reconnect parameter = method_parameter_of parameter >>= λ _. Ok Reconnect
+
+-- a step, which is of its type whatever its parameter is where it isn't listed
+unfoldable pub step_of : Data → Result Step ScriptFault
+step_of value = do
+  parts ← ok_or (step_parts_of value) Unmatched
+  action ← ok_or (action_at parts.0) Value
+  step_with action parts.1
+
+-- the value is of another type
+abbrev pub is_unmatched : {A : Type 0} → Result A ScriptFault → Bool
+is_unmatched (Ok x) = false
+is_unmatched (Err Unmatched) = true
+is_unmatched (Err Value) = false
+is_unmatched (Err Memory) = false
+
+-- the fault of several values: another type of one is told before any other fault
+unfoldable pub told : {A B : Type 0} → (A → Result B ScriptFault) → List A → Result (Unit {0}) ScriptFault
+told read items =
+    if list_any (λ item. is_unmatched (read item)) items then Err Unmatched
+    else if list_any (λ item. is_err (read item)) items then Err Value
+    else Ok tt
+
+-- the values of those that have no fault
+abbrev pub values : {A B : Type 0} → (A → Result B ScriptFault) → List A → List B
+values read items = filter_map (λ item. result_ok (read item)) items
+
+-- a script's identifier and the Datas of its steps, once these are judged
+unfoldable pub judged_script : Data → Result (ℕ × List Data) ScriptFault
+judged_script value = do
+  parts ← ok_or (script_parts_of value) Unmatched
+  told step_of parts.1
+  guard (not (parts.0 == 0) && nat_le (length parts.1) max_steps) Value
+  Ok parts
+
+-- a script: its identifier is not 0, and it has eight steps at most
+unfoldable pub script_of : Data → Result Script ScriptFault
+script_of value = do
+  parts ← judged_script value
+  Ok (record { identifier = parts.0; steps = values step_of parts.1 })
+
+-- no two have the same number
+abbrev pub are_distinct : {A : Type 0} → (A → ℕ) → List A → Bool
+are_distinct number [] = true
+are_distinct number (x ∷ xs) = not (list_any (λ other. number other == number x) xs) && are_distinct number xs
+
+-- the fault of the Datas of scripts: there are sixteen at most, each with an identifier of its own
+unfoldable pub judged_scripts : List Data → Result (Unit {0}) ScriptFault
+judged_scripts items = do
+  told script_of items
+  guard (nat_le (length items) max_scripts && are_distinct identifier_of items) Value
+
+-- a script table
+unfoldable pub table_of : Data → Result (List Script) ScriptFault
+table_of value = do
+  items ← ok_or (array_of value) Unmatched
+  judged_scripts items
+  Ok (values script_of items)

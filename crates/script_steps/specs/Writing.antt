@@ -1,0 +1,50 @@
+-- A script table as it is read: an array of scripts, each a structure of its identifier and an array of its steps.
+use Rattle.std.specs.Prelude.{pos, List, [], ◌∷◌, map}
+use Rattle.cosem_axdr.specs.Tree.{trees_of}
+use Rattle.cosem_axdr.specs.View.{all_trees}
+use Rattle.cosem_axdr.specs.declared.value.Data.{Data}
+use Rattle.cosem_axdr.specs.declared.value.Data.TheVariants.{Array, Structure, OctetString, DoubleLongUnsigned, LongUnsigned, Enum, Integer}
+use Rattle.cosem_datetime.specs.Fields.{date_time_bytes}
+use Rattle.disconnect_control.specs.Transitions.{mode_number}
+use Rattle.limiter_core.specs.declared.settings.Profile.{Profile}
+use Rattle.script_steps.specs.Addresses.{address_of, action_of}
+use Rattle.script_steps.specs.declared.action.Address.{Address}
+use Rattle.script_steps.specs.declared.step.Script.{Script}
+use Rattle.script_steps.specs.declared.step.Step.{Step}
+use Rattle.script_steps.specs.declared.step.Step.TheVariants.{WriteMode, WriteNormal, WriteEmergency, WriteMinOver, WriteMinUnder, WriteProfile, Disconnect, Reconnect}
+
+abbrev pub array_with : List Data → Data
+array_with items = Array (trees_of (all_trees items))
+
+abbrev pub structure_with : List Data → Data
+structure_with items = Structure (trees_of (all_trees items))
+
+-- an emergency profile: its start is an octet-string
+abbrev pub profile_data : Profile → Data
+profile_data profile =
+    structure_with (LongUnsigned profile.id ∷ OctetString (date_time_bytes profile.start) ∷ DoubleLongUnsigned profile.duration ∷ [])
+
+-- the parameter of a step: a method's is the integer 0
+abbrev pub parameter_of : Step → Data
+parameter_of (WriteMode mode) = Enum (mode_number mode)
+parameter_of (WriteNormal which watts) = DoubleLongUnsigned watts
+parameter_of (WriteEmergency which watts) = DoubleLongUnsigned watts
+parameter_of (WriteMinOver which seconds) = DoubleLongUnsigned seconds
+parameter_of (WriteMinUnder which seconds) = DoubleLongUnsigned seconds
+parameter_of (WriteProfile which profile) = profile_data profile
+parameter_of Disconnect = Integer (pos 0)
+parameter_of Reconnect = Integer (pos 0)
+
+-- a step of this address and parameter
+abbrev pub addressed : Address → Data → Data
+addressed address parameter =
+    structure_with (Enum address.service ∷ LongUnsigned address.class.0 ∷ OctetString address.name.0 ∷ Integer address.index ∷ parameter ∷ [])
+
+unfoldable pub step_data : Step → Data
+step_data step = addressed (address_of (action_of step)) (parameter_of step)
+
+unfoldable pub script_data : Script → Data
+script_data script = structure_with (LongUnsigned script.identifier ∷ array_with (map step_data script.steps) ∷ [])
+
+unfoldable pub data_of : List Script → Data
+data_of scripts = array_with (map script_data scripts)

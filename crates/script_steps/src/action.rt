@@ -1,0 +1,137 @@
+ghost use Rattle.std.specs.Prelude.{◌≡◌};
+ghost use Rattle.script_steps.specs.Addresses.{attribute_of, method_of, limiter_attribute_of, limiter_name, address_of, action_at, action_of};
+
+use crate::names::{
+    CONTROL_MODE, DISCONNECT_CONTROL, DISCONNECT_CONTROL_NAME, EMERGENCY_PROFILE, EXECUTE_METHOD,
+    EXPORT_LIMITER_NAME, IMPORT_LIMITER_NAME, LIMITER, MIN_OVER_THRESHOLD_DURATION,
+    MIN_UNDER_THRESHOLD_DURATION, REMOTE_DISCONNECT, REMOTE_RECONNECT, THRESHOLD_EMERGENCY,
+    THRESHOLD_NORMAL, WRITE_ATTRIBUTE,
+};
+use crate::step::{Step, Which};
+use cosem_names::{ClassId, Obis};
+
+/// What a step acts on, as it is written: the service, and the attribute or method that it names.
+#[derive(Clone, Copy, Debug, PartialEq, Eq)]
+pub(crate) struct Address {
+    pub(crate) service: u8,
+    pub(crate) class: ClassId,
+    pub(crate) name: Obis,
+    pub(crate) index: i8,
+}
+
+/// What a listed step does, without the value that it writes.
+#[derive(Clone, Copy, Debug, PartialEq, Eq)]
+pub(crate) enum Action {
+    Mode,
+    Normal(Which),
+    Emergency(Which),
+    MinOver(Which),
+    MinUnder(Which),
+    Profile(Which),
+    Disconnect,
+    Reconnect,
+}
+
+/// The actions of the listed steps.
+pub(crate) const ACTIONS: [Action; 13] = [
+    Action::Mode,
+    Action::Normal(Which::Import),
+    Action::Emergency(Which::Import),
+    Action::MinOver(Which::Import),
+    Action::MinUnder(Which::Import),
+    Action::Profile(Which::Import),
+    Action::Normal(Which::Export),
+    Action::Emergency(Which::Export),
+    Action::MinOver(Which::Export),
+    Action::MinUnder(Which::Export),
+    Action::Profile(Which::Export),
+    Action::Disconnect,
+    Action::Reconnect,
+];
+
+/// A write of an attribute of the disconnect control.
+fn attribute(index: i8) -> Address
+    ensures { result ≡ attribute_of index }
+{
+    Address {
+        service: WRITE_ATTRIBUTE,
+        class: DISCONNECT_CONTROL,
+        name: DISCONNECT_CONTROL_NAME,
+        index,
+    }
+}
+
+/// An execution of a method of the disconnect control.
+fn method(index: i8) -> Address
+    ensures { result ≡ method_of index }
+{
+    Address {
+        service: EXECUTE_METHOD,
+        class: DISCONNECT_CONTROL,
+        name: DISCONNECT_CONTROL_NAME,
+        index,
+    }
+}
+
+/// A write of an attribute of a limiter.
+fn limiter_attribute(which: Which, index: i8) -> Address
+    ensures { result ≡ limiter_attribute_of which index }
+{
+    let name = match which {
+        Which::Import => IMPORT_LIMITER_NAME,
+        Which::Export => EXPORT_LIMITER_NAME,
+    };
+    Address {
+        service: WRITE_ATTRIBUTE,
+        class: LIMITER,
+        name,
+        index,
+    }
+}
+
+impl Action {
+    /// What a step of this action names.
+    pub(crate) fn address(self) -> Address
+        ensures { result ≡ address_of self }
+    {
+        match self {
+            Action::Mode => attribute(CONTROL_MODE),
+            Action::Normal(which) => limiter_attribute(which, THRESHOLD_NORMAL),
+            Action::Emergency(which) => limiter_attribute(which, THRESHOLD_EMERGENCY),
+            Action::MinOver(which) => limiter_attribute(which, MIN_OVER_THRESHOLD_DURATION),
+            Action::MinUnder(which) => limiter_attribute(which, MIN_UNDER_THRESHOLD_DURATION),
+            Action::Profile(which) => limiter_attribute(which, EMERGENCY_PROFILE),
+            Action::Disconnect => method(REMOTE_DISCONNECT),
+            Action::Reconnect => method(REMOTE_RECONNECT),
+        }
+    }
+
+    /// The action of a step that names this, or None where no listed step does.
+    #[tactic(auto, unfolding(crate::specs::Addresses::action_at))]
+    pub(crate) fn at(address: Address) -> Option<Action>
+        ensures { result ≡ action_at address }
+    {
+        ACTIONS
+            .iter()
+            .copied()
+            .find(|action| action.address() == address)
+    }
+}
+
+impl Step {
+    /// What the step does, without the value that it writes.
+    pub(crate) fn action(&self) -> Action
+        ensures { result ≡ action_of self.now }
+    {
+        match self {
+            Step::WriteMode(_) => Action::Mode,
+            Step::WriteNormal(which, _) => Action::Normal(*which),
+            Step::WriteEmergency(which, _) => Action::Emergency(*which),
+            Step::WriteMinOver(which, _) => Action::MinOver(*which),
+            Step::WriteMinUnder(which, _) => Action::MinUnder(*which),
+            Step::WriteProfile(which, _) => Action::Profile(*which),
+            Step::Disconnect => Action::Disconnect,
+            Step::Reconnect => Action::Reconnect,
+        }
+    }
+}

@@ -1,0 +1,25 @@
+//! The scripts of a meter's script table (IEC 62056-6-2, class 9): the table as it is written and read back, and the
+//! steps of its scripts.
+//!
+//! A step writes an attribute, or executes a method, of the disconnect control or of one of the two limiters. Which of
+//! these a table may hold, and its limits of 16 scripts and eight steps each, are this product's own.
+#![tactic(auto)]
+
+mod action;
+mod fault;
+mod forms;
+mod laws;
+mod names;
+mod reading;
+mod step;
+mod table;
+#[cfg(test)]
+mod tests;
+mod writing;
+
+pub use fault::ScriptFault;
+pub use laws::written_table_is_read;
+pub use reading::read_profile;
+pub use step::{Script, Step, Which};
+pub use table::{MAX_SCRIPTS, MAX_STEPS, NULL_SCRIPT, ScriptTable};
+pub use writing::write_profile;

@@ -1,0 +1,256 @@
+ghost use Rattle.std.specs.Prelude.{◌≡◌, ◌==◌, ◌<◌, ◌≤◌, length, IfOk, IfSome, IsErrOf, is_err};
+ghost use Rattle.std.specs.Result.{result_map_both, result_ok};
+ghost use Rattle.cosem_datetime.specs.Fields.{IsDateTimeFields};
+ghost use Rattle.std.specs.List.{All, list_any};
+ghost use Rattle.script_steps.specs.Forms.{identifier_of};
+ghost use Rattle.script_steps.specs.Reading.{max_steps, number_of, profile_of, method_parameter_of, step_with, step_of, is_unmatched, told, values, judged_script, script_of, are_distinct, judged_scripts};
+ghost use Rattle.script_steps.specs.Table.{IsStep, IsScript};
+
+use crate::action::Action;
+use crate::fault::ScriptFault;
+use crate::forms::{identifier_in, profile_parts, script_parts, step_parts};
+use crate::step::{Script, Step};
+use crate::table::{MAX_SCRIPTS, MAX_STEPS};
+use cosem_axdr::Data;
+use cosem_datetime::read_date_time;
+use disconnect_control::ControlMode;
+use limiter_core::Profile;
+use listed::Listed;
+use std::alloc::{AllocError, Global};
+
+/// A threshold in watts or a duration in seconds.
+fn read_number(value: &Data) -> Result<u32, ScriptFault>
+    ensures { result ≡ number_of value.now }
+{
+    value.double_long_unsigned().ok_or(ScriptFault::Unmatched)
+}
+
+/// Reads an emergency profile as attribute 8 of a limiter is written (IEC 62056-6-2, class 71): a structure of
+/// long-unsigned id, octet-string or date-time start, and double-long-unsigned duration. It takes no memory.
+#[tactic(auto, unfolding(crate::specs::Reading::profile_of))]
+pub fn read_profile(value: &Data) -> Result<Profile, ScriptFault>
+    ensures exact { result ≡ profile_of value.now }
+    ensures fit { IfOk result (λ profile. IsDateTimeFields profile.start) }
+    ensures no_memory { ¬ IsErrOf result ScriptFault.Memory }
+{
+    let (id, start, duration) = profile_parts(value).ok_or(ScriptFault::Unmatched)?;
+    let start = read_date_time(start).ok().ok_or(ScriptFault::Value)?;
+    Ok(Profile {
+        id,
+        start,
+        duration,
+    })
+}
+
+/// The parameter of a method: null-data or an integer.
+fn read_method_parameter(value: &Data) -> Result<(), ScriptFault>
+    ensures { result ≡ method_parameter_of value.now }
+{
+    match value {
+        Data::Null | Data::Integer(_) => Ok(()),
+        _ => Err(ScriptFault::Unmatched),
+    }
+}
+
+/// The step of an action, with its parameter.
+#[tactic(auto, unfolding(crate::specs::Reading::step_with))]
+fn step_with(action: Action, parameter: &Data) -> Result<Step, ScriptFault>
+    ensures exact { result ≡ step_with action parameter.now }
+    ensures fit { IfOk result IsStep }
+{
+    Ok(match action {
+        Action::Mode => {
+            let number = parameter.enumerated().ok_or(ScriptFault::Unmatched)?;
+            Step::WriteMode(ControlMode::of_number(number).ok_or(ScriptFault::Value)?)
+        }
+        Action::Normal(which) => Step::WriteNormal(which, read_number(parameter)?),
+        Action::Emergency(which) => Step::WriteEmergency(which, read_number(parameter)?),
+        Action::MinOver(which) => Step::WriteMinOver(which, read_number(parameter)?),
+        Action::MinUnder(which) => Step::WriteMinUnder(which, read_number(parameter)?),
+        Action::Profile(which) => Step::WriteProfile(which, read_profile(parameter)?),
+        Action::Disconnect => {
+            read_method_parameter(parameter)?;
+            Step::Disconnect
+        }
+        Action::Reconnect => {
+            read_method_parameter(parameter)?;
+            Step::Reconnect
+        }
+    })
+}
+
+/// A step.
+#[tactic(auto, unfolding(crate::specs::Reading::step_of))]
+fn read_step(value: &Data) -> Result<Step, ScriptFault>
+    ensures exact { result ≡ step_of value.now }
+    ensures fit { IfOk result IsStep }
+{
+    let (address, parameter) = step_parts(value).ok_or(ScriptFault::Unmatched)?;
+    let action = Action::at(address).ok_or(ScriptFault::Value)?;
+    step_with(action, parameter)
+}
+
+/// Whether a step is of another type.
+fn is_step_unmatched(value: &Data) -> bool
+    ensures { result ≡ is_unmatched (step_of value.now) }
+{
+    matches!(read_step(value), Err(ScriptFault::Unmatched))
+}
+
+/// Whether a step has any fault.
+fn is_step_faulty(value: &Data) -> bool
+    ensures { result ≡ is_err (step_of value.now) }
+{
+    read_step(value).is_err()
+}
+
+/// Whether one of the steps is of another type.
+fn has_unmatched_step(items: &[Data]) -> bool
+    ensures { result ≡ list_any (λ item. is_unmatched (step_of item)) items.now }
+{
+    items.iter().any(|item| is_step_unmatched(item))
+}
+
+/// Whether one of the steps has any fault.
+fn has_faulty_step(items: &[Data]) -> bool
+    ensures { result ≡ list_any (λ item. is_err (step_of item)) items.now }
+{
+    items.iter().any(|item| is_step_faulty(item))
+}
+
+/// The fault of steps: another type of one is told before any other.
+#[tactic(auto, unfolding(crate::specs::Reading::told))]
+fn judge_steps(items: &[Data]) -> Result<(), ScriptFault>
+    ensures exact { result ≡ told step_of items.now }
+    ensures no_memory { ¬ IsErrOf result ScriptFault.Memory }
+{
+    if has_unmatched_step(items) {
+        Err(ScriptFault::Unmatched)
+    } else if has_faulty_step(items) {
+        Err(ScriptFault::Value)
+    } else {
+        Ok(())
+    }
+}
+
+/// The identifier of a script, and its steps, once these are judged.
+#[tactic(auto, unfolding(crate::specs::Reading::judged_script))]
+fn judge_script(value: &Data) -> Result<(u16, &[Data]), ScriptFault>
+    ensures exact { result_map_both (λ parts. (parts.0, parts.1.now)) (λ fault. fault) result ≡ judged_script value.now }
+    ensures fit { IfOk result (λ parts. (0 < parts.0) × (length parts.1.now ≤ max_steps)) }
+{
+    let (identifier, steps) = script_parts(value).ok_or(ScriptFault::Unmatched)?;
+    judge_steps(steps)?;
+    if identifier == 0 || steps.len() > MAX_STEPS {
+        return Err(ScriptFault::Value);
+    }
+    Ok((identifier, steps))
+}
+
+/// Whether a script is of another type.
+#[tactic(auto, unfolding(crate::specs::Reading::script_of))]
+fn is_script_unmatched(value: &Data) -> bool
+    ensures { result ≡ is_unmatched (script_of value.now) }
+{
+    matches!(judge_script(value), Err(ScriptFault::Unmatched))
+}
+
+/// Whether a script has any fault.
+#[tactic(auto, unfolding(crate::specs::Reading::script_of))]
+fn is_script_faulty(value: &Data) -> bool
+    ensures { result ≡ is_err (script_of value.now) }
+{
+    judge_script(value).is_err()
+}
+
+/// Whether one of the scripts is of another type.
+fn has_unmatched_script(items: &[Data]) -> bool
+    ensures { result ≡ list_any (λ item. is_unmatched (script_of item)) items.now }
+{
+    items.iter().any(|item| is_script_unmatched(item))
+}
+
+/// Whether one of the scripts has any fault.
+fn has_faulty_script(items: &[Data]) -> bool
+    ensures { result ≡ list_any (λ item. is_err (script_of item)) items.now }
+{
+    items.iter().any(|item| is_script_faulty(item))
+}
+
+/// Whether one of the scripts has this identifier.
+fn is_identifier_of_any(items: &[Data], identifier: u16) -> bool
+    ensures { result ≡ list_any (λ item. identifier_of item == identifier) items.now }
+{
+    items.iter().any(|item| identifier_in(item) == identifier)
+}
+
+/// Whether each script has an identifier of its own.
+fn are_distinct(items: &[Data]) -> bool
+    ensures { result ≡ are_distinct identifier_of items.now }
+{
+    for (i, item) in items.iter().enumerate() {
+        if is_identifier_of_any(&items[i + 1..], identifier_in(item)) {
+            return false;
+        }
+    }
+    true
+}
+
+/// The fault of scripts: another type of one is told before any other.
+#[tactic(auto, unfolding(crate::specs::Reading::told, crate::specs::Reading::judged_scripts))]
+pub(crate) fn judge_scripts(items: &[Data]) -> Result<(), ScriptFault>
+    ensures exact { result ≡ judged_scripts items.now }
+    ensures no_memory { ¬ IsErrOf result ScriptFault.Memory }
+{
+    if has_unmatched_script(items) {
+        Err(ScriptFault::Unmatched)
+    } else if has_faulty_script(items) || items.len() > MAX_SCRIPTS || !are_distinct(items) {
+        Err(ScriptFault::Value)
+    } else {
+        Ok(())
+    }
+}
+
+/// The steps that have no fault.
+fn read_steps(alloc: Global, items: &[Data]) -> Result<Listed<Step>, AllocError>
+    ensures steps { IfOk result (λ steps. steps ≡ values step_of items.now) }
+    ensures fit { IfOk result (λ steps. All IsStep steps) }
+    ensures few { IfOk result (λ steps. length steps ≤ length items.now) }
+{
+    let mut steps = Vec::new(alloc);
+    for item in items {
+        let Ok(step) = read_step(item) else {
+            continue;
+        };
+        steps.push(step)?;
+    }
+    Ok(Listed::from_vec(steps))
+}
+
+/// A script, or None where it has a fault.
+#[tactic(auto, unfolding(crate::specs::Reading::script_of, crate::specs::Reading::judged_script))]
+fn read_script(alloc: Global, value: &Data) -> Result<Option<Script>, AllocError>
+    ensures script { IfOk result (λ script. script ≡ result_ok (script_of value.now)) }
+    ensures fit { IfOk result (λ script. IfSome script IsScript) }
+{
+    let Ok((identifier, steps)) = judge_script(value) else {
+        return Ok(None);
+    };
+    let steps = read_steps(alloc, steps)?;
+    Ok(Some(Script { identifier, steps }))
+}
+
+/// The scripts that have no fault.
+pub(crate) fn read_scripts(alloc: Global, items: &[Data]) -> Result<Listed<Script>, AllocError>
+    ensures scripts { IfOk result (λ scripts. scripts ≡ values script_of items.now) }
+    ensures fit { IfOk result (λ scripts. All IsScript scripts) }
+{
+    let mut scripts = Vec::new(alloc);
+    for item in items {
+        let Some(script) = read_script(alloc, item)? else {
+            continue;
+        };
+        scripts.push(script)?;
+    }
+    Ok(Listed::from_vec(scripts))
+}

@@ -1,0 +1,42 @@
+use disconnect_control::ControlMode;
+use limiter_core::Profile;
+use listed::Listed;
+
+/// One of the two limiters.
+#[derive(Clone, Copy, Debug, PartialEq, Eq)]
+pub enum Which {
+    /// That of the imported power, 0.0.17.0.0.255.
+    Import,
+    /// That of the exported power, 0.1.17.0.0.255.
+    Export,
+}
+
+/// A step of a script: what it writes or executes.
+#[derive(Clone, Copy, Debug)]
+pub enum Step {
+    /// Writes `control_mode` of the disconnect control (class 70, attribute 4).
+    WriteMode(ControlMode),
+    /// Writes `threshold_normal` of a limiter (class 71, attribute 4), in watts.
+    WriteNormal(Which, u32),
+    /// Writes `threshold_emergency` of a limiter (class 71, attribute 5), in watts.
+    WriteEmergency(Which, u32),
+    /// Writes `min_over_threshold_duration` of a limiter (class 71, attribute 6), in seconds.
+    WriteMinOver(Which, u32),
+    /// Writes `min_under_threshold_duration` of a limiter (class 71, attribute 7), in seconds.
+    WriteMinUnder(Which, u32),
+    /// Writes `emergency_profile` of a limiter (class 71, attribute 8).
+    WriteProfile(Which, Profile),
+    /// Executes `remote_disconnect` of the disconnect control (class 70, method 1).
+    Disconnect,
+    /// Executes `remote_reconnect` of the disconnect control (class 70, method 2).
+    Reconnect,
+}
+
+/// A script: its identifier, and its steps in order.
+#[derive(Debug, Drop)]
+pub struct Script {
+    /// `script_identifier`, by which it is selected: not 0.
+    pub identifier: u16,
+    /// Eight steps at most.
+    pub steps: Listed<Step>,
+}

@@ -1,0 +1,142 @@
+ghost use Rattle.std.specs.Prelude.{◌≡◌, ◌↔◌, ◌+◌, ◌<◌, ◌≤◌, [], ◌∷◌, length, drop, Some, Ok, Err, IsOk, IfOk, IfSome, IsErrOf, option_map, slice_get};
+ghost use Rattle.script_steps.specs.declared.fault.ScriptFault.TheVariants.{Unmatched, Value, Memory};
+ghost use Rattle.script_steps.specs.Reading.{max_steps, table_of};
+ghost use Rattle.script_steps.specs.Table.{IsScript, script_at, steps_at, running_steps};
+ghost use Rattle.script_steps.specs.Writing.{data_of};
+
+use crate::fault::ScriptFault;
+use crate::reading::{judge_scripts, read_scripts};
+use crate::step::{Script, Step};
+use crate::writing::write_scripts;
+use cosem_axdr::Data;
+use listed::Listed;
+use std::alloc::{AllocError, Global};
+use std::marker::Model;
+
+/// The most scripts that a table holds.
+pub const MAX_SCRIPTS: usize = 16;
+
+/// The most steps that a script has.
+pub const MAX_STEPS: usize = 8;
+
+/// The selector of the null script, which every table has and which has no steps.
+pub const NULL_SCRIPT: u16 = 0;
+
+/// A script table (IEC 62056-6-2, class 9, attribute 2): scripts, each with an identifier of its own.
+#[derive(Debug, Drop)]
+pub struct ScriptTable {
+    scripts: Listed<Script>,
+}
+
+impl Model for ScriptTable {
+    ghost use Rattle.std.specs.Prelude.{List};
+    ghost use Rattle.script_steps.specs.declared.step.Script.{Script};
+    ghost use Rattle.script_steps.specs.Table.{IsTable};
+
+    ghost Value = { List Script };
+
+    ghost view = { λ table. table.scripts };
+
+    ghost invariant = { λ table. IsTable table.scripts };
+}
+
+/// A copy of scripts.
+fn copy_scripts(alloc: Global, scripts: &[Script]) -> Result<Listed<Script>, AllocError>
+    ensures { IfOk result (λ copies. copies ≡ scripts.now) }
+{
+    let mut copies = Vec::new(alloc);
+    for script in scripts {
+        let steps = Vec::from_slice(alloc, script.steps.as_slice())?;
+        copies.push(Script {
+            identifier: script.identifier,
+            steps: Listed::from_vec(steps),
+        })?;
+    }
+    Ok(Listed::from_vec(copies))
+}
+
+impl ScriptTable {
+    /// A table without scripts. It takes no memory.
+    pub fn new(alloc: Global) -> ScriptTable
+        ensures { result ≡ [] }
+    {
+        ScriptTable {
+            scripts: Listed::new(alloc),
+        }
+    }
+
+    /// The table that a Data is the written form of: an array of scripts, each a structure of its identifier and an
+    /// array of its steps, each of these a structure of service_id, class_id, logical_name, index and parameter.
+    ///
+    /// Another type anywhere is told before any value that isn't taken, and either before want of memory.
+    #[tactic(auto, unfolding(crate::specs::Reading::table_of))]
+    pub fn from_data(alloc: Global, value: &Data) -> Result<ScriptTable, ScriptFault>
+        ensures ok { IfOk result (λ table. table_of value.now ≡ Ok table) }
+        ensures unmatched { IsErrOf result ScriptFault.Unmatched ↔ (table_of value.now ≡ Err Unmatched) }
+        ensures value { IsErrOf result ScriptFault.Value ↔ (table_of value.now ≡ Err Value) }
+        ensures memory { IsErrOf result ScriptFault.Memory → IsOk (table_of value.now) }
+    {
+        let items = value.array().ok_or(ScriptFault::Unmatched)?;
+        judge_scripts(items)?;
+        let scripts = read_scripts(alloc, items)?;
+        Ok(ScriptTable { scripts })
+    }
+
+    /// The table as attribute 2 is read. A start of an emergency profile is an octet-string, the parameter of a method
+    /// the integer 0.
+    pub fn to_data(&self, alloc: Global) -> Result<Data, AllocError>
+        ensures value { IfOk result (λ value. value ≡ data_of self.now) }
+        // Written again, it gives the table back.
+        ensures again { IfOk result (λ value. table_of value ≡ Ok self.now) }
+    {
+        write_scripts(alloc, self.scripts.as_slice())
+    }
+
+    /// The script with this identifier.
+    #[tactic(auto, using(crate::proofs::Tables::found_fits))]
+    fn script(&self, identifier: u16) -> Option<&Script>
+        ensures script { option_map (λ script. script.now) result ≡ script_at identifier self.now }
+        ensures fit { IfSome result (λ script. IsScript script.now) }
+    {
+        self.scripts
+            .as_slice()
+            .iter()
+            .find(|script| script.identifier == identifier)
+    }
+
+    /// How many steps the script of a selector has, or None where no script has that identifier. Selector 0 is the null
+    /// script, with no steps. It takes no memory.
+    #[tactic(auto, unfolding(crate::specs::Table::steps_at))]
+    pub fn step_count(&self, selector: u16) -> Option<u8>
+        ensures count { result ≡ option_map length (steps_at selector self.now) }
+        ensures steps { IfSome result (λ count. count ≡ length (running_steps selector self.now)) }
+        ensures few { IfSome result (λ count. count ≤ max_steps) }
+    {
+        if selector == NULL_SCRIPT {
+            return Some(0);
+        }
+        let script = self.script(selector)?;
+        Some(script.steps.len() as u8)
+    }
+
+    /// Step `i` of the script of a selector; the first has number 0. It takes no memory.
+    #[tactic(auto, unfolding(crate::specs::Table::steps_at))]
+    pub fn step(&self, selector: u16, i: u8) -> Step
+        requires { i < length (running_steps selector self.now) }
+        ensures here { slice_get (running_steps selector self.now) i ≡ Some result }
+        ensures rest { drop i (running_steps selector self.now) ≡ result ∷ drop (i + 1) (running_steps selector self.now) }
+    {
+        match self.script(selector) {
+            Some(script) => script.steps.as_slice()[usize::from(i)],
+            None => unreachable!(),
+        }
+    }
+
+    /// A copy of the table, in memory of its own.
+    pub fn try_clone(&self, alloc: Global) -> Result<ScriptTable, AllocError>
+        ensures { IfOk result (λ table. table ≡ self.now) }
+    {
+        let scripts = copy_scripts(alloc, self.scripts.as_slice())?;
+        Ok(ScriptTable { scripts })
+    }
+}

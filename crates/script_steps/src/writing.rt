@@ -1,0 +1,93 @@
+ghost use Rattle.std.specs.Prelude.{◌≡◌, map, IfOk};
+ghost use Rattle.script_steps.specs.Writing.{profile_data, parameter_of, addressed, step_data, script_data, data_of, array_with};
+
+use crate::action::Address;
+use crate::step::{Script, Step};
+use cosem_axdr::{Data, Items, Octets};
+use limiter_core::Profile;
+use std::alloc::{AllocError, Global};
+
+/// An emergency profile as attribute 8 of a limiter is read (IEC 62056-6-2, class 71). Its start is an octet-string.
+pub fn write_profile(alloc: Global, profile: &Profile) -> Result<Data, AllocError>
+    ensures { IfOk result (λ value. value ≡ profile_data profile.now) }
+{
+    let start = Octets::from_slice(alloc, &profile.start.bytes())?;
+    Ok(Data::Structure(Items::from_vec(vec![in alloc;
+        Data::LongUnsigned(profile.id),
+        Data::OctetString(start),
+        Data::DoubleLongUnsigned(profile.duration),
+    ]?)))
+}
+
+/// The parameter of a step. A method's is the integer 0.
+fn parameter(alloc: Global, step: &Step) -> Result<Data, AllocError>
+    ensures { IfOk result (λ value. value ≡ parameter_of step.now) }
+{
+    Ok(match step {
+        Step::WriteMode(mode) => Data::Enum(mode.number()),
+        Step::WriteNormal(_, number)
+        | Step::WriteEmergency(_, number)
+        | Step::WriteMinOver(_, number)
+        | Step::WriteMinUnder(_, number) => Data::DoubleLongUnsigned(*number),
+        Step::WriteProfile(_, profile) => write_profile(alloc, profile)?,
+        Step::Disconnect | Step::Reconnect => Data::Integer(0),
+    })
+}
+
+/// A step of this address and parameter.
+fn write_address(alloc: Global, address: Address, parameter: Data) -> Result<Data, AllocError>
+    ensures { IfOk result (λ value. value ≡ addressed address parameter) }
+{
+    let name = Octets::from_slice(alloc, &address.name.0)?;
+    Ok(Data::Structure(Items::from_vec(vec![in alloc;
+        Data::Enum(address.service),
+        Data::LongUnsigned(address.class.0),
+        Data::OctetString(name),
+        Data::Integer(address.index),
+        parameter,
+    ]?)))
+}
+
+/// A step.
+#[tactic(auto, unfolding(crate::specs::Writing::step_data))]
+fn write_step(alloc: Global, step: &Step) -> Result<Data, AllocError>
+    ensures { IfOk result (λ value. value ≡ step_data step.now) }
+{
+    let parameter = parameter(alloc, step)?;
+    write_address(alloc, step.action().address(), parameter)
+}
+
+/// The steps of a script.
+fn write_steps(alloc: Global, steps: &[Step]) -> Result<Data, AllocError>
+    ensures { IfOk result (λ value. value ≡ array_with (map step_data steps.now)) }
+{
+    let mut items = Vec::new(alloc);
+    for step in steps {
+        items.push(write_step(alloc, step)?)?;
+    }
+    Ok(Data::Array(Items::from_vec(items)))
+}
+
+/// A script.
+#[tactic(auto, unfolding(crate::specs::Writing::script_data))]
+fn write_script(alloc: Global, script: &Script) -> Result<Data, AllocError>
+    ensures { IfOk result (λ value. value ≡ script_data script.now) }
+{
+    let steps = write_steps(alloc, script.steps.as_slice())?;
+    Ok(Data::Structure(Items::from_vec(vec![in alloc;
+        Data::LongUnsigned(script.identifier),
+        steps,
+    ]?)))
+}
+
+/// Scripts.
+#[tactic(auto, unfolding(crate::specs::Writing::data_of))]
+pub(crate) fn write_scripts(alloc: Global, scripts: &[Script]) -> Result<Data, AllocError>
+    ensures { IfOk result (λ value. value ≡ data_of scripts.now) }
+{
+    let mut items = Vec::new(alloc);
+    for script in scripts {
+        items.push(write_script(alloc, script)?)?;
+    }
+    Ok(Data::Array(Items::from_vec(items)))
+}
