@@ -8,6 +8,17 @@ import sys
 TOP = pathlib.Path(__file__).resolve().parent.parent
 FAULT_INPUT = b"fault: input\n"
 
+HEX = ["hex", "--password", "12345678"]
+
+# Frames of a session: the public client's AARQ and GET of the control state, the management client's AARQ, and the answers.
+AARQ = b"000100100001001F601DA109060760857405080101BE10040E01000000065F1F0400007E1F04B0"
+AARE = b"000100010010002B6129A109060760857405080101A203020100A305A103020100BE10040E0800065F1F0400001E1904000007\n"
+GET_STATE = b"000100100001000DC001C10046000060030AFF0300"
+GOT_STATE = b"0001000100100006C401C1001601\n"
+MANAGEMENT_AARQ = (b"00010001000100386036A1090607608574050801018A0207808B0760857405080201AC0A80083132333435363738"
+                   b"BE10040E01000000065F1F0400001C190400")
+MANAGEMENT_AARE = b"000100010001002B6129A109060760857405080101A203020100A305A103020100BE10040E0800065F1F0400001C1904000007\n"
+
 # A case: its name, the program, its words, its standard input, and what it must give: standard output, standard
 # error (None: any text, but some), status.
 CASES = [
@@ -32,6 +43,12 @@ CASES = [
     ("a mode above 6", "meter_server_cli", ["apdu"], b"C101C10046000060030AFF04001607\n", b"C501C1FA\n", b"", 0),
     ("a tag alone", "meter_server_cli", ["apdu"], b"C0\nC1\nC3\n", b"D80103\nD80103\nD80103\n", b"", 0),
     ("an unknown tag", "meter_server_cli", ["apdu"], b"CA\n60\n62\n", b"D80202\nD80202\nD80202\n", b"", 0),
+    ("a list is read", "meter_server_cli", ["apdu"],
+     b"C003C1020046000060030AFF03000046000060030BFF0300\nC003C100\n", b"C403C1020016010104\nC403C100\n", b"", 0),
+    ("scripts are written and executed", "meter_server_cli", ["apdu"],
+     b"C101C1000900000A006AFF0200010102021200030102020516011200460906000060030AFF0F041600020516021200460906000060030AFF0F010F00\n"
+     b"C301C1000900000A006AFF0101120000\nC301C1000900000A006AFF0101120009\nC301C1000900000A006AFF0101120003\n",
+     b"C501C100\nC701C10000\nC701C1FA00\nC701C10200\n", b"", 0),
     ("forms that need a session", "meter_server_cli", ["apdu"],
      b"C002C100000001\nC102\nC306C1\n", b"D80202\nD80202\nD80202\n", b"", 0),
     ("bytes left over", "meter_server_cli", ["apdu"], b"C001C10046000060030AFF030000\n", b"D80103\n", b"", 0),
@@ -42,11 +59,36 @@ CASES = [
     ("1,048,576 bytes", "meter_server_cli", ["apdu"], b"\n" * 1048576, b"", b"", 0),
     ("1,048,577 bytes", "meter_server_cli", ["apdu"], b"\n" * 1048577, b"", FAULT_INPUT, 2),
     ("too many bytes are found before a wrong line", "meter_server_cli", ["apdu"], b"G\n" + b"\n" * 1048576, b"", FAULT_INPUT, 2),
+    ("a session of the public client", "meter_server_cli", HEX, AARQ + b"\n" + GET_STATE, AARE + GOT_STATE, b"", 0),
+    ("a session in lower case with blanks and line ends", "meter_server_cli", HEX,
+     AARQ.lower() + b" \r\n" + b" ".join(bytes([digit]) for digit in GET_STATE), AARE + GOT_STATE, b"", 0),
+    ("a call before an association", "meter_server_cli", HEX, GET_STATE, b"0001000100100003D80101\n", b"", 0),
+    ("the password is right", "meter_server_cli", HEX, MANAGEMENT_AARQ, MANAGEMENT_AARE, b"", 0),
+    ("the password is wrong", "meter_server_cli", ["hex", "--password", "12345679"], MANAGEMENT_AARQ,
+     b"00010001000100196117A109060760857405080101A203020101A305A10302010D\n", b"", 0),
+    ("the device name of a session", "meter_server_cli", HEX + ["--device", "M"],
+     AARQ + b"000100100001000DC001C1000100002A0000FF0200", AARE + b"0001000100100007C401C10009014D\n", b"", 0),
+    ("no input", "meter_server_cli", HEX, b"", b"", b"", 0),
+    ("a session that is cut", "meter_server_cli", HEX, AARQ + b"0001", AARE, b"", 0),
+    ("a wrong version", "meter_server_cli", HEX, AARQ + b"0002001000010000" + GET_STATE, AARE, b"", 0),
+    ("too long a payload", "meter_server_cli", HEX, AARQ + b"0001001000010401" + GET_STATE, AARE, b"", 0),
+    ("an odd digit in a session", "meter_server_cli", HEX, AARQ + b"0", b"", FAULT_INPUT, 2),
+    ("a letter that is no digit in a session", "meter_server_cli", HEX, AARQ + b"0G", b"", FAULT_INPUT, 2),
+    ("a tab in a session", "meter_server_cli", HEX, AARQ + b"\t", b"", FAULT_INPUT, 2),
+    ("1,048,576 characters", "meter_server_cli", HEX, b" " * 1048576, b"", b"", 0),
+    ("1,048,577 characters", "meter_server_cli", HEX, b" " * 1048577, b"", FAULT_INPUT, 2),
+    ("a session without a password", "meter_server_cli", ["hex"], b"", b"", None, 2),
+    ("an empty password", "meter_server_cli", ["hex", "--password", ""], b"", b"", FAULT_INPUT, 2),
+    ("a password of 32 bytes", "meter_server_cli", ["hex", "--password", "p" * 32], b"", b"", b"", 0),
+    ("a password of 33 bytes", "meter_server_cli", ["hex", "--password", "p" * 33], b"", b"", FAULT_INPUT, 2),
+    ("an empty device name", "meter_server_cli", HEX + ["--device", ""], b"", b"", FAULT_INPUT, 2),
+    ("a device name of 17 bytes", "meter_server_cli", HEX + ["--device", "d" * 17], b"", b"", FAULT_INPUT, 2),
     ("no subcommand", "meter_server_cli", [], b"", b"", None, 2),
     ("an unknown subcommand", "meter_server_cli", ["apud"], b"", b"", None, 2),
     ("an argument too many", "meter_server_cli", ["apdu", "now"], b"", b"", None, 2),
     ("help", "meter_server_cli", ["--help"], b"", None, b"", 0),
     ("help of apdu", "meter_server_cli", ["apdu", "--help"], b"", None, b"", 0),
+    ("help of hex", "meter_server_cli", ["hex", "--help"], b"", None, b"", 0),
 ]
 
 

@@ -2,7 +2,21 @@
 #![tactic(auto)]
 
 mod answering;
+mod fault;
+mod form;
+mod hex_session;
+#[cfg(test)]
+mod hex_tests;
+mod hex_text;
+mod meter;
+mod serving;
+#[cfg(test)]
+mod serving_tests;
 #[cfg(test)]
 mod tests;
 
 pub use answering::answer_apdu;
+pub use fault::{HexFault, ServeFault};
+pub use hex_session::run_hex;
+pub use meter::Meter;
+pub use serving::serve_session;

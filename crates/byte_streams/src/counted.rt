@@ -1,0 +1,85 @@
+ghost use Rattle.std.specs.Prelude.{◌≡◌};
+ghost use Rattle.byte_streams.specs.Counted.{stream_of, has_failed, failures_of, IsWhole};
+
+use crate::fault::StreamFault;
+use crate::streams::{Reader, Writer};
+use std::io::{ErrorKind, Read, Write};
+
+/// How often a read that a signal interrupts is tried.
+const MOST_TRIES: u32 = 1_000;
+
+/// A stream of std as a [`Reader`] or a [`Writer`]. It is used up at its first failure.
+#[derive(Debug, Drop)]
+pub struct Counted<T> {
+    stream: T,
+    has_failed: bool,
+}
+
+impl<T> Counted<T> {
+    /// A stream that has not failed yet.
+    pub fn new(stream: T) -> Counted<T>
+        ensures stream { stream_of result ≡ stream }
+        ensures whole { IsWhole result }
+    {
+        Counted {
+            stream,
+            has_failed: false,
+        }
+    }
+
+    /// The stream itself.
+    pub fn into_inner(self) -> T
+        ensures { result ≡ stream_of self }
+    {
+        let Counted { stream, .. } = self;
+        stream
+    }
+
+    /// Whether a read or a write has failed.
+    pub fn has_failed(&self) -> bool
+        ensures { result ≡ has_failed self.now }
+    {
+        self.has_failed
+    }
+}
+
+impl<T: Read> Reader for Counted<T> {
+    ghost remaining = { λ c. T.remaining (stream_of c) };
+
+    ghost failures = { failures_of };
+
+    ghost can_read = { IsWhole };
+
+    fn read(&mut self, buffer: &mut [u8]) -> Result<usize, StreamFault> {
+        'tries: for _ in 0..MOST_TRIES {
+            match self.stream.read(buffer) {
+                Ok(count) => return Ok(count),
+                Err(error) => {
+                    if error.kind() != ErrorKind::Interrupted {
+                        break;
+                    }
+                }
+            }
+        }
+        self.has_failed = true;
+        Err(StreamFault)
+    }
+}
+
+impl<T: Write> Writer for Counted<T> {
+    ghost contents = { λ c. T.contents (stream_of c) };
+
+    ghost failures = { failures_of };
+
+    ghost can_write = { IsWhole };
+
+    fn write_all(&mut self, bytes: &[u8]) -> Result<(), StreamFault> {
+        match self.stream.write_all(bytes) {
+            Ok(()) => Ok(()),
+            Err(_) => {
+                self.has_failed = true;
+                Err(StreamFault)
+            }
+        }
+    }
+}

@@ -1,0 +1,4 @@
+pub mod Replies
+pub mod Reaching
+pub mod Sessions
+pub mod HexSessions
