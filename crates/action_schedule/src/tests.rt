@@ -331,19 +331,23 @@ fn entries_with_a_value_that_is_not_taken(rt: HostRuntime) -> Result<(), Fail> {
     )
 }
 
-/// So many entries of midnight.
-fn midnights(alloc: Global, count: u8) -> Result<String, AllocError> {
+/// Each midnight.
+const MIDNIGHT: &str = "02020904000000000905FFFFFFFFFF";
+
+/// So many entries of midnight, but the last one, which is `last`.
+fn midnights(alloc: Global, count: u8, last: &str) -> Result<String, AllocError> {
     let mut text = format!(in alloc; "01{count:02X}")?;
-    for _ in 0..count {
-        text.push_str("02020904000000000905FFFFFFFFFF")?;
+    for _ in 1..count {
+        text.push_str(MIDNIGHT)?;
     }
+    text.push_str(last)?;
     Ok(text)
 }
 
 #[test]
 fn sixteen_entries_at_most(rt: HostRuntime) -> Result<(), Fail> {
     let alloc = rt.alloc();
-    let sixteen = midnights(alloc, 16)?;
+    let sixteen = midnights(alloc, 16, MIDNIGHT)?;
     let schedule = schedule(alloc, 5, sixteen.as_str())?;
     assert!(rt;
         is_written(
@@ -354,10 +358,10 @@ fn sixteen_entries_at_most(rt: HostRuntime) -> Result<(), Fail> {
         )?
     );
     assert!(rt; schedule.due(86_399, 86_400) && !schedule.due(86_400, 172_799));
-    let seventeen = midnights(alloc, 17)?;
+    let seventeen = midnights(alloc, 17, MIDNIGHT)?;
     assert!(rt; entries_fault(alloc, seventeen.as_str())? == Some(ScheduleFault::Value));
     // An entry of another type is told before their count.
-    let other = format!(in alloc; "0111{}00", &midnights(alloc, 16)?.as_str()[4..])?;
+    let other = midnights(alloc, 17, "00")?;
     assert!(rt; entries_fault(alloc, other.as_str())? == Some(ScheduleFault::Unmatched));
     Ok(())
 }

@@ -1,3 +1,5 @@
+ghost use Rattle.std.specs.Prelude.{◌≤◌, length, IfOk};
+
 use crate::fault::Fault;
 use byte_streams::Counted;
 use clap::ArgMatches;
@@ -18,16 +20,22 @@ fn text_of(
     matches: &ArgMatches<'_>,
     option: &str,
     longest: usize,
-) -> Result<Octets, Fault> {
+) -> Result<Octets, Fault>
+    ensures { IfOk result (λ text. (1 ≤ length text) × (length text ≤ longest)) }
+{
     let text = matches.get_str(option).unwrap_or("");
-    if text.is_empty() || text.len() > longest {
+    let bytes = text.as_bytes();
+    if bytes.is_empty() || bytes.len() > longest {
         return Err(Fault::Input);
     }
-    Octets::from_slice(alloc, text.as_bytes()).map_err(|_| Fault::Memory)
+    match Octets::from_slice(alloc, bytes) {
+        Ok(octets) => Ok(octets),
+        Err(_) => Err(Fault::Memory),
+    }
 }
 
 /// The command `hex`: a session of a client with a new meter, from a stream in hexadecimal to a line for each frame sent.
-pub fn run<I: Read, O: Write>(
+pub fn run<I: Read + Drop, O: Write + Drop>(
     alloc: Global,
     input: I,
     output: O,
