@@ -1,12 +1,12 @@
 -- A session whose bytes are written in hexadecimal.
-use Rattle.std.proofs.Common.{◌≡◌, ◌<◌, ◌⊎◌, ℕ, Option, List, [], ◌∷◌, ◌++◌, map, Result, Ok, Err, IfErr, IsErrAnd, refl, sym, ap, ap₂, subst, inl, inr, append-nil}
+use Rattle.std.proofs.Common.{◌≡◌, ℕ, Option, List, [], ◌∷◌, ◌++◌, Result, Ok, Err, IfErr, IsErrAnd, refl, sym, ap₂, subst, inl, append-nil}
 use Rattle.std.specs.List.{flat_map}
 use Rattle.std.specs.Io.KnownBytes.{Appends, Consumes}
 use Rattle.std.proofs.KnownBytes.{Appends-nil, Consumes-trans}
 use Rattle.meter_server.proofs.Reaching.{reached_new, reached_fed, does_all_on, stops_on}
 use Rattle.meter_server.specs.Hexadecimal.{hex_line, replies_of, hex_output, Played, RunsShort, StopsReading}
 use Rattle.meter_server.specs.Meters.{Replied, CoreSteps}
-use Rattle.meter_server.specs.Served.{DoesAll, StopsShort, Stops, IsUsedUp}
+use Rattle.meter_server.specs.Served.{DoesAll, StopsShort, IsUsedUp}
 use Rattle.meter_server.specs.Settling.{Reached}
 use Rattle.meter_server.specs.declared.fault.HexFault.{HexFault}
 use Rattle.meter_server.specs.declared.fault.HexFault.TheVariants as hex_fault
@@ -45,7 +45,7 @@ pub played_all : (device password input : List ℕ) (s fed : Session) (core core
     → Appends written written' (hex_output device password input)
 played_all device password input s fed core core' written written' is_new owes feeds all =
     let done = subst (λ (seen : List ℕ). DoesAll CoreSteps hex_line (Asks password seen) (Answers password seen) core written core' written') (append-nil input)
-        (does_all_on input [] fed core core' written written' (fed_all password input s fed core written owes feeds) all) in
+    (does_all_on input [] fed core core' written written' (fed_all password input s fed core written owes feeds) all) in
     subst (λ (replies : List Reply). Appends written written' (flat_map hex_line (Answers password input replies)))
     (replies_are core core' (Asks password input) done.replies (new_world device) done.replied is_new) done.wrote
 

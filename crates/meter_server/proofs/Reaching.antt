@@ -5,8 +5,8 @@ use Rattle.std.specs.Io.KnownBytes.{Appends}
 use Rattle.std.proofs.KnownBytes.{Appends-nil, Appends-trans}
 use Rattle.std.proofs.lemmas.Grind.{flat_map-append}
 use Rattle.meter_server.specs.Meters.{Replied, Refused}
-use Rattle.meter_server.specs.Served.{Sends, DoesAll, StopsShort, IsUsedUp, IsUnwritten, Stops}
-use Rattle.meter_server.specs.Settling.{fault_of, FailsToWrite, IsSettled, IsDone, Reached, Settled}
+use Rattle.meter_server.specs.Served.{DoesAll, StopsShort, IsUsedUp, IsUnwritten, Stops}
+use Rattle.meter_server.specs.Settling.{fault_of, FailsToWrite, Reached, Settled}
 use Rattle.meter_server.specs.declared.fault.ServeFault.{ServeFault}
 use Rattle.meter_server.specs.declared.fault.ServeFault.TheVariants as fault
 use Rattle.meter_server.proofs.Replies.{replied_more, replied_on, refused_on}
@@ -181,7 +181,7 @@ module _ {M : Type 0} {steps : M → Event → Result Reply CallFault → M → 
   does_all seen more s m' written' r no_asks no_sends =
       let all_asked : asks (seen ++ more) ≡ r.asked = r.asks_rest more ∙ ap (λ (es : List Event). r.asked ++ es) no_asks ∙ append-nil r.asked in
       let all_sent : sends (seen ++ more) r.replies ≡ r.sent =
-          sent_so_far seen s m' written' r more ∙ ap (λ (ts : List (List ℕ)). r.sent ++ ts) (no_sends []) ∙ append-nil r.sent in
+      sent_so_far seen s m' written' r more ∙ ap (λ (ts : List (List ℕ)). r.sent ++ ts) (no_sends []) ∙ append-nil r.sent in
       record {
         replies = r.replies;
         replied = subst (λ (es : List Event). Replied steps m es r.replies m') (sym all_asked) r.replied;
@@ -243,7 +243,7 @@ module _ {M : Type 0} {steps : M → Event → Result Reply CallFault → M → 
       })
   refused seen more old new m' m'' written' failed failed' event call.Exhausted given r st awaits step same =
       let all_sent : sends (seen ++ more) r.replies ≡ r.sent =
-          sent_so_far seen old m' written' r more ∙ ap (λ (ts : List (List ℕ)). r.sent ++ ts) (st.sends more [] ∙ awaits.sends more) ∙ append-nil r.sent in
+      sent_so_far seen old m' written' r more ∙ ap (λ (ts : List (List ℕ)). r.sent ++ ts) (st.sends more [] ∙ awaits.sends more) ∙ append-nil r.sent in
       subst (λ (g : ServeFault). Stops steps written_as (asks (seen ++ more)) (sends (seen ++ more)) m written failed g m'' written' failed') (sym same)
       (record {
         asked = r.asked ++ event ∷ [];

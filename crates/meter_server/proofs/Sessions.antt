@@ -1,5 +1,5 @@
 -- A session from its first read to its last.
-use Rattle.std.proofs.Common.{◌≡◌, ◌≤◌, ◌<◌, ◌+◌, ◌⊎◌, ℕ, Option, Some, List, [], ◌++◌, length, length-append, Result, Ok, Err, IfOk, IfErr, OnOk, IsErrAnd, refl, sym, ap, ◌∙◌, subst, inl, inr, ⊎_elim, append-nil, arith, false}
+use Rattle.std.proofs.Common.{◌≡◌, ◌≤◌, ◌<◌, ◌+◌, ◌⊎◌, ℕ, Option, Some, List, [], ◌++◌, length, length-append, Result, Ok, Err, IfOk, IfErr, OnOk, IsErrAnd, refl, sym, ◌∙◌, subst, inl, inr, ⊎_elim, append-nil, arith, false}
 use Rattle.std.specs.Io.KnownBytes.{Consumes, IsAtEnd}
 use Rattle.std.proofs.KnownBytes.{Appends-nil, Consumes-nil, Consumes-trans}
 use Rattle.meter_server.proofs.Reaching.{reached_new, reached_none, reached_on, does_all, does_all_on, stops_on}
@@ -163,13 +163,16 @@ module _ {R W M : Type 0}
       → Served remaining read_failures contents write_failures steps password r w m (Ok end) r' w' m'
   served_over password bytes old s new r r1 r' w w1 w' m m1 m' reads end owes st consumed settled before =
       let far = owed steps as_bytes password (st.seen ++ bytes) old new m m' (contents w) (contents w') owes
-          (reached_on st.seen bytes s new m1 m' (contents w1) (contents w') st.reached settled.reached) in
+      (reached_on st.seen bytes s new m1 m' (contents w1) (contents w') st.reached settled.reached) in
       record {
         seen = (st.seen ++ bytes) ++ [];
         read = subst (Consumes (remaining r) (remaining r')) (sym (append-nil (st.seen ++ bytes)))
             (Consumes-trans (remaining r) (remaining r1) (remaining r') st.seen bytes st.read consumed);
-        did = (does_all (st.seen ++ bytes) [] new m' (contents w') far settled.settled.asks settled.settled.sends,
-          sym (far.ends_rest [] ∙ settled.done.ends []), before);
+        did = (
+          does_all (st.seen ++ bytes) [] new m' (contents w') far settled.settled.asks settled.settled.sends,
+          sym (far.ends_rest [] ∙ settled.done.ends []),
+          before,
+        );
       }
 
   -- a read failed, or it was the last
@@ -182,7 +185,9 @@ module _ {R W M : Type 0}
       record {
         seen = st.seen ++ [];
         read = Consumes-trans (remaining r) (remaining r1) (remaining r') st.seen [] st.read consumed;
-        did = (does_all st.seen [] s m' (contents w') far st.settled.asks st.settled.sends,
+        did = (
+          does_all st.seen [] s m' (contents w') far st.settled.asks st.settled.sends,
           ⊎_elim (λ (failed : read_failures r < read_failures r'). inl failed)
-            (λ (most : most_reads ≤ reads). inr (omega (arith, length-append st.seen [], st.enough, most))) cause);
+              (λ (most : most_reads ≤ reads). inr (omega (arith, length-append st.seen [], st.enough, most))) cause,
+        );
       }

@@ -106,7 +106,7 @@ module _ {R W : Type 0}
   HexDid device password text r w (Err fault.Memory) r' w' =
       Appends (contents w) (contents w') []
       ⊎ ((input : List ℕ) × IsHex text input × (length text ≤ most_characters) × IsAtEnd (remaining r')
-        × RunsShort device password input (contents w) (contents w'))
+      × RunsShort device password input (contents w) (contents w'))
 
   -- a text was played: some characters were read, and this came of them
   pub record Hexed (device password : List ℕ) (r : R) (w : W) (result : Result (Unit {0}) HexFault) (r' : R) (w' : W) : Type 0 where

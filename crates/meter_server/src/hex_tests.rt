@@ -46,12 +46,7 @@ fn expect(rt: &impl Abort, alloc: Global, text: &str, lines: &str) -> Result<(),
 }
 
 /// Plays a text, and wants this fault, and nothing written.
-fn expect_fault(
-    rt: &impl Abort,
-    alloc: Global,
-    text: &str,
-    fault: HexFault,
-) -> Result<(), Fail> {
+fn expect_fault(rt: &impl Abort, alloc: Global, text: &str, fault: HexFault) -> Result<(), Fail> {
     let ran = run(alloc, text, 0, 0)?;
     assert!(rt; ran.result == Err(fault), "to {text}");
     assert!(rt; ran.lines.is_empty(), "to {text}");
@@ -69,7 +64,12 @@ fn each_frame_is_a_line(rt: HostRuntime) -> Result<(), Fail> {
 #[test]
 fn digits_have_either_case_and_blanks_between(rt: HostRuntime) -> Result<(), Fail> {
     let alloc = rt.alloc();
-    expect(&rt, alloc, " 0001 0010 0001\r\n000 1cA\n\n", "0001000100100003D80202\n")?;
+    expect(
+        &rt,
+        alloc,
+        " 0001 0010 0001\r\n000 1cA\n\n",
+        "0001000100100003D80202\n",
+    )?;
     expect(&rt, alloc, "", "")?;
     expect(&rt, alloc, " \r\n", "")
 }
@@ -77,8 +77,18 @@ fn digits_have_either_case_and_blanks_between(rt: HostRuntime) -> Result<(), Fai
 #[test]
 fn a_session_that_is_cut_is_no_fault(rt: HostRuntime) -> Result<(), Fail> {
     let alloc = rt.alloc();
-    expect(&rt, alloc, "0001001000010001CA00010010", "0001000100100003D80202\n")?;
-    expect(&rt, alloc, "0001001000010001CA0002001000010000", "0001000100100003D80202\n")?;
+    expect(
+        &rt,
+        alloc,
+        "0001001000010001CA00010010",
+        "0001000100100003D80202\n",
+    )?;
+    expect(
+        &rt,
+        alloc,
+        "0001001000010001CA0002001000010000",
+        "0001000100100003D80202\n",
+    )?;
     expect(&rt, alloc, "0001001000010401", "")
 }
 

@@ -11,15 +11,22 @@ use std::test::Fail;
 use turn_lock::CallFault;
 
 /// The request of a public client at port 16 for an association, and its answer.
-pub(crate) const PUBLIC_AARQ: &str = "000100100001001F601DA109060760857405080101BE10040E01000000065F1F0400007E1F04B0";
-pub(crate) const PUBLIC_AARE: &str = "000100010010002B6129A109060760857405080101A203020100A305A103020100BE10040E0800065F1F0400001E1904000007";
+pub(crate) const PUBLIC_AARQ: &str =
+    "000100100001001F601DA109060760857405080101BE10040E01000000065F1F0400007E1F04B0";
+
+pub(crate) const PUBLIC_AARE: &str =
+    "000100010010002B6129A109060760857405080101A203020100A305A103020100BE10040E0800065F1F0400001E1904000007";
 
 /// The request of the management client at port 1, with the password 12345678, and its answer.
-const MANAGEMENT_AARQ: &str = "00010001000100386036A1090607608574050801018A0207808B0760857405080201AC0A80083132333435363738BE10040E01000000065F1F0400001C190400";
-const MANAGEMENT_AARE: &str = "000100010001002B6129A109060760857405080101A203020100A305A103020100BE10040E0800065F1F0400001C1904000007";
+const MANAGEMENT_AARQ: &str =
+    "00010001000100386036A1090607608574050801018A0207808B0760857405080201AC0A80083132333435363738BE10040E01000000065F1F0400001C190400";
+
+const MANAGEMENT_AARE: &str =
+    "000100010001002B6129A109060760857405080101A203020100A305A103020100BE10040E0800065F1F0400001C1904000007";
 
 /// The public client's GET of the state of the switch, which is connected, and its answer.
 pub(crate) const PUBLIC_GET: &str = "000100100001000DC001C10046000060030AFF0300";
+
 pub(crate) const PUBLIC_STATE: &str = "0001000100100006C401C1001601";
 
 /// The bytes of a stream, so many at each read. One of the reads may fail.
@@ -226,12 +233,23 @@ const MANAGEMENT: (&str, &str) = (MANAGEMENT_AARQ, MANAGEMENT_AARE);
 fn a_public_client_associates_and_reads(rt: HostRuntime) -> Result<(), Fail> {
     let alloc = rt.alloc();
     expect_both(&rt, alloc, PUBLIC, SessionEnd::Closed)?;
-    expect_talk(&rt, alloc, PUBLIC, 16, &[("C001C10046000060030AFF0300", "C401C1001601")])
+    expect_talk(
+        &rt,
+        alloc,
+        PUBLIC,
+        16,
+        &[("C001C10046000060030AFF0300", "C401C1001601")],
+    )
 }
 
 #[test]
 fn a_request_before_an_association_is_refused(rt: HostRuntime) -> Result<(), Fail> {
-    expect_both(&rt, rt.alloc(), (PUBLIC_GET, "0001000100100003D80101"), SessionEnd::Closed)
+    expect_both(
+        &rt,
+        rt.alloc(),
+        (PUBLIC_GET, "0001000100100003D80101"),
+        SessionEnd::Closed,
+    )
 }
 
 #[test]
@@ -249,7 +267,13 @@ fn a_wrong_password_is_refused(rt: HostRuntime) -> Result<(), Fail> {
         ..AMPLE
     };
     let refused = "00010001000100196117A109060760857405080101A203020101A305A10302010D";
-    expect(&rt, rt.alloc(), &plan, (MANAGEMENT_AARQ, refused), SessionEnd::Closed)
+    expect(
+        &rt,
+        rt.alloc(),
+        &plan,
+        (MANAGEMENT_AARQ, refused),
+        SessionEnd::Closed,
+    )
 }
 
 #[test]
@@ -277,7 +301,12 @@ fn a_wrong_header_ends_the_session(rt: HostRuntime) -> Result<(), Fail> {
     expect_both(&rt, alloc, ("0001001000010401", ""), SessionEnd::TooLong)?;
     expect_both(&rt, alloc, ("000100100001FFFF", ""), SessionEnd::TooLong)?;
     let after = "0001001000010001CA0002001000010000000100100001000DC001C10046000060030AFF0300";
-    expect_both(&rt, alloc, (after, "0001000100100003D80202"), SessionEnd::BadVersion)
+    expect_both(
+        &rt,
+        alloc,
+        (after, "0001000100100003D80202"),
+        SessionEnd::BadVersion,
+    )
 }
 
 #[test]
@@ -293,10 +322,12 @@ fn an_opening_is_refused_by_what_is_wrong_with_it(rt: HostRuntime) -> Result<(),
     let by_port = "00010001000100196117A109060760857405080101A203020101A305A10302010E";
     expect_both(&rt, alloc, (port, by_port), SessionEnd::Closed)?;
     let version = "000100100001001F601DA109060760857405080101BE10040E01000000055F1F0400007E1F04B0";
-    let by_version = "0001000100100021611FA109060760857405080101A203020101A305A103020101BE0604040E010601";
+    let by_version =
+        "0001000100100021611FA109060760857405080101A203020101A305A103020101BE0604040E010601";
     expect_both(&rt, alloc, (version, by_version), SessionEnd::Closed)?;
     let size = "000100100001001F601DA109060760857405080101BE10040E01000000065F1F0400007E1F003F";
-    let by_size = "0001000100100021611FA109060760857405080101A203020101A305A103020101BE0604040E010603";
+    let by_size =
+        "0001000100100021611FA109060760857405080101A203020101A305A103020101BE0604040E010603";
     expect_both(&rt, alloc, (size, by_size), SessionEnd::Closed)
 }
 
@@ -304,14 +335,29 @@ fn an_opening_is_refused_by_what_is_wrong_with_it(rt: HostRuntime) -> Result<(),
 fn frames_that_are_no_requests(rt: HostRuntime) -> Result<(), Fail> {
     let alloc = rt.alloc();
     expect_both(&rt, alloc, ("0001001000020001C0", ""), SessionEnd::Closed)?;
-    expect_both(&rt, alloc, ("0001001000010001CA", "0001000100100003D80202"), SessionEnd::Closed)?;
-    expect_both(&rt, alloc, ("0001001000010000", "0001000100100003D80202"), SessionEnd::Closed)
+    expect_both(
+        &rt,
+        alloc,
+        ("0001001000010001CA", "0001000100100003D80202"),
+        SessionEnd::Closed,
+    )?;
+    expect_both(
+        &rt,
+        alloc,
+        ("0001001000010000", "0001000100100003D80202"),
+        SessionEnd::Closed,
+    )
 }
 
 #[test]
 fn another_port_has_no_association(rt: HostRuntime) -> Result<(), Fail> {
     let alloc = rt.alloc();
-    let (mut input, mut output) = talk(alloc, PUBLIC, 1, &[("C001C10046000060030AFF0300", "D80101")])?;
+    let (mut input, mut output) = talk(
+        alloc,
+        PUBLIC,
+        1,
+        &[("C001C10046000060030AFF0300", "D80101")],
+    )?;
     input.extend_from_slice(hex::decode(alloc, PUBLIC_GET)?.as_slice())?;
     output.extend_from_slice(hex::decode(alloc, PUBLIC_STATE)?.as_slice())?;
     let ran = run(alloc, &AMPLE, input.as_slice())?;
@@ -346,7 +392,10 @@ fn several_attributes_are_read_at_once(rt: HostRuntime) -> Result<(), Fail> {
         PUBLIC,
         16,
         &[
-            ("C003C1020046000060030AFF03000046000060030BFF0300", "C403C1020016010104"),
+            (
+                "C003C1020046000060030AFF03000046000060030BFF0300",
+                "C403C1020016010104",
+            ),
             ("C003C100", "C403C100"),
         ],
     )?;
@@ -363,10 +412,13 @@ const SMALL: (&str, &str) = (
 fn a_long_answer_goes_in_blocks(rt: HostRuntime) -> Result<(), Fail> {
     // Ten times the logical name of the switch: 91 bytes.
     let name = "0046000060030AFF0100";
-    let request = "C003C10A0046000060030AFF01000046000060030AFF01000046000060030AFF01000046000060030AFF01000046000060030AFF01000046000060030AFF01000046000060030AFF01000046000060030AFF01000046000060030AFF01000046000060030AFF0100";
+    let request =
+        "C003C10A0046000060030AFF01000046000060030AFF01000046000060030AFF01000046000060030AFF01000046000060030AFF01000046000060030AFF01000046000060030AFF01000046000060030AFF01000046000060030AFF01000046000060030AFF0100";
     assert_eq!(rt; request.len(), 8 + 10 * name.len());
-    let first = "C402C1000000000100340A000906000060030AFF000906000060030AFF000906000060030AFF000906000060030AFF000906000060030AFF000906000060";
-    let second = "C402C101000000020027030AFF000906000060030AFF000906000060030AFF000906000060030AFF000906000060030AFF";
+    let first =
+        "C402C1000000000100340A000906000060030AFF000906000060030AFF000906000060030AFF000906000060030AFF000906000060030AFF000906000060";
+    let second =
+        "C402C101000000020027030AFF000906000060030AFF000906000060030AFF000906000060030AFF000906000060030AFF";
     expect_talk(
         &rt,
         rt.alloc(),
@@ -391,7 +443,12 @@ fn is_front(text: &[u8], size: usize, bytes: &[u8]) -> bool {
 
 /// The opening of the public client, a GET, and their answers.
 fn short_talk(alloc: Global) -> Result<(Vec<u8>, Vec<u8>), Fail> {
-    talk(alloc, PUBLIC, 16, &[("C001C10046000060030AFF0300", "C401C1001601")])
+    talk(
+        alloc,
+        PUBLIC,
+        16,
+        &[("C001C10046000060030AFF0300", "C401C1001601")],
+    )
 }
 
 #[test]
@@ -411,7 +468,10 @@ fn a_read_fails(rt: HostRuntime) -> Result<(), Fail> {
             _ => 65,
         };
         assert!(rt; ran.result == Err(ServeFault::Read), "at read {failing}");
-        assert!(rt; is_front(output.as_slice(), size, ran.bytes.as_slice()), "at read {failing}");
+        assert!(rt;
+            is_front(output.as_slice(), size, ran.bytes.as_slice()),
+            "at read {failing}"
+        );
     }
     Ok(())
 }
@@ -429,7 +489,10 @@ fn a_write_fails(rt: HostRuntime) -> Result<(), Fail> {
             };
             let ran = run(alloc, &plan, input.as_slice())?;
             assert!(rt; ran.result == Err(ServeFault::Write), "at write {failing}");
-            assert!(rt; is_front(output.as_slice(), size, ran.bytes.as_slice()), "at write {failing}");
+            assert!(rt;
+                is_front(output.as_slice(), size, ran.bytes.as_slice()),
+                "at write {failing}"
+            );
         }
     }
     Ok(())

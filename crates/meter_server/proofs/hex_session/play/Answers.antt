@@ -1,4 +1,3 @@
-use Rattle.std.proofs.Common.{◌≡◌}
 use Rattle.meter_server.proofs.HexSessions.{played_all, played_none}
 use Rattle.meter_server.proofs.hex_session.play.Goals as goal
 

@@ -1,4 +1,4 @@
-use Rattle.std.proofs.Common.{◌≡◌, take}
+use Rattle.std.proofs.Common.{take}
 use Rattle.meter_server.proofs.HexSessions.{unread_memory}
 use Rattle.meter_server.proofs.hex_text.read_text.Goals as goal
 

@@ -1,4 +1,3 @@
-use Rattle.std.proofs.Common.{◌≡◌}
 use Rattle.meter_server.proofs.Reaching.{ended_all, ended_so}
 use Rattle.meter_server.proofs.serving.end_input.Goals as goal
 

@@ -1,4 +1,4 @@
-use Rattle.std.proofs.Common.{◌≡◌, ◌<◌, ℕ, [], take, refl, subst, inl, inr, ◌∙◌, arith, length}
+use Rattle.std.proofs.Common.{◌<◌, ℕ, [], take, refl, subst, inl, inr, ◌∙◌, arith}
 use Rattle.std.proofs.KnownBytes.{Consumes-nil, Consumes-kept}
 use Rattle.meter_server.specs.Served.{as_bytes}
 use Rattle.meter_server.proofs.Sessions.{stands_new, stands_on, served_stop_by, served_end, served_over, served_unread}

@@ -1,4 +1,3 @@
-use Rattle.std.proofs.Common.{◌≡◌}
 use Rattle.meter_server.proofs.Sessions.{settled_new, served_none}
 use Rattle.meter_server.proofs.serving.serve_session.Goals as goal
 

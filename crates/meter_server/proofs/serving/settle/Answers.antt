@@ -1,6 +1,4 @@
-use Rattle.std.proofs.Common.{rules, refl, ◌≡◌, ℕ, List, [], false, IfOk, IfErr, OnOk, ◌∷◌, ◌++◌, ◌∙◌}
-use Rattle.meter_server.specs.Served.{Served, DoesAll, Stops}
-use Rattle.meter_server.specs.Settling.{Settled, IsSettled}
+use Rattle.std.proofs.Common.{refl, [], ◌∙◌}
 use Rattle.meter_server.proofs.serving.settle.Goals as goal
 use Rattle.meter_server.proofs.Reaching.{reached_none, reached_sent, reached_asked, starved_by, refused_by, unanswered, unsent_by, settled_over}
 

@@ -1,4 +1,4 @@
-use Rattle.std.proofs.Common.{◌≡◌, []}
+use Rattle.std.proofs.Common.{[]}
 use Rattle.meter_server.proofs.Reaching.{reached_none, steps_none, starved_by}
 use Rattle.meter_server.proofs.serving.take_in.Goals as goal
 

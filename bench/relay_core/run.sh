@@ -1,0 +1,15 @@
+#!/bin/sh
+# Times a moment of the clock at the proved core: four schedules of 16 entries each, none of which matches, are judged over the day since the last moment. It
+# prints nanoseconds a moment, a schedule and an entry. Its argument is how often 40,000 days are gone through (10 if there is none); the fastest of five runs counts.
+set -e
+here=$(cd "$(dirname "$0")" && pwd)
+rounds=${1:-10}
+work=$(mktemp -d)
+trap 'rm -rf "$work"' EXIT
+cd "$here/../../crates/relay_core_bench"
+rt run > "$work/first" 2> "$work/log" || { cat "$work/log"; exit 1; }
+for _ in 1 2 3 4 5; do
+    out/relay_core_bench "$rounds" >> "$work/proved.txt"
+done
+moment=$(sed -n 's/^moment \([0-9]*\) ns.*/\1/p' "$work/proved.txt" | sort -n | head -1)
+awk "BEGIN { printf \"a moment: %d ns, a schedule %.1f ns, an entry %.1f ns\n\", $moment, $moment / 4, $moment / 64 }"
