@@ -247,6 +247,14 @@ fn a_list_is_read_at_one_moment(rt: HostRuntime) -> Result<(), Fail> {
     Ok(())
 }
 
+/// Whether a reply is this value.
+fn answers_with(reply: &Reply, expected: &Data) -> bool {
+    match reply {
+        Reply::Value(value) => value == expected,
+        Reply::Values(_) | Reply::Code(_) | Reply::Ran(_) | Reply::Stale { .. } => false,
+    }
+}
+
 /// Whether a client of this level reads its own object_list of a new core.
 fn reads_its_object_list(rt: &impl Abort, alloc: Global, level: Level) -> Result<bool, AllocError> {
     let mut core = new_core(rt, alloc)?;
@@ -259,7 +267,7 @@ fn reads_its_object_list(rt: &impl Abort, alloc: Global, level: Level) -> Result
         },
     )?;
     let list = object_list(alloc, level)?;
-    Ok(matches!(reply, Reply::Value(value) if value == list))
+    Ok(answers_with(&reply, &list))
 }
 
 #[test]
@@ -428,7 +436,7 @@ fn steps_before_a_refused_one_stand(rt: HostRuntime) -> Result<(), Fail> {
 fn reads_scripts(core: &mut RelayCore, alloc: Global, scripts: &[u8]) -> Result<bool, AllocError> {
     let reply = core.step(alloc, &get(attribute(9, SCRIPT_TABLE, 2), false))?;
     let expected = data(alloc, scripts)?;
-    Ok(matches!(reply, Reply::Value(value) if value == expected))
+    Ok(answers_with(&reply, &expected))
 }
 
 #[test]
@@ -564,7 +572,7 @@ fn reads_schedule(
 ) -> Result<bool, AllocError> {
     let reply = core.step(alloc, &get(attribute(22, FIRST_SCHEDULE, number), false))?;
     let expected = data(alloc, expected)?;
-    Ok(matches!(reply, Reply::Value(value) if value == expected))
+    Ok(answers_with(&reply, &expected))
 }
 
 #[test]

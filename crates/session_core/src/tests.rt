@@ -42,6 +42,9 @@ fn settle(
 
 /// What a new session and a new meter send for an input that comes in pieces of this size, and how it ends.
 fn run(alloc: Global, input: &[u8], size: usize) -> Result<(Octets, Option<SessionEnd>), Fail> {
+    if size == 0 {
+        return Err(Fail::from("no size"));
+    }
     let password = Octets::from_slice(alloc, b"12345678")?;
     let device = Octets::from_slice(alloc, b"RELAY1")?;
     let mut core = new_core(alloc, &device)?;
