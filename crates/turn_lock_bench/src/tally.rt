@@ -16,12 +16,14 @@ pub struct Tally {
 }
 
 impl Tally {
+    /// A tally that has counted nothing.
     pub fn new() -> Tally
         ensures { result.count ≡ 0 }
     {
         Tally { count: 0 }
     }
 
+    /// How many turns were counted.
     pub fn count(&self) -> u64
         ensures { result ≡ self.now.count }
     {
