@@ -19,6 +19,7 @@ pub use name::{AttrRef, ClassId, MethodRef, Obis};
 pub use object_entries::object_list;
 pub use objects::{
     ATTRIBUTES, Access, Attribute, Instance, METHODS, Method, OBJECTS, Object, ScheduleNumber,
+    Which,
 };
 pub use result_code::ResultCode;
 pub use service::{AttributeSelection, GetResult};

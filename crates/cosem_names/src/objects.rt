@@ -21,14 +21,25 @@ pub enum ScheduleNumber {
     Fourth,
 }
 
+/// Which of the two directions of power a register or a limiter measures.
+#[derive(Clone, Copy, Debug, PartialEq, Eq)]
+pub enum Which {
+    /// The imported power: the register 1.0.1.7.0.255 and the limiter 0.0.17.0.0.255.
+    Import,
+    /// The exported power: the register 1.0.2.7.0.255 and the limiter 0.1.17.0.0.255.
+    Export,
+}
+
 /// Which object of the meter a row of the table speaks of.
 #[derive(Clone, Copy, Debug, PartialEq, Eq)]
 pub enum Instance {
     Association,
     DeviceName,
+    Register(Which),
     ScriptTable,
     Schedule(ScheduleNumber),
     DisconnectControl,
+    Limiter(Which),
 }
 
 /// An object, with its logical name and its interface class.
@@ -62,15 +73,19 @@ pub struct Method {
 pub const ASSOCIATION_LN: ClassId = ClassId(15);
 /// Data (IEC 62056-6-2, class 1).
 pub const DATA: ClassId = ClassId(1);
+/// Register (IEC 62056-6-2, class 3).
+pub const REGISTER: ClassId = ClassId(3);
 /// Script table (IEC 62056-6-2, class 9).
 pub const SCRIPT_TABLE: ClassId = ClassId(9);
 /// Single action schedule (IEC 62056-6-2, class 22).
 pub const SINGLE_ACTION_SCHEDULE: ClassId = ClassId(22);
 /// Disconnect control (IEC 62056-6-2, class 70).
 pub const DISCONNECT_CONTROL: ClassId = ClassId(70);
+/// Limiter (IEC 62056-6-2, class 71).
+pub const LIMITER: ClassId = ClassId(71);
 
 /// The meter's objects, in the order of the object list.
-pub const OBJECTS: [Object; 8] = [
+pub const OBJECTS: [Object; 12] = [
     Object {
         instance: Instance::Association,
         class: ASSOCIATION_LN,
@@ -82,6 +97,18 @@ pub const OBJECTS: [Object; 8] = [
         class: DATA,
         version: 0,
         name: Obis([0, 0, 42, 0, 0, 255]),
+    },
+    Object {
+        instance: Instance::Register(Which::Import),
+        class: REGISTER,
+        version: 0,
+        name: Obis([1, 0, 1, 7, 0, 255]),
+    },
+    Object {
+        instance: Instance::Register(Which::Export),
+        class: REGISTER,
+        version: 0,
+        name: Obis([1, 0, 2, 7, 0, 255]),
     },
     Object {
         instance: Instance::ScriptTable,
@@ -119,6 +146,18 @@ pub const OBJECTS: [Object; 8] = [
         version: 0,
         name: Obis([0, 0, 96, 3, 10, 255]),
     },
+    Object {
+        instance: Instance::Limiter(Which::Import),
+        class: LIMITER,
+        version: 0,
+        name: Obis([0, 0, 17, 0, 0, 255]),
+    },
+    Object {
+        instance: Instance::Limiter(Which::Export),
+        class: LIMITER,
+        version: 0,
+        name: Obis([0, 1, 17, 0, 0, 255]),
+    },
 ];
 
 macro_rules! attribute {
@@ -133,11 +172,14 @@ macro_rules! attribute {
 }
 
 /// The attributes of the classes: what each level may do with them.
-pub const ATTRIBUTES: [Attribute; 14] = [
+pub const ATTRIBUTES: [Attribute; 28] = [
     attribute!(ASSOCIATION_LN 1: ReadOnly, ReadOnly),
     attribute!(ASSOCIATION_LN 2: ReadOnly, ReadOnly),
     attribute!(DATA 1: ReadOnly, ReadOnly),
     attribute!(DATA 2: ReadOnly, ReadOnly),
+    attribute!(REGISTER 1: ReadOnly, ReadOnly),
+    attribute!(REGISTER 2: ReadOnly, ReadOnly),
+    attribute!(REGISTER 3: ReadOnly, ReadOnly),
     attribute!(SCRIPT_TABLE 1: ReadOnly, ReadOnly),
     attribute!(SCRIPT_TABLE 2: NoAccess, ReadAndWrite),
     attribute!(SINGLE_ACTION_SCHEDULE 1: ReadOnly, ReadOnly),
@@ -148,6 +190,17 @@ pub const ATTRIBUTES: [Attribute; 14] = [
     attribute!(DISCONNECT_CONTROL 2: ReadOnly, ReadOnly),
     attribute!(DISCONNECT_CONTROL 3: ReadOnly, ReadOnly),
     attribute!(DISCONNECT_CONTROL 4: ReadOnly, ReadAndWrite),
+    attribute!(LIMITER 1: ReadOnly, ReadOnly),
+    attribute!(LIMITER 2: NoAccess, ReadOnly),
+    attribute!(LIMITER 3: NoAccess, ReadOnly),
+    attribute!(LIMITER 4: NoAccess, ReadAndWrite),
+    attribute!(LIMITER 5: NoAccess, ReadAndWrite),
+    attribute!(LIMITER 6: NoAccess, ReadAndWrite),
+    attribute!(LIMITER 7: NoAccess, ReadAndWrite),
+    attribute!(LIMITER 8: NoAccess, ReadAndWrite),
+    attribute!(LIMITER 9: NoAccess, ReadAndWrite),
+    attribute!(LIMITER 10: NoAccess, ReadOnly),
+    attribute!(LIMITER 11: NoAccess, ReadAndWrite),
 ];
 
 /// The methods of the classes: which levels may execute them.

@@ -32,7 +32,7 @@ use Rattle.script_steps.specs.declared.fault.ScriptFault.TheVariants.{Unmatched,
 use Rattle.script_steps.specs.declared.step.Script.{Script}
 use Rattle.script_steps.specs.declared.step.Step.{Step}
 use Rattle.script_steps.specs.declared.step.Step.TheVariants as step
-use Rattle.script_steps.specs.declared.step.Which.TheVariants.{Import, Export}
+use Rattle.cosem_names.specs.declared.objects.Which.TheVariants.{Import, Export}
 
 -- each action is found by what it names
 action_again : (a : Action) → action_at (address_of a) ≡ Some a

@@ -10,8 +10,8 @@ use Rattle.script_steps.specs.declared.action.TheConstants.{ACTIONS}
 use Rattle.script_steps.specs.declared.names.TheConstants.{WRITE_ATTRIBUTE, EXECUTE_METHOD, DISCONNECT_CONTROL, LIMITER, DISCONNECT_CONTROL_NAME, IMPORT_LIMITER_NAME, EXPORT_LIMITER_NAME, REMOTE_DISCONNECT, REMOTE_RECONNECT, CONTROL_MODE, THRESHOLD_NORMAL, THRESHOLD_EMERGENCY, MIN_OVER_THRESHOLD_DURATION, MIN_UNDER_THRESHOLD_DURATION, EMERGENCY_PROFILE}
 use Rattle.script_steps.specs.declared.step.Step.{Step}
 use Rattle.script_steps.specs.declared.step.Step.TheVariants as step
-use Rattle.script_steps.specs.declared.step.Which.{Which}
-use Rattle.script_steps.specs.declared.step.Which.TheVariants.{Import, Export}
+use Rattle.cosem_names.specs.declared.objects.Which.{Which}
+use Rattle.cosem_names.specs.declared.objects.Which.TheVariants.{Import, Export}
 
 -- a write of an attribute of the disconnect control
 abbrev pub attribute_of : ℤ → Address

@@ -7,8 +7,8 @@ use crate::names::{
     MIN_UNDER_THRESHOLD_DURATION, REMOTE_DISCONNECT, REMOTE_RECONNECT, THRESHOLD_EMERGENCY,
     THRESHOLD_NORMAL, WRITE_ATTRIBUTE,
 };
-use crate::step::{Step, Which};
-use cosem_names::{ClassId, Obis};
+use crate::step::Step;
+use cosem_names::{ClassId, Obis, Which};
 
 /// What a step acts on, as it is written: the service, and the attribute or method that it names.
 #[derive(Clone, Copy, Debug, PartialEq, Eq)]

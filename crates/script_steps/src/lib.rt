@@ -17,9 +17,10 @@ mod table;
 mod tests;
 mod writing;
 
+pub use cosem_names::Which;
 pub use fault::ScriptFault;
 pub use laws::written_table_is_read;
 pub use reading::read_profile;
-pub use step::{Script, Step, Which};
+pub use step::{Script, Step};
 pub use table::{MAX_SCRIPTS, MAX_STEPS, NULL_SCRIPT, ScriptTable};
 pub use writing::write_profile;

@@ -1,15 +1,7 @@
+use cosem_names::Which;
 use disconnect_control::ControlMode;
 use limiter_core::Profile;
 use listed::Listed;
-
-/// One of the two limiters.
-#[derive(Clone, Copy, Debug, PartialEq, Eq)]
-pub enum Which {
-    /// That of the imported power, 0.0.17.0.0.255.
-    Import,
-    /// That of the exported power, 0.1.17.0.0.255.
-    Export,
-}
 
 /// A step of a script: what it writes or executes.
 #[derive(Clone, Copy, Debug)]
