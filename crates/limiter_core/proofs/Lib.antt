@@ -1,4 +1,4 @@
-mod Firing
+pub mod Firing
 mod Meaning
-mod Opening
+pub mod Opening
 mod Skipping

@@ -1,4 +1,4 @@
-ghost use Rattle.std.specs.Prelude.{◌≡◌, ℕ, ◌+◌, ◌-◌, ◌<◌, ◌≤◌, ◌^◌, nat_lt, if◌then◌else◌, List, [], ◌∷◌, length, OnOk, OnErr, IsSome, IfSome, ◌↔◌};
+ghost use Rattle.std.specs.Prelude.{◌≡◌, ℕ, ◌+◌, ◌-◌, ◌<◌, ◌≤◌, ◌^◌, nat_lt, if◌then◌else◌, List, [], ◌∷◌, length, OnOk, OnErr, IfOk, IsSome, IfSome, ◌↔◌};
 ghost use Rattle.limiter_core.specs.declared.kinds.Fire.TheVariants.{Quiet};
 ghost use Rattle.limiter_core.specs.Counting.{no_run};
 ghost use Rattle.limiter_core.specs.Opening.{opened_rows};
@@ -298,6 +298,18 @@ impl Limiter {
         ensures other { other.new ≡ record other.old { settings = record other.old.settings { groups = self.old.settings.groups } } }
     {
         mem::swap(&mut self.settings.groups, &mut other.settings.groups);
+    }
+
+    /// An equal limiter in memory of its own.
+    pub fn try_clone(&self, alloc: Global) -> Result<Limiter, AllocError>
+        ensures { IfOk result (λ limiter. limiter ≡ self.now) }
+    {
+        Ok(Limiter {
+            settings: self.settings.try_clone(alloc)?,
+            last: self.last,
+            over: self.over,
+            under: self.under,
+        })
     }
 
     /// The run of samples over the threshold.

@@ -1,9 +1,9 @@
-ghost use Rattle.std.specs.Prelude.{◌≡◌, ◌≤◌, ◌<◌, ◌^◌, [], length};
+ghost use Rattle.std.specs.Prelude.{◌≡◌, ◌≤◌, ◌<◌, ◌^◌, [], length, IfOk};
 ghost use Rattle.limiter_core.specs.Settings.{is_active, active_threshold, is_within, need_of, new_settings};
 
 use cosem_datetime::{DateTimeField, moment_of};
 use listed::Listed;
-use std::alloc::Global;
+use std::alloc::{AllocError, Global};
 
 /// The most group ids that a limiter holds.
 pub const MAX_GROUPS: usize = 32;
@@ -90,6 +90,23 @@ impl Settings {
             actions: Actions { over: 0, under: 0 },
             moment: None,
         }
+    }
+
+    /// Equal settings in memory of their own.
+    pub(crate) fn try_clone(&self, alloc: Global) -> Result<Settings, AllocError>
+        ensures { IfOk result (λ settings. settings ≡ self.now) }
+    {
+        let groups = Vec::from_slice(alloc, self.groups.as_slice())?;
+        Ok(Settings {
+            normal_threshold: self.normal_threshold,
+            emergency_threshold: self.emergency_threshold,
+            min_over_duration: self.min_over_duration,
+            min_under_duration: self.min_under_duration,
+            profile: self.profile,
+            groups: Listed::from_vec(groups),
+            actions: self.actions,
+            moment: self.moment,
+        })
     }
 
     /// Whether the emergency profile is active.

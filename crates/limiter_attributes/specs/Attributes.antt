@@ -1,0 +1,34 @@
+-- The attributes of a limiter past its logical name, by their numbers.
+use Rattle.std.specs.Prelude.{ℕ, Bool, true, false, ◌==◌, find, Option}
+use Rattle.limiter_attributes.specs.declared.attribute.LimiterAttribute.{LimiterAttribute}
+use Rattle.limiter_attributes.specs.declared.attribute.LimiterAttribute.TheVariants.{MonitoredValue, ThresholdActive, ThresholdNormal, ThresholdEmergency, MinOverThresholdDuration, MinUnderThresholdDuration, EmergencyProfile, EmergencyProfileGroupIdList, EmergencyProfileActive, Actions}
+use Rattle.limiter_attributes.specs.declared.attribute.TheConstants.{ATTRIBUTES}
+
+abbrev pub number_of : LimiterAttribute → ℕ
+number_of MonitoredValue = 2
+number_of ThresholdActive = 3
+number_of ThresholdNormal = 4
+number_of ThresholdEmergency = 5
+number_of MinOverThresholdDuration = 6
+number_of MinUnderThresholdDuration = 7
+number_of EmergencyProfile = 8
+number_of EmergencyProfileGroupIdList = 9
+number_of EmergencyProfileActive = 10
+number_of Actions = 11
+
+-- the attribute of this number
+unfoldable pub attribute_numbered : ℕ → Option LimiterAttribute
+attribute_numbered number = find (λ attribute. number_of attribute == number) ATTRIBUTES
+
+-- a number or a boolean, so that reading it takes no memory
+abbrev pub is_plain : LimiterAttribute → Bool
+is_plain MonitoredValue = false
+is_plain ThresholdActive = true
+is_plain ThresholdNormal = true
+is_plain ThresholdEmergency = true
+is_plain MinOverThresholdDuration = true
+is_plain MinUnderThresholdDuration = true
+is_plain EmergencyProfile = false
+is_plain EmergencyProfileGroupIdList = false
+is_plain EmergencyProfileActive = true
+is_plain Actions = false

@@ -1,0 +1,6 @@
+pub mod Attributes
+pub mod Faults
+pub mod Forms
+pub mod Reading
+pub mod Settings
+pub mod Writing

@@ -1,0 +1,36 @@
+-- A limiter's settings by the attributes that set them.
+use Rattle.std.specs.Prelude.{ℕ, List, Option, Some, None}
+use Rattle.limiter_core.specs.Counting.{no_run}
+use Rattle.limiter_core.specs.Settings.{new_settings}
+use Rattle.limiter_core.specs.State.{State}
+use Rattle.limiter_core.specs.declared.settings.Settings.{Settings}
+use Rattle.limiter_attributes.specs.declared.attribute.LimiterAttribute.{LimiterAttribute}
+use Rattle.limiter_attributes.specs.declared.attribute.LimiterAttribute.TheVariants as attribute
+use Rattle.limiter_attributes.specs.declared.setting.Setting.{Setting}
+use Rattle.limiter_attributes.specs.declared.setting.Setting.TheVariants.{NormalThreshold, EmergencyThreshold, MinOverDuration, MinUnderDuration, Profile, Actions}
+
+-- settings after one of them was set
+abbrev pub with_setting : Setting → Settings → Settings
+with_setting (NormalThreshold watts) settings = record settings { normal_threshold = watts }
+with_setting (EmergencyThreshold watts) settings = record settings { emergency_threshold = watts }
+with_setting (MinOverDuration seconds) settings = record settings { min_over_duration = seconds }
+with_setting (MinUnderDuration seconds) settings = record settings { min_under_duration = seconds }
+with_setting (Profile profile) settings = record settings { profile = profile }
+with_setting (Actions actions) settings = record settings { actions = actions }
+
+-- what an attribute sets, as it stands: nothing for those that aren't written, and for the group ids
+abbrev pub setting_at : LimiterAttribute → Settings → Option Setting
+setting_at attribute.MonitoredValue settings = None
+setting_at attribute.ThresholdActive settings = None
+setting_at attribute.ThresholdNormal settings = Some (NormalThreshold settings.normal_threshold)
+setting_at attribute.ThresholdEmergency settings = Some (EmergencyThreshold settings.emergency_threshold)
+setting_at attribute.MinOverThresholdDuration settings = Some (MinOverDuration settings.min_over_duration)
+setting_at attribute.MinUnderThresholdDuration settings = Some (MinUnderDuration settings.min_under_duration)
+setting_at attribute.EmergencyProfile settings = Some (Profile settings.profile)
+setting_at attribute.EmergencyProfileGroupIdList settings = None
+setting_at attribute.EmergencyProfileActive settings = None
+setting_at attribute.Actions settings = Some (Actions settings.actions)
+
+-- a new limiter with these group ids
+abbrev pub limiter_with_groups : List ℕ → State
+limiter_with_groups ids = record { settings = record new_settings { groups = ids }; last = 0; over = no_run; under = no_run }

@@ -1,0 +1,46 @@
+-- The attributes of a limiter as they are read.
+use Rattle.std.specs.Prelude.{ℕ, pos, List, [], ◌∷◌, map}
+use Rattle.cosem_axdr.specs.declared.value.Data.{Data}
+use Rattle.cosem_axdr.specs.declared.value.Data.TheVariants.{OctetString, Boolean, DoubleLongUnsigned, LongUnsigned, Integer}
+use Rattle.cosem_names.specs.declared.name.Obis.{Obis}
+use Rattle.cosem_names.specs.declared.objects.Which.{Which}
+use Rattle.cosem_names.specs.declared.objects.Which.TheVariants.{Import, Export}
+use Rattle.limiter_core.specs.Settings.{is_active, active_threshold}
+use Rattle.limiter_core.specs.declared.settings.Actions.{Actions}
+use Rattle.limiter_core.specs.declared.settings.Settings.{Settings}
+use Rattle.script_steps.specs.Writing.{array_with, structure_with, profile_data}
+use Rattle.limiter_attributes.specs.Forms.{script_table}
+use Rattle.limiter_attributes.specs.declared.attribute.LimiterAttribute.{LimiterAttribute}
+use Rattle.limiter_attributes.specs.declared.attribute.LimiterAttribute.TheVariants as attribute
+
+-- the logical name of the register whose value is monitored, 1.0.1.7.0.255 or 1.0.2.7.0.255
+abbrev pub register_name : Which → Obis
+register_name Import = record { 0 = 1 ∷ 0 ∷ 1 ∷ 7 ∷ 0 ∷ 255 ∷ [] }
+register_name Export = record { 0 = 1 ∷ 0 ∷ 2 ∷ 7 ∷ 0 ∷ 255 ∷ [] }
+
+-- monitored_value: attribute 2 of that register, whose class is 3
+unfoldable pub monitored_data : Which → Data
+monitored_data which = structure_with (LongUnsigned 3 ∷ OctetString (register_name which).0 ∷ Integer (pos 2) ∷ [])
+
+unfoldable pub groups_data : List ℕ → Data
+groups_data ids = array_with (map LongUnsigned ids)
+
+-- a script of the script table
+abbrev pub script_data : ℕ → Data
+script_data selector = structure_with (OctetString script_table.0 ∷ LongUnsigned selector ∷ [])
+
+unfoldable pub actions_data : Actions → Data
+actions_data actions = structure_with (script_data actions.over ∷ script_data actions.under ∷ [])
+
+-- an attribute of a limiter with these settings
+unfoldable pub data_at : Which → LimiterAttribute → Settings → Data
+data_at which attribute.MonitoredValue settings = monitored_data which
+data_at which attribute.ThresholdActive settings = DoubleLongUnsigned (active_threshold settings)
+data_at which attribute.ThresholdNormal settings = DoubleLongUnsigned settings.normal_threshold
+data_at which attribute.ThresholdEmergency settings = DoubleLongUnsigned settings.emergency_threshold
+data_at which attribute.MinOverThresholdDuration settings = DoubleLongUnsigned settings.min_over_duration
+data_at which attribute.MinUnderThresholdDuration settings = DoubleLongUnsigned settings.min_under_duration
+data_at which attribute.EmergencyProfile settings = profile_data settings.profile
+data_at which attribute.EmergencyProfileGroupIdList settings = groups_data settings.groups
+data_at which attribute.EmergencyProfileActive settings = Boolean (is_active settings)
+data_at which attribute.Actions settings = actions_data settings.actions

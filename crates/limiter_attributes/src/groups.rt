@@ -1,0 +1,65 @@
+ghost use Rattle.std.specs.Prelude.{◌≡◌, ◌↔◌, ◌≤◌, length, Ok, Err, IsOk, IfOk, IsErrOf};
+ghost use Rattle.std.specs.List.{filter_map};
+ghost use Rattle.cosem_axdr.specs.Forms.{long_unsigned_of};
+ghost use Rattle.limiter_attributes.specs.declared.fault.SettingFault.TheVariants.{Unmatched, Value};
+ghost use Rattle.limiter_attributes.specs.Reading.{are_ids, max_groups, judged_groups, groups_of};
+ghost use Rattle.limiter_attributes.specs.Settings.{limiter_with_groups};
+
+use crate::fault::SettingFault;
+use cosem_axdr::Data;
+use limiter_core::{Limiter, MAX_GROUPS};
+use std::alloc::{AllocError, Global};
+
+/// Whether each item is a long-unsigned.
+fn are_ids(items: &[Data]) -> bool
+    ensures { result ≡ are_ids items.now }
+{
+    items.iter().all(|item| item.long_unsigned().is_some())
+}
+
+/// The fault of group ids: another type of one is told before their number.
+#[tactic(auto, unfolding(crate::specs::Reading::judged_groups))]
+fn judge_groups(items: &[Data]) -> Result<(), SettingFault>
+    ensures exact { result ≡ judged_groups items.now }
+    ensures no_memory { ¬ IsErrOf result SettingFault.Memory }
+    ensures few { IfOk result (λ _. length items.now ≤ max_groups) }
+{
+    if !are_ids(items) {
+        Err(SettingFault::Unmatched)
+    } else if items.len() > MAX_GROUPS {
+        Err(SettingFault::Value)
+    } else {
+        Ok(())
+    }
+}
+
+/// The numbers of those items that are long-unsigned.
+fn read_ids(alloc: Global, items: &[Data]) -> Result<Vec<u16>, AllocError>
+    ensures ids { IfOk result (λ ids. ids.items ≡ filter_map long_unsigned_of items.now) }
+    ensures few { IfOk result (λ ids. length ids.items ≤ length items.now) }
+{
+    items
+        .iter()
+        .filter_map(|item| item.long_unsigned())
+        .collect(alloc)
+}
+
+/// Reads emergency_profile_group_id_list (attribute 9): an array of long-unsigned, 32 at most. They come as those of a
+/// new limiter, to be traded by `Limiter::swap_groups`.
+///
+/// An item of another type is told before their number, and either before want of memory.
+#[tactic(auto, unfolding(crate::specs::Reading::groups_of))]
+pub fn read_groups(alloc: Global, value: &Data) -> Result<Limiter, SettingFault>
+    ensures groups { IfOk result (λ limiter. groups_of value.now ≡ Ok limiter.settings.groups) }
+    ensures limiter { IfOk result (λ limiter. limiter ≡ limiter_with_groups limiter.settings.groups) }
+    ensures unmatched { IsErrOf result SettingFault.Unmatched ↔ (groups_of value.now ≡ Err Unmatched) }
+    ensures value { IsErrOf result SettingFault.Value ↔ (groups_of value.now ≡ Err Value) }
+    ensures memory { IsErrOf result SettingFault.Memory → IsOk (groups_of value.now) }
+{
+    let items = value.array().ok_or(SettingFault::Unmatched)?;
+    judge_groups(items)?;
+    let ids = read_ids(alloc, items)?;
+    let mut limiter = Limiter::new(alloc);
+    limiter.set_groups(alloc, ids.as_slice())?;
+    Ok(limiter)
+}

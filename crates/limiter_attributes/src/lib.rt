@@ -1,0 +1,23 @@
+//! The attributes of a limiter (IEC 62056-6-2, class 71) as they are read and written as Data.
+//!
+//! Numbers are watts and seconds. That a limiter has 32 group ids at most, and that its actions run scripts of the one
+//! script table, is this product's own.
+#![tactic(auto)]
+
+mod attribute;
+mod fault;
+mod forms;
+mod groups;
+mod names;
+mod reading;
+mod setting;
+#[cfg(test)]
+mod tests;
+mod writing;
+
+pub use attribute::LimiterAttribute;
+pub use fault::SettingFault;
+pub use groups::read_groups;
+pub use reading::read_setting;
+pub use setting::Setting;
+pub use writing::read_attribute;

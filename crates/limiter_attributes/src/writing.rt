@@ -1,0 +1,129 @@
+ghost use Rattle.std.specs.Prelude.{◌≡◌, ◌≤◌, map, length, Ok, IsOk, IfOk, IsTrue};
+ghost use Rattle.cosem_axdr.specs.declared.value.Data.TheVariants.{LongUnsigned};
+ghost use Rattle.limiter_attributes.specs.Attributes.{is_plain};
+ghost use Rattle.limiter_attributes.specs.declared.attribute.LimiterAttribute.TheVariants.{EmergencyProfileGroupIdList};
+ghost use Rattle.limiter_attributes.specs.Reading.{max_groups, groups_of, profile_of, actions_of, setting_of};
+ghost use Rattle.limiter_attributes.specs.Settings.{setting_at};
+ghost use Rattle.limiter_attributes.specs.Writing.{register_name, monitored_data, groups_data, script_data, actions_data, data_at};
+ghost use Rattle.script_steps.specs.Writing.{profile_data};
+
+use crate::attribute::LimiterAttribute;
+use crate::names::{
+    EXPORT_REGISTER_NAME, IMPORT_REGISTER_NAME, REGISTER, REGISTER_VALUE, SCRIPT_TABLE_NAME,
+};
+use cosem_axdr::{Data, Items, Octets};
+use cosem_names::{Obis, Which};
+use limiter_core::{Actions, Limiter, Profile};
+use script_steps::write_profile;
+use std::alloc::{AllocError, Global};
+
+/// The register whose value a limiter monitors.
+fn register_name(which: Which) -> Obis
+    ensures { result ≡ register_name which }
+{
+    match which {
+        Which::Import => IMPORT_REGISTER_NAME,
+        Which::Export => EXPORT_REGISTER_NAME,
+    }
+}
+
+/// The attribute that a limiter monitors: the value of its register.
+#[tactic(auto, unfolding(crate::specs::Writing::monitored_data))]
+fn write_monitored(alloc: Global, which: Which) -> Result<Data, AllocError>
+    ensures { IfOk result (λ value. value ≡ monitored_data which) }
+{
+    let name = Octets::from_slice(alloc, &register_name(which).0)?;
+    Ok(Data::Structure(Items::from_vec(vec![in alloc;
+        Data::LongUnsigned(REGISTER.0),
+        Data::OctetString(name),
+        Data::Integer(REGISTER_VALUE),
+    ]?)))
+}
+
+/// An emergency profile.
+#[tactic(auto, using(crate::proofs::Again::profile_again))]
+fn write_emergency_profile(alloc: Global, profile: &Profile) -> Result<Data, AllocError>
+    ensures value { IfOk result (λ value. value ≡ profile_data profile.now) }
+    ensures again { IfOk result (λ value. profile_of value ≡ Ok profile.now) }
+{
+    // Its bytes tell that the fields of the start lie in their ranges.
+    let _ = profile.start.bytes();
+    write_profile(alloc, profile)
+}
+
+/// Each number as a long-unsigned.
+fn write_ids(alloc: Global, ids: &[u16]) -> Result<Vec<Data>, AllocError>
+    ensures { IfOk result (λ items. items.items ≡ map LongUnsigned ids.now) }
+{
+    ids.iter().map(|id| Data::LongUnsigned(*id)).collect(alloc)
+}
+
+/// Group ids.
+#[tactic(auto, unfolding(crate::specs::Writing::groups_data), using(crate::proofs::Again::groups_again))]
+fn write_groups(alloc: Global, ids: &[u16]) -> Result<Data, AllocError>
+    requires { length ids.now ≤ max_groups }
+    ensures value { IfOk result (λ value. value ≡ groups_data ids.now) }
+    ensures again { IfOk result (λ value. groups_of value ≡ Ok ids.now) }
+{
+    let items = write_ids(alloc, ids)?;
+    Ok(Data::Array(Items::from_vec(items)))
+}
+
+/// A script of the script table.
+fn write_script(alloc: Global, selector: u16) -> Result<Data, AllocError>
+    ensures { IfOk result (λ value. value ≡ script_data selector) }
+{
+    let name = Octets::from_slice(alloc, &SCRIPT_TABLE_NAME.0)?;
+    Ok(Data::Structure(Items::from_vec(vec![in alloc;
+        Data::OctetString(name),
+        Data::LongUnsigned(selector),
+    ]?)))
+}
+
+/// The scripts of both actions.
+#[tactic(auto, unfolding(crate::specs::Writing::actions_data), using(crate::proofs::Again::actions_again))]
+fn write_actions(alloc: Global, actions: Actions) -> Result<Data, AllocError>
+    ensures value { IfOk result (λ value. value ≡ actions_data actions) }
+    ensures again { IfOk result (λ value. actions_of value ≡ Ok actions) }
+{
+    let over = write_script(alloc, actions.over)?;
+    let under = write_script(alloc, actions.under)?;
+    Ok(Data::Structure(Items::from_vec(vec![in alloc; over, under]?)))
+}
+
+/// Reads an attribute of a limiter. The start of an emergency profile is an octet-string. Attributes that are a number
+/// or a boolean, 3 to 7 and 10, take no memory.
+#[tactic(auto, unfolding(crate::specs::Writing::data_at, crate::specs::Reading::setting_of))]
+pub fn read_attribute(
+    alloc: Global,
+    which: Which,
+    limiter: &Limiter,
+    attribute: LimiterAttribute,
+) -> Result<Data, AllocError>
+    ensures value { IfOk result (λ value. value ≡ data_at which attribute limiter.now.settings) }
+    // Written again, it sets what the limiter has.
+    ensures again { IfOk result (λ value. setting_of attribute value ≡ Ok (setting_at attribute limiter.now.settings)) }
+    ensures groups_again { attribute ≡ EmergencyProfileGroupIdList → IfOk result (λ value. groups_of value ≡ Ok limiter.now.settings.groups) }
+    ensures sure { IsTrue (is_plain attribute) → IsOk result }
+{
+    match attribute {
+        LimiterAttribute::MonitoredValue => write_monitored(alloc, which),
+        LimiterAttribute::ThresholdActive => Ok(Data::DoubleLongUnsigned(limiter.threshold())),
+        LimiterAttribute::ThresholdNormal => {
+            Ok(Data::DoubleLongUnsigned(limiter.normal_threshold()))
+        }
+        LimiterAttribute::ThresholdEmergency => {
+            Ok(Data::DoubleLongUnsigned(limiter.emergency_threshold()))
+        }
+        LimiterAttribute::MinOverThresholdDuration => {
+            Ok(Data::DoubleLongUnsigned(limiter.min_over_duration()))
+        }
+        LimiterAttribute::MinUnderThresholdDuration => {
+            Ok(Data::DoubleLongUnsigned(limiter.min_under_duration()))
+        }
+        LimiterAttribute::EmergencyProfile => write_emergency_profile(alloc, &limiter.profile()),
+        LimiterAttribute::EmergencyProfileGroupIdList => write_groups(alloc, limiter.groups()),
+        LimiterAttribute::EmergencyProfileActive => Ok(Data::Boolean(limiter.emergency_active())),
+        LimiterAttribute::Actions => write_actions(alloc, limiter.actions()),
+    }
+}
