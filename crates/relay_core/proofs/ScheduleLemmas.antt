@@ -1,15 +1,9 @@
-use Rattle.std.proofs.Common.{◌≡◌, Result, Ok, Err, IsOk, refl}
+use Rattle.std.proofs.Common.{◌≡◌, Result, Ok, Err, refl}
 use Rattle.action_schedule.specs.declared.fault.ScheduleFault.{ScheduleFault}
 use Rattle.action_schedule.specs.Schedule.{answer_of}
-use Rattle.cosem_names.specs.declared.result_code.ResultCode.TheVariants.{Success}
 use Rattle.relay_core.specs.Schedules.{write_code}
 
 -- an answer has the result of what was read
 pub code_of_answer : {A : Type 0} (r : Result A ScheduleFault) → write_code (answer_of r) ≡ write_code r
 code_of_answer (Ok x) = refl
 code_of_answer (Err fault) = refl
-
--- what is read without a fault is a success
-pub code_of_ok : {A : Type 0} (r : Result A ScheduleFault) → IsOk r → write_code r ≡ Success
-code_of_ok (Ok x) is = refl
-code_of_ok (Err fault) is = cc

@@ -4,7 +4,7 @@ use Rattle.cosem_axdr.specs.Forms.{long_unsigned_of}
 use Rattle.cosem_names.specs.declared.name.MethodRef.{MethodRef}
 use Rattle.cosem_names.specs.declared.level.Level.{Level}
 use Rattle.cosem_names.specs.declared.objects.Instance.{Instance}
-use Rattle.cosem_names.specs.declared.objects.Instance.TheVariants.{Association, DeviceName, ScriptTable, Schedule, DisconnectControl}
+use Rattle.cosem_names.specs.declared.objects.Instance.TheVariants.{Association, DeviceName, Register, ScriptTable, Schedule, DisconnectControl, Limiter}
 use Rattle.cosem_names.specs.declared.result_code.ResultCode.{ResultCode}
 use Rattle.cosem_names.specs.declared.result_code.ResultCode.TheVariants.{ReadWriteDenied, TypeUnmatched, OtherReason}
 use Rattle.cosem_names.specs.Objects.{may_execute_of}
@@ -47,9 +47,11 @@ at_execution parameter w = at_selected (option_and_then long_unsigned_of paramet
 unfoldable pub at_method : Instance → ℕ → Option Data → World → Outcome
 at_method Association number parameter w = record { world = w; code = ReadWriteDenied }
 at_method DeviceName number parameter w = record { world = w; code = ReadWriteDenied }
+at_method (Register which) number parameter w = record { world = w; code = ReadWriteDenied }
 at_method ScriptTable number parameter w = if number == 1 then at_execution parameter w else record { world = w; code = ReadWriteDenied }
 at_method (Schedule which) number parameter w = record { world = w; code = ReadWriteDenied }
 at_method DisconnectControl number parameter w = at_pulled (switch_trigger number) w
+at_method (Limiter which) number parameter w = record { world = w; code = ReadWriteDenied }
 
 -- a method of an object that was reached
 abbrev pub execute_at : Result Instance ResultCode → ℕ → Option Data → World → Outcome

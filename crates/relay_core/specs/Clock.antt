@@ -6,6 +6,7 @@ use Rattle.action_schedule.specs.Fitting.{is_due}
 use Rattle.action_schedule.specs.Schedule.{Schedule}
 use Rattle.relay_core.specs.declared.event.Reply.TheVariants.{Ran, Stale}
 use Rattle.relay_core.specs.declared.scripts.Origin.TheVariants.{Remote}
+use Rattle.relay_core.specs.Limiters.{with_moment}
 use Rattle.relay_core.specs.Schedules.{all_schedules}
 use Rattle.relay_core.specs.Scripts.{at_script}
 use Rattle.relay_core.specs.World.{World, Stepped}
@@ -31,11 +32,11 @@ ran last now w = record {
 -- a moment that comes after the last one, or as the first, which runs nothing: one before the last is stale, and the last
 -- again changes nothing
 abbrev pub moment_after : Option ℕ → ℕ → World → Stepped
-moment_after None now w = record { world = record w { moment = Some now }; reply = Ran 0 }
+moment_after None now w = record { world = with_moment now w; reply = Ran 0 }
 moment_after (Some last) now w =
     if nat_lt now last then record { world = w; reply = Stale last }
     else if now == last then record { world = w; reply = Ran 0 }
-    else ran last now (record w { moment = Some now })
+    else ran last now (with_moment now w)
 
 -- a moment of the clock
 unfoldable pub at_moment : ℕ → World → Stepped

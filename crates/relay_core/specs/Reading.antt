@@ -1,22 +1,29 @@
-use Rattle.std.specs.Prelude.{ℕ, Bool, true, List, Result, Ok, Err, ◌==◌, ◌||◌, not, map, if◌then◌else◌}
-use Rattle.cosem_axdr.specs.declared.value.Data.TheVariants.{OctetString, Boolean, Enum}
+use Rattle.std.specs.Prelude.{ℕ, pos, Bool, true, List, [], ◌∷◌, Result, Ok, Err, ◌==◌, ◌||◌, ◌&&◌, not, map, Option, Some, None, if◌then◌else◌}
+use Rattle.cosem_axdr.specs.declared.value.Data.{Data}
+use Rattle.cosem_axdr.specs.declared.value.Data.TheVariants.{OctetString, Boolean, Enum, Integer, DoubleLongUnsigned}
 use Rattle.cosem_names.specs.declared.name.AttrRef.{AttrRef}
 use Rattle.cosem_names.specs.declared.level.Level.{Level}
 use Rattle.cosem_names.specs.declared.objects.Instance.{Instance}
-use Rattle.cosem_names.specs.declared.objects.Instance.TheVariants.{Association, DeviceName, ScriptTable, Schedule, DisconnectControl}
+use Rattle.cosem_names.specs.declared.objects.Instance.TheVariants.{Association, DeviceName, Register, ScriptTable, Schedule, DisconnectControl, Limiter}
 use Rattle.cosem_names.specs.declared.result_code.ResultCode.{ResultCode}
 use Rattle.cosem_names.specs.declared.result_code.ResultCode.TheVariants.{ReadWriteDenied}
 use Rattle.cosem_names.specs.declared.service.AttributeSelection.{AttributeSelection}
 use Rattle.cosem_names.specs.declared.service.GetResult.{GetResult}
 use Rattle.cosem_names.specs.declared.service.GetResult.TheVariants.{Value, Code}
-use Rattle.cosem_names.specs.ObjectList.{object_list_of}
+use Rattle.cosem_names.specs.ObjectList.{structure_with, object_list_of}
 use Rattle.cosem_names.specs.Objects.{rights_of}
 use Rattle.disconnect_control.specs.declared.state.ControlState.TheVariants.{Connected}
 use Rattle.disconnect_control.specs.Control.{Control}
 use Rattle.disconnect_control.specs.Transitions.{state_number, mode_number, is_state}
+use Rattle.cosem_names.specs.declared.objects.Which.{Which}
+use Rattle.limiter_attributes.specs.declared.attribute.LimiterAttribute.{LimiterAttribute}
+use Rattle.limiter_attributes.specs.Attributes.{attribute_numbered, is_plain as is_plain_limiter}
+use Rattle.limiter_attributes.specs.Writing.{data_at}
+use Rattle.limiter_core.specs.declared.settings.Settings.{Settings}
 use Rattle.relay_core.specs.Access.{target_of}
 use Rattle.relay_core.specs.Schedules.{schedule_of, schedule_value}
-use Rattle.relay_core.specs.World.{World}
+use Rattle.relay_core.specs.Limiters.{metered_of}
+use Rattle.relay_core.specs.World.{World, Metered}
 use Rattle.script_steps.specs.Writing.{data_of}
 
 -- the attributes of the switch past its logical name
@@ -27,13 +34,31 @@ control_value control number =
     else if number == 4 then Value (Enum (mode_number control.mode))
     else Code ReadWriteDenied
 
+-- the scaler_unit of a register of active power: 10 to the power 0 W (IEC 62056-6-2, class 3)
+abbrev pub scaler_unit : Data
+scaler_unit = structure_with (Integer (pos 0) ∷ Enum 27 ∷ [])
+
+-- the attributes of a register past its logical name
+abbrev pub register_value : Metered → ℕ → GetResult
+register_value m number =
+    if number == 2 then Value (DoubleLongUnsigned m.last)
+    else if number == 3 then Value scaler_unit
+    else Code ReadWriteDenied
+
+-- the attributes of a limiter past its logical name
+abbrev pub limiter_value : Which → Settings → Option LimiterAttribute → GetResult
+limiter_value which settings None = Code ReadWriteDenied
+limiter_value which settings (Some attribute) = Value (data_at which attribute settings)
+
 -- the attributes of an object past its logical name, as a client of this level reads them
 abbrev pub own_value_in : Level → Instance → ℕ → World → GetResult
 own_value_in level Association number w = if number == 2 then Value (object_list_of level) else Code ReadWriteDenied
 own_value_in level DeviceName number w = if number == 2 then Value (OctetString w.device) else Code ReadWriteDenied
+own_value_in level (Register which) number w = register_value (metered_of which w) number
 own_value_in level ScriptTable number w = if number == 2 then Value (data_of w.scripts) else Code ReadWriteDenied
 own_value_in level (Schedule which) number w = schedule_value (schedule_of which w.schedules) number
 own_value_in level DisconnectControl number w = control_value w.control number
+own_value_in level (Limiter which) number w = limiter_value which (metered_of which w).settings (attribute_numbered number)
 
 -- the value of an attribute: attribute 1 is the logical name
 unfoldable pub value_in : Level → Instance → AttrRef → World → GetResult
@@ -52,13 +77,20 @@ get_result level attr selected w = read_at level (target_of attr.name attr.class
 abbrev pub get_results : Level → List AttributeSelection → World → List GetResult
 get_results level items w = map (λ item. get_result level item.attr item.selected w) items
 
+-- whether an attribute of a limiter takes no memory to read
+abbrev pub is_plain_attribute : Option LimiterAttribute → Bool
+is_plain_attribute None = true
+is_plain_attribute (Some attribute) = is_plain_limiter attribute
+
 -- whether the value of an attribute is a boolean, an enum or a number, which takes no memory
 abbrev pub is_plain : Instance → ℕ → Bool
 is_plain Association number = not (number == 1 || number == 2)
 is_plain DeviceName number = not (number == 1 || number == 2)
+is_plain (Register which) number = not (number == 1 || number == 3)
 is_plain ScriptTable number = not (number == 1 || number == 2)
 is_plain (Schedule which) number = not (number == 1 || (number == 2 || number == 4))
 is_plain DisconnectControl number = not (number == 1)
+is_plain (Limiter which) number = not (number == 1) && is_plain_attribute (attribute_numbered number)
 
 -- whether a read of an object that was reached takes no memory
 abbrev pub is_plain_at : Result Instance ResultCode → ℕ → Bool

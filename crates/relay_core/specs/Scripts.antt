@@ -1,16 +1,17 @@
 -- What a script does: its steps in order, up to and with the first that is refused.
 use Rattle.std.specs.Prelude.{Bool, true, false, List, [], ◌∷◌, if◌then◌else◌}
 use Rattle.cosem_names.specs.declared.result_code.ResultCode.{ResultCode}
-use Rattle.cosem_names.specs.declared.result_code.ResultCode.TheVariants.{Success, OtherReason}
+use Rattle.cosem_names.specs.declared.result_code.ResultCode.TheVariants.{Success}
 use Rattle.disconnect_control.specs.declared.state.Trigger.{Trigger}
 use Rattle.disconnect_control.specs.declared.state.Trigger.TheVariants.{RemoteDisconnect, RemoteReconnect, LocalDisconnect, LocalReconnect}
+use Rattle.limiter_attributes.specs.declared.setting.Setting.TheVariants.{NormalThreshold, EmergencyThreshold, MinOverDuration, MinUnderDuration, Profile}
 use Rattle.relay_core.specs.declared.scripts.Origin.{Origin}
 use Rattle.relay_core.specs.declared.scripts.Origin.TheVariants.{Remote, Local}
 use Rattle.relay_core.specs.Switch.{at_trigger}
 use Rattle.relay_core.specs.World.{World, Outcome}
-use Rattle.relay_core.specs.Writing.{at_mode}
+use Rattle.relay_core.specs.Writing.{at_mode, at_setting}
 use Rattle.script_steps.specs.declared.step.Step.{Step}
-use Rattle.script_steps.specs.declared.step.Step.TheVariants.{WriteMode, Disconnect, Reconnect}
+use Rattle.script_steps.specs.declared.step.Step.TheVariants.{WriteMode, WriteNormal, WriteEmergency, WriteMinOver, WriteMinUnder, WriteProfile, Disconnect, Reconnect}
 
 -- the trigger that a step's method pulls: a remote one where a client or a schedule runs the script, a local one where the
 -- meter itself does
@@ -22,12 +23,16 @@ abbrev pub reconnect_by : Origin → Trigger
 reconnect_by Remote = RemoteReconnect
 reconnect_by Local = LocalReconnect
 
--- a step acts as the same write or method would; there is no limiter that a step could write
+-- a step acts as the same write or method would
 unfoldable pub at_step : Origin → Step → World → Outcome
 at_step origin (WriteMode mode) w = at_mode mode w
 at_step origin Disconnect w = at_trigger (disconnect_by origin) w
 at_step origin Reconnect w = at_trigger (reconnect_by origin) w
-at_step origin _ w = record { world = w; code = OtherReason }
+at_step origin (WriteNormal which watts) w = at_setting which (NormalThreshold watts) w
+at_step origin (WriteEmergency which watts) w = at_setting which (EmergencyThreshold watts) w
+at_step origin (WriteMinOver which seconds) w = at_setting which (MinOverDuration seconds) w
+at_step origin (WriteMinUnder which seconds) w = at_setting which (MinUnderDuration seconds) w
+at_step origin (WriteProfile which profile) w = at_setting which (Profile profile) w
 
 abbrev pub is_success : ResultCode → Bool
 is_success Success = true

@@ -1,8 +1,31 @@
 -- A trigger of the supply switch.
+use Rattle.std.specs.Prelude.{Bool, not, ◌∷◌, ◌&&◌, if◌then◌else◌}
+use Rattle.disconnect_control.specs.declared.state.ControlState.TheVariants.{Connected}
 use Rattle.disconnect_control.specs.declared.state.Trigger.{Trigger}
-use Rattle.disconnect_control.specs.Control.{triggered}
-use Rattle.disconnect_control.specs.Transitions.{result_of}
-use Rattle.relay_core.specs.World.{World, Outcome}
+use Rattle.disconnect_control.specs.Control.{Control, triggered}
+use Rattle.disconnect_control.specs.Transitions.{is_state, result_of}
+use Rattle.limiter_core.specs.Rows.{Entry}
+use Rattle.relay_core.specs.World.{World, Metered, Outcome}
+
+-- a limiter after an entry into Connected
+abbrev pub with_entry : Metered → Metered
+with_entry m = record m { rows = Entry ∷ m.rows }
+
+-- the switch has come into Connected from another state
+abbrev pub enters : Control → Control → Bool
+enters before after = not (is_state before.state Connected) && is_state after.state Connected
+
+-- a world whose switch was so before: an entry into Connected is a row of both limiters
+unfoldable pub noted_since : Control → World → World
+noted_since before w =
+    if enters before w.control then record w { import = with_entry w.import; export = with_entry w.export } else w
+
+-- a world with its switch changed
+abbrev pub with_control : Control → World → World
+with_control control w = noted_since w.control (record w { control = control })
 
 unfoldable pub at_trigger : Trigger → World → Outcome
-at_trigger trigger w = record { world = record w { control = triggered trigger w.control }; code = result_of w.control.mode trigger w.control.state }
+at_trigger trigger w = record {
+  world = with_control (triggered trigger w.control) w;
+  code = result_of w.control.mode trigger w.control.state;
+}

@@ -4,15 +4,28 @@ use Rattle.disconnect_control.specs.declared.state.ControlState.TheVariants.{Con
 use Rattle.disconnect_control.specs.declared.state.ControlMode.TheVariants.{Mode0}
 use Rattle.disconnect_control.specs.Control.{Control}
 use Rattle.action_schedule.specs.Schedule.{new_schedule}
+use Rattle.limiter_core.specs.declared.settings.Settings.{Settings}
+use Rattle.limiter_core.specs.Rows.{Row}
+use Rattle.limiter_core.specs.Settings.{new_settings}
 use Rattle.relay_core.specs.declared.event.Reply.{Reply}
 use Rattle.relay_core.specs.declared.schedules.Schedules.{Schedules}
 use Rattle.script_steps.specs.declared.step.Script.{Script}
 
--- the meter: its device name, its supply switch, the last moment of its clock, its scripts and its schedules
+-- a limiter: its settings, its last sample, and a row for each sample that it ever took and for each entry into Connected,
+-- the newest first
+pub record Metered : Type 0 where
+  pub settings : Settings
+  pub last : ℕ
+  pub rows : List Row
+
+-- the meter: its device name, its supply switch, the last moment of its clock, the limiters of the imported and of the
+-- exported power, its scripts and its schedules
 pub record World : Type 0 where
   pub device : List ℕ
   pub control : Control
   pub moment : Option ℕ
+  pub import : Metered
+  pub export : Metered
   pub scripts : List Script
   pub schedules : Schedules
 
@@ -30,12 +43,18 @@ pub record Stepped : Type 0 where
 abbrev pub new_schedules : Schedules
 new_schedules = record { first = new_schedule; second = new_schedule; third = new_schedule; fourth = new_schedule }
 
+-- a new limiter has taken no sample
+abbrev pub new_metered : Metered
+new_metered = record { settings = new_settings; last = 0; rows = [] }
+
 -- a new meter of this name
 abbrev pub new_world : List ℕ → World
 new_world device = record {
   device = device;
   control = record { state = Connected; mode = Mode0 };
   moment = None;
+  import = new_metered;
+  export = new_metered;
   scripts = [];
   schedules = new_schedules;
 }

@@ -1,73 +1,102 @@
+-- What a client's write does.
 use Rattle.std.specs.Prelude.{ℕ, Bool, true, not, List, Option, Some, None, Result, Ok, Err, ◌==◌, if◌then◌else◌}
 use Rattle.cosem_axdr.specs.declared.value.Data.{Data}
+use Rattle.cosem_datetime.specs.declared.entry.EntryPattern.{EntryPattern}
 use Rattle.cosem_axdr.specs.Forms.{enumerated_of}
 use Rattle.cosem_names.specs.declared.name.AttrRef.{AttrRef}
 use Rattle.cosem_names.specs.declared.level.Level.{Level}
 use Rattle.cosem_names.specs.declared.objects.Instance.{Instance}
-use Rattle.cosem_names.specs.declared.objects.Instance.TheVariants.{Association, DeviceName, ScriptTable, Schedule, DisconnectControl}
+use Rattle.cosem_names.specs.declared.objects.Instance.TheVariants.{Association, DeviceName, Register, ScriptTable, Schedule, DisconnectControl, Limiter}
 use Rattle.cosem_names.specs.declared.objects.ScheduleNumber.{ScheduleNumber}
+use Rattle.cosem_names.specs.declared.objects.Which.{Which}
 use Rattle.cosem_names.specs.declared.result_code.ResultCode.{ResultCode}
 use Rattle.cosem_names.specs.declared.result_code.ResultCode.TheVariants.{Success, ReadWriteDenied, TypeUnmatched, OtherReason}
 use Rattle.cosem_names.specs.Objects.{rights_of}
 use Rattle.disconnect_control.specs.declared.state.ControlMode.{ControlMode}
 use Rattle.disconnect_control.specs.Transitions.{mode_of}
 use Rattle.disconnect_control.specs.Control.{with_mode, mode_result}
-use Rattle.relay_core.specs.declared.writing.Change.{Change}
-use Rattle.relay_core.specs.declared.writing.Change.TheVariants.{Mode, Scripts}
+use Rattle.limiter_attributes.specs.declared.attribute.LimiterAttribute.{LimiterAttribute}
+use Rattle.limiter_attributes.specs.declared.attribute.LimiterAttribute.TheVariants.{EmergencyProfileGroupIdList}
+use Rattle.limiter_attributes.specs.declared.fault.SettingFault.{SettingFault}
+use Rattle.limiter_attributes.specs.declared.fault.SettingFault.TheVariants as setting_fault
+use Rattle.limiter_attributes.specs.declared.setting.Setting.{Setting}
+use Rattle.limiter_attributes.specs.Attributes.{attribute_numbered}
+use Rattle.limiter_attributes.specs.Reading.{setting_of, groups_of}
+use Rattle.limiter_attributes.specs.Settings.{with_setting}
 use Rattle.relay_core.specs.Access.{target_of}
+use Rattle.relay_core.specs.Limiters.{metered_of, with_metered, with_settings}
 use Rattle.relay_core.specs.Schedules.{schedule_of, with_schedule, schedule_written, schedule_code}
 use Rattle.relay_core.specs.World.{World, Outcome}
 use Rattle.script_steps.specs.declared.fault.ScriptFault.{ScriptFault}
-use Rattle.script_steps.specs.declared.fault.ScriptFault.TheVariants as fault
+use Rattle.script_steps.specs.declared.fault.ScriptFault.TheVariants as script_fault
 use Rattle.script_steps.specs.declared.step.Script.{Script}
 use Rattle.script_steps.specs.Reading.{table_of}
 
--- a control_mode of this number
-abbrev pub mode_numbered : Option ControlMode → Result Change ResultCode
-mode_numbered None = Err OtherReason
-mode_numbered (Some mode) = Ok (Mode mode)
+-- a write that is refused changes nothing
+abbrev pub refused : ResultCode → World → Outcome
+refused code w = record { world = w; code = code }
 
--- a control_mode that is written as an enum of this number
-abbrev pub mode_written : Option ℕ → Result Change ResultCode
+-- a control_mode: an enum, 0 to 6
+abbrev pub mode_numbered : Option ControlMode → Result ControlMode ResultCode
+mode_numbered None = Err OtherReason
+mode_numbered (Some mode) = Ok mode
+
+abbrev pub mode_written : Option ℕ → Result ControlMode ResultCode
 mode_written None = Err TypeUnmatched
 mode_written (Some number) = mode_numbered (mode_of number)
 
--- the form of control_mode: an enum, 0 to 6
-unfoldable pub mode_form : Data → Result Change ResultCode
+unfoldable pub mode_form : Data → Result ControlMode ResultCode
 mode_form value = mode_written (enumerated_of value)
-
--- scripts that are written, or why they are refused; memory is no fault of what is written
-abbrev pub scripts_written : Result (List Script) ScriptFault → Result Change ResultCode
-scripts_written (Ok scripts) = Ok (Scripts scripts)
-scripts_written (Err fault.Unmatched) = Err TypeUnmatched
-scripts_written (Err fault.Value) = Err OtherReason
-scripts_written (Err fault.Memory) = Err OtherReason
-
--- the form of scripts
-unfoldable pub scripts_form : Data → Result Change ResultCode
-scripts_form value = scripts_written (table_of value)
-
--- the change that a write of an attribute asks for, or why its value is refused; a schedule judges its own
-unfoldable pub change_of : Instance → ℕ → Data → Result Change ResultCode
-change_of Association number value = Err ReadWriteDenied
-change_of DeviceName number value = Err ReadWriteDenied
-change_of ScriptTable number value = if number == 2 then scripts_form value else Err ReadWriteDenied
-change_of (Schedule which) number value = Err ReadWriteDenied
-change_of DisconnectControl number value = if number == 4 then mode_form value else Err ReadWriteDenied
 
 -- a write of the mode, which the switch's state may refuse
 unfoldable pub at_mode : ControlMode → World → Outcome
 at_mode mode w = record { world = record w { control = with_mode mode w.control }; code = mode_result mode w.control }
 
--- a change of the world
-unfoldable pub at_change : Change → World → Outcome
-at_change (Mode mode) w = at_mode mode w
-at_change (Scripts scripts) w = record { world = record w { scripts = scripts }; code = Success }
+abbrev pub at_mode_form : Result ControlMode ResultCode → World → Outcome
+at_mode_form (Err refusal) w = refused refusal w
+at_mode_form (Ok mode) w = at_mode mode w
 
--- the change that was found, or its refusal
-abbrev pub at_changed : Result Change ResultCode → World → Outcome
-at_changed (Err refusal) w = record { world = w; code = refusal }
-at_changed (Ok change) w = at_change change w
+-- why a script table or a limiter's attribute is refused; memory is no fault of what is written
+abbrev pub script_fault_code : ScriptFault → ResultCode
+script_fault_code script_fault.Unmatched = TypeUnmatched
+script_fault_code script_fault.Value = OtherReason
+script_fault_code script_fault.Memory = OtherReason
+
+abbrev pub setting_fault_code : SettingFault → ResultCode
+setting_fault_code setting_fault.Unmatched = TypeUnmatched
+setting_fault_code setting_fault.Value = OtherReason
+setting_fault_code setting_fault.Memory = OtherReason
+
+-- a write of the script table's scripts
+abbrev pub at_scripts : Result (List Script) ScriptFault → World → Outcome
+at_scripts (Err fault) w = refused (script_fault_code fault) w
+at_scripts (Ok scripts) w = record { world = record w { scripts = scripts }; code = Success }
+
+-- a setting of a limiter
+unfoldable pub at_setting : Which → Setting → World → Outcome
+at_setting which setting w = record {
+  world = with_metered which (with_settings (with_setting setting (metered_of which w).settings) (metered_of which w)) w;
+  code = Success;
+}
+
+abbrev pub at_setting_form : Which → Result (Option Setting) SettingFault → World → Outcome
+at_setting_form which (Err fault) w = refused (setting_fault_code fault) w
+at_setting_form which (Ok None) w = refused ReadWriteDenied w
+at_setting_form which (Ok (Some setting)) w = at_setting which setting w
+
+-- group ids of a limiter
+abbrev pub at_groups : Which → Result (List ℕ) SettingFault → World → Outcome
+at_groups which (Err fault) w = refused (setting_fault_code fault) w
+at_groups which (Ok ids) w = record {
+  world = with_metered which (with_settings (record (metered_of which w).settings { groups = ids }) (metered_of which w)) w;
+  code = Success;
+}
+
+-- a write of an attribute of a limiter
+abbrev pub at_limiter : Which → Option LimiterAttribute → Data → World → Outcome
+at_limiter which None value w = refused ReadWriteDenied w
+at_limiter which (Some EmergencyProfileGroupIdList) value w = at_groups which (groups_of value) w
+at_limiter which (Some attribute) value w = at_setting_form which (setting_of attribute value) w
 
 -- a write of an attribute of a schedule
 unfoldable pub at_schedule : ScheduleNumber → ℕ → Data → World → Outcome
@@ -76,17 +105,24 @@ at_schedule which number value w = record {
   code = schedule_code number value;
 }
 
+-- one of the schedules with other entries
+abbrev pub with_schedule_entries : ScheduleNumber → List EntryPattern → World → World
+with_schedule_entries which entries w =
+    record w { schedules = with_schedule which (record (schedule_of which w.schedules) { entries = entries }) w.schedules }
+
 -- a write of an attribute of an object
 unfoldable pub at_write : Instance → ℕ → Data → World → Outcome
+at_write Association number value w = refused ReadWriteDenied w
+at_write DeviceName number value w = refused ReadWriteDenied w
+at_write (Register which) number value w = refused ReadWriteDenied w
+at_write ScriptTable number value w = if number == 2 then at_scripts (table_of value) w else refused ReadWriteDenied w
 at_write (Schedule which) number value w = at_schedule which number value w
-at_write Association number value w = at_changed (change_of Association number value) w
-at_write DeviceName number value w = at_changed (change_of DeviceName number value) w
-at_write ScriptTable number value w = at_changed (change_of ScriptTable number value) w
-at_write DisconnectControl number value w = at_changed (change_of DisconnectControl number value) w
+at_write DisconnectControl number value w = if number == 4 then at_mode_form (mode_form value) w else refused ReadWriteDenied w
+at_write (Limiter which) number value w = at_limiter which (attribute_numbered number) value w
 
 -- a write of an object that was reached
 abbrev pub write_at : Result Instance ResultCode → ℕ → Data → World → Outcome
-write_at (Err refusal) number value w = record { world = w; code = refusal }
+write_at (Err refusal) number value w = refused refusal w
 write_at (Ok instance) number value w = at_write instance number value w
 
 -- a client's write of an attribute
@@ -97,6 +133,7 @@ at_set level attr selected value w = write_at (target_of attr.name attr.class (r
 abbrev pub writes_plainly_in : Instance → ℕ → Bool
 writes_plainly_in ScriptTable number = not (number == 2)
 writes_plainly_in (Schedule which) number = not (number == 4)
+writes_plainly_in (Limiter which) number = not (number == 9)
 writes_plainly_in _ number = true
 
 -- whether a write of an object that was reached takes no memory

@@ -2,7 +2,10 @@ ghost use Rattle.std.specs.Prelude.{◌≡◌};
 ghost use Rattle.relay_core.specs.World.{World};
 ghost use Rattle.relay_core.specs.Stands.{StandsFor};
 ghost use Rattle.relay_core.specs.Acting.{switch_trigger, at_execution, at_method, at_execute, at_button};
-ghost use Rattle.relay_core.specs.Switch.{at_trigger};
+ghost use Rattle.disconnect_control.specs.declared.state.ControlState.TheVariants.{Connected};
+ghost use Rattle.disconnect_control.specs.Control.{Control};
+ghost use Rattle.disconnect_control.specs.Transitions.{is_state};
+ghost use Rattle.relay_core.specs.Switch.{noted_since, at_trigger};
 
 use crate::access::target;
 use crate::relay::RelayCore;
@@ -24,6 +27,21 @@ fn switch_trigger(number: u8) -> Option<Trigger>
 }
 
 impl RelayCore {
+    /// Tells the limiters where Connected has been entered; `was_on` says whether the supply was on before.
+    #[tactic(auto, unfolding(crate::specs::Switch::noted_since))]
+    fn note_entry(&mut self, was_on: bool)
+        ensures world { (w : World) (before : Control) → StandsFor self.old w → was_on ≡ is_state before.state Connected
+            → StandsFor self.new (noted_since before w) }
+        ensures scripts { self.new.scripts ≡ self.old.scripts }
+        ensures schedules { self.new.schedules ≡ self.old.schedules }
+    {
+        if was_on || !self.control.output() {
+            return;
+        }
+        self.import.closed();
+        self.export.closed();
+    }
+
     /// Pulls a trigger of the switch.
     #[tactic(auto, unfolding(crate::specs::Switch::at_trigger))]
     pub(crate) fn pull(&mut self, trigger: Trigger) -> ResultCode
@@ -32,7 +50,10 @@ impl RelayCore {
         ensures scripts { self.new.scripts ≡ self.old.scripts }
         ensures schedules { self.new.schedules ≡ self.old.schedules }
     {
-        self.control.apply(trigger)
+        let was_on = self.control.output();
+        let code = self.control.apply(trigger);
+        self.note_entry(was_on);
+        code
     }
 
     /// Runs the script that a client selects by a long-unsigned.

@@ -2,6 +2,7 @@ ghost use Rattle.std.specs.Prelude.{◌≡◌};
 ghost use Rattle.std.specs.List.{count_by};
 ghost use Rattle.action_schedule.specs.Fitting.{is_due};
 ghost use Rattle.relay_core.specs.Clock.{after_schedule, after_schedules, at_moment};
+ghost use Rattle.relay_core.specs.Limiters.{with_moment};
 ghost use Rattle.relay_core.specs.Machine.{IsOfClock};
 ghost use Rattle.relay_core.specs.Schedules.{schedule_of, all_schedules};
 ghost use Rattle.relay_core.specs.Stands.{StandsFor};
@@ -13,6 +14,17 @@ use crate::scripts::Origin;
 use cosem_names::ScheduleNumber;
 
 impl RelayCore {
+    /// Sets the clock, and those of the limiters.
+    #[tactic(auto, unfolding(crate::specs::Limiters::with_moment))]
+    fn set_clock(&mut self, now: u32)
+        ensures world { (w : World) → StandsFor self.old w → StandsFor self.new (with_moment now w) }
+        ensures schedules { self.new.schedules ≡ self.old.schedules }
+    {
+        self.moment = Some(now);
+        self.import.at(now);
+        self.export.at(now);
+    }
+
     /// A moment of the clock: one before the last is stale, and the last again changes nothing. Any other runs the
     /// schedules that are due since the last.
     #[tactic(auto, unfolding(crate::specs::Clock::at_moment))]
@@ -25,11 +37,11 @@ impl RelayCore {
             Some(last) if now < last => Reply::Stale { last },
             Some(last) if now == last => Reply::Ran(0),
             Some(last) => {
-                self.moment = Some(now);
+                self.set_clock(now);
                 Reply::Ran(self.run_schedules(last, now))
             }
             None => {
-                self.moment = Some(now);
+                self.set_clock(now);
                 Reply::Ran(0)
             }
         }

@@ -1,10 +1,14 @@
+ghost use Rattle.std.specs.Prelude.{◌≡◌, IfOk};
+
 use cosem_axdr::Data;
 use cosem_names::{AttrRef, AttributeSelection, GetResult, Level, MethodRef, ResultCode};
 use disconnect_control::ControlState;
+use lane_sampler::Block;
 use listed::Listed;
+use std::alloc::{AllocError, Global};
 
-/// What reaches the meter: a client's call, a press of the button or a moment of its clock. Each is one step of
-/// the core.
+/// What reaches the meter: a client's call, a press of the button, a block of samples or a moment of its clock. Each is
+/// one step of the core.
 #[derive(Debug, Drop)]
 pub enum Event {
     /// GET: a client reads an attribute, `selected` where it asks for a part of it.
@@ -33,6 +37,8 @@ pub enum Event {
     },
     /// A press of the meter's button.
     Button,
+    /// Samples of the imported power, or of both, in watts.
+    Samples(Block),
     /// A moment of the clock has come: seconds since 2000-01-01 00:00:00 of the meter's time.
     Moment(u32),
 }
@@ -46,10 +52,24 @@ pub enum Reply {
     Values(Listed<GetResult>),
     /// To a Set, an Execute or a Button: its result. To a Get: why the attribute isn't read.
     Code(ResultCode),
+    /// To Samples of the imported power alone: how often each side of its limiter has fired.
+    Sampled {
+        over: u16,
+        under: u16,
+    },
+    /// To Samples of both: how often each side of each limiter has fired.
+    SampledBoth {
+        over: u16,
+        under: u16,
+        export_over: u16,
+        export_under: u16,
+    },
     /// To a Moment: how many schedules were due.
     Ran(u8),
     /// To a Moment before the last one, which changes nothing: the last one.
-    Stale { last: u32 },
+    Stale {
+        last: u32,
+    },
 }
 
 /// A line of a run: the reply to an event, and the switch after it.
@@ -66,3 +86,59 @@ pub type Events = Listed<Event>;
 
 /// Lines in order.
 pub type Lines = Listed<Line>;
+
+/// A copy of a parameter, if there is one.
+fn copied_parameter(alloc: Global, parameter: &Option<Data>) -> Result<Option<Data>, AllocError>
+    ensures { IfOk result (λ copy. copy ≡ parameter.now) }
+{
+    match parameter {
+        Some(value) => Ok(Some(value.try_clone(alloc)?)),
+        None => Ok(None),
+    }
+}
+
+impl Event {
+    /// An equal event in memory of its own.
+    pub fn try_copy(&self, alloc: Global) -> Result<Event, AllocError>
+        ensures { IfOk result (λ copy. copy ≡ self.now) }
+    {
+        Ok(match self {
+            Event::Get {
+                level,
+                attr,
+                selected,
+            } => Event::Get {
+                level: *level,
+                attr: *attr,
+                selected: *selected,
+            },
+            Event::GetList { level, items } => Event::GetList {
+                level: *level,
+                items: Listed::from_vec(Vec::from_slice(alloc, items.as_slice())?),
+            },
+            Event::Set {
+                level,
+                attr,
+                selected,
+                value,
+            } => Event::Set {
+                level: *level,
+                attr: *attr,
+                selected: *selected,
+                value: value.try_clone(alloc)?,
+            },
+            Event::Execute {
+                level,
+                method,
+                parameter,
+            } => Event::Execute {
+                level: *level,
+                method: *method,
+                parameter: copied_parameter(alloc, parameter)?,
+            },
+            Event::Button => Event::Button,
+            Event::Samples(block) => Event::Samples(block.try_clone(alloc)?),
+            Event::Moment(now) => Event::Moment(*now),
+        })
+    }
+}

@@ -8,15 +8,24 @@ mod access;
 mod acting;
 mod clock;
 mod event;
+mod laws;
+mod opening;
+mod parts;
 mod reading;
 mod relay;
 mod running;
+mod sampling;
 mod schedules;
 mod scripts;
+mod stretches;
 #[cfg(test)]
 mod tests;
 mod writing;
 
 pub use event::{Event, Events, Line, Lines, Reply};
+pub use laws::worlds_agree;
+pub use opening::{LimiterOpening, Opening, OpeningFault};
+pub use parts::Parts;
 pub use relay::RelayCore;
 pub use running::{RunStop, run};
+pub use schedules::Schedules;

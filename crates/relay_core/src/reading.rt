@@ -1,17 +1,31 @@
 ghost use Rattle.std.specs.Prelude.{◌≡◌, ◌≢◌, IfOk, IsOk, IsTrue};
 ghost use Rattle.relay_core.specs.World.{World};
 ghost use Rattle.relay_core.specs.Stands.{StandsFor};
-ghost use Rattle.relay_core.specs.Reading.{control_value, own_value_in, value_in, get_result, get_results, is_plain, reads_plainly};
+ghost use Rattle.limiter_attributes.specs.Attributes.{attribute_numbered};
+ghost use Rattle.relay_core.specs.Limiters.{metered_of};
+ghost use Rattle.relay_core.specs.Reading.{control_value, register_value, limiter_value, is_plain_attribute, scaler_unit, own_value_in, value_in, get_result, get_results, is_plain, reads_plainly};
 
 use crate::access::target;
 use crate::relay::RelayCore;
 use crate::schedules::read_schedule;
-use cosem_axdr::{Data, Octets};
+use cosem_axdr::{Data, Items, Octets};
 use cosem_names::{
-    AttrRef, AttributeSelection, GetResult, Instance, Level, ResultCode, object_list, rights,
+    AttrRef, AttributeSelection, GetResult, Instance, Level, ResultCode, Which, object_list, rights,
 };
+use limiter_attributes::{LimiterAttribute, read_attribute};
 use listed::Listed;
 use std::alloc::{AllocError, Global};
+
+/// The unit W (IEC 62056-6-2, table of units).
+const WATT: u8 = 27;
+
+/// The exponent of ten, and the unit, of what a register holds: watts (IEC 62056-6-2, class 3, scaler_unit).
+fn scaler_unit(alloc: Global) -> Result<Data, AllocError>
+    ensures { IfOk result (λ value. value ≡ scaler_unit) }
+{
+    let parts = vec![in alloc; Data::Integer(0), Data::Enum(WATT)]?;
+    Ok(Data::Structure(Items::from_vec(parts)))
+}
 
 impl RelayCore {
     /// An attribute of the switch past its logical name.
@@ -25,6 +39,42 @@ impl RelayCore {
             _ => return GetResult::Code(ResultCode::ReadWriteDenied),
         };
         GetResult::Value(data)
+    }
+
+    /// An attribute of a register past its logical name.
+    fn register_value(
+        &self,
+        alloc: Global,
+        which: Which,
+        number: u8,
+    ) -> Result<GetResult, AllocError>
+        ensures value { IfOk result (λ r. (w : World) → StandsFor self.now w → r ≡ register_value (metered_of which w) number) }
+        ensures plain { number ≢ 3 → IsOk result }
+    {
+        let data = match number {
+            2 => Data::DoubleLongUnsigned(self.limiter(which).value()),
+            3 => scaler_unit(alloc)?,
+            _ => return Ok(GetResult::Code(ResultCode::ReadWriteDenied)),
+        };
+        Ok(GetResult::Value(data))
+    }
+
+    /// An attribute of a limiter past its logical name.
+    fn limiter_value(
+        &self,
+        alloc: Global,
+        which: Which,
+        number: u8,
+    ) -> Result<GetResult, AllocError>
+        ensures value { IfOk result (λ r. (w : World) → StandsFor self.now w
+            → r ≡ limiter_value which (metered_of which w).settings (attribute_numbered number)) }
+        ensures plain { IsTrue (is_plain_attribute (attribute_numbered number)) → IsOk result }
+    {
+        let Some(attribute) = LimiterAttribute::of_number(number) else {
+            return Ok(GetResult::Code(ResultCode::ReadWriteDenied));
+        };
+        let data = read_attribute(alloc, which, self.limiter(which), attribute)?;
+        Ok(GetResult::Value(data))
     }
 
     /// An attribute of an object past its logical name, for a client of this level.
@@ -43,11 +93,13 @@ impl RelayCore {
             Instance::DeviceName if number == 2 => {
                 Data::OctetString(self.device.try_clone(alloc)?)
             }
+            Instance::Register(which) => return self.register_value(alloc, which, number),
             Instance::ScriptTable if number == 2 => self.scripts.to_data(alloc)?,
             Instance::Schedule(which) => {
                 return read_schedule(alloc, self.schedules.get(which), number);
             }
             Instance::DisconnectControl => return Ok(self.control_value(number)),
+            Instance::Limiter(which) => return self.limiter_value(alloc, which, number),
             _ => return Ok(GetResult::Code(ResultCode::ReadWriteDenied)),
         };
         Ok(GetResult::Value(data))
@@ -55,7 +107,7 @@ impl RelayCore {
 
     /// The value of an attribute, for a client of this level.
     #[tactic(auto, unfolding(crate::specs::Reading::value_in))]
-    fn value(
+    fn attribute_value(
         &self,
         alloc: Global,
         level: Level,
@@ -85,7 +137,7 @@ impl RelayCore {
         ensures plain { IsTrue (reads_plainly level attr.now selected) → IsOk result }
     {
         match target(attr.name, attr.class, rights(level, attr).read, selected) {
-            Ok(instance) => self.value(alloc, level, instance, attr),
+            Ok(instance) => self.attribute_value(alloc, level, instance, attr),
             Err(refusal) => Ok(GetResult::Code(refusal)),
         }
     }

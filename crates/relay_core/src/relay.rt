@@ -1,30 +1,36 @@
 ghost use Rattle.std.specs.Prelude.{◌≡◌, ◌≤◌, length, IfOk};
 ghost use Rattle.disconnect_control.specs.declared.state.ControlState.TheVariants.{Connected};
 ghost use Rattle.disconnect_control.specs.Transitions.{is_state};
+ghost use Rattle.limiter_core.specs.Settings.{active_threshold};
+ghost use Rattle.relay_core.specs.Limiters.{metered_of};
 ghost use Rattle.relay_core.specs.World.{World, new_world};
-ghost use Rattle.relay_core.specs.Stands.{StandsFor};
+ghost use Rattle.relay_core.specs.Stands.{StandsFor, MeteredStands};
 
 use crate::schedules::Schedules;
 use cosem_axdr::Octets;
+use cosem_names::Which;
 use disconnect_control::{ControlMode, ControlState, DisconnectControl};
+use limiter_core::Limiter;
 use script_steps::ScriptTable;
 use std::alloc::{AllocError, Global};
 
-/// The state of the meter: its name, its supply switch, the last moment of its clock, its scripts
-/// and its schedules.
+/// The state of the meter: its name, its supply switch, the last moment of its clock, its limiters, its scripts and its
+/// schedules.
 #[derive(Debug, Drop)]
 pub struct RelayCore {
     pub(crate) device: Octets,
     pub(crate) control: DisconnectControl,
     /// Seconds since 2000-01-01 00:00:00 of the meter's time.
     pub(crate) moment: Option<u32>,
+    pub(crate) import: Limiter,
+    pub(crate) export: Limiter,
     pub(crate) scripts: ScriptTable,
     pub(crate) schedules: Schedules,
 }
 
 impl RelayCore {
     /// A new meter of this device name, 1 to 16 bytes: connected, in mode 0, without scripts, with no
-    /// schedule that is ever due, and no moment has come.
+    /// schedule that is ever due, with limiters whose thresholds are at their greatest, and no sample or moment has come.
     pub fn new(alloc: Global, device: &Octets) -> Result<RelayCore, AllocError>
         requires { (1 ≤ length device.now) × (length device.now ≤ 16) }
         ensures { IfOk result (λ core. StandsFor core (new_world device.now)) }
@@ -33,6 +39,8 @@ impl RelayCore {
             device: device.try_clone(alloc)?,
             control: DisconnectControl::new(),
             moment: None,
+            import: Limiter::new(alloc),
+            export: Limiter::new(alloc),
             scripts: ScriptTable::new(alloc),
             schedules: Schedules::new(alloc),
         })
@@ -46,9 +54,21 @@ impl RelayCore {
             device: self.device.try_clone(alloc)?,
             control: self.control,
             moment: self.moment,
+            import: self.import.try_clone(alloc)?,
+            export: self.export.try_clone(alloc)?,
             scripts: self.scripts.try_clone(alloc)?,
             schedules: self.schedules.try_clone(alloc)?,
         })
+    }
+
+    /// One of the limiters.
+    pub(crate) fn limiter(&self, which: Which) -> &Limiter
+        ensures { (w : World) → StandsFor self.now w → MeteredStands result.now (metered_of which w) }
+    {
+        match which {
+            Which::Import => &self.import,
+            Which::Export => &self.export,
+        }
     }
 
     /// The state of the supply switch.
@@ -78,5 +98,33 @@ impl RelayCore {
         ensures { (w : World) → StandsFor self.now w → result ≡ w.moment }
     {
         self.moment
+    }
+
+    /// The last sample of the imported power, in watts; 0 before the first.
+    pub fn value(&self) -> u32
+        ensures { (w : World) → StandsFor self.now w → result ≡ w.import.last }
+    {
+        self.import.value()
+    }
+
+    /// The last sample of a limiter, in watts; 0 before the first.
+    pub fn value_of(&self, which: Which) -> u32
+        ensures { (w : World) → StandsFor self.now w → result ≡ (metered_of which w).last }
+    {
+        self.limiter(which).value()
+    }
+
+    /// The active threshold of the import limiter, in watts.
+    pub fn threshold(&self) -> u32
+        ensures { (w : World) → StandsFor self.now w → result ≡ active_threshold w.import.settings }
+    {
+        self.import.threshold()
+    }
+
+    /// The active threshold of a limiter, in watts.
+    pub fn threshold_of(&self, which: Which) -> u32
+        ensures { (w : World) → StandsFor self.now w → result ≡ active_threshold (metered_of which w).settings }
+    {
+        self.limiter(which).threshold()
     }
 }

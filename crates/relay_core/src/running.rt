@@ -2,9 +2,11 @@ ghost use Rattle.std.specs.Prelude.{◌≡◌, IfOk, IfErr, IsOk, IsTrue, OnOk, 
 ghost use Rattle.relay_core.specs.World.{World};
 ghost use Rattle.relay_core.specs.Stands.{StandsFor};
 ghost use Rattle.relay_core.specs.Machine.{at_event, is_sure, Fits};
+ghost use Rattle.relay_core.specs.Moving.{parts_of};
 ghost use Rattle.relay_core.specs.Runs.{line_at, Runs, StopsEarly};
 
 use crate::event::{Event, Events, Line, Lines, Reply};
+use crate::parts::Parts;
 use crate::relay::RelayCore;
 use cosem_names::GetResult;
 use std::alloc::{AllocError, Global};
@@ -20,32 +22,72 @@ impl RelayCore {
         ensures sure { IsTrue (is_sure event.now) → IsOk result }
         ensures err { OnErr result (self.new ≡ self.old) }
     {
-        Ok(match event {
+        match event {
             Event::Get {
                 level,
                 attr,
                 selected,
             } => match self.get(alloc, *level, attr, *selected)? {
-                GetResult::Value(data) => Reply::Value(data),
-                GetResult::Code(code) => Reply::Code(code),
+                GetResult::Value(data) => Ok(Reply::Value(data)),
+                GetResult::Code(code) => Ok(Reply::Code(code)),
             },
             Event::GetList { level, items } => {
-                Reply::Values(self.get_list(alloc, *level, items.as_slice())?)
+                let results = self.get_list(alloc, *level, items.as_slice())?;
+                Ok(Reply::Values(results))
             }
             Event::Set {
                 level,
                 attr,
                 selected,
                 value,
-            } => { Reply::Code(self.set(alloc, *level, attr, *selected, value)?) }
+            } => {
+                let code = self.set(alloc, *level, attr, *selected, value)?;
+                Ok(Reply::Code(code))
+            }
             Event::Execute {
                 level,
                 method,
                 parameter,
-            } => Reply::Code(self.execute(*level, method, parameter)),
-            Event::Button => Reply::Code(self.press()),
-            Event::Moment(now) => self.tick(*now),
-        })
+            } => Ok(Reply::Code(self.execute(*level, method, parameter))),
+            Event::Button => Ok(Reply::Code(self.press())),
+            Event::Samples(block) => Ok(self.take_block(block)),
+            Event::Moment(now) => Ok(self.tick(*now)),
+        }
+    }
+}
+
+impl RelayCore {
+    /// The state after an event whose owned values were read apart, with no reply. It takes no memory.
+    #[tactic(auto, unfolding(crate::specs::Machine::at_event))]
+    pub fn advance(&mut self, event: &Event, parts: Parts)
+        requires { parts ≡ parts_of event.now }
+        ensures { (w : World) → StandsFor self.old w → StandsFor self.new (at_event event.now w).world }
+    {
+        match event {
+            Event::Get { .. } | Event::GetList { .. } => {}
+            Event::Set {
+                level,
+                attr,
+                selected,
+                value,
+            } => self.set_by(*level, attr, *selected, value, parts),
+            Event::Execute {
+                level,
+                method,
+                parameter,
+            } => {
+                let _code = self.execute(*level, method, parameter);
+            }
+            Event::Button => {
+                let _code = self.press();
+            }
+            Event::Samples(block) => {
+                let _reply = self.take_block(block);
+            }
+            Event::Moment(now) => {
+                let _reply = self.tick(*now);
+            }
+        }
     }
 }
 
@@ -72,8 +114,8 @@ fn line_after(core: &mut RelayCore, alloc: Global, event: &Event) -> Result<Line
 }
 
 /// Takes events one after the other. The line of each has its reply, and the state and the supply output after
-/// it. So for every interleaving of remote calls, button presses and clock moments, each line is what the mode and
-/// transition tables say.
+/// it. So for every interleaving of remote calls, button presses, sample blocks and clock moments, each line is what the
+/// mode and transition tables and the limiters' rules over all samples so far say.
 ///
 /// Where memory runs out, the run stops before the event that wanted it, or before the first.
 pub fn run(core: &mut RelayCore, alloc: Global, events: &Events) -> Result<Lines, RunStop>

@@ -1,10 +1,10 @@
-ghost use Rattle.std.specs.Prelude.{◌≡◌, ◌==◌, ◌||◌, not, IfOk, IsOk, IsTrue, OnOk, OnErr};
-ghost use Rattle.action_schedule.specs.Reading.{selector_of, kind_of, entries_of};
+ghost use Rattle.std.specs.Prelude.{◌≡◌, ◌≢◌, ◌==◌, ◌||◌, not, Ok, IfOk, IsOk, IsTrue};
+ghost use Rattle.action_schedule.specs.Reading.{selector_of, kind_of};
 ghost use Rattle.action_schedule.specs.Schedule.{with_selector, with_kind, with_entries};
 ghost use Rattle.relay_core.specs.Schedules.{schedule_of, schedule_value, schedule_written, schedule_code, write_code};
 ghost use Rattle.relay_core.specs.Stands.{StandsFor};
 ghost use Rattle.relay_core.specs.World.{World, new_schedules};
-ghost use Rattle.relay_core.specs.Writing.{at_schedule};
+ghost use Rattle.relay_core.specs.Writing.{at_schedule, with_schedule_entries};
 
 use crate::relay::RelayCore;
 use action_schedule::{ActionSchedule, ScheduleAttribute, ScheduleFault};
@@ -14,11 +14,11 @@ use std::alloc::{AllocError, Global};
 
 /// The four single action schedules, in the order in which they run.
 #[derive(Debug, Drop)]
-pub(crate) struct Schedules {
-    pub(crate) first: ActionSchedule,
-    pub(crate) second: ActionSchedule,
-    pub(crate) third: ActionSchedule,
-    pub(crate) fourth: ActionSchedule,
+pub struct Schedules {
+    pub first: ActionSchedule,
+    pub second: ActionSchedule,
+    pub third: ActionSchedule,
+    pub fourth: ActionSchedule,
 }
 
 impl Schedules {
@@ -107,74 +107,57 @@ fn write_kind(schedule: &mut ActionSchedule, value: &Data) -> ResultCode
     code_of(schedule.set_kind(value))
 }
 
-/// Writes execution_time.
-#[tactic(auto, using(crate::proofs::ScheduleLemmas::code_of_ok))]
-fn write_entries(
-    alloc: Global,
-    schedule: &mut ActionSchedule,
-    value: &Data,
-) -> Result<ResultCode, AllocError>
-    ensures schedule { OnOk result (schedule.new ≡ with_entries (entries_of value.now) schedule.old) }
-    ensures code { IfOk result (λ code. code ≡ write_code (entries_of value.now)) }
-    ensures err { OnErr result (schedule.new ≡ schedule.old) }
+/// Writes an attribute of a schedule that isn't a list.
+#[tactic(auto, unfolding(crate::specs::Schedules::schedule_written, crate::specs::Schedules::schedule_code))]
+fn write_attribute(schedule: &mut ActionSchedule, number: u8, value: &Data) -> ResultCode
+    requires { number ≢ 4 }
+    ensures schedule { schedule.new ≡ schedule_written number value.now schedule.old }
+    ensures code { result ≡ schedule_code number value.now }
 {
-    match schedule.set_entries(alloc, value) {
-        Ok(()) => Ok(ResultCode::Success),
-        Err(ScheduleFault::Unmatched) => Ok(ResultCode::TypeUnmatched),
-        Err(ScheduleFault::Value) => Ok(ResultCode::OtherReason),
-        Err(ScheduleFault::Memory) => Err(AllocError),
+    match number {
+        2 => write_script(schedule, value),
+        3 => write_kind(schedule, value),
+        _ => ResultCode::ReadWriteDenied,
     }
 }
 
-/// Writes an attribute of a schedule.
-#[tactic(auto, unfolding(crate::specs::Schedules::schedule_written, crate::specs::Schedules::schedule_code))]
-fn write_attribute(
-    alloc: Global,
-    schedule: &mut ActionSchedule,
-    number: u8,
-    value: &Data,
-) -> Result<ResultCode, AllocError>
-    ensures schedule { OnOk result (schedule.new ≡ schedule_written number value.now schedule.old) }
-    ensures code { IfOk result (λ code. code ≡ schedule_code number value.now) }
-    ensures plain { IsTrue (not (number == 4)) → IsOk result }
-    ensures err { OnErr result (schedule.new ≡ schedule.old) }
+/// Trades the entries of a schedule for others.
+fn trade_entries(schedule: &mut ActionSchedule, other: &mut ActionSchedule)
+    ensures { schedule.new ≡ with_entries (Ok other.old.entries) schedule.old }
 {
-    match number {
-        2 => Ok(write_script(schedule, value)),
-        3 => Ok(write_kind(schedule, value)),
-        4 => write_entries(alloc, schedule, value),
-        _ => Ok(ResultCode::ReadWriteDenied),
-    }
+    schedule.swap_entries(other);
 }
 
 impl RelayCore {
-    /// Writes an attribute of one of the schedules.
+    /// Writes an attribute of one of the schedules that isn't a list.
     #[tactic(auto, unfolding(crate::specs::Writing::at_schedule))]
     pub(crate) fn write_schedule(
         &mut self,
-        alloc: Global,
         which: ScheduleNumber,
         number: u8,
         value: &Data,
-    ) -> Result<ResultCode, AllocError>
-        ensures world { OnOk result ((w : World) → StandsFor self.old w → StandsFor self.new (at_schedule which number value.now w).world) }
-        ensures code { IfOk result (λ code. (w : World) → StandsFor self.old w → code ≡ (at_schedule which number value.now w).code) }
-        ensures plain { IsTrue (not (number == 4)) → IsOk result }
-        ensures err { OnErr result (self.new ≡ self.old) }
+    ) -> ResultCode
+        requires { number ≢ 4 }
+        ensures world { (w : World) → StandsFor self.old w → StandsFor self.new (at_schedule which number value.now w).world }
+        ensures code { (w : World) → StandsFor self.old w → result ≡ (at_schedule which number value.now w).code }
     {
         match which {
-            ScheduleNumber::First => {
-                write_attribute(alloc, &mut self.schedules.first, number, value)
-            }
-            ScheduleNumber::Second => {
-                write_attribute(alloc, &mut self.schedules.second, number, value)
-            }
-            ScheduleNumber::Third => {
-                write_attribute(alloc, &mut self.schedules.third, number, value)
-            }
-            ScheduleNumber::Fourth => {
-                write_attribute(alloc, &mut self.schedules.fourth, number, value)
-            }
+            ScheduleNumber::First => write_attribute(&mut self.schedules.first, number, value),
+            ScheduleNumber::Second => write_attribute(&mut self.schedules.second, number, value),
+            ScheduleNumber::Third => write_attribute(&mut self.schedules.third, number, value),
+            ScheduleNumber::Fourth => write_attribute(&mut self.schedules.fourth, number, value),
+        }
+    }
+
+    /// Moves entries into one of the schedules.
+    pub(crate) fn trade_entries(&mut self, which: ScheduleNumber, other: &mut ActionSchedule)
+        ensures { (w : World) → StandsFor self.old w → StandsFor self.new (with_schedule_entries which other.old.entries w) }
+    {
+        match which {
+            ScheduleNumber::First => trade_entries(&mut self.schedules.first, other),
+            ScheduleNumber::Second => trade_entries(&mut self.schedules.second, other),
+            ScheduleNumber::Third => trade_entries(&mut self.schedules.third, other),
+            ScheduleNumber::Fourth => trade_entries(&mut self.schedules.fourth, other),
         }
     }
 }

@@ -7,6 +7,7 @@ ghost use Rattle.script_steps.specs.Table.{running_steps};
 use crate::relay::RelayCore;
 use cosem_names::ResultCode;
 use disconnect_control::Trigger;
+use limiter_attributes::Setting;
 use script_steps::Step;
 
 /// Who runs a script.
@@ -41,8 +42,7 @@ impl Origin {
 }
 
 impl RelayCore {
-    /// A step of a script: the same write or method as a client's. A limiter's setting is refused, since the meter
-    /// has no limiter.
+    /// A step of a script: the same write or method as a client's.
     #[tactic(auto, unfolding(crate::specs::Scripts::at_step))]
     fn act(&mut self, origin: Origin, step: Step) -> ResultCode
         ensures world { (w : World) → StandsFor self.old w → StandsFor self.new (at_step origin step w).world }
@@ -54,7 +54,21 @@ impl RelayCore {
             Step::WriteMode(mode) => self.write_mode(mode),
             Step::Disconnect => self.pull(origin.disconnect()),
             Step::Reconnect => self.pull(origin.reconnect()),
-            _ => ResultCode::OtherReason,
+            Step::WriteNormal(which, watts) => {
+                self.set_limiter(which, Setting::NormalThreshold(watts))
+            }
+            Step::WriteEmergency(which, watts) => {
+                self.set_limiter(which, Setting::EmergencyThreshold(watts))
+            }
+            Step::WriteMinOver(which, seconds) => {
+                self.set_limiter(which, Setting::MinOverDuration(seconds))
+            }
+            Step::WriteMinUnder(which, seconds) => {
+                self.set_limiter(which, Setting::MinUnderDuration(seconds))
+            }
+            Step::WriteProfile(which, profile) => {
+                self.set_limiter(which, Setting::Profile(profile))
+            }
         }
     }
 

@@ -1,11 +1,13 @@
 //! Gives a core with four schedules of 16 entries a moment of each day, and says how many schedules were due: none. With a number as its argument it gives it so
-//! often the moments of 40,000 days, and says how long one took.
+//! often the moments of 40,000 days, and says how long one took; then as many thousand blocks of 256 samples, of which none, 16 or
+//! all fire.
 #![tactic(auto)]
 
 ghost use Rattle.std.specs.Prelude.{◌≤◌, IfOk};
 
 use cosem_axdr::{Data, DataFault, Octets};
 use cosem_names::{AttrRef, ClassId, Level, Obis, ResultCode};
+use lane_sampler::{Block, BlockMade};
 use relay_core::{Event, RelayCore, Reply};
 use std::alloc::{AllocError, Global};
 use std::hint::black_box;
@@ -30,10 +32,22 @@ const SCRIPT: &[u8] = b"\x02\x02\x09\x06\x00\x00\x0A\x00\x6A\xFF\x12\x00\x01";
 /// type: any number of entries, whose times and dates may differ.
 const KIND: &[u8] = b"\x16\x05";
 
+/// The threshold of the blocks, in watts, as it is written.
+const THRESHOLD: &[u8] = b"\x06\x00\x00\x13\x88";
+
+/// One over and one under it.
+const OVER: u32 = 5_001;
+
+const UNDER: u32 = 4_999;
+
+/// The blocks of a round.
+const BLOCKS: u32 = 1_000;
+
 // What can go wrong.
 #[derive(Debug, Drop)]
 enum Failure {
     Memory(AllocError),
+    Block(BlockMade),
     Output(io::Error),
     Text(DataFault),
 }
@@ -47,6 +61,12 @@ impl From<AllocError> for Failure {
 impl From<io::Error> for Failure {
     fn from(error: io::Error) -> Failure {
         Failure::Output(error)
+    }
+}
+
+impl From<BlockMade> for Failure {
+    fn from(made: BlockMade) -> Failure {
+        Failure::Block(made)
     }
 }
 
@@ -141,6 +161,65 @@ fn measure(rt: &impl Runtime, alloc: Global, core: &RelayCore, rounds: u32) -> R
     Ok(())
 }
 
+// A block whose first values, so many, lie over and under the threshold in turn, and the others under it.
+fn block(alloc: Global, turns: usize) -> Result<Block, BlockMade> {
+    let mut values = [UNDER; 256];
+    for (i, value) in values.iter_mut().enumerate() {
+        if i < turns && i % 2 == 0 {
+            *value = OVER;
+        }
+    }
+    Block::from_slice(alloc, &values)
+}
+
+// Says how long a block took, of so many thousand, and how many firings the last had.
+fn measure_blocks(
+    rt: &impl Runtime,
+    alloc: Global,
+    core: &mut RelayCore,
+    turns: usize,
+    rounds: u32,
+) -> Result<(), Failure> {
+    let event = Event::Samples(block(alloc, turns)?);
+    let mut firings: u32 = 0;
+    let start = Instant::now(rt)?;
+    for _ in 0..rounds {
+        for _ in 0..BLOCKS {
+            if let Reply::Sampled { over, under } = core.step(alloc, black_box(&event))? {
+                firings = u32::from(over) + u32::from(under);
+            }
+        }
+    }
+    let blocks = u128::from(BLOCKS) * u128::from(rounds.max(1));
+    let nanos = start.elapsed(rt)?.as_nanos() / blocks;
+    println!(rt; "block of {firings} firings {nanos} ns")?;
+    Ok(())
+}
+
+// Writes the threshold of the import limiter, and measures blocks of no firing, of 16 and of 256.
+fn measure_all_blocks(
+    rt: &impl Runtime,
+    alloc: Global,
+    core: &mut RelayCore,
+    rounds: u32,
+) -> Result<(), Failure> {
+    let (value, _) = cosem_axdr::read(alloc, THRESHOLD)?;
+    let event = Event::Set {
+        level: Level::Management,
+        attr: AttrRef {
+            class: ClassId(71),
+            name: Obis([0, 0, 17, 0, 0, 255]),
+            number: 4,
+        },
+        selected: false,
+        value,
+    };
+    core.step(alloc, &event)?;
+    measure_blocks(rt, alloc, core, 0, rounds)?;
+    measure_blocks(rt, alloc, core, 16, rounds)?;
+    measure_blocks(rt, alloc, core, 256, rounds)
+}
+
 fn main(rt: HostRuntime) -> Result<(), Failure> {
     let device = Octets::from_slice(rt.alloc(), b"RELAY1")?;
     let mut core = RelayCore::new(rt.alloc(), &device)?;
@@ -149,7 +228,9 @@ fn main(rt: HostRuntime) -> Result<(), Failure> {
     let due = days_due(&mut core, rt.alloc(), FEW)?;
     println!(rt; "{written} attributes written, {due} schedules due on {FEW} days")?;
     if let Some(rounds) = env::args(&rt)?.nth(1) {
-        measure(&rt, rt.alloc(), &fresh, rounds.parse().unwrap_or(0))?;
+        let rounds = rounds.parse().unwrap_or(0);
+        measure(&rt, rt.alloc(), &fresh, rounds)?;
+        measure_all_blocks(&rt, rt.alloc(), &mut core, rounds)?;
     }
     Ok(())
 }

@@ -1,0 +1,52 @@
+use Rattle.std.proofs.Common.{◌≡◌, ℕ, List, Option, ap, sym, ◌∙◌}
+use Rattle.disconnect_control.specs.Control.{Control}
+use Rattle.limiter_core.specs.declared.settings.Settings.{Settings}
+use Rattle.limiter_core.specs.Opening.{opened_rows}
+use Rattle.limiter_core.specs.State.{State, IsFit}
+use Rattle.limiter_core.proofs.Opening.{opened as rows_opened}
+use Rattle.relay_core.specs.declared.relay.RelayCore.{RelayCore}
+use Rattle.relay_core.specs.declared.schedules.Schedules.{Schedules}
+use Rattle.relay_core.specs.Agreeing.{AreCountedAlike, Agree}
+use Rattle.relay_core.specs.Opening.{limiter_opening_of, opening_of, opened_limiter, opened}
+use Rattle.relay_core.specs.Stands.{StandsFor, MeteredStands}
+use Rattle.relay_core.specs.World.{World, Metered}
+use Rattle.script_steps.specs.declared.step.Script.{Script}
+
+-- a limiter that was written down, with the rows of one that it stood for
+metered_back : (limiter : State) (m : Metered) (moment : Option ℕ) → MeteredStands limiter m → m.settings.moment ≡ moment
+    → m ≡ record (opened_limiter (limiter_opening_of limiter) moment) { rows = m.rows }
+metered_back limiter m moment stands clock =
+    let at : Settings → Option ℕ → ℕ → Metered = λ s now last. record { settings = record s { moment = now }; last = last; rows = m.rows } in
+    ap (λ (now : Option ℕ). at m.settings now m.last) clock
+    ∙ ap (λ (s : Settings). at s moment m.last) (sym stands.settings)
+    ∙ ap (λ (last : ℕ). at limiter.settings moment last) (sym stands.last)
+
+-- the samples of an opening are counted as those were that it stands for
+counted_back : (limiter : State) (m : Metered) → IsFit limiter.last limiter.over limiter.under → MeteredStands limiter m
+    → AreCountedAlike (opened_rows limiter.last limiter.over limiter.under) m.rows
+counted_back limiter m fit stands =
+    let keeps = rows_opened limiter fit in
+    record { over = sym keeps.over ∙ stands.rows.over; under = sym keeps.under ∙ stands.rows.under }
+
+-- the world that a core's opening tells of agrees with every world that the core stands for
+pub opening_agrees : (core : RelayCore) (w : World) → IsFit core.import.last core.import.over core.import.under
+    → IsFit core.export.last core.export.over core.export.under → StandsFor core w → Agree (opened (opening_of core)) w
+opening_agrees core w import_fit export_fit stands =
+    let make : List ℕ → Control → Option ℕ → Metered → Metered → List Script → Schedules → World = λ device control moment import export scripts schedules.
+    record { device = device; control = control; moment = moment; import = import; export = export; scripts = scripts; schedules = schedules } in
+    let import_back = metered_back core.import w.import core.moment stands.import (stands.import_clock ∙ sym stands.moment) in
+    let export_back = metered_back core.export w.export core.moment stands.export (stands.export_clock ∙ sym stands.moment) in
+    let import : Metered = record (opened_limiter (limiter_opening_of core.import) core.moment) { rows = w.import.rows } in
+    let export : Metered = record (opened_limiter (limiter_opening_of core.export) core.moment) { rows = w.export.rows } in
+    record {
+      same =
+          ap (λ (x : List ℕ). make x w.control w.moment w.import w.export w.scripts w.schedules) (sym stands.device)
+          ∙ ap (λ (x : Control). make core.device x w.moment w.import w.export w.scripts w.schedules) (sym stands.control)
+          ∙ ap (λ (x : Option ℕ). make core.device core.control x w.import w.export w.scripts w.schedules) (sym stands.moment)
+          ∙ ap (λ (x : Metered). make core.device core.control core.moment x w.export w.scripts w.schedules) import_back
+          ∙ ap (λ (x : Metered). make core.device core.control core.moment import x w.scripts w.schedules) export_back
+          ∙ ap (λ (x : List Script). make core.device core.control core.moment import export x w.schedules) (sym stands.scripts)
+          ∙ ap (λ (x : Schedules). make core.device core.control core.moment import export core.scripts x) (sym stands.schedules);
+      import = counted_back core.import w.import import_fit stands.import;
+      export = counted_back core.export w.export export_fit stands.export;
+    }

@@ -1,0 +1,319 @@
+use Rattle.std.proofs.Common.{true, false, ◌≡◌, ℕ, zero, suc, Bool, IsTrue, ◌+◌, ◌-◌, ◌<◌, ◌≤◌, nat_lt, if◌then◌else◌, List, [], ◌∷◌, ◌++◌, length, take, drop, get_or, arith, refl, ap, sym, ◌∙◌, subst}
+use Rattle.std.specs.List.{All}
+use Rattle.std.proofs.Math.Seq.{take-add, drop-cons}
+use Rattle.std.proofs.lemmas.List.{length-drop, get_or-drop}
+use Rattle.std.specs.List.{prefix_len}
+use Rattle.std.proofs.lemmas.List.Elements.{All-head, All-tail}
+use Rattle.cosem_names.specs.declared.objects.Which.TheVariants.{Import, Export}
+use Rattle.limiter_core.specs.declared.kinds.Fire.{Fire}
+use Rattle.limiter_core.specs.declared.kinds.Fire.TheVariants.{Quiet}
+use Rattle.limiter_core.specs.declared.kinds.Kind.{Kind}
+use Rattle.limiter_core.specs.declared.kinds.Kind.TheVariants.{Over, Under, Equal}
+use Rattle.limiter_core.specs.declared.settings.Settings.{Settings}
+use Rattle.limiter_core.specs.Rows.{Row}
+use Rattle.limiter_core.specs.Settings.{active_threshold, kind_of}
+use Rattle.limiter_core.specs.State.{State, AreOfKind, IsQuiet, Keeps, rows_after}
+use Rattle.relay_core.specs.declared.relay.RelayCore.{RelayCore}
+use Rattle.relay_core.specs.declared.sampling.Firings.{Firings}
+use Rattle.relay_core.specs.Limiters.{metered_of, with_metered}
+use Rattle.relay_core.specs.Sampling.{Measurement, Metering, imports, pairs, with_sample, fire_at, after_fire, after_sample, counted, measured, after_samples}
+use Rattle.relay_core.specs.Stands.{StandsFor, MeteredStands}
+use Rattle.relay_core.specs.Taking.{Takes, AreAtMost, amid}
+use Rattle.relay_core.specs.World.{World, Metered}
+
+-- the element that a list goes on with
+pub take_one : {A : Type 0} (xs : List A) (i : ℕ) (d : A) → i < length xs → take 1 (drop i xs) ≡ get_or xs i d ∷ []
+take_one [] i d below = absurd (omega (arith, below))
+take_one (x ∷ xs) zero d below = refl
+take_one (x ∷ xs) (suc i) d below = take_one xs i d (omega (arith, below))
+
+-- fewer of the first ones
+pub take_fewer : {A : Type 0} (n m : ℕ) (xs : List A) → n ≤ m → take n (take m xs) ≡ take n xs
+take_fewer zero m xs fewer = refl
+take_fewer (suc n) zero xs fewer = absurd (omega (arith, fewer))
+take_fewer (suc n) (suc m) [] fewer = refl
+take_fewer (suc n) (suc m) (x ∷ xs) fewer = ap (λ rest. x ∷ rest) (take_fewer n m xs (omega (arith, fewer)))
+
+-- values over the threshold, and values under it
+pub over_are_of_kind : (settings : Settings) (threshold : ℕ) (xs : List ℕ) → active_threshold settings ≡ threshold
+    → All (λ v. IsTrue (nat_lt threshold v)) xs → AreOfKind Over settings xs
+over_are_of_kind settings threshold [] is all = tt
+over_are_of_kind settings threshold (x ∷ xs) is all =
+    let P : ℕ → Type 0 = λ v. IsTrue (nat_lt threshold v) in
+    let kind : Bool → Kind = λ b. if b then Over else if nat_lt x threshold then Under else Equal in
+    let here : kind_of threshold x ≡ Over = ap kind (All-head P x xs all) in
+    (subst (λ t. kind_of t x ≡ Over) (sym is) here, over_are_of_kind settings threshold xs is (All-tail P x xs all))
+
+pub under_are_of_kind : (settings : Settings) (threshold : ℕ) (xs : List ℕ) → active_threshold settings ≡ threshold
+    → All (λ v. IsTrue (nat_lt v threshold)) xs → AreOfKind Under settings xs
+under_are_of_kind settings threshold [] is all = tt
+under_are_of_kind settings threshold (x ∷ xs) is all =
+    let P : ℕ → Type 0 = λ v. IsTrue (nat_lt v threshold) in
+    let below = All-head P x xs all in
+    let here : kind_of threshold x ≡ Under = grind (arith, below) in
+    (subst (λ t. kind_of t x ≡ Under) (sym is) here, under_are_of_kind settings threshold xs is (All-tail P x xs all))
+
+-- values that equal it
+equal_list : (settings : Settings) (xs : List ℕ) (n : ℕ) → n ≤ length xs
+    → ((k : ℕ) → k < n → get_or xs k 0 ≡ active_threshold settings) → AreOfKind Equal settings (take n xs)
+equal_list settings xs zero within are = tt
+equal_list settings [] (suc n) within are = absurd (omega (arith, within))
+equal_list settings (x ∷ xs) (suc n) within are =
+    let here : x ≡ active_threshold settings = are 0 (omega arith) in
+    let kind : kind_of (active_threshold settings) x ≡ Equal = grind (arith, here) in
+    (kind, equal_list settings xs n (omega (arith, within)) (λ k below. are (suc k) (omega (arith, below))))
+
+pub equal_are_of_kind : (settings : Settings) (threshold : ℕ) (values : List ℕ) (at n : ℕ) → active_threshold settings ≡ threshold
+    → at + n ≤ length values → ((k : ℕ) → k < n → get_or values (at + k) 0 ≡ threshold) → AreOfKind Equal settings (take n (drop at values))
+equal_are_of_kind settings threshold values at n is within are =
+    equal_list settings (drop at values) n (omega (arith, within, length-drop at values))
+    (λ k below. get_or-drop at values k 0 ∙ are k below ∙ sym is)
+
+-- the first does not pass where none does
+none_passes : (test : ℕ → Bool) (x : ℕ) (xs : List ℕ) → prefix_len test (x ∷ xs) ≤ 0 → test x ≡ false
+none_passes test x xs none =
+    let cases : (b : Bool) → (if b then 1 + prefix_len test xs else 0) ≤ 0 → b ≡ false =
+    λ b. elim b as (λ b. (if b then 1 + prefix_len test xs else 0) ≤ 0 → b ≡ false) [ true ↦ λ some. absurd (omega (arith, some)) | false ↦ λ _. refl ] in
+    cases (test x) none
+
+-- a value that is neither over the threshold nor under it
+pub neither_is_equal : (values : List ℕ) (at threshold : ℕ) → at < length values
+    → prefix_len (λ v. nat_lt threshold v) (drop at values) ≤ 0 → prefix_len (λ v. nat_lt v threshold) (drop at values) ≤ 0
+    → get_or values at 0 ≡ threshold
+neither_is_equal values at threshold below over under =
+    let x = get_or values at 0 in
+    let front : drop at values ≡ x ∷ drop (suc at) values = drop-cons values at 0 below in
+    let P : List ℕ → Type 0 = λ xs. prefix_len (λ v. nat_lt threshold v) xs ≤ 0 in
+    let Q : List ℕ → Type 0 = λ xs. prefix_len (λ v. nat_lt v threshold) xs ≤ 0 in
+    let not_over : nat_lt threshold x ≡ false = none_passes (λ v. nat_lt threshold v) x (drop (suc at) values) (subst P front over) in
+    let not_under : nat_lt x threshold ≡ false = none_passes (λ v. nat_lt v threshold) x (drop (suc at) values) (subst Q front under) in
+    grind (arith, not_over, not_under)
+
+-- each of them is of the kind
+pub kind_at : (kind : Kind) (settings : Settings) (xs : List ℕ) (i d : ℕ) → i < length xs → AreOfKind kind settings xs
+    → kind_of (active_threshold settings) (get_or xs i d) ≡ kind
+kind_at kind settings [] i d below are = absurd (omega (arith, below))
+kind_at kind settings (x ∷ xs) zero d below are = are.0
+kind_at kind settings (x ∷ xs) (suc i) d below are = kind_at kind settings xs i d (omega (arith, below)) are.1
+
+-- a limiter with more samples
+abbrev pub metered_after : List ℕ → Metered → Metered
+metered_after [] m = m
+metered_after (value ∷ values) m = metered_after values (with_sample value m)
+
+pub metered_after-settings : (values : List ℕ) (m : Metered) → (metered_after values m).settings ≡ m.settings
+metered_after-settings [] m = refl
+metered_after-settings (value ∷ values) m = metered_after-settings values (with_sample value m)
+
+pub metered_after-rows : (values : List ℕ) (m : Metered) → (metered_after values m).rows ≡ rows_after m.settings values m.rows
+metered_after-rows [] m = refl
+metered_after-rows (value ∷ values) m = metered_after-rows values (with_sample value m)
+
+pub metered_after-last : (values : List ℕ) (i d : ℕ) (m : Metered) → i + 1 ≡ length values → (metered_after values m).last ≡ get_or values i d
+metered_after-last [] i d m is = absurd (omega (arith, is))
+metered_after-last (x ∷ []) zero d m is = refl
+metered_after-last (x ∷ []) (suc i) d m is = absurd (omega (arith, is))
+metered_after-last (x ∷ y ∷ values) zero d m is = absurd (omega (arith, is))
+metered_after-last (x ∷ y ∷ values) (suc i) d m is = metered_after-last (y ∷ values) i d (with_sample x m) (omega (arith, is))
+
+-- the last sample of some
+pub last_of_some : (n last before now : ℕ) → 0 < n → now ≡ (if nat_lt 0 n then last else before) → now ≡ last
+last_of_some n last before now some is = grind (arith, some, is)
+
+-- a limiter that took samples as one
+pub metered_stands : (old new : State) (m : Metered) (values : List ℕ) → MeteredStands old m
+    → new.settings ≡ old.settings → 0 < length values → new.last ≡ get_or values (length values - 1) 0
+    → Keeps new (rows_after old.settings values m.rows) → MeteredStands new (metered_after values m)
+metered_stands old new m values stands settings some last keeps = record {
+  settings = settings ∙ stands.settings ∙ sym (metered_after-settings values m);
+  last = last ∙ sym (metered_after-last values (length values - 1) 0 m (omega (arith, some)));
+  rows =
+      let P : Settings → Type 0 = λ s. Keeps new (rows_after s values m.rows) in
+      subst (Keeps new) (sym (metered_after-rows values m)) (subst P stands.settings keeps);
+}
+
+-- more samples, and then more
+pub after_samples-append : (xs ys : List Measurement) (m : Metering) → after_samples (xs ++ ys) m ≡ after_samples ys (after_samples xs m)
+unfolding after_samples
+after_samples-append [] ys m = refl
+after_samples-append (x ∷ xs) ys m = after_samples-append xs ys (measured x m)
+
+pub imports-append : (vs ws : List ℕ) → imports (vs ++ ws) ≡ imports vs ++ imports ws
+imports-append [] ws = refl
+imports-append (v ∷ vs) ws = ap (λ (xs : List Measurement). record { which = Import; value = v } ∷ xs) (imports-append vs ws)
+
+pub pairs-append : (vs ws xs ys : List ℕ) → length vs ≡ length xs → pairs (vs ++ ws) (xs ++ ys) ≡ pairs vs xs ++ pairs ws ys
+pairs-append [] ws [] ys even = refl
+pairs-append [] ws (x ∷ xs) ys even = absurd (omega (arith, even))
+pairs-append (v ∷ vs) ws [] ys even = absurd (omega (arith, even))
+pairs-append (v ∷ vs) ws (x ∷ xs) ys even =
+    ap (λ (ms : List Measurement). record { which = Import; value = v } ∷ record { which = Export; value = x } ∷ ms)
+    (pairs-append vs ws xs ys (omega (arith, even)))
+
+-- a core that took no samples
+pub takes_none : (core : RelayCore) (firings : Firings) → Takes core core firings firings []
+unfolding after_samples
+takes_none core firings = record { world = λ w stands. stands; firings = λ w stands. refl }
+
+-- a core that took samples and then more
+pub takes_on : (old now next : RelayCore) (f g h : Firings) (xs ys : List Measurement) → Takes old now f g xs → Takes now next g h ys
+    → Takes old next f h (xs ++ ys)
+takes_on old now next f g h xs ys first later =
+    let both : (w : World) → StandsFor old w → after_samples (xs ++ ys) (amid w f) ≡ after_samples ys (amid (after_samples xs (amid w f)).world g) =
+    λ w stands. after_samples-append xs ys (amid w f)
+    ∙ ap (λ (i : Firings). after_samples ys (amid (after_samples xs (amid w f)).world i)) (sym (first.firings w stands)) in
+    record {
+      world = λ w stands. subst (λ (m : Metering). StandsFor next m.world) (sym (both w stands))
+          (later.world (after_samples xs (amid w f)).world (first.world w stands));
+      firings = λ w stands. later.firings (after_samples xs (amid w f)).world (first.world w stands) ∙ ap (λ (m : Metering). m.firings) (sym (both w stands));
+    }
+
+-- the samples of more values, and of more pairs
+pub takes_values_on : (old now next : RelayCore) (f g h : Firings) (values : List ℕ) (at n : ℕ) → Takes old now f g (imports (take at values))
+    → Takes now next g h (imports (take n (drop at values))) → Takes old next f h (imports (take (at + n) values))
+takes_values_on old now next f g h values at n first later =
+    subst (Takes old next f h) (sym (ap imports (take-add at n values) ∙ imports-append (take at values) (take n (drop at values))))
+    (takes_on old now next f g h (imports (take at values)) (imports (take n (drop at values))) first later)
+
+pub even_take : (n : ℕ) (vs xs : List ℕ) → length vs ≡ length xs → length (take n vs) ≡ length (take n xs)
+even_take zero vs xs even = refl
+even_take (suc n) [] [] even = refl
+even_take (suc n) [] (x ∷ xs) even = absurd (omega (arith, even))
+even_take (suc n) (v ∷ vs) [] even = absurd (omega (arith, even))
+even_take (suc n) (v ∷ vs) (x ∷ xs) even = ap suc (even_take n vs xs (omega (arith, even)))
+
+pub takes_pairs_on : (old now next : RelayCore) (f g h : Firings) (values others : List ℕ) (at n : ℕ) → length others ≡ length values
+    → Takes old now f g (pairs (take at values) (take at others))
+    → Takes now next g h (pairs (take n (drop at values)) (take n (drop at others)))
+    → Takes old next f h (pairs (take (at + n) values) (take (at + n) others))
+takes_pairs_on old now next f g h values others at n even first later =
+    let cut : pairs (take (at + n) values) (take (at + n) others)
+    ≡ pairs (take at values) (take at others) ++ pairs (take n (drop at values)) (take n (drop at others)) =
+    ap (λ (vs : List ℕ). pairs vs (take (at + n) others)) (take-add at n values)
+    ∙ ap (pairs (take at values ++ take n (drop at values))) (take-add at n others)
+    ∙ pairs-append (take at values) (take n (drop at values)) (take at others) (take n (drop at others)) (even_take at values others (sym even)) in
+    subst (Takes old next f h) (sym cut)
+    (takes_on old now next f g h (pairs (take at values) (take at others)) (pairs (take n (drop at values)) (take n (drop at others))) first later)
+
+-- a core that took one sample
+pub takes_one : (old next : RelayCore) (f g : Firings) (x : Measurement) (fire : Fire)
+    → ((w : World) → StandsFor old w → StandsFor next (after_sample x w))
+    → ((w : World) → StandsFor old w → fire ≡ fire_at x w)
+    → g ≡ counted x.which fire f → Takes old next f g (x ∷ [])
+unfolding after_samples measured
+takes_one old next f g x fire goes fires is = record {
+  world = goes;
+  firings = λ w stands. is ∙ ap (λ (one : Fire). counted x.which one f) (fires w stands);
+}
+
+-- no more than so often is no more than more often
+pub at_most_more : (n m : ℕ) (firings : Firings) → n ≤ m → AreAtMost n firings → AreAtMost m firings
+at_most_more n m firings more most = record {
+  import_over = omega (arith, more, most.import_over);
+  import_under = omega (arith, more, most.import_under);
+  export_over = omega (arith, more, most.export_over);
+  export_under = omega (arith, more, most.export_under);
+}
+
+-- a sample that brings nothing
+pub measured-quiet : (x : Measurement) (w : World) (firings : Firings) → fire_at x w ≡ Quiet
+    → measured x (amid w firings) ≡ amid (with_metered x.which (with_sample x.value (metered_of x.which w)) w) firings
+unfolding measured after_sample after_fire counted
+measured-quiet x w firings quiet =
+    let go : Fire → Metering = λ fire. record {
+      world = after_fire fire (metered_of x.which w).settings.actions (with_metered x.which (with_sample x.value (metered_of x.which w)) w);
+      firings = counted x.which fire firings;
+    } in
+    ap go quiet
+
+-- import values that bring nothing
+pub quiet_values : (values : List ℕ) (w : World) (firings : Firings) → IsQuiet w.import.settings values w.import.rows
+    → after_samples (imports values) (amid w firings) ≡ amid (record w { import = metered_after values w.import }) firings
+unfolding after_samples fire_at
+quiet_values [] w firings quiet = refl
+quiet_values (value ∷ values) w firings quiet =
+    ap (after_samples (imports values)) (measured-quiet (record { which = Import; value = value }) w firings quiet.0)
+    ∙ quiet_values values (record w { import = with_sample value w.import }) firings quiet.1
+
+-- pairs of which neither value brings anything
+pub quiet_pairs : (values others : List ℕ) (w : World) (firings : Firings) → length values ≡ length others
+    → IsQuiet w.import.settings values w.import.rows → IsQuiet w.export.settings others w.export.rows
+    → after_samples (pairs values others) (amid w firings)
+    ≡ amid (record w { import = metered_after values w.import; export = metered_after others w.export }) firings
+unfolding after_samples fire_at
+quiet_pairs [] [] w firings even quiet other_quiet = refl
+quiet_pairs [] (other ∷ others) w firings even quiet other_quiet = absurd (omega (arith, even))
+quiet_pairs (value ∷ values) [] w firings even quiet other_quiet = absurd (omega (arith, even))
+quiet_pairs (value ∷ values) (other ∷ others) w firings even quiet other_quiet =
+    let between : World = record w { import = with_sample value w.import } in
+    ap (λ (m : Metering). after_samples (pairs values others) (measured (record { which = Export; value = other }) m))
+    (measured-quiet (record { which = Import; value = value }) w firings quiet.0)
+    ∙ ap (after_samples (pairs values others)) (measured-quiet (record { which = Export; value = other }) between firings other_quiet.0)
+    ∙ quiet_pairs values others (record between { export = with_sample other w.export }) firings (omega (arith, even)) quiet.1 other_quiet.1
+
+-- a core that took import values which bring nothing
+pub skipped_values : (old : RelayCore) (limiter : State) (values : List ℕ) → 0 < length values
+    → limiter.settings ≡ old.import.settings → limiter.last ≡ get_or values (length values - 1) 0
+    → ((rows : List Row) → Keeps old.import rows → Keeps limiter (rows_after old.import.settings values rows))
+    → ((rows : List Row) → Keeps old.import rows → IsQuiet old.import.settings values rows)
+    → (firings : Firings) → Takes old (record old { import = limiter }) firings firings (imports values)
+skipped_values old limiter values some settings last keeps quiet firings =
+    let after : (w : World) → StandsFor old w
+    → after_samples (imports values) (amid w firings) ≡ amid (record w { import = metered_after values w.import }) firings =
+    λ w stands.
+    let P : Settings → Type 0 = λ s. IsQuiet s values w.import.rows in
+    quiet_values values w firings (subst P stands.import.settings (quiet w.import.rows stands.import.rows)) in
+    record {
+      world = λ w stands.
+          let import = metered_stands old.import limiter w.import values stands.import settings some last (keeps w.import.rows stands.import.rows) in
+          let stands_after : StandsFor (record old { import = limiter }) (record w { import = metered_after values w.import }) = record {
+            device = stands.device;
+            control = stands.control;
+            moment = stands.moment;
+            import = import;
+            export = stands.export;
+            scripts = stands.scripts;
+            schedules = stands.schedules;
+            import_clock = ap (λ (s : Settings). s.moment) (metered_after-settings values w.import) ∙ stands.import_clock;
+            export_clock = stands.export_clock;
+          } in
+          subst (λ (m : Metering). StandsFor (record old { import = limiter }) m.world) (sym (after w stands)) stands_after;
+      firings = λ w stands. ap (λ (m : Metering). m.firings) (sym (after w stands));
+    }
+
+-- a core that took pairs which bring nothing
+pub skipped_pairs : (old : RelayCore) (import export : State) (values others : List ℕ) → 0 < length values → length others ≡ length values
+    → import.settings ≡ old.import.settings → import.last ≡ get_or values (length values - 1) 0
+    → export.settings ≡ old.export.settings → export.last ≡ get_or others (length others - 1) 0
+    → ((rows : List Row) → Keeps old.import rows → Keeps import (rows_after old.import.settings values rows))
+    → ((rows : List Row) → Keeps old.export rows → Keeps export (rows_after old.export.settings others rows))
+    → ((rows : List Row) → Keeps old.import rows → IsQuiet old.import.settings values rows)
+    → ((rows : List Row) → Keeps old.export rows → IsQuiet old.export.settings others rows)
+    → (firings : Firings) → Takes old (record old { import = import; export = export }) firings firings (pairs values others)
+skipped_pairs old import export values others some even settings last other_settings other_last keeps other_keeps quiet other_quiet firings =
+    let after : (w : World) → StandsFor old w
+    → after_samples (pairs values others) (amid w firings)
+    ≡ amid (record w { import = metered_after values w.import; export = metered_after others w.export }) firings =
+    λ w stands.
+    let P : Settings → Type 0 = λ s. IsQuiet s values w.import.rows in
+    let Q : Settings → Type 0 = λ s. IsQuiet s others w.export.rows in
+    quiet_pairs values others w firings (sym even) (subst P stands.import.settings (quiet w.import.rows stands.import.rows))
+    (subst Q stands.export.settings (other_quiet w.export.rows stands.export.rows)) in
+    record {
+      world = λ w stands.
+          let stands_after : StandsFor (record old { import = import; export = export })
+          (record w { import = metered_after values w.import; export = metered_after others w.export }) = record {
+            device = stands.device;
+            control = stands.control;
+            moment = stands.moment;
+            import = metered_stands old.import import w.import values stands.import settings some last (keeps w.import.rows stands.import.rows);
+            export = metered_stands old.export export w.export others stands.export other_settings (omega (arith, some, even)) other_last
+                (other_keeps w.export.rows stands.export.rows);
+            scripts = stands.scripts;
+            schedules = stands.schedules;
+            import_clock = ap (λ (s : Settings). s.moment) (metered_after-settings values w.import) ∙ stands.import_clock;
+            export_clock = ap (λ (s : Settings). s.moment) (metered_after-settings others w.export) ∙ stands.export_clock;
+          } in
+          subst (λ (m : Metering). StandsFor (record old { import = import; export = export }) m.world) (sym (after w stands)) stands_after;
+      firings = λ w stands. ap (λ (m : Metering). m.firings) (sym (after w stands));
+    }

@@ -1,0 +1,76 @@
+-- Worlds that differ in their samples alone and count them alike: they can't be told apart.
+use Rattle.std.specs.Prelude.{◌≡◌, ◌<◌, List, [], ◌∷◌, IfOk, IfSome}
+use Rattle.cosem_axdr.specs.declared.value.Data.{Data}
+use Rattle.limiter_attributes.specs.declared.attribute.LimiterAttribute.{LimiterAttribute}
+use Rattle.limiter_attributes.specs.declared.setting.Setting.{Setting}
+use Rattle.limiter_attributes.specs.declared.setting.Setting.TheVariants.{MinOverDuration, MinUnderDuration}
+use Rattle.limiter_attributes.specs.Reading.{setting_of}
+use Rattle.limiter_core.specs.declared.settings.Settings.{Settings}
+use Rattle.limiter_core.specs.Counting.{count_of}
+use Rattle.limiter_core.specs.Rows.{Row, OverThreshold, UnderThreshold}
+use Rattle.relay_core.specs.declared.event.Event.{Event}
+use Rattle.relay_core.specs.declared.event.Event.TheVariants.{Set}
+use Rattle.relay_core.specs.World.{World, Stepped}
+use Rattle.script_steps.specs.declared.step.Script.{Script}
+use Rattle.script_steps.specs.declared.step.Step.{Step}
+use Rattle.script_steps.specs.declared.step.Step.TheVariants.{WriteMinOver, WriteMinUnder}
+use Rattle.script_steps.specs.Reading.{table_of}
+
+-- rows whose runs and fired flags are the same on both sides
+pub record AreCountedAlike (xs ys : List Row) : Type 0 where
+  pub over : count_of OverThreshold xs ≡ count_of OverThreshold ys
+  pub under : count_of UnderThreshold xs ≡ count_of UnderThreshold ys
+
+-- a world with other rows
+abbrev pub with_rows : List Row → List Row → World → World
+with_rows rows others w = record w { import = record w.import { rows = rows }; export = record w.export { rows = others } }
+
+-- worlds that are equal but for their rows, which are counted alike
+pub record Agree (v w : World) : Type 0 where
+  pub same : w ≡ with_rows w.import.rows w.export.rows v
+  pub import : AreCountedAlike v.import.rows w.import.rows
+  pub export : AreCountedAlike v.export.rows w.export.rows
+
+-- durations are numbers of 32 bits
+pub record AreInRange (settings : Settings) : Type 0 where
+  pub over : settings.min_over_duration < 4294967296
+  pub under : settings.min_under_duration < 4294967296
+
+abbrev pub IsStepInRange : Step → Type 0
+IsStepInRange (WriteMinOver which seconds) = seconds < 4294967296
+IsStepInRange (WriteMinUnder which seconds) = seconds < 4294967296
+IsStepInRange _ = Unit {0}
+
+abbrev pub AreStepsInRange : List Step → Type 0
+AreStepsInRange [] = Unit {0}
+AreStepsInRange (step ∷ steps) = IsStepInRange step × AreStepsInRange steps
+
+abbrev pub AreScriptsInRange : List Script → Type 0
+AreScriptsInRange [] = Unit {0}
+AreScriptsInRange (script ∷ scripts) = AreStepsInRange script.steps × AreScriptsInRange scripts
+
+abbrev pub IsSettingInRange : Setting → Type 0
+IsSettingInRange (MinOverDuration seconds) = seconds < 4294967296
+IsSettingInRange (MinUnderDuration seconds) = seconds < 4294967296
+IsSettingInRange _ = Unit {0}
+
+-- a world whose durations are numbers of 32 bits, those in its scripts' steps too
+pub record IsWorld (w : World) : Type 0 where
+  pub import : AreInRange w.import.settings
+  pub export : AreInRange w.export.settings
+  pub scripts : AreScriptsInRange w.scripts
+
+-- a value whose durations are so, whatever attribute it is written to
+pub record IsValue (value : Data) : Type 0 where
+  pub scripts : IfOk (table_of value) AreScriptsInRange
+  pub setting : (attribute : LimiterAttribute) → IfOk (setting_of attribute value) (λ setting. IfSome setting IsSettingInRange)
+
+abbrev pub IsEvent : Event → Type 0
+IsEvent (Set level attr selected value) = IsValue value
+IsEvent _ = Unit {0}
+
+-- steps with one reply that end in worlds which agree, the first of them in range
+pub record GoAlike (a b : Stepped) : Type 0 where
+  pub reply : a.reply ≡ b.reply
+  pub world : Agree a.world b.world
+  pub range : IsWorld a.world

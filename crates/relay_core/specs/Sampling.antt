@@ -1,0 +1,97 @@
+-- Samples, one by one: each becomes its limiter's last one and stands among its rows, and a side that fires runs its script
+-- before the next sample is taken.
+use Rattle.std.specs.Prelude.{ℕ, ◌+◌, List, [], ◌∷◌, Option, Some, None, map}
+use Rattle.cosem_names.specs.declared.objects.Which.{Which}
+use Rattle.cosem_names.specs.declared.objects.Which.TheVariants.{Import, Export}
+use Rattle.lane_sampler.specs.Samples.{Samples}
+use Rattle.limiter_core.specs.declared.kinds.Fire.{Fire}
+use Rattle.limiter_core.specs.declared.kinds.Fire.TheVariants.{Quiet, Over, Under}
+use Rattle.limiter_core.specs.declared.settings.Actions.{Actions}
+use Rattle.limiter_core.specs.Rows.{fire_of}
+use Rattle.limiter_core.specs.Settings.{row_of}
+use Rattle.relay_core.specs.declared.event.Reply.{Reply}
+use Rattle.relay_core.specs.declared.event.Reply.TheVariants.{Sampled, SampledBoth}
+use Rattle.relay_core.specs.declared.sampling.Firings.{Firings}
+use Rattle.relay_core.specs.declared.scripts.Origin.TheVariants.{Local}
+use Rattle.relay_core.specs.Limiters.{metered_of, with_metered}
+use Rattle.relay_core.specs.Scripts.{at_script}
+use Rattle.relay_core.specs.World.{World, Metered, Stepped}
+use Rattle.script_steps.specs.Table.{running_steps}
+
+-- a sample of a limiter, in watts
+pub record Measurement : Type 0 where
+  pub which : Which
+  pub value : ℕ
+
+-- import values alone, in order
+abbrev pub imports : List ℕ → List Measurement
+imports values = map (λ value. record { which = Import; value = value }) values
+
+-- pairs in order: of each the import value, then the export value
+abbrev pub pairs : List ℕ → List ℕ → List Measurement
+pairs (value ∷ values) (other ∷ others) =
+    record { which = Import; value = value } ∷ record { which = Export; value = other } ∷ pairs values others
+pairs _ _ = []
+
+-- the samples of a block
+abbrev pub measurements_in : List ℕ → Option (List ℕ) → List Measurement
+measurements_in values None = imports values
+measurements_in values (Some others) = pairs values others
+
+abbrev pub measurements : Samples → List Measurement
+measurements samples = measurements_in samples.import samples.export
+
+-- a limiter with one sample more
+abbrev pub with_sample : ℕ → Metered → Metered
+with_sample value m = record m { last = value; rows = row_of m.settings value ∷ m.rows }
+
+-- what a sample brings
+unfoldable pub fire_at : Measurement → World → Fire
+fire_at x w = fire_of (with_sample x.value (metered_of x.which w)).rows
+
+-- a side that fires runs the script of its action, as the meter itself does
+unfoldable pub after_fire : Fire → Actions → World → World
+after_fire Quiet actions w = w
+after_fire Over actions w = (at_script Local (running_steps actions.over w.scripts) w).world
+after_fire Under actions w = (at_script Local (running_steps actions.under w.scripts) w).world
+
+-- the world after a sample
+unfoldable pub after_sample : Measurement → World → World
+after_sample x w =
+    after_fire (fire_at x w) (metered_of x.which w).settings.actions (with_metered x.which (with_sample x.value (metered_of x.which w)) w)
+
+-- no side has fired
+abbrev pub no_firings : Firings
+no_firings = record { import_over = 0; import_under = 0; export_over = 0; export_under = 0 }
+
+-- one firing more
+unfoldable pub counted : Which → Fire → Firings → Firings
+counted which Quiet firings = firings
+counted Import Over firings = record firings { import_over = firings.import_over + 1 }
+counted Import Under firings = record firings { import_under = firings.import_under + 1 }
+counted Export Over firings = record firings { export_over = firings.export_over + 1 }
+counted Export Under firings = record firings { export_under = firings.export_under + 1 }
+
+-- the world amid the samples of a block, and how often each side has fired in it
+pub record Metering : Type 0 where
+  pub world : World
+  pub firings : Firings
+
+-- after one sample more, and after more
+unfoldable pub measured : Measurement → Metering → Metering
+measured x m = record { world = after_sample x m.world; firings = counted x.which (fire_at x m.world) m.firings }
+
+unfoldable pub after_samples : List Measurement → Metering → Metering
+after_samples [] m = m
+after_samples (x ∷ xs) m = after_samples xs (measured x m)
+
+-- the reply counts the firings of each side, of one limiter or of both
+abbrev pub sampled : Option (List ℕ) → Firings → Reply
+sampled None firings = Sampled firings.import_over firings.import_under
+sampled (Some others) firings = SampledBoth firings.import_over firings.import_under firings.export_over firings.export_under
+
+-- what a block does
+unfoldable pub at_samples : Samples → World → Stepped
+at_samples samples w =
+    let m = after_samples (measurements samples) (record { world = w; firings = no_firings }) in
+    record { world = m.world; reply = sampled samples.export m.firings }

@@ -1,0 +1,127 @@
+ghost use Rattle.std.specs.Prelude.{◌≡◌, IfOk, IsOk, IsTrue};
+ghost use Rattle.relay_core.specs.Machine.{is_sure};
+ghost use Rattle.relay_core.specs.Moving.{scripts_part, entries_part, groups_part, parts_read, parts_or_plain, set_parts, parts_of};
+ghost use Rattle.relay_core.specs.Writing.{writes_plainly_in, writes_plainly};
+ghost use Rattle.action_schedule.specs.Reading.{entries_of};
+ghost use Rattle.limiter_attributes.specs.Reading.{groups_of};
+ghost use Rattle.script_steps.specs.Reading.{table_of};
+
+use crate::access::target;
+use crate::event::Event;
+use crate::relay::RelayCore;
+use action_schedule::{ActionSchedule, ScheduleFault};
+use cosem_axdr::Data;
+use cosem_names::{AttrRef, Instance, Level, ResultCode, rights};
+use limiter_attributes::{SettingFault, read_groups};
+use limiter_core::Limiter;
+use script_steps::{ScriptFault, ScriptTable};
+use std::alloc::{AllocError, Global};
+
+/// The owned values that an event's write moves in. All that such a write takes of memory is in them.
+#[derive(Debug, Drop)]
+pub enum Parts {
+    /// None: the event is no write of a list, or a write that is refused.
+    Plain,
+    /// The scripts of the script table.
+    Scripts(ScriptTable),
+    /// The group ids of a limiter, in one that is else new.
+    Groups(Limiter),
+    /// The entries of a schedule, in one that is else new.
+    Entries(ActionSchedule),
+}
+
+/// The scripts that are moved in, or why they are refused.
+fn read_scripts(alloc: Global, value: &Data) -> Result<Result<Parts, ResultCode>, AllocError>
+    ensures { IfOk result (λ parts. parts ≡ scripts_part (table_of value.now)) }
+{
+    Ok(match ScriptTable::from_data(alloc, value) {
+        Ok(scripts) => Ok(Parts::Scripts(scripts)),
+        Err(ScriptFault::Unmatched) => Err(ResultCode::TypeUnmatched),
+        Err(ScriptFault::Value) => Err(ResultCode::OtherReason),
+        Err(ScriptFault::Memory) => return Err(AllocError),
+    })
+}
+
+/// The entries that are moved in, or why they are refused.
+fn read_entries(alloc: Global, value: &Data) -> Result<Result<Parts, ResultCode>, AllocError>
+    ensures { IfOk result (λ parts. parts ≡ entries_part (entries_of value.now)) }
+{
+    let mut schedule = ActionSchedule::new(alloc);
+    Ok(match schedule.set_entries(alloc, value) {
+        Ok(()) => Ok(Parts::Entries(schedule)),
+        Err(ScheduleFault::Unmatched) => Err(ResultCode::TypeUnmatched),
+        Err(ScheduleFault::Value) => Err(ResultCode::OtherReason),
+        Err(ScheduleFault::Memory) => return Err(AllocError),
+    })
+}
+
+/// The group ids that are moved in, or why they are refused.
+fn read_group_ids(alloc: Global, value: &Data) -> Result<Result<Parts, ResultCode>, AllocError>
+    ensures { IfOk result (λ parts. parts ≡ groups_part (groups_of value.now)) }
+{
+    Ok(match read_groups(alloc, value) {
+        Ok(limiter) => Ok(Parts::Groups(limiter)),
+        Err(SettingFault::Unmatched) => Err(ResultCode::TypeUnmatched),
+        Err(SettingFault::Value) => Err(ResultCode::OtherReason),
+        Err(SettingFault::Memory) => return Err(AllocError),
+    })
+}
+
+/// What a write of an attribute moves in, or why a list that is written is refused.
+#[tactic(auto, unfolding(crate::specs::Moving::parts_read))]
+pub(crate) fn read_parts(
+    alloc: Global,
+    instance: Instance,
+    number: u8,
+    value: &Data,
+) -> Result<Result<Parts, ResultCode>, AllocError>
+    ensures parts { IfOk result (λ parts. parts ≡ parts_read instance number value.now) }
+    ensures plain { IsTrue (writes_plainly_in instance number) → IsOk result }
+{
+    match (instance, number) {
+        (Instance::ScriptTable, 2) => read_scripts(alloc, value),
+        (Instance::Schedule(_), 4) => read_entries(alloc, value),
+        (Instance::Limiter(_), 9) => read_group_ids(alloc, value),
+        _ => Ok(Ok(Parts::Plain)),
+    }
+}
+
+/// What a client's write moves in.
+#[tactic(auto, unfolding(crate::specs::Moving::set_parts, crate::specs::Writing::writes_plainly))]
+fn read_set_parts(
+    alloc: Global,
+    level: Level,
+    attr: &AttrRef,
+    selected: bool,
+    value: &Data,
+) -> Result<Parts, AllocError>
+    ensures parts { IfOk result (λ parts. parts ≡ set_parts level attr.now selected value.now) }
+    ensures plain { IsTrue (writes_plainly level attr.now selected) → IsOk result }
+{
+    match target(attr.name, attr.class, rights(level, attr).write, selected) {
+        Ok(instance) => match read_parts(alloc, instance, attr.number, value)? {
+            Ok(parts) => Ok(parts),
+            Err(_refusal) => Ok(Parts::Plain),
+        },
+        Err(_refusal) => Ok(Parts::Plain),
+    }
+}
+
+impl RelayCore {
+    /// The owned values that an event's write moves in, for `RelayCore::advance`.
+    #[tactic(auto, unfolding(crate::specs::Machine::is_sure))]
+    pub fn parts(alloc: Global, event: &Event) -> Result<Parts, AllocError>
+        ensures parts { IfOk result (λ parts. parts ≡ parts_of event.now) }
+        ensures sure { IsTrue (is_sure event.now) → IsOk result }
+    {
+        match event {
+            Event::Set {
+                level,
+                attr,
+                selected,
+                value,
+            } => read_set_parts(alloc, *level, attr, *selected, value),
+            _ => Ok(Parts::Plain),
+        }
+    }
+}

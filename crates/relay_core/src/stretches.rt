@@ -1,0 +1,177 @@
+//! Stretches of samples that are taken at once: those of one kind that fire nothing.
+
+ghost use Rattle.std.specs.Prelude.{◌≡◌, ℕ, ◌+◌, ◌*◌, ◌<◌, ◌≤◌, length, take, drop, slice_index_or, IfSome};
+ghost use Rattle.lane_sampler.specs.Scans.{IsRightScan};
+ghost use Rattle.limiter_core.specs.declared.settings.Settings.{Settings};
+ghost use Rattle.limiter_core.specs.Settings.{active_threshold};
+ghost use Rattle.limiter_core.specs.State.{AreOfKind, quiet_count};
+ghost use Rattle.relay_core.specs.declared.sampling.Firings.{Firings};
+ghost use Rattle.relay_core.specs.Sampling.{imports, pairs};
+ghost use Rattle.relay_core.specs.Taking.{Takes, AreAtMost};
+
+use crate::relay::RelayCore;
+use crate::sampling::Firings;
+use cosem_names::Which;
+use lane_sampler::{Scan, classify, run_from};
+use limiter_core::{Kind, Limiter};
+
+/// A scan of the values at this threshold: the one that is there, or a new one where that is of another threshold.
+pub(crate) fn scan_at(scan: Option<Scan>, values: &[u32], threshold: u32) -> Scan
+    requires few { length values.now ≤ 256 }
+    requires right { IfSome scan (IsRightScan values.now) }
+    ensures right { IsRightScan values.now result }
+    ensures threshold { result.threshold ≡ threshold }
+{
+    match scan {
+        Some(scan) if scan.threshold == threshold => scan,
+        _ => Scan {
+            threshold,
+            masks: classify(values, threshold),
+        },
+    }
+}
+
+/// How many values from `at` on equal the threshold, one behind the other.
+fn equal_run(values: &[u32], threshold: u32, at: usize) -> usize
+    requires { at ≤ length values.now }
+    ensures within { at + result ≤ length values.now }
+    ensures equal { (k : ℕ) → k < result → slice_index_or values.now (at + k) 0 ≡ threshold }
+    ensures some { at < length values.now → slice_index_or values.now at 0 ≡ threshold → 0 < result }
+{
+    let mut end = at;
+    'values: while end < values.len() && values[end] == threshold {
+        end += 1;
+    }
+    end - at
+}
+
+/// The kind of the value at `at`, and how many of that kind stand in a row from there on.
+fn run_at(values: &[u32], scan: &Scan, at: usize) -> (Kind, usize)
+    requires few { length values.now ≤ 256 }
+    requires within { at < length values.now }
+    requires right { IsRightScan values.now scan.now }
+    ensures kind { (settings : Settings) (n : ℕ) → active_threshold settings ≡ scan.now.threshold → n ≤ result.1
+        → AreOfKind result.0 settings (take n (drop at values.now)) }
+    ensures some { 0 < result.1 }
+    ensures within { at + result.1 ≤ length values.now }
+{
+    let masks = &scan.masks;
+    let over = run_from(&masks.over, masks.len, at as u16);
+    if over > 0 {
+        return (Kind::Over, usize::from(over));
+    }
+    let under = run_from(&masks.under, masks.len, at as u16);
+    if under > 0 {
+        return (Kind::Under, usize::from(under));
+    }
+    (Kind::Equal, equal_run(values, scan.threshold, at))
+}
+
+/// How many of that many samples of a kind fire nothing.
+fn quiet_of(limiter: &Limiter, kind: Kind, count: usize) -> usize
+    ensures quiet { result ≤ quiet_count kind limiter.now }
+    ensures within { result ≤ count }
+{
+    let quiet = limiter.before_fire(kind).min(count as u64);
+    quiet as usize
+}
+
+impl RelayCore {
+    /// Takes import values of one kind that fire nothing.
+    fn skip_values(&mut self, kind: Kind, values: &[u32])
+        requires some { 0 < length values.now }
+        requires quiet { length values.now ≤ quiet_count kind self.old.import }
+        requires kind { AreOfKind kind self.old.import.settings values.now }
+        ensures { (firings : Firings) → Takes self.old self.new firings firings (imports values.now) }
+    {
+        let last = values[values.len() - 1];
+        self.import.skip_run(kind, values.len() as u64, last);
+    }
+
+    /// Takes pairs of which the import values are of one kind, and the export values, and none fires.
+    fn skip_pairs(&mut self, kind: Kind, values: &[u32], other_kind: Kind, others: &[u32])
+        requires some { 0 < length values.now }
+        requires even { length others.now ≡ length values.now }
+        requires quiet { length values.now ≤ quiet_count kind self.old.import }
+        requires other_quiet { length values.now ≤ quiet_count other_kind self.old.export }
+        requires kind { AreOfKind kind self.old.import.settings values.now }
+        requires other_kind { AreOfKind other_kind self.old.export.settings others.now }
+        ensures { (firings : Firings) → Takes self.old self.new firings firings (pairs values.now others.now) }
+    {
+        let count = values.len();
+        self.import.skip_run(kind, count as u64, values[count - 1]);
+        self.export
+            .skip_run(other_kind, count as u64, others[count - 1]);
+    }
+
+    /// Takes the import values from `at` on that are of one kind and fire nothing, or the next one where that fires. It
+    /// tells how many it took.
+    pub(crate) fn take_stretch(
+        &mut self,
+        values: &[u32],
+        scan: &Scan,
+        at: usize,
+        firings: &mut Firings,
+    ) -> usize
+        requires few { length values.now ≤ 256 }
+        requires within { at < length values.now }
+        requires right { IsRightScan values.now scan.now }
+        requires active { scan.now.threshold ≡ active_threshold self.old.import.settings }
+        requires counted { AreAtMost at firings.old }
+        ensures takes { Takes self.old self.new firings.old firings.new (imports (take result (drop at values.now))) }
+        ensures some { 0 < result }
+        ensures within { at + result ≤ length values.now }
+        ensures counted { AreAtMost (at + result) firings.new }
+    {
+        let (kind, length) = run_at(values, scan, at);
+        let quiet = quiet_of(&self.import, kind, length);
+        if quiet > 0 {
+            self.skip_values(kind, &values[at..at + quiet]);
+            return quiet;
+        }
+        let fire = self.take_sample(Which::Import, values[at]);
+        firings.count(Which::Import, fire);
+        1
+    }
+
+    /// Takes the pairs from `at` on that are of one kind for each limiter and fire nothing, or the next one where one of its
+    /// two values fires. It tells how many it took.
+    pub(crate) fn take_stretch_of_pairs(
+        &mut self,
+        values: &[u32],
+        others: &[u32],
+        scan: &Scan,
+        other_scan: &Scan,
+        at: usize,
+        firings: &mut Firings,
+    ) -> usize
+        requires few { length values.now ≤ 256 }
+        requires even { length others.now ≡ length values.now }
+        requires within { at < length values.now }
+        requires right { IsRightScan values.now scan.now }
+        requires other_right { IsRightScan others.now other_scan.now }
+        requires active { scan.now.threshold ≡ active_threshold self.old.import.settings }
+        requires other_active { other_scan.now.threshold ≡ active_threshold self.old.export.settings }
+        requires counted { AreAtMost (2 * at) firings.old }
+        ensures takes { Takes self.old self.new firings.old firings.new (pairs (take result (drop at values.now)) (take result (drop at others.now))) }
+        ensures some { 0 < result }
+        ensures within { at + result ≤ length values.now }
+        ensures counted { AreAtMost (2 * (at + result)) firings.new }
+    {
+        let (kind, length) = run_at(values, scan, at);
+        let (other_kind, other_length) = run_at(others, other_scan, at);
+        let length = length.min(other_length);
+        let quiet = quiet_of(&self.import, kind, length);
+        let quiet = quiet_of(&self.export, other_kind, quiet);
+        if quiet > 0 {
+            let end = at + quiet;
+            self.skip_pairs(kind, &values[at..end], other_kind, &others[at..end]);
+            return quiet;
+        }
+        let fire = self.take_sample(Which::Import, values[at]);
+        firings.count(Which::Import, fire);
+        let fire = self.take_sample(Which::Export, others[at]);
+        firings.count(Which::Export, fire);
+        1
+    }
+}
