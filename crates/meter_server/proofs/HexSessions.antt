@@ -6,10 +6,11 @@ use Rattle.std.proofs.KnownBytes.{Appends-nil, Consumes-trans}
 use Rattle.meter_server.proofs.Reaching.{reached_new, reached_fed, does_all_on, stops_on}
 use Rattle.meter_server.specs.Hexadecimal.{hex_line, replies_of, hex_output, Played, RunsShort, StopsReading}
 use Rattle.meter_server.specs.Meters.{Replied, CoreSteps}
-use Rattle.meter_server.specs.Served.{DoesAll, StopsShort, IsUsedUp}
+use Rattle.meter_server.specs.Served.{DoesAll, StopsShort, Stops, IsUsedUp}
 use Rattle.meter_server.specs.Settling.{Reached}
 use Rattle.meter_server.specs.declared.fault.HexFault.{HexFault}
 use Rattle.meter_server.specs.declared.fault.HexFault.TheVariants as hex_fault
+use Rattle.meter_server.specs.declared.fault.ServeFault.{ServeFault}
 use Rattle.meter_server.specs.declared.fault.ServeFault.TheVariants as fault
 use Rattle.relay_core.specs.declared.event.Event.{Event}
 use Rattle.relay_core.specs.declared.event.Reply.{Reply}
@@ -50,7 +51,7 @@ played_all device password input s fed core core' written written' is_new owes f
     (replies_are core core' (Asks password input) done.replies (new_world device) done.replied is_new) done.wrote
 
 -- memory ran out in the session
-pub played_short : (device password input : List ℕ) (s fed : Session) (core core' : RelayCore) (written written' : Option (List ℕ)) (failed failed' : ℕ)
+played_short : (device password input : List ℕ) (s fed : Session) (core core' : RelayCore) (written written' : Option (List ℕ)) (failed failed' : ℕ)
     → StandsFor core (new_world device) → Owes password s → Feeds s input fed
     → StopsShort CoreSteps hex_line (still_asks fed []) (still_sends fed []) core written core' written'
     → RunsShort device password input written written'
@@ -61,6 +62,15 @@ played_short device password input s fed core core' written written' failed fail
   stops = subst (λ (seen : List ℕ). StopsShort CoreSteps hex_line (Asks password seen) (Answers password seen) core written core' written') (append-nil input)
       (stops_on input [] fed core core' written written' failed failed' fault.Memory (fed_all password input s fed core written owes feeds) stops);
 }
+
+-- the same of a fault that is want of memory
+pub played_short_by : (device password input : List ℕ) (s fed : Session) (core core' : RelayCore) (written written' : Option (List ℕ)) (failed failed' : ℕ) (f : ServeFault)
+    → f ≡ fault.Memory → StandsFor core (new_world device) → Owes password s → Feeds s input fed
+    → Stops CoreSteps hex_line (still_asks fed []) (still_sends fed []) core written failed f core' written' failed'
+    → RunsShort device password input written written'
+played_short_by device password input s fed core core' written written' failed failed' f is is_new owes feeds stops =
+    played_short device password input s fed core core' written written' failed failed' is_new owes feeds
+    (subst (λ (g : ServeFault). Stops CoreSteps hex_line (still_asks fed []) (still_sends fed []) core written failed g core' written' failed') is stops)
 
 -- memory ran out before the session
 pub played_none : (device password input : List ℕ) (written : Option (List ℕ)) (failed : ℕ) (result : Result (Unit {0}) HexFault)

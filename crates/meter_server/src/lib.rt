@@ -14,6 +14,8 @@ mod serving;
 mod serving_tests;
 #[cfg(test)]
 mod tests;
+#[cfg(test)]
+mod transfer_tests;
 
 pub use answering::answer_apdu;
 pub use fault::{HexFault, ServeFault};

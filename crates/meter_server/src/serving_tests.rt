@@ -98,18 +98,18 @@ impl Meter for Limited {
 
 /// How a session of a new meter is run.
 #[derive(Clone, Copy)]
-struct Plan {
-    password: &'static str,
+pub(crate) struct Plan {
+    pub(crate) password: &'static str,
     /// How many bytes come at a read.
-    piece: usize,
+    pub(crate) piece: usize,
     /// The read and the write that fail, counted from 1, and how many events the meter takes.
-    failing_read: u32,
-    failing_write: u32,
-    events: u32,
+    pub(crate) failing_read: u32,
+    pub(crate) failing_write: u32,
+    pub(crate) events: u32,
 }
 
 /// Nothing fails.
-const AMPLE: Plan = Plan {
+pub(crate) const AMPLE: Plan = Plan {
     password: "12345678",
     piece: 1_024,
     failing_read: 0,
@@ -117,16 +117,16 @@ const AMPLE: Plan = Plan {
     events: 1_000,
 };
 
-const BY_BYTES: Plan = Plan { piece: 1, ..AMPLE };
+pub(crate) const BY_BYTES: Plan = Plan { piece: 1, ..AMPLE };
 
 /// What came of a session.
 #[derive(Drop)]
-struct Ran {
-    bytes: Vec<u8>,
-    result: Result<SessionEnd, ServeFault>,
+pub(crate) struct Ran {
+    pub(crate) bytes: Vec<u8>,
+    pub(crate) result: Result<SessionEnd, ServeFault>,
 }
 
-fn run(alloc: Global, plan: &Plan, input: &[u8]) -> Result<Ran, Fail> {
+pub(crate) fn run(alloc: Global, plan: &Plan, input: &[u8]) -> Result<Ran, Fail> {
     let device = Octets::from_slice(alloc, b"RELAY1")?;
     let password = Octets::from_slice(alloc, plan.password.as_bytes())?;
     let mut meter = Limited {
@@ -178,18 +178,27 @@ fn expect_both(
     expect(rt, alloc, &BY_BYTES, pair, end)
 }
 
-/// Puts a frame from one port to another at the end of a text. The payload is hexadecimal.
+/// Puts a frame from one port to another at the end of a text.
+pub(crate) fn push_payload(
+    text: &mut Vec<u8>,
+    ports: (u8, u8),
+    payload: &[u8],
+) -> Result<(), Fail> {
+    let size = u16::try_from(payload.len())?;
+    text.extend_from_slice(&[0, 1, 0, ports.0, 0, ports.1])?;
+    text.extend_from_slice(&size.to_be_bytes())?;
+    text.extend_from_slice(payload)?;
+    Ok(())
+}
+
+/// The same of a payload in hexadecimal.
 fn push_frame(
     alloc: Global,
     text: &mut Vec<u8>,
     ports: (u8, u8),
     payload: &str,
 ) -> Result<(), Fail> {
-    let payload = hex::decode(alloc, payload)?;
-    let size = u8::try_from(payload.len())?;
-    text.extend_from_slice(&[0, 1, 0, ports.0, 0, ports.1, 0, size])?;
-    text.extend_from_slice(payload.as_slice())?;
-    Ok(())
+    push_payload(text, ports, hex::decode(alloc, payload)?.as_slice())
 }
 
 /// The texts of a talk: an opening and its answer, and then the payloads of requests from a port and of their answers.
@@ -209,7 +218,7 @@ fn talk(
 }
 
 /// Runs a talk whole and byte by byte.
-fn expect_talk(
+pub(crate) fn expect_talk(
     rt: &impl Abort,
     alloc: Global,
     opening: (&str, &str),
@@ -225,9 +234,9 @@ fn expect_talk(
     Ok(())
 }
 
-const PUBLIC: (&str, &str) = (PUBLIC_AARQ, PUBLIC_AARE);
+pub(crate) const PUBLIC: (&str, &str) = (PUBLIC_AARQ, PUBLIC_AARE);
 
-const MANAGEMENT: (&str, &str) = (MANAGEMENT_AARQ, MANAGEMENT_AARE);
+pub(crate) const MANAGEMENT: (&str, &str) = (MANAGEMENT_AARQ, MANAGEMENT_AARE);
 
 #[test]
 fn a_public_client_associates_and_reads(rt: HostRuntime) -> Result<(), Fail> {
@@ -403,7 +412,7 @@ fn several_attributes_are_read_at_once(rt: HostRuntime) -> Result<(), Fail> {
 }
 
 /// The opening of a public client whose PDU size is 64, and its answer.
-const SMALL: (&str, &str) = (
+pub(crate) const SMALL: (&str, &str) = (
     "000100100001001F601DA109060760857405080101BE10040E01000000065F1F0400007E1F0040",
     PUBLIC_AARE,
 );

@@ -10,7 +10,7 @@ use Rattle.cosem_names.specs.declared.result_code.ResultCode.TheVariants.{NoLong
 use Rattle.cosem_names.specs.declared.service.GetResult.{GetResult}
 use Rattle.cosem_names.specs.declared.service.GetResult.TheVariants as result
 use Rattle.relay_core.specs.declared.event.Reply.{Reply}
-use Rattle.relay_core.specs.declared.event.Reply.TheVariants.{Value, Values, Code, Ran, Stale}
+use Rattle.relay_core.specs.declared.event.Reply.TheVariants.{Value, Values, Code, Sampled, SampledBoth, Ran, Stale}
 use Rattle.session_core.specs.declared.asked.Asked.{Asked}
 use Rattle.session_core.specs.declared.asked.ReplyForm.{ReplyForm}
 use Rattle.session_core.specs.declared.asked.ReplyForm.TheVariants as form
@@ -91,11 +91,15 @@ abbrev pub long_answer : ReplyForm → Reply → Option LongAnswer
 long_answer (form.Get id) (Value value) = Some (value_answer id value)
 long_answer (form.Get id) (Values results) = None
 long_answer (form.Get id) (Code code) = None
+long_answer (form.Get id) (Sampled over under) = None
+long_answer (form.Get id) (SampledBoth over under export_over export_under) = None
 long_answer (form.Get id) (Ran count) = None
 long_answer (form.Get id) (Stale last) = None
 long_answer (form.GetList id) (Values results) = Some (values_answer id results)
 long_answer (form.GetList id) (Value value) = None
 long_answer (form.GetList id) (Code code) = None
+long_answer (form.GetList id) (Sampled over under) = None
+long_answer (form.GetList id) (SampledBoth over under export_over export_under) = None
 long_answer (form.GetList id) (Ran count) = None
 long_answer (form.GetList id) (Stale last) = None
 long_answer (form.Set id) reply = None
@@ -107,6 +111,8 @@ abbrev pub reply_code : Reply → ResultCode
 reply_code (Code code) = code
 reply_code (Value value) = OtherReason
 reply_code (Values results) = OtherReason
+reply_code (Sampled over under) = OtherReason
+reply_code (SampledBoth over under export_over export_under) = OtherReason
 reply_code (Ran count) = OtherReason
 reply_code (Stale last) = OtherReason
 

@@ -68,6 +68,24 @@ pub(crate) fn answer_reply(
             | ReplyForm::Action(_) => answer_result(alloc, asked, Reply::Values(results)),
         },
         Reply::Code(code) => answer_result(alloc, asked, Reply::Code(code)),
+        Reply::Sampled { over, under } => {
+            answer_result(alloc, asked, Reply::Sampled { over, under })
+        }
+        Reply::SampledBoth {
+            over,
+            under,
+            export_over,
+            export_under,
+        } => answer_result(
+            alloc,
+            asked,
+            Reply::SampledBoth {
+                over,
+                under,
+                export_over,
+                export_under,
+            },
+        ),
         Reply::Ran(count) => answer_result(alloc, asked, Reply::Ran(count)),
         Reply::Stale { last } => answer_result(alloc, asked, Reply::Stale { last }),
     }
@@ -121,9 +139,12 @@ fn answer_result(alloc: Global, asked: Asked, reply: Reply) -> Result<Answered, 
 {
     let code = match &reply {
         Reply::Code(code) => *code,
-        Reply::Value(_) | Reply::Values(_) | Reply::Ran(_) | Reply::Stale { .. } => {
-            ResultCode::OtherReason
-        }
+        Reply::Value(_)
+        | Reply::Values(_)
+        | Reply::Sampled { .. }
+        | Reply::SampledBoth { .. }
+        | Reply::Ran(_)
+        | Reply::Stale { .. } => ResultCode::OtherReason,
     };
     match answer_code(alloc, asked, code) {
         Ok(answered) => Ok(answered),
