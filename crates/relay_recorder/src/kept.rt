@@ -1,0 +1,74 @@
+ghost use Rattle.std.specs.Prelude.{◌≡◌, [], ◌∷◌, ◌++◌, ◌≤◌, length};
+ghost use Rattle.circular_buffer.specs.Buffer.{buffer, keep_last};
+ghost use Rattle.relay_core.specs.Moving.{parts_of};
+ghost use Rattle.relay_core.specs.Runs.{world_after};
+ghost use Rattle.relay_core.specs.Stands.{StandsFor};
+ghost use Rattle.relay_core.specs.World.{World};
+ghost use Rattle.relay_recorder.specs.Recording.{all_but_last};
+
+use circular_buffer::HeapCircularBuffer;
+use relay_core::{Event, Parts, RelayCore};
+use std::marker::Model;
+
+/// An event, and the owned values that its write moves in: they were read when it came, so that a core can take it later
+/// without memory.
+#[derive(Debug, Drop)]
+pub(crate) struct Kept {
+    event: Event,
+    parts: Parts,
+}
+
+impl Model for Kept {
+    ghost use Rattle.std.specs.Prelude.{◌≡◌};
+    ghost use Rattle.relay_core.specs.contracts.event.Event as event_row;
+    ghost use Rattle.relay_core.specs.declared.event.Event.{Event};
+    ghost use Rattle.relay_core.specs.Moving.{parts_of};
+
+    ghost Value = { Event };
+
+    ghost coded = { event_row.the_row.coded };
+
+    ghost view = { λ kept. kept.event };
+
+    ghost invariant = { λ kept. kept.parts ≡ parts_of kept.event };
+}
+
+impl Kept {
+    /// An event with its owned values.
+    pub(crate) fn new(event: Event, parts: Parts) -> Kept
+        requires { parts ≡ parts_of event }
+        ensures { result ≡ event }
+    {
+        Kept { event, parts }
+    }
+
+    /// The event.
+    pub(crate) fn event(&self) -> &Event
+        ensures { result.now ≡ self.now }
+    {
+        &self.event
+    }
+
+    /// Lets a core take the event. It takes no memory.
+    fn advance(self, core: &mut RelayCore)
+        ensures { (w : World) → StandsFor core.old w → StandsFor core.new (world_after (self ∷ []) w) }
+    {
+        let Kept { event, parts } = self;
+        core.advance(&event, parts);
+    }
+}
+
+/// The last events, the oldest first.
+pub(crate) type Ring = HeapCircularBuffer<Kept>;
+
+/// Keeps an event. Where there is no room for one more, the oldest is kept no longer, and the opening core takes it.
+pub(crate) fn keep(ring: &mut Ring, opening: &mut RelayCore, newest: Kept)
+    requires { length ring.old.items ≤ ring.old.capacity }
+    ensures ring { ring.new ≡ buffer (keep_last ring.old.capacity (ring.old.items ++ newest ∷ [])) ring.old.capacity }
+    ensures opening { (w : World) → StandsFor opening.old w
+        → StandsFor opening.new (world_after (all_but_last ring.old.capacity (ring.old.items ++ newest ∷ [])) w) }
+{
+    if let Some(oldest) = ring.push_back(newest) {
+        oldest.advance(opening);
+    }
+}

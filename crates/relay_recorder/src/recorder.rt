@@ -1,0 +1,129 @@
+ghost use Rattle.std.specs.Prelude.{◌≡◌, ◌<◌, ◌≤◌, [], ◌∷◌, ◌++◌, length, slice_get, IfOk, IsOk, IsTrue, OnOk, OnErr, Some};
+ghost use Rattle.circular_buffer.specs.Buffer.{keep_last};
+ghost use Rattle.relay_core.specs.Machine.{is_sure, Fits};
+ghost use Rattle.relay_core.specs.Opening.{opening_of};
+ghost use Rattle.relay_core.specs.World.{new_world};
+ghost use Rattle.relay_recorder.specs.Histories.{StandsForHistory, Continues};
+
+use crate::kept::{Kept, Ring, keep};
+use crate::trace::Trace;
+use circular_buffer::HeapCircularBuffer;
+use cosem_axdr::Octets;
+use relay_core::{Event, Events, RelayCore, Reply};
+use std::alloc::{AllocError, Global};
+use std::marker::Model;
+
+/// A core that keeps the last events that it took, and the core that stood before these.
+#[derive(Debug, Drop)]
+pub struct Recorder {
+    core: RelayCore,
+    opening: RelayCore,
+    kept: Ring,
+}
+
+impl Model for Recorder {
+    ghost use Rattle.std.specs.Coded.{codes};
+    ghost use Rattle.relay_core.specs.contracts.event.Event as event_row;
+    ghost use Rattle.relay_core.specs.contracts.relay.RelayCore as core_row;
+    ghost use Rattle.relay_recorder.specs.Recording.{Recording, IsRecording, recording};
+
+    ghost Value = { Recording };
+
+    ghost coded = { Prim.hlevel (codes, core_row.the_row.coded, event_row.the_row.coded) };
+
+    ghost view = { λ r. recording r.core r.opening r.kept };
+
+    ghost invariant = { λ r. IsRecording (recording r.core r.opening r.kept) };
+}
+
+impl Recorder {
+    /// A recorder of a new meter of this device name, 1 to 16 bytes, that keeps at most `capacity` events, 1 to 1,024. All
+    /// the memory that it keeps them in is taken here.
+    pub fn new(alloc: Global, device: &Octets, capacity: u16) -> Result<Recorder, AllocError>
+        requires device { (1 ≤ length device.now) × (length device.now ≤ 16) }
+        requires capacity { (1 ≤ capacity) × (capacity ≤ 1024) }
+        ensures stands { IfOk result (λ recorder. StandsForHistory recorder [] (new_world device.now)) }
+        ensures empty { IfOk result (λ recorder. recorder.events ≡ []) }
+        ensures capacity { IfOk result (λ recorder. recorder.capacity ≡ capacity) }
+    {
+        let core = RelayCore::new(alloc, device)?;
+        let opening = core.try_copy(alloc)?;
+        let kept = HeapCircularBuffer::with_capacity(alloc, usize::from(capacity))?;
+        Ok(Recorder {
+            core,
+            opening,
+            kept,
+        })
+    }
+
+    /// Takes an event, answers it and keeps it. Where as many events are kept as may be, the oldest is kept no longer, and
+    /// the opening core takes it. Where memory runs out all is as before, as though the event had not come; a sure event
+    /// takes no memory.
+    pub fn apply(&mut self, alloc: Global, event: Event) -> Result<Reply, AllocError>
+        ensures history { IfOk result (Continues self.old self.new event) }
+        ensures kept { OnOk result (self.new.events ≡ keep_last self.old.capacity (self.old.events ++ event ∷ [])) }
+        ensures capacity { self.new.capacity ≡ self.old.capacity }
+        ensures fits { IfOk result (Fits event) }
+        ensures sure { IsTrue (is_sure event) → IsOk result }
+        ensures err { OnErr result (self.new ≡ self.old) }
+    {
+        let parts = RelayCore::parts(alloc, &event)?;
+        let reply = self.core.step(alloc, &event)?;
+        keep(&mut self.kept, &mut self.opening, Kept::new(event, parts));
+        Ok(reply)
+    }
+
+    /// The core that stands now.
+    pub fn core(&self) -> &RelayCore
+        ensures { result.now ≡ self.now.core }
+    {
+        &self.core
+    }
+
+    /// The core that stood before the first kept event. While none came it is the core that stands now.
+    pub fn opening(&self) -> &RelayCore
+        ensures opening { result.now ≡ self.now.opening }
+        ensures unused { self.now.events ≡ [] → result.now ≡ self.now.core }
+    {
+        &self.opening
+    }
+
+    /// How many events are kept.
+    pub fn count(&self) -> u16
+        ensures count { result ≡ length self.now.events }
+        ensures within { result ≤ self.now.capacity }
+        ensures few { self.now.capacity ≤ 1024 }
+    {
+        self.kept.len() as u16
+    }
+
+    /// The kept event at an index; the oldest is at 0.
+    pub fn event(&self, i: u16) -> &Event
+        requires { i < length self.now.events }
+        ensures { slice_get self.now.events i ≡ Some result.now }
+    {
+        self.kept.get(usize::from(i)).unwrap().event()
+    }
+
+    /// Equal events to those that are kept, in order, in memory of their own.
+    fn copied_events(&self, alloc: Global) -> Result<Events, AllocError>
+        ensures { IfOk result (λ events. events ≡ self.now.events) }
+    {
+        let mut events = Events::new(alloc);
+        'events: for i in 0..self.count() {
+            events.push(self.event(i).try_copy(alloc)?)?;
+        }
+        Ok(events)
+    }
+
+    /// The core before the kept events written down, and these.
+    pub fn export(&self, alloc: Global) -> Result<Trace, AllocError>
+        ensures opening { IfOk result (λ trace. trace.opening ≡ opening_of self.now.opening) }
+        ensures events { IfOk result (λ trace. trace.events ≡ self.now.events) }
+    {
+        Ok(Trace {
+            opening: self.opening.to_opening(alloc)?,
+            events: self.copied_events(alloc)?,
+        })
+    }
+}

@@ -1,0 +1,8 @@
+use relay_core::{Events, Opening};
+
+/// A run written down: the core before its first event, and the events in order.
+#[derive(Debug, Drop)]
+pub struct Trace {
+    pub opening: Opening,
+    pub events: Events,
+}

@@ -1,0 +1,6 @@
+pub mod Cuts
+pub mod HexadecimalLemmas
+pub mod Known
+pub mod LinesLemmas
+pub mod NumbersLemmas
+pub mod WordsLemmas

@@ -1,0 +1,18 @@
+-- Bytes as words: two hexadecimal digits for each byte, in capitals.
+use Rattle.std.specs.Prelude.{ℕ, Bool, ◌&&◌, ◌||◌, nat_lt, if◌then◌else◌, List, length, Option, None}
+use Rattle.std.specs.Int.{is_in_range}
+use Rattle.std.specs.List.{list_all}
+use Rattle.std.specs.Result.{result_ok}
+use Rattle.hex.specs.Hex.{decode_of}
+
+-- one of the digits `0` to `9` and `A` to `F`
+abbrev pub is_capital_digit : ℕ → Bool
+is_capital_digit c = is_in_range 48 57 c || is_in_range 65 70 c
+
+-- one such digit or more
+abbrev pub is_hexadecimal : List ℕ → Bool
+is_hexadecimal word = nat_lt 0 (length word) && list_all is_capital_digit word
+
+-- the bytes whose digits a word has, two for each, the high four bits first; the empty word, which stands in no line, has none
+unfoldable pub bytes_of : List ℕ → Option (List ℕ)
+bytes_of word = if is_hexadecimal word then result_ok (decode_of word) else None

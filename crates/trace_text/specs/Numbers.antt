@@ -1,0 +1,13 @@
+-- Numbers as words: decimal digits without leading zeros.
+use Rattle.std.specs.Prelude.{ℕ, Bool, not, ◌&&◌, ◌||◌, ◌==◌, nat_lt, nat_le, if◌then◌else◌, List, length, slice_index, Option, Some, None}
+use Rattle.std.specs.Char.{is_ascii_digit}
+use Rattle.std.specs.List.{list_all}
+use Rattle.std.specs.Str.Parse.{digits_value}
+
+-- one decimal digit or more, and of several the first is not 0
+abbrev pub is_decimal : List ℕ → Bool
+is_decimal word = nat_lt 0 (length word) && list_all is_ascii_digit word && (length word == 1 || not (slice_index word 0 == 48))
+
+-- the number that a word writes, if it is at most `limit`
+unfoldable pub number_of : ℕ → List ℕ → Option ℕ
+number_of limit word = if is_decimal word && nat_le (digits_value 10 word) limit then Some (digits_value 10 word) else None

@@ -1,0 +1,51 @@
+//! What holds of such texts as such: each function is a law, which its contract states and a call of it makes known.
+ghost use Rattle.std.specs.Prelude.{◌≡◌, ◌<◌, ◌≤◌, ◌^◌, ◌*◌, ◌++◌, ◌∷◌, ℕ, List, [], length, decimal, Some, IsTrue};
+ghost use Rattle.std.specs.List.{list_all};
+ghost use Rattle.hex.specs.Hex.{encode_upper, IsBytes};
+ghost use Rattle.trace_text.specs.Hexadecimal.{bytes_of};
+ghost use Rattle.trace_text.specs.Numbers.{number_of};
+ghost use Rattle.trace_text.specs.Words.{words_of, line_of, is_word};
+ghost use Rattle.trace_text.specs.Lines.{is_row, lines_of, rows_of, rows_text, unended_of};
+
+/// A number that is written is a word, it is read again, and no other word writes it.
+#[tactic(auto, using(crate::proofs::Known::numbers))]
+pub fn written_number_is_read()
+    ensures word { (n : ℕ) → n < 2 ^ 64 → IsTrue (is_word (decimal n)) }
+    ensures again { (n limit : ℕ) → n ≤ limit → limit < 2 ^ 64 → number_of limit (decimal n) ≡ Some n }
+    ensures only { (word : List ℕ) (n limit : ℕ) → limit < 2 ^ 64 → number_of limit word ≡ Some n → word ≡ decimal n }
+    ensures limited { (word : List ℕ) (n limit : ℕ) → limit < 2 ^ 64 → number_of limit word ≡ Some n → n ≤ limit }
+{}
+
+/// Bytes that are written are a word, they are read again, and no other word writes them.
+#[tactic(auto, using(crate::proofs::Known::hexes))]
+pub fn written_bytes_are_read()
+    ensures word { (bytes : List ℕ) → 0 < length bytes → IsBytes bytes → IsTrue (is_word (encode_upper bytes)) }
+    ensures again { (bytes : List ℕ) → 0 < length bytes → IsBytes bytes → bytes_of (encode_upper bytes) ≡ Some bytes }
+    ensures only { (word bytes : List ℕ) → bytes_of word ≡ Some bytes → word ≡ encode_upper bytes }
+    ensures bytes { (word bytes : List ℕ) → bytes_of word ≡ Some bytes → IsBytes bytes }
+    ensures some { (word bytes : List ℕ) → bytes_of word ≡ Some bytes → 0 < length bytes }
+    ensures len { (word bytes : List ℕ) → bytes_of word ≡ Some bytes → length word ≡ 2 * length bytes }
+{}
+
+/// The words of a line that is written are read again, each line is the line of its words, and a word more stands behind a blank.
+#[tactic(auto, using(crate::proofs::Known::words))]
+pub fn written_words_are_read()
+    ensures again { (words : List (List ℕ)) → IsTrue (is_row words) → words_of (line_of words) ≡ words }
+    ensures only { (line : List ℕ) → line_of (words_of line) ≡ line }
+    ensures push { (words : List (List ℕ)) (word : List ℕ) → 0 < length words → line_of (words ++ word ∷ []) ≡ line_of words ++ 32 ∷ word }
+{}
+
+/// The lines of words that are written are read again, also before other text, and each text is that of its lines and of what is behind them. Texts are
+/// written line by line, and read line by line.
+#[tactic(auto, using(crate::proofs::Known::rows))]
+pub fn written_lines_are_read()
+    ensures again { (rows : List (List (List ℕ))) → IsTrue (list_all is_row rows) → rows_of (rows_text rows) ≡ rows }
+    ensures ended { (rows : List (List (List ℕ))) → IsTrue (list_all is_row rows) → unended_of (rows_text rows) ≡ [] }
+    ensures before { (rows : List (List (List ℕ))) (rest : List ℕ) → IsTrue (list_all is_row rows) → rows_of (rows_text rows ++ rest) ≡ rows ++ rows_of rest }
+    ensures behind { (rows : List (List (List ℕ))) (rest : List ℕ) → IsTrue (list_all is_row rows) → unended_of (rows_text rows ++ rest) ≡ unended_of rest }
+    ensures only { (text : List ℕ) → rows_text (rows_of text) ++ unended_of text ≡ text }
+    ensures append { (rows others : List (List (List ℕ))) → rows_text (rows ++ others) ≡ rows_text rows ++ rows_text others }
+    ensures one { (words : List (List ℕ)) → rows_text (words ∷ []) ≡ line_of words ++ 10 ∷ [] }
+    ensures taken { (text line rest : List ℕ) → lines_of text ≡ line ∷ lines_of rest → rows_of text ≡ words_of line ∷ rows_of rest }
+    ensures none { (text : List ℕ) → lines_of text ≡ [] → rows_of text ≡ [] }
+{}

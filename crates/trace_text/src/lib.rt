@@ -1,0 +1,26 @@
+//! The words of a text of lines: each line ended by the byte 0A, one blank between its words, numbers in decimal without leading zeros, bytes in hexadecimal
+//! capitals.
+//!
+//! `Lines` and `Words` read such a text, `read_number` and `read_hex` its words; `write_number`, `write_hex`, `add_word`, `add_number`, `add_hex` and
+//! `end_line` write one. What is written is read back, and a word that is read is the only one that writes its value.
+#![tactic(auto)]
+
+mod cutting;
+mod hexadecimal;
+mod laws;
+mod lines;
+mod numbers;
+mod words;
+mod writing;
+
+pub use hexadecimal::{read_hex, write_hex};
+pub use laws::{
+    written_bytes_are_read, written_lines_are_read, written_number_is_read, written_words_are_read,
+};
+pub use lines::{Lines, split_line};
+pub use numbers::{read_number, write_number};
+pub use words::Words;
+pub use writing::{add_hex, add_number, add_word, end_line};
+
+#[cfg(test)]
+mod tests;

@@ -1,0 +1,59 @@
+ghost use Rattle.std.specs.Prelude.{◌≡◌, ◌∷◌, [], MatchOption};
+ghost use Rattle.std.specs.Iterator.{item_count};
+ghost use Rattle.trace_text.specs.Lines.{lines_of, unended_of};
+ghost use Rattle.trace_text.specs.Taken.{TakesLine};
+
+use crate::cutting::cut_at;
+use std::marker::Model;
+
+/// The first line of a text, without the byte 0A that ends it, and the text behind it. `None` of a text without an ended line.
+pub fn split_line(text: &[u8]) -> Option<(&[u8], &[u8])>
+    ensures lines { MatchOption result (lines_of text.now ≡ []) (λ parts. lines_of text.now ≡ parts.0.now ∷ lines_of parts.1.now) }
+    ensures unended { MatchOption result (unended_of text.now ≡ text.now) (λ parts. unended_of text.now ≡ unended_of parts.1.now) }
+{
+    cut_at(text, b'\n')
+}
+
+/// The lines of a text that are still to be read, without the byte 0A that ends each. Contracts see the text that is left.
+#[derive(Drop)]
+pub struct Lines<'a> {
+    text: &'a [u8],
+}
+
+impl<'a> Model for Lines<'a> {
+    ghost use Rattle.std.specs.Prelude.{List, ℕ};
+
+    ghost Value = { List ℕ };
+
+    ghost view = { λ lines. lines.text.now };
+}
+
+impl<'a> Lines<'a> {
+    /// All lines of a text.
+    pub fn new(text: &'a [u8]) -> Self
+        ensures { result ≡ text.now }
+    {
+        Lines { text }
+    }
+
+    /// The text behind the lines that were read.
+    pub fn rest(&self) -> &'a [u8]
+        ensures { result.now ≡ self.now }
+    {
+        self.text
+    }
+}
+
+impl<'a> Iterator for Lines<'a> {
+    type Item = &'a [u8];
+
+    ghost next_gives = { TakesLine };
+
+    ghost remaining = { item_count lines_of };
+
+    fn next(&mut self) -> Option<&'a [u8]> {
+        let (line, rest) = split_line(self.text)?;
+        self.text = rest;
+        Some(line)
+    }
+}

@@ -1,0 +1,173 @@
+//! Words, lines and texts with the values that they stand for.
+use super::*;
+use std::alloc::{AllocError, Global};
+use std::test::Fail;
+
+// The bytes of a word, as a copy, or none.
+fn hex_of(alloc: Global, word: &[u8]) -> Result<Option<Vec<u8>>, AllocError> {
+    Ok(read_hex(alloc, word)?.map(|bytes| bytes.into_vec()))
+}
+
+// Whether a word is read as these bytes.
+fn is_hex_of(alloc: Global, word: &[u8], bytes: &[u8]) -> Result<bool, AllocError> {
+    match hex_of(alloc, word)? {
+        Some(read) => Ok(read.as_slice() == bytes),
+        None => Ok(false),
+    }
+}
+
+// Whether a word is read as no bytes.
+fn is_no_hex(alloc: Global, word: &[u8]) -> Result<bool, AllocError> {
+    Ok(hex_of(alloc, word)?.is_none())
+}
+
+// The words of a line with a bar before each.
+fn barred_words(alloc: Global, line: &[u8]) -> Result<Vec<u8>, AllocError> {
+    let mut out = Vec::new(alloc);
+    for word in Words::new(line) {
+        out.push(b'|')?;
+        out.extend_from_slice(word)?;
+    }
+    Ok(out)
+}
+
+// The lines of a text with a bar before each, and a star before what is behind them.
+fn barred_lines(alloc: Global, text: &[u8]) -> Result<Vec<u8>, AllocError> {
+    let mut out = Vec::new(alloc);
+    let mut lines = Lines::new(text);
+    while let Some(line) = lines.next() {
+        out.push(b'|')?;
+        out.extend_from_slice(line)?;
+    }
+    out.push(b'*')?;
+    out.extend_from_slice(lines.rest())?;
+    Ok(out)
+}
+
+// Some lines of a trace.
+fn some_lines(alloc: Global) -> Result<Vec<u8>, AllocError> {
+    let mut out = Vec::from_slice(alloc, b"device")?;
+    add_hex(alloc, &mut out, b"RELAY1")?;
+    end_line(&mut out)?;
+    out.extend_from_slice(b"normal")?;
+    add_number(&mut out, 4_294_967_295)?;
+    end_line(&mut out)?;
+    out.extend_from_slice(b"now")?;
+    add_word(&mut out, b"-")?;
+    end_line(&mut out)?;
+    out.extend_from_slice(b"groups")?;
+    end_line(&mut out)?;
+    write_number(&mut out, 0)?;
+    write_hex(alloc, &mut out, &[0x0F, 0xA0])?;
+    Ok(out)
+}
+
+#[test]
+fn numbers_are_read(rt: HostRuntime) {
+    assert_eq!(rt; read_number(b"0", 0), Some(0));
+    assert_eq!(rt; read_number(b"5", u64::MAX), Some(5));
+    assert_eq!(rt;
+        read_number(b"4294967295", 4_294_967_295),
+        Some(4_294_967_295)
+    );
+    assert_eq!(rt;
+        read_number(b"18446744073709551615", u64::MAX),
+        Some(u64::MAX)
+    );
+}
+
+#[test]
+fn other_words_are_no_numbers(rt: HostRuntime) {
+    assert_eq!(rt; read_number(b"18446744073709551616", u64::MAX), None);
+    assert_eq!(rt; read_number(b"99999999999999999999999999", u64::MAX), None);
+    assert_eq!(rt; read_number(b"007", u64::MAX), None);
+    assert_eq!(rt; read_number(b"00", u64::MAX), None);
+    assert_eq!(rt; read_number(b"+5", u64::MAX), None);
+    assert_eq!(rt; read_number(b"-5", u64::MAX), None);
+    assert_eq!(rt; read_number(b"", u64::MAX), None);
+    assert_eq!(rt; read_number(b"5a", u64::MAX), None);
+    assert_eq!(rt; read_number(b"\xC3\xA9", u64::MAX), None);
+}
+
+#[test]
+fn numbers_have_limits(rt: HostRuntime) {
+    assert_eq!(rt; read_number(b"255", 255), Some(255));
+    assert_eq!(rt; read_number(b"256", 255), None);
+    assert_eq!(rt; read_number(b"4294967296", 4_294_967_295), None);
+}
+
+#[test]
+fn bytes_are_read(rt: HostRuntime) -> Result<(), Fail> {
+    let alloc = rt.alloc();
+    assert!(rt; is_hex_of(alloc, b"52454C415931", b"RELAY1")?);
+    assert!(rt; is_hex_of(alloc, b"0F00", &[15, 0])?);
+    Ok(())
+}
+
+#[test]
+fn other_words_are_no_bytes(rt: HostRuntime) -> Result<(), Fail> {
+    let alloc = rt.alloc();
+    assert!(rt; is_no_hex(alloc, b"52454c")?, "lower case");
+    assert!(rt; is_no_hex(alloc, b"524")?, "an odd number of digits");
+    assert!(rt; is_no_hex(alloc, b"5G")?, "no digit");
+    assert!(rt; is_no_hex(alloc, b"-")?);
+    assert!(rt; is_no_hex(alloc, b"")?, "no digits");
+    Ok(())
+}
+
+#[test]
+fn lines_are_split(rt: HostRuntime) {
+    assert!(rt;
+        matches!(
+            split_line(b"state 1\nmode 0\n"),
+            Some((b"state 1", b"mode 0\n"))
+        )
+    );
+    assert!(rt; matches!(split_line(b"\n"), Some((b"", b""))));
+    assert!(rt; split_line(b"mode 0").is_none());
+    assert!(rt; split_line(b"").is_none());
+}
+
+#[test]
+fn lines_are_read(rt: HostRuntime) -> Result<(), Fail> {
+    let alloc = rt.alloc();
+    assert_eq!(rt;
+        barred_lines(alloc, b"state 1\nmode 0\n")?.as_slice(),
+        b"|state 1|mode 0*".as_slice()
+    );
+    assert_eq!(rt;
+        barred_lines(alloc, b"state 1\n\nmode")?.as_slice(),
+        b"|state 1|*mode".as_slice()
+    );
+    assert_eq!(rt; barred_lines(alloc, b"")?.as_slice(), b"*".as_slice());
+    Ok(())
+}
+
+#[test]
+fn words_are_read(rt: HostRuntime) -> Result<(), Fail> {
+    let alloc = rt.alloc();
+    assert_eq!(rt;
+        barred_words(alloc, b"get 16 70")?.as_slice(),
+        b"|get|16|70".as_slice()
+    );
+    assert_eq!(rt;
+        barred_words(alloc, b"button")?.as_slice(),
+        b"|button".as_slice()
+    );
+    assert_eq!(rt;
+        barred_words(alloc, b"get  16 ")?.as_slice(),
+        b"|get||16|".as_slice()
+    );
+    assert_eq!(rt; barred_words(alloc, b"")?.as_slice(), b"|".as_slice());
+    Ok(())
+}
+
+#[test]
+fn texts_are_written(rt: HostRuntime) -> Result<(), Fail> {
+    let text = some_lines(rt.alloc())?;
+    assert_eq!(rt;
+        text.as_slice(),
+        b"device 52454C415931\nnormal 4294967295\nnow -\ngroups\n00FA0".as_slice()
+    );
+    Ok(())
+}
