@@ -1,0 +1,4 @@
+pub mod Blanks
+pub mod EventLaws
+pub mod EventRows
+pub mod Steps
