@@ -1,5 +1,5 @@
 use super::*;
-use cosem_axdr::{Data, Items, Octets};
+use cosem_axdr::{Data, Octets};
 use cosem_names::{AttrRef, ClassId, Level, MethodRef, Obis};
 use disconnect_control::{ControlMode, ControlState};
 use relay_core::{Event, Reply};
@@ -8,8 +8,6 @@ use std::process::Abort;
 use std::test::Fail;
 
 const DISCONNECT_CONTROL: Obis = Obis([0, 0, 96, 3, 10, 255]);
-
-const LIMITER: Obis = Obis([0, 0, 17, 0, 0, 255]);
 
 fn new_recorder(rt: &impl Abort, alloc: Global, capacity: u16) -> Result<Recorder, AllocError> {
     let device = Octets::from_slice(alloc, b"RELAY1")?;
@@ -69,14 +67,6 @@ fn letter(event: &Event) -> char {
     }
 }
 
-/// The moment of a Moment, or 0.
-fn moment(event: &Event) -> u32 {
-    match event {
-        Event::Moment(now) => *now,
-        _ => 0,
-    }
-}
-
 /// Lets a recorder take an event, and tells the code of the reply.
 fn code_of(recorder: &mut Recorder, alloc: Global, event: Event) -> Result<u8, AllocError> {
     let reply = recorder.apply(alloc, event)?;
@@ -92,28 +82,11 @@ fn letter_at(recorder: &Recorder, i: u16) -> char {
     }
 }
 
-/// The moment of the kept event at an index, or 0.
-fn moment_at(recorder: &Recorder, i: u16) -> u32 {
-    if i < recorder.count() {
-        moment(recorder.event(i))
-    } else {
-        0
-    }
-}
-
 /// Mode 1 is written, the supply is cut remotely, and the button is pressed.
 fn take_three(rt: &impl Abort, recorder: &mut Recorder, alloc: Global) -> Result<(), AllocError> {
     assert_eq!(rt; code_of(recorder, alloc, write_mode_1())?, 0);
     assert_eq!(rt; code_of(recorder, alloc, disconnect())?, 0);
     assert_eq!(rt; code_of(recorder, alloc, Event::Button)?, 2);
-    Ok(())
-}
-
-/// Takes the moments from 1 on.
-fn take_moments(recorder: &mut Recorder, alloc: Global, count: u32) -> Result<(), AllocError> {
-    for now in 0..count {
-        let _ran = code_of(recorder, alloc, Event::Moment(now.saturating_add(1)))?;
-    }
     Ok(())
 }
 
@@ -142,118 +115,4 @@ fn the_opening_core_takes_what_is_pushed_out(rt: HostRuntime) -> Result<(), Fail
     take_three(&rt, &mut recorder, rt.alloc())?;
     stands_after_three(&rt, &recorder);
     Ok(())
-}
-
-/// The letter of a copy of the oldest event.
-fn copied_letter(recorder: &Recorder, alloc: Global) -> Result<char, AllocError> {
-    if recorder.count() == 0 {
-        return Ok('?');
-    }
-    let copy = recorder.event(0).try_copy(alloc)?;
-    Ok(letter(&copy))
-}
-
-/// The mode of a copy of the core.
-fn copied_mode(recorder: &Recorder, alloc: Global) -> Result<ControlMode, AllocError> {
-    let copy = recorder.core().try_copy(alloc)?;
-    Ok(copy.mode())
-}
-
-#[test]
-fn what_is_kept_is_copied(rt: HostRuntime) -> Result<(), Fail> {
-    let mut recorder = new_recorder(&rt, rt.alloc(), 2)?;
-    take_three(&rt, &mut recorder, rt.alloc())?;
-    let mode = copied_mode(&recorder, rt.alloc())?;
-    let letter = copied_letter(&recorder, rt.alloc())?;
-    assert!(rt; mode == ControlMode::Mode1);
-    assert!(rt; letter == 'x');
-    Ok(())
-}
-
-/// The letters of events, as text.
-fn letters(alloc: Global, events: &[Event]) -> Result<String, AllocError> {
-    let mut text = String::new(alloc);
-    for event in events {
-        text.push(letter(event))?;
-    }
-    Ok(text)
-}
-
-/// The trace after the three events: it opens in mode 1, and tells of the remote disconnect and the button.
-fn trace_after_three(rt: &impl Abort, trace: &Trace, alloc: Global) -> Result<(), AllocError> {
-    let letters = letters(alloc, trace.events.as_slice())?;
-    assert!(rt; trace.opening.device.len() == 6);
-    assert!(rt; trace.opening.mode == ControlMode::Mode1);
-    assert!(rt; trace.opening.state == ControlState::Connected);
-    assert!(rt; letters.as_str() == "xb");
-    Ok(())
-}
-
-#[test]
-fn a_trace_has_the_opening_core_and_the_kept_events(rt: HostRuntime) -> Result<(), Fail> {
-    let mut recorder = new_recorder(&rt, rt.alloc(), 2)?;
-    take_three(&rt, &mut recorder, rt.alloc())?;
-    let trace = recorder.export(rt.alloc())?;
-    trace_after_three(&rt, &trace, rt.alloc())?;
-    Ok(())
-}
-
-/// The last `kept` of this many moments, from 1 on, are kept, and both cores are told the moments before and of them.
-fn keeps_the_last(rt: &impl Abort, recorder: &Recorder, kept: u16, moments: u32) {
-    assert!(rt; kept >= 1 && u32::from(kept) < moments);
-    let first = moments - u32::from(kept);
-    assert!(rt; recorder.count() == kept);
-    assert!(rt; moment_at(recorder, 0) == first + 1);
-    assert!(rt; moment_at(recorder, kept - 1) == moments);
-    assert!(rt; recorder.opening().last_moment() == Some(first));
-    assert!(rt; recorder.core().last_moment() == Some(moments));
-}
-
-#[test]
-fn a_recorder_of_one_event_keeps_the_last(rt: HostRuntime) -> Result<(), Fail> {
-    let mut recorder = new_recorder(&rt, rt.alloc(), 1)?;
-    take_moments(&mut recorder, rt.alloc(), 3)?;
-    keeps_the_last(&rt, &recorder, 1, 3);
-    Ok(())
-}
-
-#[test]
-fn a_recorder_of_1024_events_keeps_the_last_1024(rt: HostRuntime) -> Result<(), Fail> {
-    let mut recorder = new_recorder(&rt, rt.alloc(), 1024)?;
-    take_moments(&mut recorder, rt.alloc(), 1030)?;
-    keeps_the_last(&rt, &recorder, 1024, 1030);
-    Ok(())
-}
-
-/// A list of one group id.
-fn one_group(alloc: Global) -> Result<Data, AllocError> {
-    let mut groups = Vec::new(alloc);
-    groups.push(Data::LongUnsigned(7))?;
-    Ok(Data::Array(Items::from_vec(groups)))
-}
-
-/// Writes the group ids of a limiter, over a recorder that kept a press of the button. Where memory runs out on the way the
-/// recorder is as it was.
-fn write_groups(rt: &impl Abort, recorder: &mut Recorder, alloc: Global) -> Result<(), AllocError> {
-    let written = set(71, LIMITER, 9, one_group(alloc)?);
-    let _pressed = code_of(recorder, alloc, Event::Button)?;
-    match code_of(recorder, alloc, written) {
-        Ok(code) => {
-            assert_eq!(rt; code, 0);
-            assert_eq!(rt; letter_at(recorder, 0), 's');
-        }
-        Err(_) => {
-            assert_eq!(rt; letter_at(recorder, 0), 'b');
-            assert_eq!(rt; recorder.opening().state(), ControlState::Connected);
-        }
-    }
-    assert_eq!(rt; recorder.count(), 1);
-    Ok(())
-}
-
-#[test]
-fn want_of_memory_leaves_all_as_it_was(rt: HostRuntime) {
-    if let Ok(mut recorder) = new_recorder(&rt, rt.alloc(), 1) {
-        let _ended = write_groups(&rt, &mut recorder, rt.alloc());
-    }
 }
