@@ -116,3 +116,55 @@ fn the_opening_core_takes_what_is_pushed_out(rt: HostRuntime) -> Result<(), Fail
     stands_after_three(&rt, &recorder);
     Ok(())
 }
+
+/// The moment of a Moment, or 0.
+fn moment(event: &Event) -> u32 {
+    match event {
+        Event::Moment(now) => *now,
+        _ => 0,
+    }
+}
+
+/// The moment of the kept event at an index, or 0.
+fn moment_at(recorder: &Recorder, i: u16) -> u32 {
+    if i < recorder.count() {
+        moment(recorder.event(i))
+    } else {
+        0
+    }
+}
+
+/// Takes the moments from 1 on.
+fn take_moments(recorder: &mut Recorder, alloc: Global, count: u32) -> Result<(), AllocError> {
+    for now in 0..count {
+        let _ran = code_of(recorder, alloc, Event::Moment(now.saturating_add(1)))?;
+    }
+    Ok(())
+}
+
+/// The last `kept` of this many moments, from 1 on, are kept, and both cores are told the moments before and of them.
+fn keeps_the_last(rt: &impl Abort, recorder: &Recorder, kept: u16, moments: u32) {
+    assert!(rt; kept >= 1 && u32::from(kept) < moments);
+    let first = moments - u32::from(kept);
+    assert!(rt; recorder.count() == kept);
+    assert!(rt; moment_at(recorder, 0) == first + 1);
+    assert!(rt; moment_at(recorder, kept - 1) == moments);
+    assert!(rt; recorder.opening().last_moment() == Some(first));
+    assert!(rt; recorder.core().last_moment() == Some(moments));
+}
+
+#[test]
+fn a_recorder_of_one_event_keeps_the_last(rt: HostRuntime) -> Result<(), Fail> {
+    let mut recorder = new_recorder(&rt, rt.alloc(), 1)?;
+    take_moments(&mut recorder, rt.alloc(), 3)?;
+    keeps_the_last(&rt, &recorder, 1, 3);
+    Ok(())
+}
+
+#[test]
+fn a_recorder_of_1024_events_keeps_the_last_1024(rt: HostRuntime) -> Result<(), Fail> {
+    let mut recorder = new_recorder(&rt, rt.alloc(), 1024)?;
+    take_moments(&mut recorder, rt.alloc(), 1030)?;
+    keeps_the_last(&rt, &recorder, 1024, 1030);
+    Ok(())
+}
