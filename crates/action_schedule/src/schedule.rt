@@ -1,4 +1,4 @@
-ghost use Rattle.std.specs.Prelude.{◌≡◌, ◌↔◌, IsOk, IfOk, OnErr, IsErrOf, IsTrue, Err};
+ghost use Rattle.std.specs.Prelude.{◌≡◌, ◌↔◌, [], IsOk, IfOk, OnErr, IsErrOf, IsTrue, Err};
 ghost use Rattle.action_schedule.specs.declared.attribute.ScheduleAttribute.TheVariants.{Kind};
 ghost use Rattle.action_schedule.specs.declared.fault.ScheduleFault.TheVariants.{Unmatched, Value};
 ghost use Rattle.action_schedule.specs.Fitting.{fits, is_due, IsDue};
@@ -48,6 +48,17 @@ impl ActionSchedule {
         ActionSchedule {
             selector: 0,
             kind: ScheduleType::Type5,
+            entries: Listed::new(alloc),
+        }
+    }
+
+    /// A schedule that runs the script of this selector, of this type, with no entries. It takes no memory.
+    pub fn without_entries(alloc: Global, selector: u16, kind: ScheduleType) -> ActionSchedule
+        ensures { result ≡ record { selector = selector; kind = kind; entries = [] } }
+    {
+        ActionSchedule {
+            selector,
+            kind,
             entries: Listed::new(alloc),
         }
     }

@@ -365,3 +365,12 @@ fn sixteen_entries_at_most(rt: HostRuntime) -> Result<(), Fail> {
     assert!(rt; entries_fault(alloc, other.as_str())? == Some(ScheduleFault::Unmatched));
     Ok(())
 }
+
+#[test]
+fn a_schedule_without_entries_is_never_due(rt: HostRuntime) {
+    let schedule = ActionSchedule::without_entries(rt.alloc(), 7, ScheduleType::Type2);
+    assert!(rt; schedule.selector() == 7 && schedule.kind() == ScheduleType::Type2);
+    assert!(rt; schedule.fits() && !schedule.due(0, 86_400));
+    let other = ActionSchedule::without_entries(rt.alloc(), 7, ScheduleType::Type1);
+    assert!(rt; !other.fits());
+}

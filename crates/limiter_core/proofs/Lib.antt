@@ -1,4 +1,5 @@
 pub mod Firing
+mod FitRuns
 mod Meaning
 pub mod Opening
 mod Skipping

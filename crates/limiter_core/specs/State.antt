@@ -1,5 +1,5 @@
 -- A limiter as its callers see it, and the rows that it stands for.
-use Rattle.std.specs.Prelude.{◌≡◌, ℕ, ◌-◌, ◌<◌, ◌≤◌, ◌^◌, true, false, List, [], ◌∷◌, length}
+use Rattle.std.specs.Prelude.{◌≡◌, ℕ, ◌-◌, ◌<◌, ◌≤◌, ◌^◌, Bool, true, false, not, ◌&&◌, ◌||◌, ◌==◌, nat_lt, if◌then◌else◌, List, [], ◌∷◌, length}
 use Rattle.limiter_core.specs.declared.kinds.Fire.{Fire}
 use Rattle.limiter_core.specs.declared.kinds.Fire.TheVariants.{Quiet}
 use Rattle.limiter_core.specs.declared.kinds.Kind.{Kind}
@@ -35,6 +35,14 @@ pub record IsFit (last : ℕ) (over under : Count) : Type 0 where
   pub one : 0 < over.run → under.run ≡ 0
   pub above : 0 < over.run → 0 < last
   pub below : 0 < under.run → last < 4294967295
+
+-- the same as a test of a count, and of both
+abbrev pub is_fit_count : Count → Bool
+is_fit_count count = if count.run == 0 then not count.fired else if count.run == cap then count.fired else nat_lt count.run cap
+
+unfoldable pub are_fit : ℕ → Count → Count → Bool
+are_fit last over under =
+    is_fit_count over && is_fit_count under && (over.run == 0 || (under.run == 0 && nat_lt 0 last)) && (under.run == 0 || nat_lt last 4294967295)
 
 -- what is so of every limiter: its counts are fit, its thresholds and durations are of 32 bits, and it has 32 groups at most
 pub record IsLimiter (state : State) : Type 0 where

@@ -1,6 +1,6 @@
 ghost use Rattle.std.specs.Prelude.{◌≡◌, ◌↔◌, IsTrue};
 ghost use Rattle.limiter_core.specs.Counting.{no_run, taken, fires_at, before, skipped};
-ghost use Rattle.limiter_core.specs.State.{IsFit, IsFitCount};
+ghost use Rattle.limiter_core.specs.State.{IsFit, IsFitCount, is_fit_count, are_fit};
 
 /// The greatest run that is counted: the samples that a duration of 4,294,967,295 seconds needs.
 pub const RUN_LIMIT: u64 = 42_949_672_950;
@@ -60,7 +60,8 @@ impl Count {
 
     /// Whether samples can give this count: no run has not fired, and the greatest has.
     fn is_fit(&self) -> bool
-        ensures { IsTrue result ↔ IsFitCount self.now }
+        ensures test { result ≡ is_fit_count self.now }
+        ensures meaning { IsTrue result ↔ IsFitCount self.now }
     {
         match self.run {
             0 => !self.fired,
@@ -72,8 +73,10 @@ impl Count {
 
 /// Whether samples, of which the last is `last`, can give both counts: one run at most, and a value that can be on its
 /// side of a threshold.
-pub(crate) fn are_fit(last: u32, over: Count, under: Count) -> bool
-    ensures { IsTrue result ↔ IsFit last over under }
+#[tactic(auto, unfolding(crate::specs::State::are_fit))]
+pub fn are_fit(last: u32, over: Count, under: Count) -> bool
+    ensures test { result ≡ are_fit last over under }
+    ensures meaning { IsTrue result ↔ IsFit last over under }
 {
     if !over.is_fit() || !under.is_fit() {
         return false;

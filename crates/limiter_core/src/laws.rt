@@ -1,5 +1,7 @@
 ghost use Rattle.std.specs.Prelude.{◌≡◌, ℕ, ◌<◌, ◌≤◌, ◌↔◌, List, length, reverse, drop, slice_index_or, IsTrue, IsFalse};
 ghost use Rattle.std.specs.List.{suffix_len};
+ghost use Rattle.limiter_core.specs.declared.count.Count.{Count};
+ghost use Rattle.limiter_core.specs.State.{IsFit, are_fit};
 ghost use Rattle.limiter_core.specs.Rows.{Row, Entry, Side, OverThreshold, UnderThreshold, is_past, run, reaches, has_fired, fires};
 
 /// A run has fired exactly where the need was reached at one of its rows.
@@ -20,4 +22,10 @@ pub fn run_means()
 /// No sample fires on both sides.
 pub fn one_side()
     ensures { (rows : List Row) → IsTrue (fires OverThreshold rows) → ¬ IsTrue (fires UnderThreshold rows) }
+{}
+
+/// Runs pass the test exactly where samples can give them.
+#[tactic(auto, using(crate::proofs::FitRuns::test_means, crate::proofs::FitRuns::means_test))]
+pub fn fit_runs_mean()
+    ensures { (last : ℕ) (over under : Count) → IsTrue (are_fit last over under) ↔ IsFit last over under }
 {}

@@ -13,8 +13,8 @@ mod settings;
 #[cfg(test)]
 mod tests;
 
-pub use count::{Count, RUN_LIMIT};
+pub use count::{Count, RUN_LIMIT, are_fit};
 pub use kinds::{Fire, Kind};
-pub use laws::{fired_means, one_side, run_means};
+pub use laws::{fired_means, fit_runs_mean, one_side, run_means};
 pub use limiter::Limiter;
 pub use settings::{Actions, MAX_GROUPS, Profile, Settings};

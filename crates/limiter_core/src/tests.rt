@@ -155,3 +155,21 @@ fn the_actions_are_kept(rt: HostRuntime) -> Result<(), Fail> {
     assert!(rt; limiter.actions() == Actions { over: 1, under: 2 });
     Ok(())
 }
+
+/// A run of so many samples.
+fn run(run: u64, fired: bool) -> Count {
+    Count { run, fired }
+}
+
+#[test]
+fn runs_fit_where_samples_can_give_them(rt: HostRuntime) {
+    let none = run(0, false);
+    assert!(rt; are_fit(0, none, none) && are_fit(1, run(9, false), none));
+    assert!(rt; are_fit(5_001, run(RUN_LIMIT, true), none) && are_fit(0, none, run(1, true)));
+    assert!(rt; !are_fit(0, run(1, false), none) && !are_fit(u32::MAX, none, run(1, false)));
+    assert!(rt;
+        !are_fit(5_001, run(1, false), run(1, false)) && !are_fit(5_001, run(0, true), none)
+    );
+    assert!(rt; !are_fit(5_001, run(RUN_LIMIT, false), none));
+    assert!(rt; !are_fit(5_001, run(RUN_LIMIT + 1, true), none));
+}

@@ -1,4 +1,5 @@
-use Rattle.std.proofs.Common.{◌≡◌, ℕ, List, Option, ap, sym, ◌∙◌}
+use Rattle.std.proofs.Common.{◌≡◌, ℕ, suc, List, [], ◌∷◌, Option, arith, ap, sym, ◌∙◌}
+use Rattle.std.specs.List.{All}
 use Rattle.disconnect_control.specs.Control.{Control}
 use Rattle.limiter_core.specs.declared.settings.Settings.{Settings}
 use Rattle.limiter_core.specs.Opening.{opened_rows}
@@ -6,11 +7,14 @@ use Rattle.limiter_core.specs.State.{State, IsFit}
 use Rattle.limiter_core.proofs.Opening.{opened as rows_opened}
 use Rattle.relay_core.specs.declared.relay.RelayCore.{RelayCore}
 use Rattle.relay_core.specs.declared.schedules.Schedules.{Schedules}
-use Rattle.relay_core.specs.Agreeing.{AreCountedAlike, Agree}
+use Rattle.relay_core.specs.Agreeing.{AreCountedAlike, Agree, IsStepInRange, AreStepsInRange, AreScriptsInRange}
 use Rattle.relay_core.specs.Opening.{limiter_opening_of, opening_of, opened_limiter, opened}
 use Rattle.relay_core.specs.Stands.{StandsFor, MeteredStands}
 use Rattle.relay_core.specs.World.{World, Metered}
 use Rattle.script_steps.specs.declared.step.Script.{Script}
+use Rattle.script_steps.specs.declared.step.Step.{Step}
+use Rattle.script_steps.specs.declared.step.Step.TheVariants as step
+use Rattle.script_steps.specs.Table.{IsStep, IsScript, IsTable}
 
 -- a limiter that was written down, with the rows of one that it stood for
 metered_back : (limiter : State) (m : Metered) (moment : Option ℕ) → MeteredStands limiter m → m.settings.moment ≡ moment
@@ -50,3 +54,28 @@ opening_agrees core w import_fit export_fit stands =
       import = counted_back core.import w.import import_fit stands.import;
       export = counted_back core.export w.export export_fit stands.export;
     }
+
+-- the durations in the steps of every table are numbers of 32 bits
+step_in_range : (one : Step) → IsStep one → IsStepInRange one
+step_in_range (step.WriteMode mode) fits = tt
+step_in_range (step.WriteNormal which watts) fits = tt
+step_in_range (step.WriteEmergency which watts) fits = tt
+step_in_range (step.WriteMinOver which seconds) fits = fits
+step_in_range (step.WriteMinUnder which seconds) fits = fits
+step_in_range (step.WriteProfile which profile) fits = tt
+step_in_range step.Disconnect fits = tt
+step_in_range step.Reconnect fits = tt
+
+steps_in_range : (steps : List Step) → All IsStep steps → AreStepsInRange steps
+steps_in_range [] fits = tt
+steps_in_range (one ∷ steps) fits =
+    (step_in_range one (fits 0 one (omega arith)), steps_in_range steps (λ k d less. fits (suc k) d (omega (arith, less))))
+
+scripts_in_range : (scripts : List Script) → All IsScript scripts → AreScriptsInRange scripts
+scripts_in_range [] fits = tt
+scripts_in_range (script ∷ scripts) fits =
+    let first : IsScript script = fits 0 script (omega arith) in
+    (steps_in_range script.steps first.fit, scripts_in_range scripts (λ k d less. fits (suc k) d (omega (arith, less))))
+
+pub table_in_range : (scripts : List Script) → IsTable scripts → AreScriptsInRange scripts
+table_in_range scripts table = scripts_in_range scripts table.fit

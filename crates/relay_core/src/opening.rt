@@ -1,6 +1,6 @@
-ghost use Rattle.std.specs.Prelude.{◌≡◌, ◌≤◌, ◌↔◌, length, IfOk, IsErrOf, IfSome, IsSome};
+ghost use Rattle.std.specs.Prelude.{◌≡◌, ◌<◌, ◌≤◌, ◌↔◌, length, IfOk, IsErrOf, IfSome, IsSome};
 ghost use Rattle.limiter_core.specs.State.{Keeps, IsFit};
-ghost use Rattle.relay_core.specs.Agreeing.{Agree};
+ghost use Rattle.relay_core.specs.Agreeing.{Agree, IsWorld};
 ghost use Rattle.relay_core.specs.Opening.{limiter_opening_of, opening_of, bare_limiter, opened_limiter, opened, IsFitLimiterOpening, IsFitOpening};
 ghost use Rattle.relay_core.specs.Stands.{StandsFor};
 ghost use Rattle.relay_core.specs.World.{World};
@@ -97,6 +97,7 @@ impl LimiterOpening {
     fn of(alloc: Global, limiter: &Limiter) -> Result<LimiterOpening, AllocError>
         ensures opening { IfOk result (λ opening. opening ≡ limiter_opening_of limiter.now) }
         ensures fit { IfOk result (λ _. IsFit limiter.now.last limiter.now.over limiter.now.under) }
+        ensures range { IfOk result (λ opening. (opening.min_over_duration < 4294967296) × (opening.min_under_duration < 4294967296)) }
     {
         let groups = Vec::from_slice(alloc, limiter.groups())?;
         Ok(LimiterOpening {
@@ -139,10 +140,12 @@ impl LimiterOpening {
 
 impl RelayCore {
     /// The core written down.
+    #[tactic(auto, using(crate::proofs::OpeningLemmas::table_in_range))]
     fn written_down(&self, alloc: Global) -> Result<Opening, AllocError>
         ensures opening { IfOk result (λ opening. opening ≡ opening_of self.now) }
         ensures import { IfOk result (λ _. IsFit self.now.import.last self.now.import.over self.now.import.under) }
         ensures export { IfOk result (λ _. IsFit self.now.export.last self.now.export.over self.now.export.under) }
+        ensures range { IfOk result (λ opening. IsWorld (opened opening)) }
     {
         Ok(Opening {
             device: self.device.try_clone(alloc)?,
@@ -156,10 +159,12 @@ impl RelayCore {
         })
     }
 
-    /// The core written down. The world that it tells of can't be told apart from any that the core stands for.
+    /// The core written down. The world that it tells of can't be told apart from any that the core stands for, and its
+    /// numbers are in their ranges.
     pub fn to_opening(&self, alloc: Global) -> Result<Opening, AllocError>
         ensures opening { IfOk result (λ opening. opening ≡ opening_of self.now) }
         ensures agrees { IfOk result (λ opening. (w : World) → StandsFor self.now w → Agree (opened opening) w) }
+        ensures range { IfOk result (λ opening. IsWorld (opened opening)) }
     {
         let opening = self.written_down(alloc)?;
         Ok(opening)

@@ -1,9 +1,10 @@
 ghost use Rattle.std.specs.Prelude.{◌≡◌, ◌<◌, ◌≤◌, [], ◌∷◌, ◌++◌, length, slice_get, IfOk, IsOk, IsTrue, OnOk, OnErr, Some};
 ghost use Rattle.circular_buffer.specs.Buffer.{keep_last};
 ghost use Rattle.relay_core.specs.Machine.{is_sure, Fits};
-ghost use Rattle.relay_core.specs.Opening.{opening_of};
+ghost use Rattle.relay_core.specs.Opening.{opened, opening_of};
 ghost use Rattle.relay_core.specs.World.{new_world};
 ghost use Rattle.relay_recorder.specs.Histories.{StandsForHistory, Continues};
+ghost use Rattle.relay_recorder.specs.Replaying.{Replays};
 
 use crate::kept::{Kept, Ring, keep};
 use crate::trace::Trace;
@@ -116,10 +117,12 @@ impl Recorder {
         Ok(events)
     }
 
-    /// The core before the kept events written down, and these.
+    /// The core before the kept events written down, and these. From the world that the opening tells of they run as they did: in
+    /// every history that the recorder stands for, with the same lines and the replies that [`apply`](Recorder::apply) gave.
     pub fn export(&self, alloc: Global) -> Result<Trace, AllocError>
         ensures opening { IfOk result (λ trace. trace.opening ≡ opening_of self.now.opening) }
         ensures events { IfOk result (λ trace. trace.events ≡ self.now.events) }
+        ensures replays { IfOk result (λ trace. Replays self.now (opened trace.opening)) }
     {
         Ok(Trace {
             opening: self.opening.to_opening(alloc)?,

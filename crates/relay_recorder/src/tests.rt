@@ -9,7 +9,11 @@ use std::test::Fail;
 
 const DISCONNECT_CONTROL: Obis = Obis([0, 0, 96, 3, 10, 255]);
 
-fn new_recorder(rt: &impl Abort, alloc: Global, capacity: u16) -> Result<Recorder, AllocError> {
+pub(crate) fn new_recorder(
+    rt: &impl Abort,
+    alloc: Global,
+    capacity: u16,
+) -> Result<Recorder, AllocError> {
     let device = Octets::from_slice(alloc, b"RELAY1")?;
     assert!(rt; device.len() == 6);
     assert!(rt; capacity >= 1 && capacity <= 1024);
@@ -31,12 +35,12 @@ fn set(class: u16, name: Obis, number: u8, value: Data) -> Event {
 }
 
 /// A management client's write of mode 1.
-fn write_mode_1() -> Event {
+pub(crate) fn write_mode_1() -> Event {
     set(70, DISCONNECT_CONTROL, 4, Data::Enum(1))
 }
 
 /// A management client's disconnect.
-fn disconnect() -> Event {
+pub(crate) fn disconnect() -> Event {
     Event::Execute {
         level: Level::Management,
         method: MethodRef {
@@ -49,7 +53,7 @@ fn disconnect() -> Event {
 }
 
 /// The code of a reply, or 255 where it has none.
-fn code(reply: &Reply) -> u8 {
+pub(crate) fn code(reply: &Reply) -> u8 {
     match reply {
         Reply::Code(code) => code.code(),
         _ => 255,
@@ -68,7 +72,11 @@ fn letter(event: &Event) -> char {
 }
 
 /// Lets a recorder take an event, and tells the code of the reply.
-fn code_of(recorder: &mut Recorder, alloc: Global, event: Event) -> Result<u8, AllocError> {
+pub(crate) fn code_of(
+    recorder: &mut Recorder,
+    alloc: Global,
+    event: Event,
+) -> Result<u8, AllocError> {
     let reply = recorder.apply(alloc, event)?;
     Ok(code(&reply))
 }

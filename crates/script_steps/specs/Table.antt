@@ -1,14 +1,16 @@
 -- A script table as its callers see it: a list of scripts, each found by its identifier.
-use Rattle.std.specs.Prelude.{◌≡◌, ℕ, ◌<◌, ◌≤◌, true, ◌==◌, List, [], length, find, Option, Some, option_map, unwrap_or, if◌then◌else◌}
+use Rattle.std.specs.Prelude.{◌≡◌, ℕ, ◌<◌, ◌≤◌, ◌^◌, true, ◌==◌, List, [], length, find, Option, Some, option_map, unwrap_or, if◌then◌else◌}
 use Rattle.std.specs.List.{All}
 use Rattle.cosem_datetime.specs.Fields.{IsDateTimeFields}
 use Rattle.script_steps.specs.Reading.{max_scripts, max_steps, are_distinct}
 use Rattle.script_steps.specs.declared.step.Script.{Script}
 use Rattle.script_steps.specs.declared.step.Step.{Step}
-use Rattle.script_steps.specs.declared.step.Step.TheVariants.{WriteProfile}
+use Rattle.script_steps.specs.declared.step.Step.TheVariants.{WriteMinOver, WriteMinUnder, WriteProfile}
 
--- a profile's start has fields in their ranges
+-- durations are numbers of 32 bits, and a profile's start has fields in their ranges
 abbrev pub IsStep : Step → Type 0
+IsStep (WriteMinOver which seconds) = seconds < 2 ^ 32
+IsStep (WriteMinUnder which seconds) = seconds < 2 ^ 32
 IsStep (WriteProfile which profile) = IsDateTimeFields profile.start
 IsStep _ = Unit {0}
 

@@ -1,7 +1,7 @@
 ghost use Rattle.std.specs.Prelude.{◌≡◌, ◌↔◌, ◌+◌, ◌<◌, ◌≤◌, [], ◌∷◌, length, drop, Some, Ok, Err, IsOk, IfOk, IfSome, IsErrOf, option_map, slice_get};
 ghost use Rattle.script_steps.specs.declared.fault.ScriptFault.TheVariants.{Unmatched, Value, Memory};
 ghost use Rattle.script_steps.specs.Reading.{max_steps, table_of};
-ghost use Rattle.script_steps.specs.Table.{IsScript, script_at, steps_at, running_steps};
+ghost use Rattle.script_steps.specs.Table.{IsScript, IsTable, script_at, steps_at, running_steps};
 ghost use Rattle.script_steps.specs.Writing.{data_of};
 
 use crate::fault::ScriptFault;
@@ -134,7 +134,8 @@ impl ScriptTable {
 
     /// A copy of the table, in memory of its own.
     pub fn try_clone(&self, alloc: Global) -> Result<ScriptTable, AllocError>
-        ensures { IfOk result (λ table. table ≡ self.now) }
+        ensures copy { IfOk result (λ table. table ≡ self.now) }
+        ensures fit { IsTable self.now }
     {
         let scripts = copy_scripts(alloc, self.scripts.as_slice())?;
         Ok(ScriptTable { scripts })

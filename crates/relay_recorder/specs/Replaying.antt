@@ -1,0 +1,23 @@
+-- What a recorder's export plays.
+use Rattle.std.specs.Prelude.{◌≡◌, ◌-◌, List, [], ◌∷◌, length, drop}
+use Rattle.relay_core.specs.Agreeing.{IsEvent}
+use Rattle.relay_core.specs.declared.event.Event.{Event}
+use Rattle.relay_core.specs.Runs.{lines_of}
+use Rattle.relay_core.specs.World.{World}
+use Rattle.relay_recorder.specs.Histories.{Told, StandsForHistory, events_of, replies_of, replies_from}
+use Rattle.relay_recorder.specs.Recording.{Recording}
+
+-- events whose durations are numbers of 32 bits
+abbrev pub AreEvents : List Event → Type 0
+AreEvents [] = Unit {0}
+AreEvents (event ∷ events) = IsEvent event × AreEvents events
+
+-- from this world the kept events run as they did in a history: the lines are the last ones of its run, and the replies are
+-- those that it told
+pub record RunsAgain (r : Recording) (history : List Told) (origin world : World) : Type 0 where
+  pub lines : lines_of r.events world ≡ drop (length history - length r.events) (lines_of (events_of history) origin)
+  pub replies : replies_from world r.events ≡ drop (length history - length r.events) (replies_of history)
+
+-- from this world the kept events run as they did in every history that the recorder stands for
+abbrev pub Replays : Recording → World → Type 0
+Replays r world = (history : List Told) (origin : World) → StandsForHistory r history origin → AreEvents r.events → RunsAgain r history origin world
