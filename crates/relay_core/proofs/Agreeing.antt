@@ -18,7 +18,8 @@ use Rattle.limiter_core.specs.Settings.{row_of, need_of}
 use Rattle.limiter_core.proofs.Firing.{counted as row_counted, fire_counted, count_of_entry}
 use Rattle.relay_core.specs.declared.scripts.Origin.{Origin}
 use Rattle.relay_core.specs.declared.scripts.Origin.TheVariants.{Local}
-use Rattle.relay_core.specs.Agreeing.{AreCountedAlike, with_rows, Agree, AreInRange, IsStepInRange, AreStepsInRange, AreScriptsInRange, IsSettingInRange, IsWorld}
+use Rattle.relay_core.specs.Agreeing.{AreCountedAlike, with_rows, Agree, AreInRange, IsSettingInRange, IsWorld}
+use Rattle.script_steps.specs.Ranges.{IsStepInRange, AreStepsInRange, AreScriptsInRange}
 use Rattle.relay_core.specs.Sampling.{Measurement, Metering, with_sample, fire_at, after_fire, after_sample, counted, measured, after_samples}
 use Rattle.relay_core.specs.Scripts.{at_step, at_script, is_success}
 use Rattle.relay_core.specs.Switch.{with_entry, enters, noted_since, at_trigger}

@@ -34,7 +34,8 @@ use Rattle.relay_core.specs.declared.event.Reply.TheVariants as reply
 use Rattle.relay_core.specs.declared.scripts.Origin.TheVariants.{Remote}
 use Rattle.relay_core.specs.Access.{target_of}
 use Rattle.relay_core.specs.Acting.{switch_trigger, at_pulled, at_found, at_selected, at_execution, at_method, execute_at, at_execute, at_button}
-use Rattle.relay_core.specs.Agreeing.{with_rows, Agree, AreStepsInRange, AreScriptsInRange, IsSettingInRange, IsWorld, IsValue, IsEvent, GoAlike}
+use Rattle.relay_core.specs.Agreeing.{with_rows, Agree, IsSettingInRange, IsWorld, IsValue, IsEvent, GoAlike}
+use Rattle.script_steps.specs.Ranges.{AreStepsInRange, AreScriptsInRange}
 use Rattle.relay_core.specs.Clock.{after_schedule, after_schedules, ran, moment_after, at_moment}
 use Rattle.relay_core.specs.Limiters.{with_moment}
 use Rattle.relay_core.specs.Machine.{reply_of, stepped, at_event}

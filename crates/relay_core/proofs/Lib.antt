@@ -1,5 +1,6 @@
 pub mod Agreeing
 pub mod AgreeingEvents
+pub mod InRange
 pub mod OpeningLemmas
 pub mod RunLemmas
 pub mod SampleLemmas

@@ -7,7 +7,8 @@ use Rattle.limiter_core.specs.State.{State, IsFit}
 use Rattle.limiter_core.proofs.Opening.{opened as rows_opened}
 use Rattle.relay_core.specs.declared.relay.RelayCore.{RelayCore}
 use Rattle.relay_core.specs.declared.schedules.Schedules.{Schedules}
-use Rattle.relay_core.specs.Agreeing.{AreCountedAlike, Agree, IsStepInRange, AreStepsInRange, AreScriptsInRange}
+use Rattle.relay_core.specs.Agreeing.{AreCountedAlike, Agree}
+use Rattle.script_steps.specs.Ranges.{IsStepInRange, AreStepsInRange, AreScriptsInRange}
 use Rattle.relay_core.specs.Opening.{limiter_opening_of, opening_of, opened_limiter, opened}
 use Rattle.relay_core.specs.Stands.{StandsFor, MeteredStands}
 use Rattle.relay_core.specs.World.{World, Metered}

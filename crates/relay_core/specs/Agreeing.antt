@@ -11,9 +11,7 @@ use Rattle.limiter_core.specs.Rows.{Row, OverThreshold, UnderThreshold}
 use Rattle.relay_core.specs.declared.event.Event.{Event}
 use Rattle.relay_core.specs.declared.event.Event.TheVariants.{Set}
 use Rattle.relay_core.specs.World.{World, Stepped}
-use Rattle.script_steps.specs.declared.step.Script.{Script}
-use Rattle.script_steps.specs.declared.step.Step.{Step}
-use Rattle.script_steps.specs.declared.step.Step.TheVariants.{WriteMinOver, WriteMinUnder}
+use Rattle.script_steps.specs.Ranges.{AreScriptsInRange}
 use Rattle.script_steps.specs.Reading.{table_of}
 
 -- rows whose runs and fired flags are the same on both sides
@@ -35,19 +33,6 @@ pub record Agree (v w : World) : Type 0 where
 pub record AreInRange (settings : Settings) : Type 0 where
   pub over : settings.min_over_duration < 4294967296
   pub under : settings.min_under_duration < 4294967296
-
-abbrev pub IsStepInRange : Step → Type 0
-IsStepInRange (WriteMinOver which seconds) = seconds < 4294967296
-IsStepInRange (WriteMinUnder which seconds) = seconds < 4294967296
-IsStepInRange _ = Unit {0}
-
-abbrev pub AreStepsInRange : List Step → Type 0
-AreStepsInRange [] = Unit {0}
-AreStepsInRange (step ∷ steps) = IsStepInRange step × AreStepsInRange steps
-
-abbrev pub AreScriptsInRange : List Script → Type 0
-AreScriptsInRange [] = Unit {0}
-AreScriptsInRange (script ∷ scripts) = AreStepsInRange script.steps × AreScriptsInRange scripts
 
 abbrev pub IsSettingInRange : Setting → Type 0
 IsSettingInRange (MinOverDuration seconds) = seconds < 4294967296

@@ -1,5 +1,8 @@
 ghost use Rattle.relay_core.specs.declared.event.Event.{Event};
-ghost use Rattle.relay_core.specs.Agreeing.{Agree, IsWorld, IsEvent, GoAlike};
+ghost use Rattle.cosem_axdr.specs.Spelling.{IsWithin};
+ghost use Rattle.cosem_axdr.specs.View.{tree_of};
+ghost use Rattle.cosem_axdr.specs.declared.value.Data.{Data};
+ghost use Rattle.relay_core.specs.Agreeing.{Agree, IsWorld, IsEvent, IsValue, GoAlike};
 ghost use Rattle.relay_core.specs.Machine.{at_event};
 ghost use Rattle.relay_core.specs.World.{World};
 
@@ -7,4 +10,9 @@ ghost use Rattle.relay_core.specs.World.{World};
 /// samples but its runs and whether they have fired.
 pub fn worlds_agree()
     ensures { (event : Event) (v w : World) → IsEvent event → IsWorld v → Agree v w → GoAlike (at_event event v) (at_event event w) }
+{}
+
+/// What a value sets has durations of 32 bits, where its numbers are of their types' ranges.
+pub fn values_are_in_range()
+    ensures { (value : Data) → IsWithin (tree_of value) → IsValue value }
 {}

@@ -23,7 +23,7 @@ found_fits P p [] all = tt
 found_fits P p (x ∷ xs) all = found_or_rest P (p x) x (find p xs) (All-head P x xs all) (found_fits P p xs (All-tail P x xs all))
 
 -- the parts of a Data that a script was made of
-judged_parts : (value : Data) (parts : ℕ × List Data) → judged_script value ≡ Ok parts → script_parts_of value ≡ Some parts
+pub judged_parts : (value : Data) (parts : ℕ × List Data) → judged_script value ≡ Ok parts → script_parts_of value ≡ Some parts
 unfolding judged_script
 judged_parts value parts e =
     let b = bind_ok (ok_or (script_parts_of value) Unmatched) (λ p. told step_of p.1 >> (guard (not (p.0 == 0) && nat_le (length p.1) max_steps) Value >> Ok p)) parts e in

@@ -21,7 +21,7 @@ abbrev pub name_of : Data → Option Obis
 name_of value = octets_of value >>= name_in
 
 -- a step: a structure of service, class, logical name, index and parameter
-abbrev step_parts_in : List Data → Option (Address × Data)
+abbrev pub step_parts_in : List Data → Option (Address × Data)
 step_parts_in (service ∷ class ∷ name ∷ index ∷ parameter ∷ []) = do
   service_id ← enumerated_of service
   class_id ← long_unsigned_of class
@@ -34,7 +34,7 @@ abbrev pub step_parts_of : Data → Option (Address × Data)
 step_parts_of value = structure_of value >>= step_parts_in
 
 -- a script: a structure of an identifier and an array of steps
-abbrev script_parts_in : List Data → Option (ℕ × List Data)
+abbrev pub script_parts_in : List Data → Option (ℕ × List Data)
 script_parts_in (identifier ∷ steps ∷ []) = do
   number ← long_unsigned_of identifier
   items ← array_of steps

@@ -1,4 +1,8 @@
 ghost use Rattle.std.specs.Prelude.{◌≡◌, ◌↔◌, List, Ok};
+ghost use Rattle.cosem_axdr.specs.Spelling.{IsWithin};
+ghost use Rattle.cosem_axdr.specs.View.{tree_of};
+ghost use Rattle.cosem_axdr.specs.declared.value.Data.{Data};
+ghost use Rattle.script_steps.specs.Ranges.{AreScriptsInRange};
 ghost use Rattle.script_steps.specs.declared.step.Script.{Script};
 ghost use Rattle.script_steps.specs.Reading.{table_of};
 ghost use Rattle.script_steps.specs.Table.{IsTable};
@@ -8,4 +12,9 @@ ghost use Rattle.script_steps.specs.Writing.{data_of};
 #[tactic(auto, using(crate::proofs::Again::table_again))]
 pub fn written_table_is_read()
     ensures { (scripts : List Script) → IsTable scripts → table_of (data_of scripts) ≡ Ok scripts }
+{}
+
+/// A table that is read from a value whose numbers are of their types' ranges has durations of 32 bits.
+pub fn read_table_is_in_range()
+    ensures { (value : Data) (scripts : List Script) → IsWithin (tree_of value) → table_of value ≡ Ok scripts → AreScriptsInRange scripts }
 {}

@@ -1,0 +1,101 @@
+-- The durations in the steps of a table that is read are numbers of 32 bits, where the value's numbers are of their types' ranges.
+use Rattle.std.proofs.Common.{◌≡◌, ℕ, ◌^◌, ◌<◌, List, [], ◌∷◌, Option, Some, None, IfSome, IfOk, ok_or, Result, Ok, Err, refl, sym, ap, ◌∙◌, subst, arith}
+use Rattle.std.specs.List.{cons_option}
+use Rattle.std.specs.Result.{result_ok}
+use Rattle.byte_reading.specs.Outcome.{◌>>=◌, ◌>>◌, guard}
+use Rattle.byte_reading.proofs.OutcomeLemmas.{bind_ok, done, ok_is}
+use Rattle.cosem_axdr.specs.Forms.{array_of, double_long_unsigned_of, enumerated_of}
+use Rattle.cosem_axdr.specs.declared.value.Data.{Data}
+use Rattle.script_steps.specs.Ranges.{IsStepInRange, AreStepsInRange, AreScriptsInRange}
+use Rattle.script_steps.specs.Forms.{step_parts_of}
+use Rattle.script_steps.proofs.Tables.{judged_parts}
+use Rattle.script_steps.proofs.Within.{Within, AllWithin, array_within, number_within, parameter_within, steps_within}
+use Rattle.disconnect_control.specs.Transitions.{mode_of}
+use Rattle.script_steps.specs.Addresses.{action_at}
+use Rattle.script_steps.specs.Reading.{max_scripts, max_steps, number_of, profile_of, method_parameter_of, told, are_distinct, step_with, step_of, values, judged_script, script_of, judged_scripts, table_of}
+use Rattle.script_steps.specs.declared.action.Action.{Action}
+use Rattle.script_steps.specs.declared.action.Action.TheVariants as action
+use Rattle.script_steps.specs.declared.fault.ScriptFault.{ScriptFault}
+use Rattle.script_steps.specs.declared.fault.ScriptFault.TheVariants.{Unmatched, Value}
+use Rattle.script_steps.specs.declared.step.Script.{Script}
+use Rattle.script_steps.specs.declared.step.Step.{Step}
+use Rattle.script_steps.specs.declared.step.Step.TheVariants as step
+
+pub read_some : {A F : Type 0} (o : Option A) (fault : F) (x : A) → ok_or o fault ≡ Ok x → o ≡ Some x
+read_some None fault x e = absurd cc
+read_some (Some y) fault x e = cc
+
+-- a number that becomes a duration
+seconds_of : (parameter : Data) (make : ℕ → Step) (s : Step) → Within parameter → ((n : ℕ) → n < 4294967296 → IsStepInRange (make n))
+    → (number_of parameter >>= λ n. done ScriptFault (make n)) ≡ Ok s → IsStepInRange s
+seconds_of parameter make s within small e =
+    let found = bind_ok (number_of parameter) (λ n. done ScriptFault (make n)) s e in
+    let number = read_some (double_long_unsigned_of parameter) Unmatched found.0 found.1 in
+    subst IsStepInRange (ok_is {F = ScriptFault} (make found.0) s found.2) (small found.0 (number_within parameter found.0 within number))
+
+-- a number or a profile that becomes no duration
+no_seconds : {A : Type 0} (read : Result A ScriptFault) (make : A → Step) (s : Step) → ((x : A) → IsStepInRange (make x))
+    → (read >>= λ x. done ScriptFault (make x)) ≡ Ok s → IsStepInRange s
+no_seconds read make s none e =
+    let found = bind_ok read (λ x. done ScriptFault (make x)) s e in
+    subst IsStepInRange (ok_is {F = ScriptFault} (make found.0) s found.2) (none found.0)
+
+with_in_range : (a : Action) (parameter : Data) (s : Step) → Within parameter → step_with a parameter ≡ Ok s → IsStepInRange s
+unfolding step_with
+with_in_range action.Mode parameter s within e =
+    let number = bind_ok (ok_or (enumerated_of parameter) Unmatched) _ s e in
+    no_seconds (ok_or (mode_of number.0) Value) (λ mode. step.WriteMode mode) s (λ mode. tt) number.2
+with_in_range (action.Normal which) parameter s within e = no_seconds (number_of parameter) (λ n. step.WriteNormal which n) s (λ n. tt) e
+with_in_range (action.Emergency which) parameter s within e = no_seconds (number_of parameter) (λ n. step.WriteEmergency which n) s (λ n. tt) e
+with_in_range (action.MinOver which) parameter s within e = seconds_of parameter (λ n. step.WriteMinOver which n) s within (λ n small. small) e
+with_in_range (action.MinUnder which) parameter s within e = seconds_of parameter (λ n. step.WriteMinUnder which n) s within (λ n small. small) e
+with_in_range (action.Profile which) parameter s within e = no_seconds (profile_of parameter) (λ p. step.WriteProfile which p) s (λ p. tt) e
+with_in_range action.Disconnect parameter s within e = no_seconds (method_parameter_of parameter) (λ u. step.Disconnect) s (λ u. tt) e
+with_in_range action.Reconnect parameter s within e = no_seconds (method_parameter_of parameter) (λ u. step.Reconnect) s (λ u. tt) e
+
+step_in_range : (value : Data) (s : Step) → Within value → step_of value ≡ Ok s → IsStepInRange s
+unfolding step_of
+step_in_range value s within e =
+    let parts = bind_ok (ok_or (step_parts_of value) Unmatched) (λ p. ok_or (action_at p.0) Value >>= λ a. step_with a p.1) s e in
+    let known = read_some (step_parts_of value) Unmatched parts.0 parts.1 in
+    let acts = bind_ok (ok_or (action_at parts.0.0) Value) (λ a. step_with a parts.0.1) s parts.2 in
+    with_in_range acts.0 parts.0.1 s (parameter_within value parts.0 within known) acts.2
+
+-- the steps of several, those with a fault left out
+one_step : (r : Result Step ScriptFault) (others : List Step) → ((s : Step) → r ≡ Ok s → IsStepInRange s) → AreStepsInRange others → AreStepsInRange (cons_option (result_ok r) others)
+one_step (Ok s) others first rest = (first s refl, rest)
+one_step (Err fault) others first rest = rest
+
+steps_in_range : (items : List Data) → AllWithin items → AreStepsInRange (values step_of items)
+steps_in_range [] within = tt
+steps_in_range (item ∷ items) within =
+    one_step (step_of item) (values step_of items) (λ s e. step_in_range item s within.0 e) (steps_in_range items within.1)
+
+-- ---- a script
+
+script_in_range : (value : Data) (script : Script) → Within value → script_of value ≡ Ok script → AreStepsInRange script.steps
+unfolding script_of
+script_in_range value script within e =
+    let b = bind_ok (judged_script value) (λ parts. done ScriptFault (record { identifier = parts.0; steps = values step_of parts.1 })) script e in
+    let same = ok_is {F = ScriptFault} (record { identifier = b.0.0; steps = values step_of b.0.1 }) script b.2 in
+    let items = steps_within value b.0 within (judged_parts value b.0 b.1) in
+    subst (λ (s : Script). AreStepsInRange s.steps) same (steps_in_range b.0.1 items)
+
+one_script : (r : Result Script ScriptFault) (others : List Script) → ((s : Script) → r ≡ Ok s → AreStepsInRange s.steps) → AreScriptsInRange others
+    → AreScriptsInRange (cons_option (result_ok r) others)
+one_script (Ok s) others first rest = (first s refl, rest)
+one_script (Err fault) others first rest = rest
+
+scripts_in_range : (items : List Data) → AllWithin items → AreScriptsInRange (values script_of items)
+scripts_in_range [] within = tt
+scripts_in_range (item ∷ items) within =
+    one_script (script_of item) (values script_of items) (λ s e. script_in_range item s within.0 e) (scripts_in_range items within.1)
+
+-- the scripts of a table that is read
+pub table_in_range : (value : Data) (scripts : List Script) → Within value → table_of value ≡ Ok scripts → AreScriptsInRange scripts
+unfolding table_of
+table_in_range value scripts within e =
+    let items = bind_ok (ok_or (array_of value) Unmatched) (λ items. judged_scripts items >> done ScriptFault (values script_of items)) scripts e in
+    let known = read_some (array_of value) Unmatched items.0 items.1 in
+    let judged = bind_ok (judged_scripts items.0) (λ _. done ScriptFault (values script_of items.0)) scripts items.2 in
+    subst AreScriptsInRange (ok_is {F = ScriptFault} (values script_of items.0) scripts judged.2) (scripts_in_range items.0 (array_within value items.0 within known))

@@ -1,0 +1,18 @@
+-- Durations of 32 bits in the steps of scripts.
+use Rattle.std.specs.Prelude.{◌<◌, List, [], ◌∷◌}
+use Rattle.script_steps.specs.declared.step.Script.{Script}
+use Rattle.script_steps.specs.declared.step.Step.{Step}
+use Rattle.script_steps.specs.declared.step.Step.TheVariants.{WriteMinOver, WriteMinUnder}
+
+abbrev pub IsStepInRange : Step → Type 0
+IsStepInRange (WriteMinOver which seconds) = seconds < 4294967296
+IsStepInRange (WriteMinUnder which seconds) = seconds < 4294967296
+IsStepInRange _ = Unit {0}
+
+abbrev pub AreStepsInRange : List Step → Type 0
+AreStepsInRange [] = Unit {0}
+AreStepsInRange (step ∷ steps) = IsStepInRange step × AreStepsInRange steps
+
+abbrev pub AreScriptsInRange : List Script → Type 0
+AreScriptsInRange [] = Unit {0}
+AreScriptsInRange (script ∷ scripts) = AreStepsInRange script.steps × AreScriptsInRange scripts
