@@ -1,6 +1,32 @@
+ghost use Rattle.std.specs.Prelude.{◌≡◌};
+ghost use Rattle.byte_streams.specs.declared.fault.InputFault.TheVariants as input_fault;
+
+use std::alloc::AllocError;
 use thiserror::Error;
 
 /// A stream failed: it gave no bytes, or took not all of them.
 #[derive(Clone, Copy, Debug, PartialEq, Eq, Error)]
 #[error("the stream failed")]
 pub struct StreamFault;
+
+/// Why bytes were not read to their end.
+#[derive(Clone, Copy, Debug, PartialEq, Eq, Error)]
+pub enum InputFault {
+    /// There are more bytes than the limit.
+    #[error("more bytes than the limit")]
+    TooLong = 1,
+    /// A read failed.
+    #[error("a read failed")]
+    Read = 2,
+    /// Memory ran out.
+    #[error("no memory")]
+    Memory = 3,
+}
+
+impl From<AllocError> for InputFault {
+    ghost from_gives = { λ _ fault. fault ≡ input_fault.Memory };
+
+    fn from(_error: AllocError) -> InputFault {
+        InputFault::Memory
+    }
+}

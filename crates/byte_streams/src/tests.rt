@@ -1,4 +1,5 @@
 use super::*;
+use std::alloc::Global;
 use std::io;
 use std::io::{ErrorKind, Read, Write};
 use std::test::Fail;
@@ -110,4 +111,42 @@ fn a_write_that_fails_is_told(rt: HostRuntime) -> Result<(), Fail> {
     assert!(rt; writer.has_failed());
     assert_eq!(rt; writer.into_inner().calls, 3);
     Ok(())
+}
+
+// What is read of five bytes within a limit, or the fault.
+fn read_five(alloc: Global, limit: usize) -> Result<Vec<u8>, InputFault> {
+    let bytes: &[u8] = &[1, 2, 3, 4, 5];
+    let mut reader = Counted::new(bytes);
+    read_to_end_within(alloc, &mut reader, limit)
+}
+
+// What is read of a stream that fails at its third call within 100 bytes, or the fault.
+fn read_failing(alloc: Global) -> Result<Vec<u8>, InputFault> {
+    let mut reader = Counted::new(Scripted::new(3, ErrorKind::ConnectionReset));
+    read_to_end_within(alloc, &mut reader, 100)
+}
+
+// How many bytes are read of this many, in several pieces.
+fn read_many(alloc: Global, count: usize) -> Result<usize, Fail> {
+    let bytes = Vec::from_elem(alloc, 7u8, count)?;
+    let mut reader = Counted::new(bytes.as_slice());
+    Ok(read_to_end_within(alloc, &mut reader, 10_000)?.len())
+}
+
+#[test]
+fn bytes_are_read_to_their_end(rt: HostRuntime) -> Result<(), Fail> {
+    let alloc = rt.alloc();
+    assert_eq!(rt; read_five(alloc, 5)?.as_slice(), [1, 2, 3, 4, 5].as_slice());
+    assert_eq!(rt; read_many(alloc, 3_000)?, 3_000);
+    Ok(())
+}
+
+#[test]
+fn a_byte_too_many_is_told(rt: HostRuntime) {
+    assert!(rt; matches!(read_five(rt.alloc(), 4), Err(InputFault::TooLong)));
+}
+
+#[test]
+fn a_read_that_fails_ends_the_input(rt: HostRuntime) {
+    assert!(rt; matches!(read_failing(rt.alloc()), Err(InputFault::Read)));
 }

@@ -1,10 +1,10 @@
 -- A session whose bytes are written in hexadecimal.
-use Rattle.std.proofs.Common.{◌≡◌, ℕ, Option, List, [], ◌∷◌, ◌++◌, Result, Ok, Err, IfErr, IsErrAnd, refl, sym, ap₂, subst, inl, append-nil}
+use Rattle.std.proofs.Common.{◌≡◌, ℕ, Option, List, [], ◌∷◌, Result, Ok, Err, IsErrAnd, refl, sym, ap₂, subst, inl, append-nil}
 use Rattle.std.specs.List.{flat_map}
-use Rattle.std.specs.Io.KnownBytes.{Appends, Consumes}
-use Rattle.std.proofs.KnownBytes.{Appends-nil, Consumes-trans}
+use Rattle.std.specs.Io.KnownBytes.{Appends}
+use Rattle.std.proofs.KnownBytes.{Appends-nil}
 use Rattle.meter_server.proofs.Reaching.{reached_new, reached_fed, does_all_on, stops_on}
-use Rattle.meter_server.specs.Hexadecimal.{hex_line, replies_of, hex_output, Played, RunsShort, StopsReading}
+use Rattle.meter_server.specs.Hexadecimal.{hex_line, replies_of, hex_output, Played, RunsShort}
 use Rattle.meter_server.specs.Meters.{Replied, CoreSteps}
 use Rattle.meter_server.specs.Served.{DoesAll, StopsShort, Stops, IsUsedUp}
 use Rattle.meter_server.specs.Settling.{Reached}
@@ -83,12 +83,3 @@ played_none device password input written failed (Err f) is =
 pub never_used_up : (asks : List Event) (sends : List Reply → List (List ℕ)) (core core' : RelayCore) (written written' : Option (List ℕ))
     → IsUsedUp CoreSteps hex_line asks sends core written core' written' → ⊥
 never_used_up asks sends core core' written written' used = used.refused.refused
-
--- memory ran out while a text was read
-pub unread_memory : {X : Type 0} (left left1 left' : Option (List ℕ)) (failed failed' : ℕ) (text piece : List ℕ) (result : Result X HexFault)
-    → Consumes left left1 text → Consumes left1 left' piece → IsErrAnd result (λ f. f ≡ hex_fault.Memory)
-    → IfErr result (λ f. StopsReading left failed f left' failed')
-unread_memory left left1 left' failed failed' text piece (Ok x) before now is = tt
-unread_memory left left1 left' failed failed' text piece (Err f) before now is =
-    subst (λ (g : HexFault). StopsReading left failed g left' failed') (sym is)
-    (record { text = text ++ piece; read = Consumes-trans left left1 left' text piece before now; cause = tt })

@@ -3,18 +3,12 @@ ghost use Rattle.std.specs.Io.KnownBytes.{Consumes, IsAtEnd};
 ghost use Rattle.meter_server.specs.Hexadecimal.{IsHex, IsUndecoded, StopsReading, is_blank, most_characters};
 
 use crate::fault::HexFault;
-use byte_streams::Reader;
+use byte_streams::{InputFault, Reader, read_to_end_within};
 use hex::FromHexError;
 use std::alloc::Global;
 
-/// A text is read in pieces of at most so many characters.
-const MAX_PIECE: usize = 1_024;
-
 /// A text has at most so many characters.
 const MOST_CHARACTERS: usize = 1_048_576;
-
-/// Each read of a text gives a character at least, so that so many reads are enough.
-const MOST_PIECES: usize = MOST_CHARACTERS + 1;
 
 /// All characters of a text.
 pub(crate) fn read_text<R: Reader>(alloc: Global, reader: &mut R) -> Result<Vec<u8>, HexFault>
@@ -24,22 +18,12 @@ pub(crate) fn read_text<R: Reader>(alloc: Global, reader: &mut R) -> Result<Vec<
     ensures within { IfOk result (λ text. length text.items ≤ most_characters) }
     ensures err { IfErr result (λ fault. StopsReading (R.remaining reader.old) (R.failures reader.old) fault (R.remaining reader.new) (R.failures reader.new)) }
 {
-    let mut text = Vec::new(alloc);
-    let mut buffer = [0; MAX_PIECE];
-    'pieces: for _ in 0..MOST_PIECES {
-        let count = match reader.read(&mut buffer) {
-            Ok(count) => count,
-            Err(_) => return Err(HexFault::Read),
-        };
-        if count == 0 {
-            return Ok(text);
-        }
-        text.extend_from_slice(&buffer[..count])?;
-        if text.len() > MOST_CHARACTERS {
-            return Err(HexFault::TooLong);
-        }
+    match read_to_end_within(alloc, reader, MOST_CHARACTERS) {
+        Ok(text) => Ok(text),
+        Err(InputFault::TooLong) => Err(HexFault::TooLong),
+        Err(InputFault::Read) => Err(HexFault::Read),
+        Err(InputFault::Memory) => Err(HexFault::Memory),
     }
-    unreachable!()
 }
 
 /// Whether a character is passed over: a blank or a part of a line end.

@@ -1,0 +1,14 @@
+-- The bytes are what was read, and each read gave a byte at least.
+use Rattle.std.proofs.Common.{◌≡◌, ◌≤◌, length}
+use Rattle.std.specs.Io.KnownBytes.{Consumes}
+use Rattle.byte_streams.proofs.input.read_to_end_within.Given as goal
+
+abbrev pub invariant-pieces : goal.invariant-pieces
+invariant-pieces g l = record {
+  read : Consumes (g.R.Reader.remaining l.initial.reader) (g.R.Reader.remaining l.reader) l.bytes.items;
+  enough : l.counter ≤ length l.bytes.items;
+  within : length l.bytes.items ≤ l.limit;
+  readable : g.R.Reader.can_read l.reader;
+  even : g.R.Reader.failures l.reader ≡ g.R.Reader.failures l.initial.reader;
+  room : length l.buffer ≡ length l.initial.buffer;
+}
