@@ -114,10 +114,10 @@ fn a_write_that_fails_is_told(rt: HostRuntime) -> Result<(), Fail> {
 }
 
 // What is read of five bytes within a limit, or the fault.
-fn read_five(alloc: Global, limit: usize) -> Result<Vec<u8>, InputFault> {
+fn read_five(alloc: Global, limit: u16) -> Result<Vec<u8>, InputFault> {
     let bytes: &[u8] = &[1, 2, 3, 4, 5];
     let mut reader = Counted::new(bytes);
-    read_to_end_within(alloc, &mut reader, limit)
+    read_to_end_within(alloc, &mut reader, usize::from(limit))
 }
 
 // What is read of a stream that fails at its third call within 100 bytes, or the fault.

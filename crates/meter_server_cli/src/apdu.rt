@@ -1,7 +1,7 @@
-use crate::fault::Fault;
 use cosem_axdr::Octets;
 use hex::FromHexError;
 use meter_server::answer_apdu;
+use program_fault::Fault;
 use relay_core::RelayCore;
 use std::alloc::Global;
 use std::io::{ErrorKind, Read, Write};

@@ -1,10 +1,10 @@
 ghost use Rattle.std.specs.Prelude.{◌≤◌, length, IfOk};
 
-use crate::fault::Fault;
 use byte_streams::Counted;
 use clap::ArgMatches;
 use cosem_axdr::Octets;
 use meter_server::{HexFault, run_hex};
+use program_fault::Fault;
 use std::alloc::Global;
 use std::io::{Read, Write};
 

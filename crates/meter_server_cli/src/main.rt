@@ -4,12 +4,11 @@
 #![tactic(auto)]
 
 mod apdu;
-mod fault;
 mod hex_session;
 
-use crate::fault::Fault;
 use clap::error::ErrorKind;
 use clap::{Arg, ArgAction, ArgMatches, Command};
+use program_fault::Fault;
 use std::alloc::{AllocError, Global};
 use std::env;
 use std::process::ExitCode;

@@ -1,0 +1,13 @@
+pub mod Blanks
+pub mod EventLaws
+pub mod EventRows
+pub mod OpeningDates
+pub mod OpeningFieldLaws
+pub mod OpeningIsRows
+pub mod OpeningLaws
+pub mod OpeningLemmas
+pub mod OpeningTables
+pub mod OpeningText
+pub mod PlaceLemmas
+pub mod Steps
+pub mod TextBytes

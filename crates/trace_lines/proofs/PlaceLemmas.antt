@@ -1,0 +1,65 @@
+-- The lines of a text, taken one after the other.
+use Rattle.std.proofs.Common.{◌≡◌, ℕ, suc, ◌+◌, ◌<◌, ◌≤◌, ◌^◌, List, [], ◌∷◌, ◌++◌, length, Ok, Err, refl, sym, ap, ◌∙◌, arith, length-append}
+use Rattle.trace_text.specs.Lines.{rows_of, rows_text, unended_of, lines_of}
+use Rattle.trace_text.specs.Words.{line_of, words_of}
+use Rattle.trace_text.proofs.LinesLemmas.{rows_text-cons, rows_text-nil, rows_text-rows_of, rows_of-taken, rows_of-none, lines_of-nil, unended_of-nil}
+use Rattle.trace_lines.specs.Places.{Place, nothing_left, ended_at}
+use Rattle.trace_lines.specs.Rows.{Row}
+use Rattle.trace_lines.specs.declared.fault.TraceFault.TheVariants.{Line}
+
+-- each line takes a byte or more
+rows_are_few : (rows : List Row) → length rows ≤ length (rows_text rows)
+rows_are_few [] = omega arith
+rows_are_few (row ∷ rows) =
+    let h : rows_text (row ∷ rows) ≡ line_of row ++ 10 ∷ rows_text rows = rows_text-cons row rows in
+    let l : length (line_of row ++ 10 ∷ rows_text rows) ≡ length (line_of row) + length (10 ∷ rows_text rows) = length-append (line_of row) (10 ∷ rows_text rows) in
+    let others = rows_are_few rows in
+    rw h (omega (arith, l, others))
+
+-- a text has no more lines than bytes
+pub few_rows : (text : List ℕ) → length (rows_of text) ≤ length text
+few_rows text =
+    let h : length (rows_text (rows_of text) ++ unended_of text) ≡ length text = ap (λ (bytes : List ℕ). length bytes) (rows_text-rows_of text) in
+    let l : length (rows_text (rows_of text) ++ unended_of text) ≡ length (rows_text (rows_of text)) + length (unended_of text) = length-append (rows_text (rows_of text)) (unended_of text) in
+    let few = rows_are_few (rows_of text) in
+    omega (arith, h, l, few)
+
+pub row_taken : (text line rest : List ℕ) → lines_of text ≡ line ∷ lines_of rest → rows_of text ≡ words_of line ∷ rows_of rest
+row_taken text line rest e = rows_of-taken text line rest e
+
+pub none_taken : (text : List ℕ) → lines_of text ≡ [] → rows_of text ≡ []
+none_taken text e = rows_of-none text e
+
+-- the number of a line that is left has a number behind it
+pub number_goes_on : (number : ℕ) (text line rest : List ℕ) → lines_of text ≡ line ∷ lines_of rest → number + length (rows_of text) < 2 ^ 64 → number + 1 < 2 ^ 64
+number_goes_on number text line rest e room =
+    let l : length (rows_of text) ≡ suc (length (rows_of rest)) = ap (λ (rows : List Row). length rows) (rows_of-taken text line rest e) in
+    omega (arith, l, room)
+
+-- the place of a text that is left
+abbrev pub at : ℕ → List ℕ → Place
+at number text = record { number = number; rows = rows_of text; unended = unended_of text }
+
+-- nothing is left of an empty text
+pub nothing_is_left : (place : Place) (number : ℕ) (text : List ℕ) → place ≡ at number text → text ≡ [] → ended_at {X = Unit {0}} place tt ≡ Ok tt
+unfolding ended_at
+nothing_is_left place number text is e =
+    ap (λ (p : Place). ended_at {X = Unit {0}} p tt) is
+    ∙ ap (λ (bytes : List ℕ). nothing_left {X = Unit {0}} number (rows_of bytes) (unended_of bytes) tt) e
+    ∙ ap (λ (rows : List Row). nothing_left {X = Unit {0}} number rows (unended_of []) tt) (rows_of-none [] lines_of-nil)
+    ∙ ap (λ (bytes : List ℕ). nothing_left {X = Unit {0}} number [] bytes tt) unended_of-nil
+
+-- of another text something is
+pub something_is_left : (place : Place) (number : ℕ) (text : List ℕ) → place ≡ at number text → (text ≡ [] → ⊥) → ended_at {X = Unit {0}} place tt ≡ Err (Line number)
+unfolding ended_at
+something_is_left place number text is some = ap (λ (p : Place). ended_at {X = Unit {0}} p tt) is ∙ by_rows (rows_of text) (unended_of text) (rows_text-rows_of text)
+  where
+    by_rows : (rows : List Row) (unended : List ℕ) → rows_text rows ++ unended ≡ text → nothing_left {X = Unit {0}} number rows unended tt ≡ Err (Line number)
+    by_rows [] [] e = absurd (some (sym e ∙ ap (λ (bytes : List ℕ). bytes ++ []) rows_text-nil))
+    by_rows [] (byte ∷ bytes) e = refl
+    by_rows (row ∷ rows) unended e = refl
+
+-- a text of no bytes
+pub no_bytes : (bytes text : List ℕ) → bytes ≡ text → length bytes ≡ 0 → text ≡ []
+no_bytes bytes [] is e = refl
+no_bytes bytes (byte ∷ others) is e = let l : length bytes ≡ length (byte ∷ others) = ap (λ (b : List ℕ). length b) is in absurd (omega (arith, l, e))

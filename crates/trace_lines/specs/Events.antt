@@ -1,0 +1,86 @@
+-- The event of a line.
+--     get_from .. moment_from      the event that the words behind the first one give
+--     event_of                     the event of a line of words
+use Rattle.std.specs.Prelude.{◌==◌, map, length, Result, Ok, Err}
+use Rattle.byte_reading.specs.Outcome.{◌>>=◌, ◌>>◌, guard}
+use Rattle.lane_sampler.specs.Samples.{values_alone, pairs_of}
+use Rattle.relay_core.specs.declared.event.Event.{Event}
+use Rattle.relay_core.specs.declared.event.Event.TheVariants.{Get, GetList, Set, Execute, Button, Samples, Moment}
+use Rattle.trace_lines.specs.Reading.{number_in, level_in, data_in, parameter_in, next_as, method_at, selection_from, selection_at, value_from, pair_from}
+use Rattle.trace_lines.specs.Rows.{Row, ended, word_at, all_at}
+use Rattle.trace_lines.specs.Verbs.{verb_in}
+use Rattle.trace_lines.specs.declared.fault.RowFault.{RowFault}
+use Rattle.trace_lines.specs.declared.fault.RowFault.TheVariants.{Wrong}
+use Rattle.trace_lines.specs.declared.verb.Verb.{Verb}
+use Rattle.trace_lines.specs.declared.verb.Verb.TheVariants.{OfGet, OfGetList, OfSet, OfExecute, OfButton, OfSamples, OfPairs, OfMoment}
+use Rattle.trace_lines.specs.declared.version.Version.{Version}
+use Rattle.trace_lines.specs.declared.version.Version.TheVariants.{One, Two}
+
+-- level, class, name, number, selected
+unfoldable pub get_from : Row → Result Event RowFault
+get_from words = do
+  level ← next_as level_in words
+  item ← selection_at level.1
+  ended item.1 (Get level.0 item.0.attr item.0.selected)
+
+-- level, how many there are, up to 102, and so many times class, name, number, selected
+unfoldable pub get_list_from : Row → Result Event RowFault
+get_list_from words = do
+  level ← next_as level_in words
+  count ← next_as (number_in 102) level.1
+  items ← all_at selection_from 102 count.1
+  guard (length items == count.0) Wrong
+  Ok (GetList level.0 items)
+
+-- level, class, name, number, selected, value
+unfoldable pub set_from : Row → Result Event RowFault
+set_from words = do
+  level ← next_as level_in words
+  item ← selection_at level.1
+  value ← next_as data_in item.1
+  ended value.1 (Set level.0 item.0.attr item.0.selected value.0)
+
+-- level, class, name, number, parameter
+unfoldable pub execute_from : Row → Result Event RowFault
+execute_from words = do
+  level ← next_as level_in words
+  method ← method_at level.1
+  parameter ← next_as parameter_in method.1
+  ended parameter.1 (Execute level.0 method.0 parameter.0)
+
+-- up to 256 import values
+unfoldable pub samples_from : Row → Result Event RowFault
+samples_from words = do
+  values ← all_at value_from 256 words
+  Ok (Samples (values_alone values))
+
+-- up to 256 times an import and an export value
+unfoldable pub pairs_from : Row → Result Event RowFault
+pairs_from words = do
+  pairs ← all_at pair_from 256 words
+  Ok (Samples (pairs_of (map (λ pair. pair.0) pairs) (map (λ pair. pair.1) pairs)))
+
+-- seconds
+unfoldable pub moment_from : Row → Result Event RowFault
+moment_from words = do
+  now ← next_as (number_in 4294967295) words
+  ended now.1 (Moment now.0)
+
+-- the event of this kind; there are no pairs in version 1
+unfoldable pub event_from : Version → Verb → Row → Result Event RowFault
+event_from version OfGet words = get_from words
+event_from version OfGetList words = get_list_from words
+event_from version OfSet words = set_from words
+event_from version OfExecute words = execute_from words
+event_from version OfButton words = ended words Button
+event_from version OfSamples words = samples_from words
+event_from One OfPairs words = Err Wrong
+event_from Two OfPairs words = pairs_from words
+event_from version OfMoment words = moment_from words
+
+-- the event of a line of words
+unfoldable pub event_of : Version → Row → Result Event RowFault
+event_of version row = do
+  first ← word_at row
+  verb ← verb_in first.0
+  event_from version verb first.1

@@ -1,0 +1,68 @@
+-- The openings that can be written, so that their lines are read again: numbers of the ranges of their types.
+--     AreIds               group ids of 16 bits
+--     IsTracedLimiter      a limiter of such numbers
+--     IsTracedSchedule     a schedule of such numbers
+--     IsTracedScript       a script of such numbers
+--     IsWritable           an opening of such parts that a core can have
+use Rattle.std.specs.Prelude.{ℕ, ◌≤◌, List, [], ◌∷◌, IfSome}
+use Rattle.std.specs.List.{All}
+use Rattle.hex.specs.Hex.{IsBytes}
+use Rattle.action_schedule.specs.Schedule.{Schedule, AreEntries}
+use Rattle.cosem_datetime.specs.Fields.{IsDateTimeFields}
+use Rattle.relay_core.specs.Opening.{IsFitOpening}
+use Rattle.relay_core.specs.declared.opening.LimiterOpening.{LimiterOpening}
+use Rattle.relay_core.specs.declared.opening.Opening.{Opening}
+use Rattle.script_steps.specs.Table.{IsTable}
+use Rattle.script_steps.specs.declared.step.Script.{Script}
+use Rattle.script_steps.specs.declared.step.Step.{Step}
+use Rattle.script_steps.specs.declared.step.Step.TheVariants.{WriteNormal, WriteEmergency, WriteProfile}
+
+-- group ids of 16 bits
+abbrev pub AreIds : List ℕ → Type 0
+AreIds [] = Unit {0}
+AreIds (id ∷ ids) = (id ≤ 65535) × AreIds ids
+
+-- watts and seconds of 32 bits, ids and selectors of 16 bits, and a start with fields in their ranges
+pub record IsTracedLimiter (o : LimiterOpening) : Type 0 where
+  pub value : o.value ≤ 4294967295
+  pub normal_threshold : o.normal_threshold ≤ 4294967295
+  pub emergency_threshold : o.emergency_threshold ≤ 4294967295
+  pub min_over_duration : o.min_over_duration ≤ 4294967295
+  pub min_under_duration : o.min_under_duration ≤ 4294967295
+  pub profile_id : o.profile.id ≤ 65535
+  pub profile_start : IsDateTimeFields o.profile.start
+  pub profile_duration : o.profile.duration ≤ 4294967295
+  pub groups : AreIds o.groups
+  pub over_selector : o.actions.over ≤ 65535
+  pub under_selector : o.actions.under ≤ 65535
+
+-- a selector of 16 bits, and entries that a schedule can have
+pub record IsTracedSchedule (schedule : Schedule) : Type 0 where
+  pub selector : schedule.selector ≤ 65535
+  pub entries : AreEntries schedule.entries
+
+-- watts of 32 bits, and a profile's id of 16 bits and seconds of 32 bits; what else a step holds is so in each table
+abbrev pub IsTracedStep : Step → Type 0
+IsTracedStep (WriteNormal which watts) = watts ≤ 4294967295
+IsTracedStep (WriteEmergency which watts) = watts ≤ 4294967295
+IsTracedStep (WriteProfile which profile) = (profile.id ≤ 65535) × (profile.duration ≤ 4294967295)
+IsTracedStep _ = Unit {0}
+
+-- an identifier of 16 bits, and such steps
+pub record IsTracedScript (script : Script) : Type 0 where
+  pub identifier : script.identifier ≤ 65535
+  pub steps : All IsTracedStep script.steps
+
+-- an opening whose lines are read again
+pub record IsWritable (o : Opening) : Type 0 where
+  pub fit : IsFitOpening o
+  pub device : IsBytes o.device
+  pub moment : IfSome o.moment (λ moment. moment ≤ 4294967295)
+  pub import : IsTracedLimiter o.import
+  pub export : IsTracedLimiter o.export
+  pub scripts : IsTable o.scripts
+  pub script_numbers : All IsTracedScript o.scripts
+  pub first : IsTracedSchedule o.schedules.first
+  pub second : IsTracedSchedule o.schedules.second
+  pub third : IsTracedSchedule o.schedules.third
+  pub fourth : IsTracedSchedule o.schedules.fourth

@@ -1,0 +1,48 @@
+-- The events that a trace can hold: of the ranges of their types, and within the limits of a line.
+--     IsNamed      a class of 16 bits, a name of six bytes, a number of 8 bits
+--     IsHeld       a Data that fits the limits of its text
+--     IsTraced     an event whose line is read again
+use Rattle.std.specs.Prelude.{◌≡◌, ℕ, ◌≤◌, List, [], ◌∷◌, length, Option, Some, None, IfSome}
+use Rattle.hex.specs.Hex.{IsBytes}
+use Rattle.cosem_axdr.specs.Spelling.{IsFit}
+use Rattle.cosem_axdr.specs.View.{tree_of}
+use Rattle.cosem_axdr.specs.declared.value.Data.{Data}
+use Rattle.cosem_names.specs.declared.service.AttributeSelection.{AttributeSelection}
+use Rattle.relay_core.specs.declared.event.Event.{Event}
+use Rattle.relay_core.specs.declared.event.Event.TheVariants.{Get, GetList, Set, Execute, Button, Samples, Moment}
+
+-- a class of 16 bits, a name of six bytes, a number of 8 bits
+pub record IsNamed (class : ℕ) (name : List ℕ) (number : ℕ) : Type 0 where
+  pub class_fits : class ≤ 65535
+  pub name_fits : length name ≡ 6
+  pub name_bytes : IsBytes name
+  pub number_fits : number ≤ 255
+
+-- each of the attributes
+abbrev pub AreNamed : List AttributeSelection → Type 0
+AreNamed [] = Unit {0}
+AreNamed (item ∷ items) = IsNamed item.attr.class.0 item.attr.name.0 item.attr.number × AreNamed items
+
+-- a Data that fits the limits of a reader, so that its text is read again
+pub record IsHeld (value : Data) : Type 0 where
+  pub fits : IsFit (tree_of value)
+
+-- samples of 32 bits
+abbrev pub AreSamples : List ℕ → Type 0
+AreSamples [] = Unit {0}
+AreSamples (value ∷ values) = (value ≤ 4294967295) × AreSamples values
+
+-- samples, as many of export as of import
+abbrev pub AreExports : List ℕ → Option (List ℕ) → Type 0
+AreExports imports None = Unit {0}
+AreExports imports (Some exports) = (length imports ≡ length exports) × AreSamples exports
+
+-- an event whose line is read again
+abbrev pub IsTraced : Event → Type 0
+IsTraced (Get level attr selected) = IsNamed attr.class.0 attr.name.0 attr.number
+IsTraced (GetList level items) = (length items ≤ 102) × AreNamed items
+IsTraced (Set level attr selected value) = IsNamed attr.class.0 attr.name.0 attr.number × IsHeld value
+IsTraced (Execute level method parameter) = IsNamed method.class.0 method.name.0 method.number × IfSome parameter IsHeld
+IsTraced Button = Unit {0}
+IsTraced (Samples block) = (length block.import ≤ 256) × AreSamples block.import × AreExports block.import block.export
+IsTraced (Moment now) = now ≤ 4294967295

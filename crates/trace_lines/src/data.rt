@@ -1,0 +1,40 @@
+ghost use Rattle.std.specs.Prelude.{◌≡◌};
+ghost use Rattle.byte_reading.specs.Outcome.{Gives};
+ghost use Rattle.std.specs.Cmp.Lexicographic.{pointwise};
+ghost use Rattle.std.specs.Prelude.{nat_eq, IfOk};
+ghost use Rattle.cosem_axdr.specs.Spelling.{text};
+ghost use Rattle.cosem_axdr.specs.View.{tree_of};
+ghost use Rattle.trace_lines.specs.Reading.{data_in};
+ghost use Rattle.trace_lines.specs.declared.fault.RowFault.TheVariants.{Memory};
+
+use crate::fault::RowFault;
+use crate::words::bytes;
+use cosem_axdr::{Data, DataFault, Octets, read, write};
+use std::alloc::{AllocError, Global};
+
+/// Whether bytes are the spelling that is written for a value.
+fn is_written(alloc: Global, value: &Data, bytes: &[u8]) -> Result<bool, AllocError>
+    ensures { IfOk result (λ is. is ≡ pointwise nat_eq (text (tree_of value.now)) bytes.now) }
+{
+    let mut text = Octets::new(alloc);
+    write(alloc, value, &mut text)?;
+    Ok(text.as_slice() == bytes)
+}
+
+/// A Data in hexadecimal.
+#[tactic(auto, unfolding(crate::specs::Reading::data_in))]
+pub(crate) fn data(alloc: Global, word: &[u8]) -> Result<Data, RowFault>
+    ensures { Gives Memory (λ value. value) result (data_in word.now) }
+{
+    let bytes = bytes(alloc, word)?;
+    let value = match read(alloc, bytes.as_slice()) {
+        Ok((value, _)) => value,
+        Err(DataFault::Memory) => return Err(RowFault::Memory),
+        Err(_) => return Err(RowFault::Wrong),
+    };
+    if is_written(alloc, &value, bytes.as_slice())? {
+        Ok(value)
+    } else {
+        Err(RowFault::Wrong)
+    }
+}

@@ -1,0 +1,105 @@
+ghost use Rattle.std.specs.Prelude.{◌≡◌, ◌++◌, OnOk, OnErr};
+ghost use Rattle.trace_text.specs.Words.{line_of};
+ghost use Rattle.trace_lines.specs.Writing.{blanked, kind_of, event_words, event_row, samples_kind, samples_words};
+
+use crate::verb::Verb;
+use crate::writing::{
+    add_attribute, add_data, add_flag, add_level, add_method, add_pairs, add_parameter,
+    add_selections, add_values,
+};
+use lane_sampler::Block;
+use relay_core::Event;
+use std::alloc::{AllocError, Global};
+use trace_text::add_number;
+
+/// The kind of a block's line.
+fn samples_kind(block: &Block) -> Verb
+    ensures { result ≡ samples_kind block.now.export }
+{
+    match block.export() {
+        Some(_) => Verb::OfPairs,
+        None => Verb::OfSamples,
+    }
+}
+
+/// The kind of an event's line.
+fn kind_of(event: &Event) -> Verb
+    ensures { result ≡ kind_of event.now }
+{
+    match event {
+        Event::Get { .. } => Verb::OfGet,
+        Event::GetList { .. } => Verb::OfGetList,
+        Event::Set { .. } => Verb::OfSet,
+        Event::Execute { .. } => Verb::OfExecute,
+        Event::Button => Verb::OfButton,
+        Event::Samples(block) => samples_kind(block),
+        Event::Moment(_) => Verb::OfMoment,
+    }
+}
+
+/// Adds the samples of a block.
+fn add_block(out: &mut Vec<u8>, block: &Block) -> Result<(), AllocError>
+    ensures { OnOk result (out.new.items ≡ out.old.items ++ blanked (samples_words block.now.import block.now.export)) }
+{
+    match block.export() {
+        Some(exports) => add_pairs(out, block.values(), exports),
+        None => add_values(out, block.values()),
+    }
+}
+
+/// Adds the words behind the first one.
+#[tactic(auto, unfolding(crate::specs::Writing::event_words))]
+fn add_words(alloc: Global, out: &mut Vec<u8>, event: &Event) -> Result<(), AllocError>
+    ensures { OnOk result (out.new.items ≡ out.old.items ++ blanked (event_words event.now)) }
+{
+    match event {
+        Event::Get {
+            level,
+            attr,
+            selected,
+        } => {
+            add_level(out, *level)?;
+            add_attribute(alloc, out, attr)?;
+            add_flag(out, *selected)
+        }
+        Event::GetList { level, items } => {
+            add_level(out, *level)?;
+            add_number(out, items.len() as u64)?;
+            add_selections(alloc, out, items.as_slice())
+        }
+        Event::Set {
+            level,
+            attr,
+            selected,
+            value,
+        } => {
+            add_level(out, *level)?;
+            add_attribute(alloc, out, attr)?;
+            add_flag(out, *selected)?;
+            add_data(alloc, out, value)
+        }
+        Event::Execute {
+            level,
+            method,
+            parameter,
+        } => {
+            add_level(out, *level)?;
+            add_method(alloc, out, method)?;
+            add_parameter(alloc, out, parameter)
+        }
+        Event::Button => Ok(()),
+        Event::Samples(block) => add_block(out, block),
+        Event::Moment(now) => add_number(out, u64::from(*now)),
+    }
+}
+
+/// Writes the line of an event behind what is there, without the byte 0A that ends it. Where memory runs out nothing is written.
+#[tactic(auto, using(crate::proofs::Blanks::line_of_first))]
+pub fn write_event(alloc: Global, out: &mut Vec<u8>, event: &Event) -> Result<(), AllocError>
+    ensures ok { OnOk result (out.new.items ≡ out.old.items ++ line_of (event_row event.now)) }
+    ensures err { OnErr result (out.new.items ≡ out.old.items) }
+{
+    let mut line = Vec::from_slice(alloc, kind_of(event).word())?;
+    add_words(alloc, &mut line, event)?;
+    out.extend_from_slice(line.as_slice())
+}

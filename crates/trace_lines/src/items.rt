@@ -1,0 +1,84 @@
+ghost use Rattle.std.specs.Prelude.{◌≡◌};
+ghost use Rattle.byte_reading.specs.Outcome.{Gives};
+ghost use Rattle.trace_lines.specs.Rows.{Reads, all_at};
+ghost use Rattle.trace_lines.specs.Reading.{attribute_from, method_at, selection_from, selection_at};
+ghost use Rattle.trace_lines.specs.declared.fault.RowFault.TheVariants.{Memory};
+
+use crate::fault::RowFault;
+use crate::words::{flag, next_byte, next_long, next_name, next_word, number};
+use cosem_names::{AttrRef, AttributeSelection, ClassId, MethodRef};
+use std::alloc::Global;
+use trace_text::Words;
+
+/// How many items a GET with list has at most.
+pub const MAX_ITEMS: usize = 102;
+
+/// An attribute, its class in the word given: class, name, number.
+fn attribute_from(alloc: Global, word: &[u8], words: &mut Words) -> Result<AttrRef, RowFault>
+    ensures { Reads (λ attr. attr) result words.new (attribute_from word.now words.old) }
+{
+    let class = ClassId(number(word, 65_535)? as u16);
+    let name = next_name(alloc, words)?;
+    let number = next_byte(words)?;
+    Ok(AttrRef {
+        class,
+        name,
+        number,
+    })
+}
+
+/// A method: class, name, number.
+pub(crate) fn next_method(alloc: Global, words: &mut Words) -> Result<MethodRef, RowFault>
+    ensures { Reads (λ method. method) result words.new (method_at words.old) }
+{
+    let class = ClassId(next_long(words)?);
+    let name = next_name(alloc, words)?;
+    let number = next_byte(words)?;
+    Ok(MethodRef {
+        class,
+        name,
+        number,
+    })
+}
+
+/// An attribute and whether a part of it is asked for.
+#[tactic(auto, unfolding(crate::specs::Reading::selection_from))]
+fn selection_from(
+    alloc: Global,
+    word: &[u8],
+    words: &mut Words,
+) -> Result<AttributeSelection, RowFault>
+    ensures { Reads (λ item. item) result words.new (selection_from word.now words.old) }
+{
+    let attr = attribute_from(alloc, word, words)?;
+    let selected = flag(next_word(words)?)?;
+    Ok(AttributeSelection { attr, selected })
+}
+
+/// The same, from the next word on.
+pub(crate) fn next_selection(
+    alloc: Global,
+    words: &mut Words,
+) -> Result<AttributeSelection, RowFault>
+    ensures { Reads (λ item. item) result words.new (selection_at words.old) }
+{
+    let word = next_word(words)?;
+    selection_from(alloc, word, words)
+}
+
+/// Attributes up to the end of the line, at most 102.
+pub(crate) fn selections(
+    alloc: Global,
+    words: &mut Words,
+) -> Result<Vec<AttributeSelection>, RowFault>
+    ensures { Gives Memory (λ items. items.items) result (all_at selection_from MAX_ITEMS words.old) }
+{
+    let mut items = Vec::new(alloc);
+    'items: while let Some(word) = words.next() {
+        if items.len() == MAX_ITEMS {
+            return Err(RowFault::Wrong);
+        }
+        items.push(selection_from(alloc, word, words)?)?;
+    }
+    Ok(items)
+}

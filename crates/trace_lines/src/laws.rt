@@ -1,0 +1,47 @@
+//! What holds of such lines as such: the function is a law, which its contract states and a call of it makes known.
+ghost use Rattle.std.specs.Prelude.{◌≡◌, ℕ, ◌≤◌, suc, List, ◌∷◌, ◌++◌, codes, IsTrue, Ok};
+ghost use Rattle.std.specs.List.{list_all};
+ghost use Rattle.trace_text.specs.Lines.{is_row};
+ghost use Rattle.trace_text.specs.Words.{words_of, line_of};
+ghost use Rattle.relay_core.specs.declared.event.Event.{Event};
+ghost use Rattle.relay_core.specs.declared.opening.Opening.{Opening};
+ghost use Rattle.trace_lines.specs.Events.{event_of};
+ghost use Rattle.trace_lines.specs.OpeningFields.{events_from};
+ghost use Rattle.trace_lines.specs.OpeningReading.{opening_from};
+ghost use Rattle.trace_lines.specs.OpeningRows.{number_row, opening_rows};
+ghost use Rattle.trace_lines.specs.OpeningTraced.{IsWritable};
+ghost use Rattle.trace_lines.specs.Places.{line_as};
+ghost use Rattle.trace_lines.specs.Rows.{Row};
+ghost use Rattle.trace_lines.specs.Traced.{IsTraced};
+ghost use Rattle.trace_lines.specs.Writing.{event_row};
+ghost use Rattle.trace_lines.specs.declared.version.Version.TheVariants.{Two};
+
+use limiter_core::fit_runs_mean;
+
+/// An event that is written is read again, from its words and from its line; and its words are a line's.
+#[tactic(auto, using(crate::proofs::EventLaws::event_again, crate::proofs::EventRows::line_again, crate::proofs::EventRows::event_is_row))]
+pub fn written_event_is_read()
+    ensures again { (event : Event) → IsTraced event → event_of Two (event_row event) ≡ Ok event }
+    ensures line { (event : Event) → IsTraced event → event_of Two (words_of (line_of (event_row event))) ≡ Ok event }
+    ensures row { (event : Event) → IsTraced event → IsTrue (is_row (event_row event)) }
+{}
+
+/// An opening of numbers of their types' ranges that a core can have is read again from the 30 lines that are written for it, whatever stands behind them; and
+/// these are lines of words.
+pub fn written_opening_is_read()
+    ensures again { (opening : Opening) (rows : List Row) (unended : List ℕ) → IsWritable opening
+        → opening_from (record { number = 1; rows = opening_rows opening ++ rows; unended = unended })
+        ≡ Ok ((Two, opening), record { number = 31; rows = rows; unended = unended }) }
+    ensures rows { (opening : Opening) → IsWritable opening → IsTrue (list_all is_row (opening_rows opening)) }
+{
+    fit_runs_mean();
+}
+
+/// How many events there are is read again from the line that is written, which is a line of words.
+#[tactic(auto, using(crate::proofs::OpeningLaws::event_count_again, crate::proofs::OpeningIsRows::event_count_is_row))]
+pub fn written_event_count_is_read()
+    ensures again { (count number : ℕ) (rows : List Row) (unended : List ℕ) → count ≤ 65536
+        → line_as events_from (record { number = number; rows = number_row (codes "events") count ∷ rows; unended = unended })
+        ≡ Ok (count, record { number = suc number; rows = rows; unended = unended }) }
+    ensures row { (count : ℕ) → count ≤ 65536 → IsTrue (is_row (number_row (codes "events") count)) }
+{}

@@ -1,0 +1,81 @@
+ghost use Rattle.std.specs.Prelude.{◌≡◌, Ok};
+ghost use Rattle.trace_lines.specs.Places.{ReadsLines, line_as, told, ended_at, place_of};
+
+use crate::fault::{RowFault, TraceFault};
+use std::marker::Model;
+use trace_text::{Lines, Words};
+
+/// The lines of a trace that are still to be read. Contracts see the words of each line, the number of the first, and what stands behind the last byte 0A.
+#[derive(Drop)]
+pub struct TraceLines<'a> {
+    lines: Lines<'a>,
+    number: u64,
+}
+
+impl<'a> Model for TraceLines<'a> {
+    ghost use Rattle.std.specs.Prelude.{◌+◌, ◌<◌, ◌^◌, length};
+    ghost use Rattle.trace_text.specs.Lines.{rows_of, unended_of};
+    ghost use Rattle.trace_lines.specs.Places.{Place};
+
+    ghost Value = { Place };
+
+    ghost view = { λ l. record { number = l.number; rows = rows_of l.lines; unended = unended_of l.lines } };
+
+    ghost invariant = { λ l. l.number + length (rows_of l.lines) < 2 ^ 64 };
+}
+
+impl<'a> TraceLines<'a> {
+    /// All lines of a text, which are counted from 1.
+    #[tactic(auto, using(crate::proofs::PlaceLemmas::few_rows))]
+    pub fn new(text: &'a [u8]) -> Self
+        ensures { result ≡ place_of text.now }
+    {
+        TraceLines {
+            lines: Lines::new(text),
+            number: 1,
+        }
+    }
+
+    /// The number of the next line.
+    pub(crate) fn number(&self) -> u64
+        ensures { result ≡ self.now.number }
+    {
+        self.number
+    }
+
+    /// The words of the next line. Errors: `Line` where no line is left, or the last is not ended.
+    #[tactic(auto, unfolding(crate::specs::Places::line_as), using(crate::proofs::PlaceLemmas::row_taken, crate::proofs::PlaceLemmas::none_taken))]
+    pub(crate) fn next_words(&mut self) -> Result<Words<'a>, TraceFault>
+        ensures { ReadsLines (λ words. words) result self.new (line_as (λ row. Ok row) self.old) }
+    {
+        match self.lines.next() {
+            Some(line) => {
+                self.number += 1;
+                Ok(Words::new(line))
+            }
+            None => Err(TraceFault::Line(self.number)),
+        }
+    }
+
+    /// Whether nothing is left. Errors: `Line` where a line is left, ended or not.
+    pub fn end(&self) -> Result<(), TraceFault>
+        ensures { result ≡ ended_at self.now tt }
+    {
+        if self.lines.rest().is_empty() {
+            Ok(())
+        } else {
+            Err(TraceFault::Line(self.number))
+        }
+    }
+}
+
+/// The fault of a line, by its number.
+pub(crate) fn told<X: Drop>(number: u64, read: Result<X, RowFault>) -> Result<X, TraceFault>
+    ensures { result ≡ told number read }
+{
+    match read {
+        Ok(x) => Ok(x),
+        Err(RowFault::Wrong) => Err(TraceFault::Line(number)),
+        Err(RowFault::Memory) => Err(TraceFault::Memory),
+    }
+}

@@ -1,0 +1,129 @@
+ghost use Rattle.std.specs.Prelude.{◌≡◌, ◌++◌, ◌∷◌, [], OnOk, decimal, length};
+ghost use Rattle.hex.specs.Hex.{encode_upper};
+ghost use Rattle.trace_lines.specs.Writing.{blanked, attribute_words, method_words, selection_words, all_words, value_words, pairs_words, data_word, flag_number, level_number, parameter_word};
+
+use cosem_axdr::{Data, Octets, write};
+use cosem_names::{AttrRef, AttributeSelection, Level, MethodRef};
+use std::alloc::{AllocError, Global};
+use trace_text::{add_hex, add_number, add_word};
+
+/// Adds the port of a client.
+pub(crate) fn add_level(out: &mut Vec<u8>, level: Level) -> Result<(), AllocError>
+    ensures { OnOk result (out.new.items ≡ out.old.items ++ blanked (decimal (level_number level) ∷ [])) }
+{
+    add_number(
+        out,
+        match level {
+            Level::Management => 1,
+            Level::Public => 16,
+        },
+    )
+}
+
+/// Adds 1 for yes, 0 for no.
+pub(crate) fn add_flag(out: &mut Vec<u8>, flag: bool) -> Result<(), AllocError>
+    ensures { OnOk result (out.new.items ≡ out.old.items ++ blanked (decimal (flag_number flag) ∷ [])) }
+{
+    add_number(out, if flag { 1 } else { 0 })
+}
+
+/// Adds an attribute: class, name, number.
+pub(crate) fn add_attribute(
+    alloc: Global,
+    out: &mut Vec<u8>,
+    attr: &AttrRef,
+) -> Result<(), AllocError>
+    ensures { OnOk result (out.new.items ≡ out.old.items ++ blanked (attribute_words attr.now [])) }
+{
+    add_number(out, u64::from(attr.class.0))?;
+    add_hex(alloc, out, attr.name.0.as_slice())?;
+    add_number(out, u64::from(attr.number))
+}
+
+/// Adds a method: class, name, number.
+pub(crate) fn add_method(
+    alloc: Global,
+    out: &mut Vec<u8>,
+    method: &MethodRef,
+) -> Result<(), AllocError>
+    ensures { OnOk result (out.new.items ≡ out.old.items ++ blanked (method_words method.now [])) }
+{
+    add_number(out, u64::from(method.class.0))?;
+    add_hex(alloc, out, method.name.0.as_slice())?;
+    add_number(out, u64::from(method.number))
+}
+
+/// Adds an attribute, and whether a part of it is asked for.
+fn add_selection(
+    alloc: Global,
+    out: &mut Vec<u8>,
+    item: &AttributeSelection,
+) -> Result<(), AllocError>
+    ensures { OnOk result (out.new.items ≡ out.old.items ++ blanked (selection_words item.now [])) }
+{
+    add_attribute(alloc, out, &item.attr)?;
+    add_flag(out, item.selected)
+}
+
+/// Adds several of them.
+pub(crate) fn add_selections(
+    alloc: Global,
+    out: &mut Vec<u8>,
+    items: &[AttributeSelection],
+) -> Result<(), AllocError>
+    ensures { OnOk result (out.new.items ≡ out.old.items ++ blanked (all_words selection_words items.now)) }
+{
+    for item in items {
+        add_selection(alloc, out, item)?;
+    }
+    Ok(())
+}
+
+/// Adds the written text of a Data.
+pub(crate) fn add_data(alloc: Global, out: &mut Vec<u8>, value: &Data) -> Result<(), AllocError>
+    ensures { OnOk result (out.new.items ≡ out.old.items ++ blanked (data_word value.now ∷ [])) }
+{
+    let mut text = Octets::new(alloc);
+    write(alloc, value, &mut text)?;
+    add_hex(alloc, out, text.as_slice())
+}
+
+/// Adds a parameter, or `-` for none.
+pub(crate) fn add_parameter(
+    alloc: Global,
+    out: &mut Vec<u8>,
+    parameter: &Option<Data>,
+) -> Result<(), AllocError>
+    ensures { OnOk result (out.new.items ≡ out.old.items ++ blanked (parameter_word parameter.now ∷ [])) }
+{
+    match parameter {
+        Some(value) => add_data(alloc, out, value),
+        None => add_word(out, b"-"),
+    }
+}
+
+/// Adds samples.
+pub(crate) fn add_values(out: &mut Vec<u8>, values: &[u32]) -> Result<(), AllocError>
+    ensures { OnOk result (out.new.items ≡ out.old.items ++ blanked (all_words value_words values.now)) }
+{
+    for value in values {
+        add_number(out, u64::from(*value))?;
+    }
+    Ok(())
+}
+
+/// Adds samples in pairs.
+pub(crate) fn add_pairs(
+    out: &mut Vec<u8>,
+    imports: &[u32],
+    exports: &[u32],
+) -> Result<(), AllocError>
+    requires { length imports.now ≡ length exports.now }
+    ensures { OnOk result (out.new.items ≡ out.old.items ++ blanked (pairs_words imports.now exports.now)) }
+{
+    for i in 0..imports.len() {
+        add_number(out, u64::from(imports[i]))?;
+        add_number(out, u64::from(exports[i]))?;
+    }
+    Ok(())
+}

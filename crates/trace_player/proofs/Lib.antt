@@ -1,4 +1,0 @@
-pub mod Blanks
-pub mod EventLaws
-pub mod EventRows
-pub mod Steps

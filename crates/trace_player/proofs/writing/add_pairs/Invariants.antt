@@ -1,7 +1,0 @@
-use Rattle.std.proofs.Common.{◌++◌}
-use Rattle.trace_player.specs.Writing.{blanked, pairs_words}
-use Rattle.trace_player.proofs.Blanks.{LeftPairs}
-use Rattle.trace_player.proofs.writing.add_pairs.Given as goal
-
-abbrev pub invariant-loop-i : goal.invariant-loop-i
-invariant-loop-i l = LeftPairs l.imports l.exports l.i l.out.items (l.initial.out.items ++ blanked (pairs_words l.imports l.exports))

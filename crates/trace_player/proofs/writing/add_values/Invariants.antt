@@ -1,8 +1,0 @@
-use Rattle.std.proofs.Common.{◌++◌}
-use Rattle.trace_player.specs.Writing.{blanked, all_words}
-use Rattle.trace_player.specs.Writing.{value_words}
-use Rattle.trace_player.proofs.Blanks.{Left}
-use Rattle.trace_player.proofs.writing.add_values.Given as goal
-
-abbrev pub invariant-loop-value : goal.invariant-loop-value
-invariant-loop-value l = Left _ value_words l.values l.value-index l.out.items (l.initial.out.items ++ blanked (all_words value_words l.values))

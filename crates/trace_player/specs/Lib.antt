@@ -1,7 +1,0 @@
-pub mod Events
-pub mod Reading
-pub mod Replies
-pub mod Rows
-pub mod Traced
-pub mod Verbs
-pub mod Writing
