@@ -1,0 +1,129 @@
+-- A text is told to be too long by its length alone: its lines give no such fault.
+use Rattle.std.proofs.Common.{◌≡◌, ℕ, zero, suc, if◌then◌else◌, ◌<◌, Bool, true, false, nat_lt, List, [], ◌∷◌, length, Result, Ok, Err, refl, arith}
+use Rattle.std.proofs.lemmas.Bool.Decides.{nat_tests}
+use Rattle.byte_reading.specs.Outcome.{◌>>=◌}
+use Rattle.cosem_names.specs.declared.objects.Which.{Which}
+use Rattle.cosem_names.specs.declared.objects.Which.TheVariants.{Import, Export}
+use Rattle.trace_lines.specs.OpeningReading.{limits_from, emergency_from, runs_from, limiter_from, export_from, switch_from, schedules_from, opening_in, opening_from}
+use Rattle.trace_lines.specs.Places.{Place, place_of, line_as, passed, first_as, nothing_left, ended_at}
+use Rattle.trace_lines.specs.Rows.{Row}
+use Rattle.trace_lines.specs.declared.fault.RowFault.{RowFault}
+use Rattle.trace_lines.specs.declared.fault.TraceFault.{TraceFault}
+use Rattle.trace_lines.specs.declared.fault.TraceFault.TheVariants.{TooLong}
+use Rattle.trace_lines.specs.declared.version.Version.{Version}
+use Rattle.trace_lines.specs.declared.version.Version.TheVariants.{One, Two}
+use Rattle.trace_player.specs.Traces.{most_bytes, events_at, trace_from, trace_of}
+
+-- an answer other than that a text is too long
+abbrev IsOther : {X : Type 0} → Result X TraceFault → Type 0
+IsOther r = r ≡ Err TooLong → ⊥
+
+-- an `Err` whose type of values is given
+abbrev failed : (X : Type 0) → TraceFault → Result X TraceFault
+failed X fault = Err fault
+
+-- two equal faults are equal whatever would have been read
+fault_is : (X Y : Type 0) (f g : TraceFault) → failed X f ≡ failed X g → failed Y f ≡ failed Y g
+fault_is X Y f g e = cc
+
+-- steps that answer otherwise, one after the other
+then_other : {X Y : Type 0} (r : Result X TraceFault) (next : X → Result Y TraceFault) → IsOther r → ((x : X) → IsOther (next x)) → IsOther (r >>= next)
+then_other (Ok x) next first others e = others x e
+then_other {X = X} {Y = Y} (Err fault) next first others e = first (fault_is Y X fault TooLong e)
+
+-- a value is no fault
+value_other : {X : Type 0} (x : X) → IsOther (Ok x)
+value_other x e = absurd cc
+
+-- what a line gives
+passed_other : {X : Type 0} (r : Result X RowFault) (number : ℕ) (rows : List Row) (unended : List ℕ) → IsOther (passed r number rows unended)
+passed_other (Ok x) number rows unended e = absurd cc
+passed_other (Err fault) number rows unended e = absurd cc
+
+first_other : {X : Type 0} (value_in : Row → Result X RowFault) (number : ℕ) (rows : List Row) (unended : List ℕ) → IsOther (first_as value_in number rows unended)
+first_other value_in number [] unended e = absurd cc
+first_other value_in number (row ∷ rows) unended e = passed_other (value_in row) number rows unended e
+
+line_other : {X : Type 0} (value_in : Row → Result X RowFault) (place : Place) → IsOther (line_as value_in place)
+unfolding line_as
+line_other value_in place e = first_other value_in place.number place.rows place.unended e
+
+-- the end
+left_other : {X : Type 0} (number : ℕ) (rows : List Row) (unended : List ℕ) (x : X) → IsOther (nothing_left number rows unended x)
+left_other number [] [] x e = absurd cc
+left_other number [] (byte ∷ bytes) x e = absurd cc
+left_other number (row ∷ rows) unended x e = absurd cc
+
+ended_other : {X : Type 0} (place : Place) (x : X) → IsOther (ended_at place x)
+unfolding ended_at
+ended_other place x e = left_other place.number place.rows place.unended x e
+
+-- the opening
+limits_other : (which : Which) (place : Place) → IsOther (limits_from which place)
+unfolding limits_from
+limits_other which place =
+    then_other _ _ (line_other _ place) (λ normal. then_other _ _ (line_other _ normal.1) (λ emergency. then_other _ _ (line_other _ emergency.1) (λ over.
+    then_other _ _ (line_other _ over.1) (λ under. value_other _))))
+
+emergency_other : (which : Which) (place : Place) → IsOther (emergency_from which place)
+unfolding emergency_from
+emergency_other which place =
+    then_other _ _ (line_other _ place) (λ profile. then_other _ _ (line_other _ profile.1) (λ groups. then_other _ _ (line_other _ groups.1) (λ actions. value_other _)))
+
+runs_other : (which : Which) (last : ℕ) (place : Place) → IsOther (runs_from which last place)
+unfolding runs_from
+runs_other which last place = then_other _ _ (line_other _ place) (λ over. then_other _ _ (line_other _ over.1) (λ under. value_other _))
+
+limiter_other : (which : Which) (last : ℕ) (place : Place) → IsOther (limiter_from which last place)
+unfolding limiter_from
+limiter_other which last place =
+    then_other _ _ (limits_other which place) (λ limits. then_other _ _ (emergency_other which limits.1) (λ emergency. then_other _ _ (runs_other which last emergency.1) (λ runs. value_other _)))
+
+export_other : (version : Version) (place : Place) → IsOther (export_from version place)
+unfolding export_from
+export_other One place = value_other _
+export_other Two place = then_other _ _ (line_other _ place) (λ last. limiter_other Export last.0 last.1)
+
+switch_other : (place : Place) → IsOther (switch_from place)
+unfolding switch_from
+switch_other place =
+    then_other _ _ (line_other _ place) (λ device. then_other _ _ (line_other _ device.1) (λ state. then_other _ _ (line_other _ state.1) (λ mode. value_other _)))
+
+schedules_other : (place : Place) → IsOther (schedules_from place)
+unfolding schedules_from
+schedules_other place =
+    then_other _ _ (line_other _ place) (λ first. then_other _ _ (line_other _ first.1) (λ second. then_other _ _ (line_other _ second.1) (λ third.
+    then_other _ _ (line_other _ third.1) (λ fourth. value_other _))))
+
+behind_version_other : (version : Version) (place : Place) → IsOther (opening_in version place)
+unfolding opening_in
+behind_version_other version place =
+    then_other _ _ (switch_other place) (λ switch. then_other _ _ (line_other _ switch.1) (λ last. then_other _ _ (line_other _ last.1) (λ moment.
+    then_other _ _ (limiter_other Import last.0 moment.1) (λ import. then_other _ _ (export_other version import.1) (λ export. then_other _ _ (line_other _ export.1) (λ scripts.
+    then_other _ _ (schedules_other scripts.1) (λ schedules. value_other _)))))))
+
+opening_other : (place : Place) → IsOther (opening_from place)
+unfolding opening_from
+opening_other place = then_other _ _ (line_other _ place) (λ version. then_other _ _ (behind_version_other version.0 version.1) (λ opening. value_other _))
+
+-- the events
+events_other : (version : Version) (count : ℕ) (place : Place) → IsOther (events_at version count place)
+unfolding events_at
+events_other version zero place = value_other _
+events_other version (suc count) place =
+    then_other _ _ (line_other _ place) (λ event. then_other _ _ (events_other version count event.1) (λ others. value_other _))
+
+-- the lines of a trace
+trace_other : (place : Place) → IsOther (trace_from place)
+unfolding trace_from
+trace_other place =
+    then_other _ _ (opening_other place) (λ opening. then_other _ _ (line_other _ opening.1) (λ count. then_other _ _ (events_other opening.0.0 count.0 count.1) (λ events. ended_other events.1 _)))
+
+-- a text is too long where it is told so
+told_long : (text : List ℕ) (long : Bool) → nat_lt most_bytes (length text) ≡ long → IsOther (trace_from (place_of text)) → (if long then Err TooLong else trace_from (place_of text)) ≡ Err TooLong → most_bytes < length text
+told_long text true is other e = grind (arith, nat_tests)
+told_long text false is other e = absurd (other e)
+
+pub told_too_long : (text : List ℕ) → trace_of text ≡ Err TooLong → most_bytes < length text
+unfolding trace_of
+told_too_long text e = told_long text (nat_lt most_bytes (length text)) refl (trace_other (place_of text)) e

@@ -1,0 +1,10 @@
+-- The fault of a player whose input was not read to its end.
+use Rattle.byte_streams.specs.declared.fault.InputFault.{InputFault}
+use Rattle.byte_streams.specs.declared.fault.InputFault.TheVariants as input_fault
+use Rattle.trace_player.specs.declared.fault.PlayFault.{PlayFault}
+use Rattle.trace_player.specs.declared.fault.PlayFault.TheVariants as play_fault
+
+abbrev pub fault_of : InputFault → PlayFault
+fault_of input_fault.TooLong = play_fault.TooLong
+fault_of input_fault.Read = play_fault.Read
+fault_of input_fault.Memory = play_fault.Memory

@@ -1,0 +1,6 @@
+pub mod Exported
+pub mod Faults
+pub mod Playing
+pub mod Plays
+pub mod Traces
+pub mod Written

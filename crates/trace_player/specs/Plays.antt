@@ -1,0 +1,52 @@
+-- What came of a trace that was read, run and written.
+--     Read          what was read gives a trace, or a fault
+--     Played        what came of the bytes that were read
+--     TakesTrace    a trace was read, or it was not
+--     Plays         a trace was played, or it was not
+use Rattle.std.specs.Prelude.{◌≡◌, ◌<◌, ◌≤◌, ℕ, Option, List, [], length, ⊤, Result, Ok, Err}
+use Rattle.std.specs.Io.KnownBytes.{Appends, Consumes, IsAtEnd}
+use Rattle.relay_recorder.specs.declared.trace.Trace.{Trace}
+use Rattle.trace_lines.specs.declared.fault.TraceFault.TheVariants as trace_fault
+use Rattle.trace_player.specs.Playing.{played}
+use Rattle.trace_player.specs.Traces.{most_bytes, trace_of}
+use Rattle.trace_player.specs.declared.fault.PlayFault.{PlayFault}
+use Rattle.trace_player.specs.declared.fault.PlayFault.TheVariants as fault
+
+-- what the bytes that were read give: a trace of all of them, or why not
+abbrev pub Read : List ℕ → ℕ → Result Trace PlayFault → Option (List ℕ) → ℕ → Type 0
+Read bytes failed (Ok trace) left' failed' = (trace_of bytes ≡ Ok trace) × IsAtEnd left'
+Read bytes failed (Err (fault.Line number)) left' failed' = (trace_of bytes ≡ Err (trace_fault.Line number)) × IsAtEnd left'
+Read bytes failed (Err fault.TooLong) left' failed' = most_bytes < length bytes
+Read bytes failed (Err fault.Read) left' failed' = (length bytes ≤ most_bytes) × (failed < failed')
+Read bytes failed (Err fault.Write) left' failed' = ⊥
+Read bytes failed (Err fault.Memory) left' failed' = ⊤
+
+-- a trace was read, or it was not: some bytes were read, and this they give
+pub record TakesTrace (left : Option (List ℕ)) (failed : ℕ) (result : Result Trace PlayFault) (left' : Option (List ℕ)) (failed' : ℕ) : Type 0 where
+  pub bytes : List ℕ
+  pub read : Consumes left left' bytes
+  pub gave : Read bytes failed result left' failed'
+
+module _ {R W : Type 0}
+    (remaining : R → Option (List ℕ)) (read_failures : R → ℕ)
+    (contents : W → Option (List ℕ)) (write_failures : W → ℕ) where
+  -- what came of the bytes that were read: nothing is written but the whole output of the trace that they tell
+  abbrev pub Played : List ℕ → R → W → Result ℕ PlayFault → R → W → Type 0
+  Played bytes r w (Ok count) r' w' =
+      (trace : Trace) × (trace_of bytes ≡ Ok trace) × IsAtEnd (remaining r')
+      × Appends (contents w) (contents w') (played trace) × (count ≡ length trace.events)
+  Played bytes r w (Err (fault.Line number)) r' w' =
+      (trace_of bytes ≡ Err (trace_fault.Line number)) × IsAtEnd (remaining r') × Appends (contents w) (contents w') []
+  Played bytes r w (Err fault.TooLong) r' w' =
+      (most_bytes < length bytes) × Appends (contents w) (contents w') []
+  Played bytes r w (Err fault.Read) r' w' =
+      (length bytes ≤ most_bytes) × (read_failures r < read_failures r') × Appends (contents w) (contents w') []
+  Played bytes r w (Err fault.Write) r' w' =
+      (trace : Trace) × (trace_of bytes ≡ Ok trace) × IsAtEnd (remaining r') × (write_failures w < write_failures w')
+  Played bytes r w (Err fault.Memory) r' w' = Appends (contents w) (contents w') []
+
+  -- a trace was played, or it was not: some bytes were read, and this came of them
+  pub record Plays (r : R) (w : W) (result : Result ℕ PlayFault) (r' : R) (w' : W) : Type 0 where
+    pub bytes : List ℕ
+    pub read : Consumes (remaining r) (remaining r') bytes
+    pub did : Played bytes r w result r' w'

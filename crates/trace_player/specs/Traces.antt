@@ -1,0 +1,50 @@
+-- A trace as text: an opening, the number of its events, and the line of each.
+--     events_at        so many events, read from their lines
+--     trace_of         the trace of a text, or its fault
+--     trace_text       the text that is written for a trace, in version 2
+use Rattle.std.specs.Prelude.{ℕ, zero, suc, nat_lt, if◌then◌else◌, codes, List, [], ◌∷◌, ◌++◌, length, map, Result, Ok, Err}
+use Rattle.byte_reading.specs.Outcome.{◌>>=◌}
+use Rattle.relay_core.specs.declared.event.Event.{Event}
+use Rattle.relay_recorder.specs.declared.trace.Trace.{Trace}
+use Rattle.trace_lines.specs.Events.{event_of}
+use Rattle.trace_lines.specs.OpeningFields.{events_from}
+use Rattle.trace_lines.specs.OpeningReading.{opening_from}
+use Rattle.trace_lines.specs.OpeningRows.{number_row, opening_rows}
+use Rattle.trace_lines.specs.Places.{Place, ReadLines, line_as, ended_at, place_of}
+use Rattle.trace_lines.specs.Rows.{Row}
+use Rattle.trace_lines.specs.Writing.{event_row}
+use Rattle.trace_lines.specs.declared.fault.TraceFault.{TraceFault}
+use Rattle.trace_lines.specs.declared.fault.TraceFault.TheVariants.{TooLong}
+use Rattle.trace_lines.specs.declared.version.Version.{Version}
+use Rattle.trace_text.specs.Lines.{rows_text}
+
+-- the most bytes that a text has
+abbrev pub most_bytes : ℕ
+most_bytes = 33554432
+
+-- the events of the next lines, so many
+unfoldable pub events_at : Version → ℕ → Place → ReadLines (List Event)
+events_at version zero place = Ok ([], place)
+events_at version (suc count) place = do
+  event ← line_as (event_of version) place
+  others ← events_at version count event.1
+  Ok (event.0 ∷ others.0, others.1)
+
+-- the opening, the number of the events, these, and nothing more
+unfoldable pub trace_from : Place → Result Trace TraceFault
+trace_from place = do
+  opening ← opening_from place
+  count ← line_as events_from opening.1
+  events ← events_at opening.0.0 count.0 count.1
+  ended_at events.1 (record { opening = opening.0.1; events = events.0 })
+
+-- the trace of a text
+unfoldable pub trace_of : List ℕ → Result Trace TraceFault
+trace_of text = if nat_lt most_bytes (length text) then Err TooLong else trace_from (place_of text)
+
+-- the lines of a trace, and their text
+abbrev pub trace_rows : Trace → List Row
+trace_rows trace = opening_rows trace.opening ++ number_row (codes "events") (length trace.events) ∷ map event_row trace.events
+
+abbrev pub trace_text : Trace → List ℕ
+trace_text trace = rows_text (trace_rows trace)

@@ -1,0 +1,20 @@
+-- The traces whose text is read again.
+use Rattle.std.specs.Prelude.{◌≤◌, List, [], ◌∷◌, length}
+use Rattle.relay_core.specs.declared.event.Event.{Event}
+use Rattle.relay_recorder.specs.declared.trace.Trace.{Trace}
+use Rattle.trace_lines.specs.OpeningFields.{max_events}
+use Rattle.trace_lines.specs.OpeningTraced.{IsWritable}
+use Rattle.trace_lines.specs.Traced.{IsTraced}
+use Rattle.trace_player.specs.Traces.{most_bytes, trace_text}
+
+-- events whose lines are read again
+abbrev pub AreTraced : List Event → Type 0
+AreTraced [] = Unit {0}
+AreTraced (event ∷ events) = IsTraced event × AreTraced events
+
+-- an opening and events that a line can hold, not too many of these, and a text that isn't too long
+pub record IsWritableTrace (trace : Trace) : Type 0 where
+  pub opening : IsWritable trace.opening
+  pub events : AreTraced trace.events
+  pub few : length trace.events ≤ max_events
+  pub short : length (trace_text trace) ≤ most_bytes

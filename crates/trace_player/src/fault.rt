@@ -1,0 +1,47 @@
+ghost use Rattle.std.specs.Prelude.{◌≡◌};
+ghost use Rattle.trace_player.specs.Faults.{fault_of};
+ghost use Rattle.trace_player.specs.declared.fault.PlayFault.TheVariants as play_fault;
+
+use byte_streams::InputFault;
+use std::alloc::AllocError;
+use thiserror::Error;
+
+/// Why a trace was not played.
+#[derive(Clone, Copy, Debug, PartialEq, Eq, Error)]
+pub enum PlayFault {
+    /// The first line, counted from 1, that is not as a trace has it there, or whose value no meter has. A line that is missing counts too.
+    #[error("line {0} of the trace is wrong")]
+    Line(u64),
+    /// The trace has more than 33,554,432 bytes.
+    #[error("a trace of more than 33,554,432 bytes")]
+    TooLong,
+    /// A read failed.
+    #[error("a read failed")]
+    Read,
+    /// A write failed.
+    #[error("a write failed")]
+    Write,
+    /// Memory ran out.
+    #[error("no memory")]
+    Memory,
+}
+
+impl From<AllocError> for PlayFault {
+    ghost from_gives = { λ _ fault. fault ≡ play_fault.Memory };
+
+    fn from(_error: AllocError) -> PlayFault {
+        PlayFault::Memory
+    }
+}
+
+impl From<InputFault> for PlayFault {
+    ghost from_gives = { λ input fault. fault ≡ fault_of input };
+
+    fn from(fault: InputFault) -> PlayFault {
+        match fault {
+            InputFault::TooLong => PlayFault::TooLong,
+            InputFault::Read => PlayFault::Read,
+            InputFault::Memory => PlayFault::Memory,
+        }
+    }
+}

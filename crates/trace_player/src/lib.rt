@@ -1,0 +1,22 @@
+//! Traces of a meter, played: the text of an opening and of events gives a line of text for the reply to each event.
+//!
+//! `read_trace` and `write_trace` read and write the text of a trace, `play` reads one, runs its events on a meter that stands as the opening says, and writes a line
+//! for each.
+#![tactic(auto)]
+
+mod fault;
+mod laws;
+mod player;
+mod playing;
+mod reading;
+#[cfg(test)]
+mod tests;
+mod writing;
+
+pub use fault::PlayFault;
+pub use laws::{exported_run_is_played, written_trace_is_read};
+pub use player::play;
+pub use reading::{MAX_BYTES, read_trace};
+pub use relay_recorder::Trace;
+pub use trace_lines::TraceFault;
+pub use writing::write_trace;

@@ -1,0 +1,68 @@
+ghost use Rattle.std.specs.Prelude.{◌≡◌, ◌<◌, ◌↔◌, length, IfOk, IsErrOf};
+ghost use Rattle.byte_reading.specs.Outcome.{Gives};
+ghost use Rattle.relay_core.specs.Opening.{IsFitOpening};
+ghost use Rattle.trace_lines.specs.Places.{ReadsLines, ended_at};
+ghost use Rattle.trace_lines.specs.declared.fault.TraceFault.TheVariants as trace_fault;
+ghost use Rattle.trace_player.specs.Traces.{most_bytes, events_at, trace_from, trace_of};
+
+use relay_core::Events;
+use relay_recorder::Trace;
+use std::alloc::Global;
+use trace_lines::{TraceFault, TraceLines, Version, next_event, read_event_count, read_opening};
+
+/// The text of a trace has at most so many bytes.
+pub const MAX_BYTES: usize = 33_554_432;
+
+/// The events of the next lines, so many.
+fn read_events(
+    alloc: Global,
+    version: Version,
+    count: u32,
+    lines: &mut TraceLines,
+) -> Result<Events, TraceFault>
+    ensures { ReadsLines (λ events. events) result lines.new (events_at version count lines.old) }
+{
+    let mut events = Events::new(alloc);
+    'events: for _ in 0..count {
+        events.push(next_event(alloc, version, lines)?)?;
+    }
+    Ok(events)
+}
+
+/// A trace behind whose lines nothing is left.
+#[tactic(auto, using(crate::proofs::Ends::ended_as, crate::proofs::Ends::unended_as))]
+fn ended(lines: &TraceLines, trace: Trace) -> Result<Trace, TraceFault>
+    ensures ended { result ≡ ended_at lines.now trace }
+    ensures same { IfOk result (λ whole. whole ≡ trace) }
+{
+    match lines.end() {
+        Ok(()) => Ok(trace),
+        Err(fault) => Err(fault),
+    }
+}
+
+/// The trace that lines tell.
+#[tactic(auto, unfolding(crate::specs::Traces::trace_from))]
+fn read_lines(alloc: Global, lines: &mut TraceLines) -> Result<Trace, TraceFault>
+    ensures exact { Gives trace_fault.Memory (λ trace. trace) result (trace_from lines.old) }
+    ensures fit { IfOk result (λ trace. IsFitOpening trace.opening) }
+{
+    let (version, opening) = read_opening(alloc, lines)?;
+    let count = read_event_count(lines)?;
+    let events = read_events(alloc, version, count, lines)?;
+    ended(lines, Trace { opening, events })
+}
+
+/// Reads the text of a trace, in version 1 or 2. Errors: `TooLong`, `Line` of the first line that is not as a trace has it there, `Memory`.
+#[tactic(auto, unfolding(crate::specs::Traces::trace_of), using(crate::proofs::Faults::told_too_long))]
+pub fn read_trace(alloc: Global, text: &[u8]) -> Result<Trace, TraceFault>
+    ensures exact { Gives trace_fault.Memory (λ trace. trace) result (trace_of text.now) }
+    ensures fit { IfOk result (λ trace. IsFitOpening trace.opening) }
+    ensures long { IsErrOf result trace_fault.TooLong ↔ (most_bytes < length text.now) }
+{
+    if text.len() > MAX_BYTES {
+        return Err(TraceFault::TooLong);
+    }
+    let mut lines = TraceLines::new(text);
+    read_lines(alloc, &mut lines)
+}
