@@ -19,6 +19,45 @@ MANAGEMENT_AARQ = (b"00010001000100386036A1090607608574050801018A0207808B0760857
                    b"BE10040E01000000065F1F0400001C190400")
 MANAGEMENT_AARE = b"000100010001002B6129A109060760857405080101A203020100A305A103020100BE10040E0800065F1F0400001C1904000007\n"
 
+# A trace of nine events in version 1, and what it plays to; a meter in ten lines of its own.
+TRACE = (TOP / "crates" / "trace_player_cli" / "stdin").read_bytes()
+PLAYED = (TOP / "crates" / "trace_player_cli" / "stdout").read_bytes()
+OPENING = TRACE.split(b"events ")[0]
+LIMITER = (b"normal 4294967295\nemergency 4294967295\nminover 0\nminunder 0\nprofile 0 FFFFFFFFFFFFFFFFFF8000FF 0\n"
+           b"groups\nactions 0 0\nover 0 0\nunder 0 0\n")
+EXPORT = b"xvalue 0\n" + b"".join(b"x" + line + b"\n" for line in LIMITER.splitlines())
+OPENING_2 = OPENING.replace(b"RELAYTRACE 1", b"RELAYTRACE 2").replace(b"scripts ", EXPORT + b"scripts ")
+LONG_RUN = OPENING.replace(b"value 0", b"value 5001").replace(b"normal 4294967295", b"normal 5000").replace(
+    b"minover 0", b"minover 4294967295")
+
+
+def with_events(opening, *lines):
+    return opening + b"events %d\n" % len(lines) + b"".join(line + b"\n" for line in lines)
+
+
+def largest_trace():
+    """A trace of 33,554,432 bytes, and what it plays to: samples at the threshold, and at the end one or two below it."""
+    value = b" 4294967295"
+    for full in (11_881, 11_880):
+        head = OPENING + b"events %d\n" % (full + 2)
+        rest = 33_554_432 - len(head) - full * (8 + 256 * len(value))
+        many = (rest - 18) // len(value)
+        if 0 <= many <= 256:
+            break
+    left = rest - 8 - many * len(value)
+    below = {20: b" 5 123456789"}.get(left, b" " + b"1" * (left - 9))
+    lines = [b"samples" + value * 256] * full + [b"samples" + value * many, b"samples" + below]
+    trace = with_events(OPENING, *lines)
+    assert len(trace) == 33_554_432
+    quiet, fired = b"sampled 0 0; state 1; supply on", b"sampled 0 1; state 1; supply on"
+    return trace, played(*[quiet] * (full + 1), fired)
+
+
+def played(*replies):
+    return b"".join(b"%d: %s\n" % (n, reply) for n, reply in enumerate(replies, 1))
+
+LARGEST, LARGEST_PLAYED = largest_trace()
+
 # A case: its name, the program, its words, its standard input, and what it must give: standard output, standard
 # error (None: any text, but some), status.
 CASES = [
@@ -98,6 +137,40 @@ CASES = [
     ("help", "meter_server_cli", ["--help"], b"", None, b"", 0),
     ("help of apdu", "meter_server_cli", ["apdu", "--help"], b"", None, b"", 0),
     ("help of hex", "meter_server_cli", ["hex", "--help"], b"", None, b"", 0),
+    ("a trace", "trace_player_cli", [], TRACE, PLAYED, b"", 0),
+    ("the same in version 2", "trace_player_cli", [], OPENING_2 + TRACE[len(OPENING):], PLAYED, b"", 0),
+    ("no event", "trace_player_cli", [], with_events(OPENING), b"", b"", 0),
+    ("a run of the greatest need but one", "trace_player_cli", [],
+     with_events(LONG_RUN.replace(b"\nover 0 0", b"\nover 42949672949 0"), b"samples 5001 5001"),
+     played(b"sampled 1 0; state 1; supply on"), b"", 0),
+    ("a run that has fired", "trace_player_cli", [],
+     with_events(LONG_RUN.replace(b"\nover 0 0", b"\nover 42949672950 1"), b"samples 5001"),
+     played(b"sampled 0 0; state 1; supply on"), b"", 0),
+    ("a run that must have fired", "trace_player_cli", [],
+     with_events(LONG_RUN.replace(b"\nover 0 0", b"\nover 42949672950 0"), b"samples 5001"), b"", FAULT_INPUT, 2),
+    ("the export limiter opens the switch", "trace_player_cli", [],
+     with_events(OPENING_2.replace(b"mode 0", b"mode 5").replace(b"xnormal 4294967295", b"xnormal 5000").replace(
+         b"xminover 0", b"xminover 1").replace(b"xactions 0 0", b"xactions 1 0").replace(
+             b"scripts 0100", b"scripts 010102021200010101020516021200460906000060030AFF0F010F00"),
+         b"pairs" + b" 0 5001" * 10, b"button", b"pairs 0 5001"),
+     played(b"sampled 0 1 1 0; state 2; supply off", b"code 0; state 1; supply on", b"sampled 0 1 0 0; state 1; supply on"), b"", 0),
+    ("a list of two attributes", "trace_player_cli", [],
+     with_events(OPENING, b"getlist 1 2 70 000060030AFF 3 0 70 000060030BFF 3 0", b"getlist 1 0"),
+     played(b"values 2 value 1601 code 4; state 1; supply on", b"values 0; state 1; supply on"), b"", 0),
+    ("pairs in version 1", "trace_player_cli", [], with_events(OPENING, b"pairs"), b"", FAULT_INPUT, 2),
+    ("no trace", "trace_player_cli", [], b"", b"", FAULT_INPUT, 2),
+    ("a last line that isn't ended", "trace_player_cli", [], TRACE[:-1], b"", FAULT_INPUT, 2),
+    ("a line too many", "trace_player_cli", [], TRACE + b"button\n", b"", FAULT_INPUT, 2),
+    ("a line too few", "trace_player_cli", [], TRACE.replace(b"moment 4\n", b""), b"", FAULT_INPUT, 2),
+    ("a trace with carriage returns", "trace_player_cli", [], TRACE.replace(b"\n", b"\r\n"), b"", FAULT_INPUT, 2),
+    ("a wrong last event prints nothing", "trace_player_cli", [], TRACE.replace(b"moment 4", b"moment 04"), b"", FAULT_INPUT, 2),
+    ("65,536 events", "trace_player_cli", [], with_events(OPENING, *[b"button"] * 65536),
+     played(*[b"code 2; state 1; supply on"] * 65536), b"", 0),
+    ("65,537 events", "trace_player_cli", [], with_events(OPENING, *[b"button"] * 65537), b"", FAULT_INPUT, 2),
+    ("33,554,432 bytes", "trace_player_cli", [], LARGEST, LARGEST_PLAYED, b"", 0),
+    ("a byte more than the largest trace", "trace_player_cli", [], LARGEST + b"\n", b"", FAULT_INPUT, 2),
+    ("an argument", "trace_player_cli", ["trace"], TRACE, b"", None, 2),
+    ("help of the player", "trace_player_cli", ["--help"], b"", None, b"", 0),
 ]
 
 

@@ -1,0 +1,67 @@
+//! The program `trace_player`: reads a trace on standard input and prints its run.
+//!
+//! What it prints is that of `trace_player::play`; this crate has the command line, the standard streams and the exit status.
+#![tactic(auto)]
+
+use byte_streams::Counted;
+use clap::Command;
+use clap::error::ErrorKind;
+use program_fault::Fault;
+use std::alloc::{AllocError, Global};
+use std::env;
+use std::process::ExitCode;
+use std::rt::Env;
+use trace_player::{PlayFault, play};
+
+/// The program, as its users see it.
+fn command_line<'a>(alloc: Global) -> Result<Command<'a>, AllocError> {
+    Ok(
+        Command::new(alloc, "trace_player")
+            .bin_name("trace_player")?
+            .about(
+                "Plays a trace of the supply switch: standard input is the trace, and each of its events is answered by a line",
+            ),
+    )
+}
+
+/// Plays the trace of standard input.
+fn play_input(rt: &HostRuntime) -> Result<(), Fault> {
+    let mut reader = Counted::new(rt.stdin());
+    let mut writer = Counted::new(rt.stdout());
+    match play(rt.alloc(), &mut reader, &mut writer) {
+        Ok(_) => Ok(()),
+        Err(PlayFault::Line(_) | PlayFault::TooLong) => Err(Fault::Input),
+        Err(PlayFault::Read) => Err(Fault::Read),
+        Err(PlayFault::Write) => Err(Fault::Write),
+        Err(PlayFault::Memory) => Err(Fault::Memory),
+    }
+}
+
+/// Reads the command line and does what it asks for. Gives the exit status: 0, or 2 for a command line that is wrong.
+fn run(rt: &HostRuntime) -> Result<u8, Fault> {
+    let alloc = rt.alloc();
+    let words = env::args(rt).map_err(|_| Fault::Memory)?;
+    let words: Vec<String> = words.collect(alloc).map_err(|_| Fault::Memory)?;
+    let command = command_line(alloc).map_err(|_| Fault::Memory)?;
+    match command.try_get_matches_from(words.as_slice()) {
+        Ok(_matches) => {
+            play_input(rt)?;
+            Ok(0)
+        }
+        Err(error) if error.kind() == ErrorKind::OutOfMemory => Err(Fault::Memory),
+        Err(error) => {
+            error.print(rt).map_err(|_| Fault::Write)?;
+            Ok(if error.use_stderr() { 2 } else { 0 })
+        }
+    }
+}
+
+fn main(rt: HostRuntime) -> ExitCode {
+    match run(&rt) {
+        Ok(status) => ExitCode::from(status),
+        Err(fault) => {
+            let _ = eprintln!(rt; "fault: {fault}");
+            ExitCode::from(fault.status())
+        }
+    }
+}
