@@ -27,5 +27,5 @@ pub use laws::{values_are_in_range, worlds_agree};
 pub use opening::{LimiterOpening, Opening, OpeningFault};
 pub use parts::Parts;
 pub use relay::RelayCore;
-pub use running::{RunStop, run};
+pub use running::{RunStop, line_after, run};
 pub use schedules::Schedules;

@@ -98,8 +98,9 @@ pub struct RunStop {
     pub done: Lines,
 }
 
-/// Takes an event, and gives its line.
-fn line_after(core: &mut RelayCore, alloc: Global, event: &Event) -> Result<Line, AllocError>
+/// Takes an event, and gives its line: the reply to it, and the switch after it. Where memory runs out the core is as it was, as
+/// though the event had not come.
+pub fn line_after(core: &mut RelayCore, alloc: Global, event: &Event) -> Result<Line, AllocError>
     ensures world { OnOk result ((w : World) → StandsFor core.old w → StandsFor core.new (at_event event.now w).world) }
     ensures line { IfOk result (λ line. (w : World) → StandsFor core.old w → line ≡ line_at event.now w) }
     ensures sure { IsTrue (is_sure event.now) → IsOk result }

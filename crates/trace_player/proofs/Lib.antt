@@ -1,7 +1,7 @@
 pub mod Ends
 pub mod EventsLeft
+pub mod EventsPlayed
 pub mod EventsRead
 pub mod ExportedRuns
 pub mod Faults
-pub mod LinesLeft
 pub mod TraceAgain
