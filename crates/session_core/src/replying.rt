@@ -67,27 +67,7 @@ pub(crate) fn answer_reply(
             | ReplyForm::SetLastBlock(_, _)
             | ReplyForm::Action(_) => answer_result(alloc, asked, Reply::Values(results)),
         },
-        Reply::Code(code) => answer_result(alloc, asked, Reply::Code(code)),
-        Reply::Sampled { over, under } => {
-            answer_result(alloc, asked, Reply::Sampled { over, under })
-        }
-        Reply::SampledBoth {
-            over,
-            under,
-            export_over,
-            export_under,
-        } => answer_result(
-            alloc,
-            asked,
-            Reply::SampledBoth {
-                over,
-                under,
-                export_over,
-                export_under,
-            },
-        ),
-        Reply::Ran(count) => answer_result(alloc, asked, Reply::Ran(count)),
-        Reply::Stale { last } => answer_result(alloc, asked, Reply::Stale { last }),
+        other => answer_result(alloc, asked, other),
     }
 }
 
