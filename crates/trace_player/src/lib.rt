@@ -4,8 +4,6 @@
 //! for each.
 #![tactic(auto)]
 
-#[cfg(test)]
-mod export_tests;
 mod fault;
 mod laws;
 mod player;
