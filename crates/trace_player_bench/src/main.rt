@@ -11,7 +11,8 @@ use std::{env, io};
 use trace_player::{PlayFault, play};
 
 /// The lines of the opening.
-const OPENING: &str = "RELAYTRACE 1\ndevice 52454C415931\nstate 1\nmode 1\nvalue 0\nnow -\nnormal 4294967295\nemergency 4294967295\nminover 0\nminunder 0\n\
+const OPENING: &str =
+    "RELAYTRACE 1\ndevice 52454C415931\nstate 1\nmode 1\nvalue 0\nnow -\nnormal 4294967295\nemergency 4294967295\nminover 0\nminunder 0\n\
     profile 0 FFFFFFFFFFFFFFFFFF8000FF 0\ngroups\nactions 0 0\nover 0 0\nunder 0 0\nscripts 0100\n\
     schedule 0 0 5 0100\nschedule 1 0 5 0100\nschedule 2 0 5 0100\nschedule 3 0 5 0100\n";
 
@@ -55,7 +56,8 @@ fn line_at(i: u32) -> &'static str {
         2 => "execute 1 70 000060030AFF 2 -\n",
         3 => "button\n",
         4 => "get 16 70 000060030AFF 3 0\n",
-        5 => "samples 4990 4995 5000 5005 5010 5015 5020 5025 5030 5035 4980 4985 4990 4995 5001 5002\n",
+        5 =>
+            "samples 4990 4995 5000 5005 5010 5015 5020 5025 5030 5035 4980 4985 4990 4995 5001 5002\n",
         _ => "getlist 1 2 70 000060030AFF 3 0 70 000060030BFF 3 0\n",
     }
 }
