@@ -4,6 +4,8 @@
 //! for each.
 #![tactic(auto)]
 
+#[cfg(test)]
+mod export_tests;
 mod fault;
 mod laws;
 mod player;
