@@ -7,10 +7,9 @@ rounds=${1:-20000}
 work=$(mktemp -d)
 trap 'rm -rf "$work"' EXIT
 rustc -O -o "$work/plain" "$here/plain.rs" 2> "$work/warnings" || { cat "$work/warnings"; exit 1; }
-cd "$here/../../crates/cosem_axdr_bench"
-rt run > "$work/first" 2> "$work/log" || { cat "$work/log"; exit 1; }
+program=$("$here/../.program" cosem_axdr cosem_axdr_bench)
 for _ in 1 2 3 4 5; do
-    out/cosem_axdr_bench "$rounds" >> "$work/proved.txt"
+    "$program" "$rounds" >> "$work/proved.txt"
     "$work/plain" "$rounds" >> "$work/plain.txt"
 done
 fastest() { sed -n "s/.*$1 \([0-9]*\) ns.*/\1/p" "$work/$2.txt" | sort -n | head -1; }

@@ -5,7 +5,6 @@ here=$(cd "$(dirname "$0")" && pwd)
 work=$(mktemp -d)
 trap 'rm -r "$work"' EXIT
 rustc -O -o "$work/naive" "$here/naive.rs"
-cd "$here/../../crates/cosem_datetime_bench"
-rt run > "$work/gate" 2> "$work/log" || { cat "$work/log"; exit 1; }
-out/cosem_datetime_bench time
+program=$("$here/../.program" cosem_datetime cosem_datetime_bench)
+"$program" time
 "$work/naive"

@@ -7,11 +7,10 @@ rounds=${1:-20000}
 built=$(mktemp -d)
 trap 'rm -r "$built"' EXIT
 rustc -O -C target-cpu=x86-64-v2 -o "$built/plain" "$here/plain.rs"
-cd "$here/../../crates/lane_sampler_bench"
-rt run > "$built/gate" 2> "$built/log" || { cat "$built/log"; exit 1; }
+program=$("$here/../.program" lane_sampler lane_sampler_bench)
 for _ in 1 2 3 4 5 6 7; do
     "$built/plain" "$rounds"
-    out/lane_sampler_bench "$rounds"
+    "$program" "$rounds"
 done > "$built/runs"
 # The least of seven runs of each; equal check sums show that all made the same masks.
 awk '{ if (!($1 in ns) || $3 + 0 < ns[$1]) ns[$1] = $3 + 0; sums[$2] = 1 }

@@ -7,10 +7,9 @@ here=$(cd "$(dirname "$0")" && pwd)
 rounds=${1:-10}
 work=$(mktemp -d)
 trap 'rm -rf "$work"' EXIT
-cd "$here/../../crates/relay_core_bench"
-rt run > "$work/first" 2> "$work/log" || { cat "$work/log"; exit 1; }
+program=$("$here/../.program" relay_core relay_core_bench)
 for _ in 1 2 3 4 5; do
-    out/relay_core_bench "$rounds" >> "$work/proved.txt"
+    "$program" "$rounds" >> "$work/proved.txt"
 done
 moment=$(sed -n 's/^moment \([0-9]*\) ns.*/\1/p' "$work/proved.txt" | sort -n | head -1)
 awk "BEGIN { printf \"a moment: %d ns, a schedule %.1f ns, an entry %.1f ns\n\", $moment, $moment / 4, $moment / 64 }"

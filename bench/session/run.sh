@@ -8,10 +8,9 @@ times=${1:-100000}
 work=$(mktemp -d)
 trap 'rm -rf "$work"' EXIT
 rustc --edition 2021 -O -o "$work/plain" "$here/plain.rs" 2> "$work/warnings" || { cat "$work/warnings"; exit 1; }
-cd "$here/../../crates/meter_server_bench"
-rt run > "$work/first" 2> "$work/log" || { cat "$work/log"; exit 1; }
+program=$("$here/../.program" session meter_server_bench)
 for _ in 1 2 3 4 5; do
-    out/meter_server_bench "$times" >> "$work/proved.txt"
+    "$program" "$times" >> "$work/proved.txt"
     "$work/plain" "$times" >> "$work/plain.txt"
 done
 for program in proved plain; do

@@ -8,10 +8,9 @@ events=${1:-65536}
 work=$(mktemp -d)
 trap 'rm -rf "$work"' EXIT
 rustc --edition 2021 -O -o "$work/plain" "$here/plain.rs" 2> "$work/warnings" || { cat "$work/warnings"; exit 1; }
-cd "$here/../../crates/trace_player_bench"
-rt run > "$work/first" 2> "$work/log" || { cat "$work/log"; exit 1; }
+program=$("$here/../.program" trace trace_player_bench)
 for _ in 1 2 3 4 5; do
-    out/trace_player_bench "$events" >> "$work/proved.txt"
+    "$program" "$events" >> "$work/proved.txt"
     "$work/plain" "$events" >> "$work/plain.txt"
 done
 if [ "$(grep -h ' in, ' "$work/proved.txt" "$work/plain.txt" | sort -u | wc -l)" != 1 ]; then
@@ -26,4 +25,4 @@ echo "proved $proved us, plain $plain us, ratio $(awk "BEGIN { printf \"%.2f\", 
 python3 -c '
 import resource, subprocess, sys
 subprocess.run(sys.argv[1:], stdout=subprocess.DEVNULL, check=True)
-print("most memory held: %d KiB" % resource.getrusage(resource.RUSAGE_CHILDREN).ru_maxrss)' out/trace_player_bench "$events"
+print("most memory held: %d KiB" % resource.getrusage(resource.RUSAGE_CHILDREN).ru_maxrss)' "$program" "$events"

@@ -7,9 +7,9 @@ top=$(cd "$here/../.." && pwd)
 work=$(mktemp -d)
 trap 'rm -rf "$work"' EXIT
 rustc -O -o "$work/mutex" "$here/mutex.rs"
-(cd "$top/crates/turn_lock_bench" && rt run > /dev/null)
+program=$("$top/bench/.program" turn_lock turn_lock_bench)
 for round in 1 2 3; do
-    "$top/crates/turn_lock_bench/out/turn_lock_bench" time > "$work/lock.$round"
+    "$program" time > "$work/lock.$round"
     "$work/mutex" > "$work/mutex.$round"
 done
 cat "$work"/lock.* > "$work/lock"

@@ -9,7 +9,7 @@ use crate::parts::Frame;
 use byteorder::{BigEndian, ByteOrder};
 use bytes::BytesMut;
 use cosem_axdr::Octets;
-use std::alloc::Global;
+use std::alloc::{AllocError, Global};
 use std::marker::Model;
 
 /// The bytes of a stream that were fed and not taken as frames. Contracts see the list of them.
@@ -36,6 +36,15 @@ impl Deframer {
         Deframer {
             pending: BytesMut::new(alloc),
         }
+    }
+
+    /// An equal deframer, in memory of its own.
+    pub fn try_clone(&self, alloc: Global) -> Result<Deframer, AllocError>
+        ensures { IfOk result (λ deframer. deframer ≡ self.now) }
+    {
+        let mut pending = BytesMut::new(alloc);
+        pending.extend_from_slice(self.pending.as_slice())?;
+        Ok(Deframer { pending })
     }
 
     /// Whether no bytes are pending.
