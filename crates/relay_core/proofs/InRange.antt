@@ -1,5 +1,5 @@
 -- What a value sets is in range, where its numbers are of their types' ranges.
-use Rattle.std.proofs.Common.{◌≡◌, ℕ, ◌<◌, List, Option, Some, None, IfSome, IfOk, ok_or, Result, Ok, Err, refl}
+use Rattle.std.proofs.Common.{◌≡◌, ℕ, ◌<◌, Some, IfSome, IfOk, Result, Ok, Err, refl}
 use Rattle.byte_reading.specs.Outcome.{◌>>=◌}
 use Rattle.byte_reading.proofs.OutcomeLemmas.{done}
 use Rattle.cosem_axdr.specs.Forms.{double_long_unsigned_of}

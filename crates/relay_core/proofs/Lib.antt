@@ -1,7 +1,9 @@
 pub mod Agreeing
 pub mod AgreeingEvents
+pub mod CopyLemmas
 pub mod InRange
 pub mod OpeningLemmas
+pub mod Replies
 pub mod RunLemmas
 pub mod SampleLemmas
 pub mod ScheduleLemmas

@@ -1,4 +1,4 @@
-use Rattle.std.proofs.Common.{◌≡◌, ℕ, suc, List, [], ◌∷◌, Option, arith, ap, sym, ◌∙◌}
+use Rattle.std.proofs.Common.{◌≡◌, ℕ, suc, List, [], ◌∷◌, Option, arith, refl, ap, sym, ◌∙◌}
 use Rattle.std.specs.List.{All}
 use Rattle.disconnect_control.specs.Control.{Control}
 use Rattle.limiter_core.specs.declared.settings.Settings.{Settings}
@@ -32,6 +32,30 @@ counted_back : (limiter : State) (m : Metered) → IsFit limiter.last limiter.ov
 counted_back limiter m fit stands =
     let keeps = rows_opened limiter fit in
     record { over = sym keeps.over ∙ stands.rows.over; under = sym keeps.under ∙ stands.rows.under }
+
+-- a limiter stands for the one that its opening tells of, with its clock at the moment that it has
+back_stands : (limiter : State) (moment : Option ℕ) → IsFit limiter.last limiter.over limiter.under → limiter.settings.moment ≡ moment
+    → MeteredStands limiter (opened_limiter (limiter_opening_of limiter) moment)
+back_stands limiter moment fit clock = record {
+  settings = ap (λ (now : Option ℕ). record limiter.settings { moment = now }) clock;
+  last = refl;
+  rows = rows_opened limiter fit;
+}
+
+-- a core stands for the world that its opening tells of
+pub opening_stands : (core : RelayCore) → IsFit core.import.last core.import.over core.import.under
+    → IsFit core.export.last core.export.over core.export.under → StandsFor core (opened (opening_of core))
+opening_stands core import_fit export_fit = record {
+  device = refl;
+  control = refl;
+  moment = refl;
+  import = back_stands core.import core.moment import_fit core.import_clock;
+  export = back_stands core.export core.moment export_fit core.export_clock;
+  scripts = refl;
+  schedules = refl;
+  import_clock = refl;
+  export_clock = refl;
+}
 
 -- the world that a core's opening tells of agrees with every world that the core stands for
 pub opening_agrees : (core : RelayCore) (w : World) → IsFit core.import.last core.import.over core.import.under

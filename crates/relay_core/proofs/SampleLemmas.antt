@@ -252,12 +252,14 @@ quiet_pairs (value ∷ values) (other ∷ others) w firings even quiet other_qui
     ∙ quiet_pairs values others (record between { export = with_sample other w.export }) firings (omega (arith, even)) quiet.1 other_quiet.1
 
 -- a core that took import values which bring nothing
-pub skipped_values : (old : RelayCore) (limiter : State) (values : List ℕ) → 0 < length values
+pub skipped_values : (old : RelayCore) (limiter : State) (values : List ℕ)
+    (import_clock : limiter.settings.moment ≡ old.moment) (export_clock : old.export.settings.moment ≡ old.moment) → 0 < length values
     → limiter.settings ≡ old.import.settings → limiter.last ≡ get_or values (length values - 1) 0
     → ((rows : List Row) → Keeps old.import rows → Keeps limiter (rows_after old.import.settings values rows))
     → ((rows : List Row) → Keeps old.import rows → IsQuiet old.import.settings values rows)
-    → (firings : Firings) → Takes old (record old { import = limiter }) firings firings (imports values)
-skipped_values old limiter values some settings last keeps quiet firings =
+    → (firings : Firings) → Takes old (record old { import = limiter; import_clock = import_clock; export_clock = export_clock }) firings firings (imports values)
+skipped_values old limiter values import_clock export_clock some settings last keeps quiet firings =
+    let new : RelayCore = record old { import = limiter; import_clock = import_clock; export_clock = export_clock } in
     let after : (w : World) → StandsFor old w
     → after_samples (imports values) (amid w firings) ≡ amid (record w { import = metered_after values w.import }) firings =
     λ w stands.
@@ -266,7 +268,7 @@ skipped_values old limiter values some settings last keeps quiet firings =
     record {
       world = λ w stands.
           let import = metered_stands old.import limiter w.import values stands.import settings some last (keeps w.import.rows stands.import.rows) in
-          let stands_after : StandsFor (record old { import = limiter }) (record w { import = metered_after values w.import }) = record {
+          let stands_after : StandsFor new (record w { import = metered_after values w.import }) = record {
             device = stands.device;
             control = stands.control;
             moment = stands.moment;
@@ -277,20 +279,23 @@ skipped_values old limiter values some settings last keeps quiet firings =
             import_clock = ap (λ (s : Settings). s.moment) (metered_after-settings values w.import) ∙ stands.import_clock;
             export_clock = stands.export_clock;
           } in
-          subst (λ (m : Metering). StandsFor (record old { import = limiter }) m.world) (sym (after w stands)) stands_after;
+          subst (λ (m : Metering). StandsFor new m.world) (sym (after w stands)) stands_after;
       firings = λ w stands. ap (λ (m : Metering). m.firings) (sym (after w stands));
     }
 
 -- a core that took pairs which bring nothing
-pub skipped_pairs : (old : RelayCore) (import export : State) (values others : List ℕ) → 0 < length values → length others ≡ length values
+pub skipped_pairs : (old : RelayCore) (import export : State) (values others : List ℕ)
+    (import_clock : import.settings.moment ≡ old.moment) (export_clock : export.settings.moment ≡ old.moment)
+    → 0 < length values → length others ≡ length values
     → import.settings ≡ old.import.settings → import.last ≡ get_or values (length values - 1) 0
     → export.settings ≡ old.export.settings → export.last ≡ get_or others (length others - 1) 0
     → ((rows : List Row) → Keeps old.import rows → Keeps import (rows_after old.import.settings values rows))
     → ((rows : List Row) → Keeps old.export rows → Keeps export (rows_after old.export.settings others rows))
     → ((rows : List Row) → Keeps old.import rows → IsQuiet old.import.settings values rows)
     → ((rows : List Row) → Keeps old.export rows → IsQuiet old.export.settings others rows)
-    → (firings : Firings) → Takes old (record old { import = import; export = export }) firings firings (pairs values others)
-skipped_pairs old import export values others some even settings last other_settings other_last keeps other_keeps quiet other_quiet firings =
+    → (firings : Firings) → Takes old (record old { import = import; export = export; import_clock = import_clock; export_clock = export_clock }) firings firings (pairs values others)
+skipped_pairs old import export values others import_clock export_clock some even settings last other_settings other_last keeps other_keeps quiet other_quiet firings =
+    let new : RelayCore = record old { import = import; export = export; import_clock = import_clock; export_clock = export_clock } in
     let after : (w : World) → StandsFor old w
     → after_samples (pairs values others) (amid w firings)
     ≡ amid (record w { import = metered_after values w.import; export = metered_after others w.export }) firings =
@@ -301,7 +306,7 @@ skipped_pairs old import export values others some even settings last other_sett
     (subst Q stands.export.settings (other_quiet w.export.rows stands.export.rows)) in
     record {
       world = λ w stands.
-          let stands_after : StandsFor (record old { import = import; export = export })
+          let stands_after : StandsFor new
           (record w { import = metered_after values w.import; export = metered_after others w.export }) = record {
             device = stands.device;
             control = stands.control;
@@ -314,6 +319,6 @@ skipped_pairs old import export values others some even settings last other_sett
             import_clock = ap (λ (s : Settings). s.moment) (metered_after-settings values w.import) ∙ stands.import_clock;
             export_clock = ap (λ (s : Settings). s.moment) (metered_after-settings others w.export) ∙ stands.export_clock;
           } in
-          subst (λ (m : Metering). StandsFor (record old { import = import; export = export }) m.world) (sym (after w stands)) stands_after;
+          subst (λ (m : Metering). StandsFor new m.world) (sym (after w stands)) stands_after;
       firings = λ w stands. ap (λ (m : Metering). m.firings) (sym (after w stands));
     }

@@ -23,9 +23,11 @@ use Rattle.limiter_core.specs.declared.settings.Settings.{Settings}
 use Rattle.limiter_core.specs.State.{State}
 use Rattle.relay_core.specs.declared.parts.Parts.{Parts}
 use Rattle.relay_core.specs.declared.parts.Parts.TheVariants as part
+use Rattle.relay_core.specs.declared.relay.RelayCore.{RelayCore}
 use Rattle.relay_core.specs.declared.schedules.Schedules.{Schedules}
 use Rattle.relay_core.specs.Moving.{scripts_part, entries_part, groups_part, parts_read, parts_or_plain}
 use Rattle.relay_core.specs.Schedules.{schedule_of, with_schedule, schedule_written, schedule_code, write_code}
+use Rattle.relay_core.specs.Stands.{StandsFor}
 use Rattle.relay_core.specs.World.{World, Outcome}
 use Rattle.relay_core.specs.Writing.{refused, at_scripts, at_setting_form, at_groups, at_limiter, at_schedule, at_write, with_schedule_entries}
 use Rattle.script_steps.specs.declared.fault.ScriptFault.{ScriptFault}
@@ -78,6 +80,26 @@ scripts_moved number value scripts w is =
     let cases : (b : Bool) (r : Result (List Script) ScriptFault) → Moved b r =
     λ b r. elim b as (λ b. Moved b r) [ true ↦ elim r as (Moved true) [ Ok found ↦ λ same. cc | Err fault ↦ λ other. absurd (cc) ] | false ↦ λ other. absurd (cc) ] in
     cases (number == 2) (table_of value) is
+
+-- a core that has taken scripts in
+pub with_scripts : (core : RelayCore) (w : World) (scripts : List Script)
+    (import_clock : core.import.settings.moment ≡ core.moment) (export_clock : core.export.settings.moment ≡ core.moment) (outcome : Outcome)
+    → outcome ≡ record { world = record w { scripts = scripts }; code = Success } → StandsFor core w
+    → StandsFor (record core { scripts = scripts; import_clock = import_clock; export_clock = export_clock }) outcome.world
+with_scripts core w scripts import_clock export_clock outcome written stands =
+    let next : RelayCore = record core { scripts = scripts; import_clock = import_clock; export_clock = export_clock } in
+    let after : StandsFor next (record w { scripts = scripts }) = record {
+      device = stands.device;
+      control = stands.control;
+      moment = stands.moment;
+      import = stands.import;
+      export = stands.export;
+      scripts = refl;
+      schedules = stands.schedules;
+      import_clock = stands.import_clock;
+      export_clock = stands.export_clock;
+    } in
+    subst (λ (o : Outcome). StandsFor next o.world) (sym written) after
 
 pub scripts_kept : (number : ℕ) (value : Data) (parts : Parts) (w : World)
     → parts ≡ parts_or_plain (parts_read ScriptTable number value) → ((scripts : List Script) → parts ≡ part.Scripts scripts → ⊥)

@@ -1,5 +1,5 @@
 -- Worlds that differ in their samples alone and count them alike: they can't be told apart.
-use Rattle.std.specs.Prelude.{◌≡◌, ◌<◌, List, [], ◌∷◌, IfOk, IfSome}
+use Rattle.std.specs.Prelude.{◌≡◌, ◌<◌, List, IfOk, IfSome}
 use Rattle.cosem_axdr.specs.declared.value.Data.{Data}
 use Rattle.limiter_attributes.specs.declared.attribute.LimiterAttribute.{LimiterAttribute}
 use Rattle.limiter_attributes.specs.declared.setting.Setting.{Setting}

@@ -170,6 +170,15 @@ impl RelayCore {
         Ok(opening)
     }
 
+    /// Every core stands for the world that it tells of when it is written down. It takes no memory, and the core is only
+    /// looked at.
+    pub fn stands_for_its_opening(&self)
+        ensures { StandsFor self.now (opened (opening_of self.now)) }
+    {
+        let _import = self.import.over_run();
+        let _export = self.export.over_run();
+    }
+
     /// The core that was written down. Errors: `Unfit` where no core is so, else `Memory`.
     pub fn from_opening(alloc: Global, opening: &Opening) -> Result<RelayCore, OpeningFault>
         ensures unfit { IsErrOf result OpeningFault.Unfit ↔ (¬ IsFitOpening opening.now) }

@@ -1,10 +1,4 @@
 ghost use Rattle.std.specs.Prelude.{◌≡◌, ◌≤◌, length, IfOk};
-ghost use Rattle.disconnect_control.specs.declared.state.ControlState.TheVariants.{Connected};
-ghost use Rattle.disconnect_control.specs.Transitions.{is_state};
-ghost use Rattle.limiter_core.specs.Settings.{active_threshold};
-ghost use Rattle.relay_core.specs.Limiters.{metered_of};
-ghost use Rattle.relay_core.specs.World.{World, new_world};
-ghost use Rattle.relay_core.specs.Stands.{StandsFor, MeteredStands};
 
 use crate::schedules::Schedules;
 use cosem_axdr::Octets;
@@ -26,9 +20,19 @@ pub struct RelayCore {
     pub(crate) export: Limiter,
     pub(crate) scripts: ScriptTable,
     pub(crate) schedules: Schedules,
+    /// The clocks of the limiters are the meter's.
+    pub ghost import_clock: { import.settings.moment ≡ moment },
+    pub ghost export_clock: { export.settings.moment ≡ moment },
 }
 
 impl RelayCore {
+    ghost use Rattle.disconnect_control.specs.declared.state.ControlState.TheVariants.{Connected};
+    ghost use Rattle.disconnect_control.specs.Transitions.{is_state};
+    ghost use Rattle.limiter_core.specs.Settings.{active_threshold};
+    ghost use Rattle.relay_core.specs.Limiters.{metered_of};
+    ghost use Rattle.relay_core.specs.World.{World, new_world};
+    ghost use Rattle.relay_core.specs.Stands.{StandsFor, MeteredStands};
+
     /// A new meter of this device name, 1 to 16 bytes: connected, in mode 0, without scripts, with no
     /// schedule that is ever due, with limiters whose thresholds are at their greatest, and no sample or moment has come.
     pub fn new(alloc: Global, device: &Octets) -> Result<RelayCore, AllocError>

@@ -1,5 +1,5 @@
 -- The kept events run again from a world that agrees with the one before them.
-use Rattle.std.proofs.Common.{◌≡◌, ℕ, zero, suc, ◌+◌, ◌-◌, ◌≤◌, List, [], ◌∷◌, ◌++◌, length, map, take, drop, refl, ap, sym, ◌∙◌, subst, arith}
+use Rattle.std.proofs.Common.{◌≡◌, ℕ, zero, suc, ◌+◌, ◌-◌, ◌≤◌, List, [], ◌∷◌, ◌++◌, length, map, drop, refl, ap, sym, ◌∙◌, arith}
 use Rattle.std.proofs.lemmas.List.{length-drop, length-take-le, length-map, take-append-drop}
 use lib.Seq.{drop-append-add}
 use Rattle.circular_buffer.specs.Buffer.{keep_last}
@@ -9,14 +9,14 @@ use Rattle.disconnect_control.specs.declared.state.ControlState.TheVariants.{Con
 use Rattle.relay_core.specs.declared.event.Event.{Event}
 use Rattle.relay_core.specs.declared.event.Line.{Line}
 use Rattle.relay_core.specs.declared.event.Reply.{Reply}
-use Rattle.relay_core.specs.Agreeing.{Agree, IsWorld, IsEvent, GoAlike}
+use Rattle.relay_core.specs.Agreeing.{Agree, IsWorld, GoAlike}
 use Rattle.relay_core.specs.Machine.{at_event}
-use Rattle.relay_core.specs.Runs.{line_of, line_at, lines_of, world_after}
+use Rattle.relay_core.specs.Runs.{line_of, lines_of, world_after}
 use Rattle.relay_core.specs.Stands.{StandsFor}
 use Rattle.relay_core.specs.World.{World, Stepped}
 use Rattle.relay_core.proofs.AgreeingEvents.{event_alike}
 use Rattle.relay_core.proofs.RunLemmas.{lines_of-append}
-use Rattle.relay_recorder.specs.Histories.{Told, StandsForHistory, events_of, replies_of, replies_from}
+use Rattle.relay_recorder.specs.Histories.{Told, StandsForHistory, events_of}
 use Rattle.relay_recorder.specs.Recording.{Recording, all_but_last}
 use Rattle.relay_recorder.specs.Replaying.{AreEvents, RunsAgain}
 

@@ -2,7 +2,8 @@ ghost use Rattle.std.specs.Prelude.{◌≡◌, ◌<◌, ◌≤◌, [], ◌∷◌
 ghost use Rattle.circular_buffer.specs.Buffer.{keep_last};
 ghost use Rattle.relay_core.specs.Machine.{is_sure, Fits};
 ghost use Rattle.relay_core.specs.Opening.{opened, opening_of};
-ghost use Rattle.relay_core.specs.World.{new_world};
+ghost use Rattle.relay_core.specs.Stands.{StandsFor};
+ghost use Rattle.relay_core.specs.World.{World, new_world};
 ghost use Rattle.relay_recorder.specs.Histories.{StandsForHistory, Continues};
 ghost use Rattle.relay_recorder.specs.Replaying.{Replays};
 
@@ -48,6 +49,19 @@ impl Recorder {
         ensures capacity { IfOk result (λ recorder. recorder.capacity ≡ capacity) }
     {
         let core = RelayCore::new(alloc, device)?;
+        Recorder::from_core(alloc, core, capacity)
+    }
+
+    /// A recorder that goes on from this core and keeps at most `capacity` events, 1 to 1,024; none has come yet. All the
+    /// memory that it keeps them in is taken here. Where memory runs out the core is let go.
+    pub fn from_core(alloc: Global, core: RelayCore, capacity: u16) -> Result<Recorder, AllocError>
+        requires { (1 ≤ capacity) × (capacity ≤ 1024) }
+        ensures core { IfOk result (λ recorder. recorder.core ≡ core) }
+        ensures opening { IfOk result (λ recorder. recorder.opening ≡ core) }
+        ensures empty { IfOk result (λ recorder. recorder.events ≡ []) }
+        ensures capacity { IfOk result (λ recorder. recorder.capacity ≡ capacity) }
+        ensures stands { IfOk result (λ recorder. (w : World) → StandsFor core w → StandsForHistory recorder [] w) }
+    {
         let opening = core.try_copy(alloc)?;
         let kept = HeapCircularBuffer::with_capacity(alloc, usize::from(capacity))?;
         Ok(Recorder {

@@ -1,5 +1,6 @@
 pub mod Cuts
 pub mod HexadecimalLemmas
+pub mod JoinedTexts
 pub mod Known
 pub mod LinesLemmas
 pub mod NumbersLemmas

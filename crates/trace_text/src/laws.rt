@@ -49,3 +49,10 @@ pub fn written_lines_are_read()
     ensures taken { (text line rest : List ℕ) → lines_of text ≡ line ∷ lines_of rest → rows_of text ≡ words_of line ∷ rows_of rest }
     ensures none { (text : List ℕ) → lines_of text ≡ [] → rows_of text ≡ [] }
 {}
+
+/// A text whose last line is ended can be cut from what comes behind it: the lines of the whole are those of both, in order.
+#[tactic(auto, using(crate::proofs::JoinedTexts::lines_joined, crate::proofs::JoinedTexts::unended_joined))]
+pub fn text_may_be_cut_behind_a_line()
+    ensures lines { (text rest : List ℕ) → unended_of text ≡ [] → lines_of (text ++ rest) ≡ lines_of text ++ lines_of rest }
+    ensures behind { (text rest : List ℕ) → unended_of text ≡ [] → unended_of (text ++ rest) ≡ unended_of rest }
+{}

@@ -15,7 +15,8 @@ mod writing;
 
 pub use hexadecimal::{read_hex, write_hex};
 pub use laws::{
-    written_bytes_are_read, written_lines_are_read, written_number_is_read, written_words_are_read,
+    text_may_be_cut_behind_a_line, written_bytes_are_read, written_lines_are_read,
+    written_number_is_read, written_words_are_read,
 };
 pub use lines::{Lines, split_line};
 pub use numbers::{read_number, write_number};

@@ -1,5 +1,5 @@
 -- Lists that begin with others, the calls of one port in a history, and the numbers of ports.
-use Rattle.std.proofs.Common.{◌≡◌, ◌≢◌, ◌⊎◌, ℕ, ◌+◌, Bool, true, false, ◌&&◌, ◌==◌, if◌then◌else◌, List, [], ◌∷◌, ◌++◌, length, sym, refl, ap, ◌∙◌, inl, inr, ⊎_elim, arith, eq-eqb, eqb-true, length-append, le_refl}
+use Rattle.std.proofs.Common.{◌≡◌, ◌≢◌, ◌⊎◌, ℕ, ◌+◌, ◌≤◌, Bool, true, false, ◌&&◌, ◌==◌, if◌then◌else◌, List, [], ◌∷◌, ◌++◌, length, sym, refl, ap, ◌∙◌, inl, inr, ⊎_elim, arith, eq-eqb, eqb-true, length-append, le_refl}
 use Rattle.std.proofs.lemmas.List.{append-nil, append_assoc, append_cancel_left}
 use Rattle.turn_lock.specs.declared.turned.Entry.{Entry}
 use Rattle.turn_lock.specs.History.{StartsWith, IsAmong, is_same, IsFuture, entry, calls_by}
@@ -23,6 +23,9 @@ module _ {A : Type 0} where
   -- a longer list begins with the same
   pub starts_more : (xs ys rest : List A) → StartsWith xs ys → StartsWith (xs ++ rest) ys
   starts_more xs ys rest a = (a.0 ++ rest, ap (λ l. l ++ rest) a.1 ∙ append_assoc ys a.0 rest)
+
+  pub starts_length : (xs ys : List A) → StartsWith xs ys → length ys ≤ length xs
+  starts_length xs ys a = let e : length xs ≡ length (ys ++ a.0) = ap length a.1 in omega (arith, e, length-append ys a.0)
 
   nil_left : (xs ys : List A) → xs ++ ys ≡ [] → xs ≡ []
   nil_left [] ys e = refl

@@ -1,5 +1,5 @@
 -- Each step on the table keeps its rule, and tells what its play says.
-use Rattle.std.proofs.Common.{◌≡◌, ◌≢◌, ◌⊎◌, ℕ, zero, suc, ◌+◌, ◌%◌, ◌^◌, ◌<◌, ◌≤◌, eqb, ◌==◌, Bool, true, false, if◌then◌else◌, List, [], ◌∷◌, ◌++◌, length, get_or, set, sym, refl, ap, ◌∙◌, subst, inl, inr, ⊎_elim, arith, le_refl, eq-eqb, ne_eqb, Option, Some, None}
+use Rattle.std.proofs.Common.{◌≡◌, ◌≢◌, ◌⊎◌, ℕ, zero, suc, ◌+◌, ◌%◌, ◌^◌, ◌<◌, ◌≤◌, eqb, ◌==◌, Bool, true, false, if◌then◌else◌, List, [], ◌∷◌, ◌++◌, length, get_or, set, sym, refl, ap, ◌∙◌, subst, inl, inr, ⊎_elim, arith, le_refl, eq-eqb, ne_eqb, length-append, Option, Some, None}
 use mathlib.Core.Logic.{dite}
 use mathlib.Core.Option.{none, some, some-injective, some-ne-none}
 use native.Mathlib.Decide.{ℕ_discrete}
@@ -21,8 +21,8 @@ use Rattle.turn_lock.specs.declared.board.TheConstants.{MOST_TURNS}
 use Rattle.turn_lock.specs.History.{StartsWith, calls_by}
 use Rattle.turn_lock.specs.Rule.{newcomer, full, IsOwn, Moment, IsHome, Staged, IsPort, Fits, Facts, Keeps}
 use Rattle.turn_lock.specs.Calls.{Watches}
-use Rattle.turn_lock.specs.Plays.{added, posed, spent_view, divided_view, born_view, noted_view, met_view, settled, drew, saw, Watched, looked, Ended, ended, Merged, merged, Takes, reached, closed}
-use Rattle.turn_lock.proofs.Lists.{starts_refl, starts_more, calls_by-own, calls_by-other, calls_none, has_front, has_front-append, future-not-self, future_sooner, front_is_future, future-not-front, apart-not-front, among-append}
+use Rattle.turn_lock.specs.Plays.{added, posed, spent_view, divided_view, born_view, noted_view, counted_view, met_view, settled, drew, saw, Watched, looked, Ended, ended, Merged, merged, Takes, reached, closed}
+use Rattle.turn_lock.proofs.Lists.{starts_refl, starts_more, starts_length, calls_by-own, calls_by-other, calls_none, has_front, has_front-append, future-not-self, future_sooner, front_is_future, future-not-front, apart-not-front, among-append}
 
 -- the function that is v at k, and f elsewhere
 abbrev put : (ℕ → ℕ) → ℕ → ℕ → ℕ → ℕ
@@ -70,12 +70,18 @@ module _ {E R : Type 0} where
   added_other q p xs None n = ap (calls_by q) (append-nil xs)
   added_other q p xs (Some l) n = calls_by-other q p xs l.0.value l.1.value n
 
+  -- a turn adds one call at most
+  added_few : (p : List ℕ) (xs : List (Entry E R)) (l : Option (Snapshot E × Snapshot R)) → length (xs ++ added p l) ≤ length xs + 1
+  added_few p xs None = omega (arith, length-append xs (added p None))
+  added_few p xs (Some l) = omega (arith, length-append xs (added p (Some l)))
+
+module _ {E R O : Type 0} where
   -- what a stage says of the seat that was taken in, and d where it says nothing
-  abbrev met_of : Bool × List ℕ × List (List ℕ) × List (Entry E R) → Stage E R → Bool × List ℕ × List (List ℕ) × List (Entry E R)
-  met_of d (Met b p js h) = (b, p, js, h)
+  abbrev met_of : Bool × Known E R O → Stage E R O → Bool × Known E R O
+  met_of d (Met b u) = (b, u)
   met_of d _ = d
 
-  abbrev turn_of : ℕ → Stage E R → ℕ
+  abbrev turn_of : ℕ → Stage E R O → ℕ
   turn_of d (Waiting n) = n
   turn_of d _ = d
 
@@ -101,7 +107,7 @@ module _ {T E R O : Type 0} (origin : T → O) (stands : T → List (Entry E R) 
   abbrev Fit : Mo → ℕ → V → Type 0
   Fit = Fits origin stands first
 
-  abbrev Stand : Mo → ℕ → Known E R O → Stage E R → Type 0
+  abbrev Stand : Mo → ℕ → Known E R O → Stage E R O → Type 0
   Stand = Staged origin stands first
 
   -- the table at a moment, as data
@@ -121,36 +127,38 @@ module _ {T E R O : Type 0} (origin : T → O) (stands : T → List (Entry E R) 
       (λ (t : (j ≢ i) × (get_elem? vs j ≡ some d)). others j d t.0 t.1) (at_set vs i j w d e)
 
   -- a step of the seat i that goes from one moment to another
-  moves : (m m' : Mo) (vs : List V) (i : ℕ) (w : V) → F m vs → m'.serving ≤ m'.ticket → m'.ticket ≤ MOST_TURNS + m'.closed → m'.closed ≤ 1 → legal m'.start m'.whole
+  moves : (m m' : Mo) (vs : List V) (i : ℕ) (w : V) → F m vs → m'.serving ≤ m'.ticket → m'.ticket ≤ MOST_TURNS + m'.closed → m'.closed ≤ 1 → legal m'.start m'.whole → length m'.whole ≤ m'.serving
       → IsHome origin stands m' ⊎ (m'.serving < m'.ticket) → Fit m' i w → ((j : ℕ) (d : V) → j ≢ i → Fit m j d → Fit m' j d) → F m' (set vs i w)
-  moves m m' vs i w f range few once lawful held mine others = record {
+  moves m m' vs i w f range few once lawful counted held mine others = record {
     range = range;
     few = few;
     once = once;
     lawful = lawful;
+    counted = counted;
     held = held;
     fits = seats (Fit m') vs i w mine (λ j d n at. others j d n (f.fits j d at));
   }
 
   -- a step that changes the view of the seat i alone
   stays : (m : Mo) (vs : List V) (i : ℕ) (w : V) → F m vs → Fit m i w → F m (set vs i w)
-  stays m vs i w f mine = moves m m vs i w f f.range f.few f.once f.lawful f.held mine (λ _ _ _ x. x)
+  stays m vs i w f mine = moves m m vs i w f f.range f.few f.once f.lawful f.counted f.held mine (λ _ _ _ x. x)
 
-  at_stage : (m : Mo) (i : ℕ) (v : V) (stage : Stage E R) → Fit m i v → Stand m i v.known stage → Fit m i (posed v stage)
-  at_stage m i v stage f st = record { named = f.named; seen = f.seen; drawn = f.drawn; lone = f.lone; staged = st; port = f.port }
+  at_stage : (m : Mo) (i : ℕ) (v : V) (stage : Stage E R O) → Fit m i v → Stand m i v.known stage → Fit m i (posed v stage)
+  at_stage m i v stage f st = record { named = f.named; seen = f.seen; drawn = f.drawn; served = f.served; lone = f.lone; staged = st; port = f.port }
 
   -- what a port knows that has seen all
   abbrev informed : Mo → Known E R O → Known E R O
   informed m k = record k { seen = m.whole; drawn = m.ticket }
 
-  abbrev informed_view : Mo → V → Stage E R → V
+  abbrev informed_view : Mo → V → Stage E R O → V
   informed_view m v stage = record { known = informed m v.known; is_port = v.is_port; stage = stage }
 
-  informs : (m : Mo) (i : ℕ) (v : V) (stage : Stage E R) → Fit m i v → Stand m i (informed m v.known) stage → Fit m i (informed_view m v stage)
+  informs : (m : Mo) (i : ℕ) (v : V) (stage : Stage E R O) → Fit m i v → Stand m i (informed m v.known) stage → Fit m i (informed_view m v stage)
   informs m i v stage f st = record {
     named = f.named;
     seen = starts_refl m.whole;
     drawn = le_refl m.ticket;
+    served = f.served;
     lone = f.lone;
     staged = st;
     port = λ e. let p = f.port e in record { begun = p.begun; own = λ q o. ((p.own q o).0, refl); future = p.future; apart = p.apart };
@@ -163,8 +171,9 @@ module _ {T E R O : Type 0} (origin : T → O) (stands : T → List (Entry E R) 
       number = refl;
       splits = refl;
       drawn = f.drawn;
+      served = le_refl v.known.served;
       seen = f.seen;
-      lawful = λ o e. subst (λ z. legal z m.whole) (sym (f.named o e)) lawful;
+      lawful = (m.start, (f.port port).begun, lawful);
       own = λ q o. ((f.port port).own q o).1;
     };
     joined = refl;
@@ -173,7 +182,7 @@ module _ {T E R O : Type 0} (origin : T → O) (stands : T → List (Entry E R) 
   abbrev M : Type 0
   M = Me Sl V
 
-  watched : (m : Mo) (i : ℕ) (me : M) (stage : Stage E R) (cs : List (ℕ × Sl)) → Fit m i me.0 → me.0.is_port ≡ true → legal m.start m.whole → Watched legal stage me (informed_view m me.0 stage, cs)
+  watched : (m : Mo) (i : ℕ) (me : M) (stage : Stage E R O) (cs : List (ℕ × Sl)) → Fit m i me.0 → me.0.is_port ≡ true → legal m.start m.whole → Watched legal stage me (informed_view m me.0 stage, cs)
   watched m i me stage cs f port lawful = record { port = port; staged = refl; watches = watches m i me.0 f port lawful }
 
   -- a load that takes no slot
@@ -193,34 +202,47 @@ module _ {T E R O : Type 0} (origin : T → O) (stands : T → List (Entry E R) 
   looks slots id me port = loads slots id me 0 (looked legal (step slots 0 0 0 none) me) (λ m vs f fit.
       (informed_view m me.0 Idle, informs m id me.0 Idle fit tt, (watched m id me Idle me.1 fit port f.lawful, refl, le_refl m.ticket)))
 
+  -- the view of a seat that has read the count of ended turns
+  counts : (m : Mo) (i : ℕ) (v : V) → Fit m i v → Fit m i (counted_view v m.serving)
+  counts m i v f = record {
+    named = f.named;
+    seen = f.seen;
+    drawn = f.drawn;
+    served = le_refl m.serving;
+    lone = f.lone;
+    staged = le_refl m.serving;
+    port = λ e. let p = f.port e in record { begun = p.begun; own = p.own; future = p.future; apart = p.apart };
+  }
+
   pub sees : (slots id : ℕ) (me : M) → Allows Rule slots id me 1 (λ n. n) (saw (step slots 1 0 0 none) me)
   sees slots id me = loads slots id me 1 (saw (step slots 1 0 0 none) me) (λ m vs f fit.
       let a : m.serving ≤ m.ticket = f.range in let b : m.ticket ≤ MOST_TURNS + m.closed = f.few in let c : m.closed ≤ 1 = f.once in
-      (posed me.0 (SawServing m.serving), at_stage m id me.0 (SawServing m.serving) fit (le_refl m.serving), (refl, omega arith)))
+      let d : length m.whole ≤ m.serving = f.counted in let e : length me.0.known.seen ≤ length m.whole = starts_length m.whole me.0.known.seen fit.seen in
+      (counted_view me.0 m.serving, counts m id me.0 fit, (refl, fit.served, omega arith, omega arith)))
 
   -- the draw of a turn by the seat i
   abbrev after_draw : Mo → ℕ → ℕ → Mo
   after_draw m i new = record m { ticket = new; owner = put m.owner m.ticket i }
 
-  draw_staged : (m : Mo) (i new j : ℕ) (k : Known E R O) → new ≡ m.ticket + 1 → (st : Stage E R) → Stand m j k st → Stand (after_draw m i new) j k st
+  draw_staged : (m : Mo) (i new j : ℕ) (k : Known E R O) → new ≡ m.ticket + 1 → (st : Stage E R O) → Stand m j k st → Stand (after_draw m i new) j k st
   draw_staged m i new j k up New h = h
   draw_staged m i new j k up Young h = h
   draw_staged m i new j k up Idle h = tt
   draw_staged m i new j k up (Waiting n) h = let low : n < m.ticket = h.0.1 in ((h.0.0, omega arith, put_else m.owner m.ticket i n (λ e. omega arith) ∙ h.0.2), h.1)
   draw_staged m i new j k up (Turn n) h = let low : n < m.ticket = h.0.1 in ((h.0.0, omega arith, put_else m.owner m.ticket i n (λ e. omega arith) ∙ h.0.2), h.1, h.2, h.3)
   draw_staged m i new j k up (SawServing n) h = h
-  draw_staged m i new j k up (Met b p js t) h = h
+  draw_staged m i new j k up (Met b u) h = h
 
   draw_fit : (m : Mo) (i new j : ℕ) (d : V) → new ≡ m.ticket + 1 → Fit m j d → Fit (after_draw m i new) j d
   draw_fit m i new j d up f = let low : d.known.drawn ≤ m.ticket = f.drawn in
-      record { named = f.named; seen = f.seen; drawn = omega arith; lone = f.lone; staged = draw_staged m i new j d.known up d.stage f.staged; port = f.port }
+      record { named = f.named; seen = f.seen; drawn = omega arith; served = f.served; lone = f.lone; staged = draw_staged m i new j d.known up d.stage f.staged; port = f.port }
 
   at_home : (m : Mo) → IsHome origin stands m ⊎ (m.serving < m.ticket) → m.ticket ≡ m.serving → IsHome origin stands m
   at_home m held e = ⊎_elim (λ h. h) (λ l. absurd (omega arith)) held
 
   draws_at : (id : ℕ) (me : M) (old new : ℕ) (m : Mo) (vs : List V) → F m vs → Fit m id me.0 → new ≡ old + 1 → old < MOST_TURNS → m.ticket ≡ old → F (after_draw m id new) (set vs id (posed me.0 (Waiting m.ticket)))
   draws_at id me old new m vs f fit up few hit = let low : m.serving ≤ m.ticket = f.range in let more : new ≡ m.ticket + 1 = omega arith in
-      moves m (after_draw m id new) vs id (posed me.0 (Waiting m.ticket)) f (omega arith) (omega arith) f.once f.lawful (⊎_elim inl (λ (l : m.serving < m.ticket). inr (omega arith)) f.held)
+      moves m (after_draw m id new) vs id (posed me.0 (Waiting m.ticket)) f (omega arith) (omega arith) f.once f.lawful f.counted (⊎_elim inl (λ (l : m.serving < m.ticket). inr (omega arith)) f.held)
       (at_stage (after_draw m id new) id me.0 (Waiting m.ticket) (draw_fit m id new id me.0 more fit) ((low, omega arith, put_here m.owner m.ticket id), at_home m f.held))
       (λ j d _ x. draw_fit m id new j d more x)
 
@@ -242,20 +264,21 @@ module _ {T E R O : Type 0} (origin : T → O) (stands : T → List (Entry E R) 
   not_lone : {X : Type 0} (m : Mo) (i j : ℕ) (v d : V) → j ≢ i → Fit m i v → Fit m j d → m.lone ≡ true → X
   not_lone m i j v d other f g lone = absurd (other (g.lone lone ∙ sym (f.lone lone)))
 
-  take_staged : (m : Mo) (i n j : ℕ) (k : Known E R O) → j ≢ i → m.owner n ≡ i → n ≡ m.serving → (m.lone ≡ true → ⊥) → (st : Stage E R) → Stand m j k st → Stand (after_take m) j k st
+  take_staged : (m : Mo) (i n j : ℕ) (k : Known E R O) → j ≢ i → m.owner n ≡ i → n ≡ m.serving → (m.lone ≡ true → ⊥) → (st : Stage E R O) → Stand m j k st → Stand (after_take m) j k st
   take_staged m i n j k other mine here pair New h = absurd (pair h.0)
   take_staged m i n j k other mine here pair Young h = h
   take_staged m i n j k other mine here pair Idle h = tt
   take_staged m i n j k other mine here pair (Waiting q) h = (h.0, λ e. absurd (other (sym h.0.2 ∙ (ap m.owner (e ∙ sym here) ∙ mine))))
   take_staged m i n j k other mine here pair (Turn q) h = h
   take_staged m i n j k other mine here pair (SawServing q) h = h
-  take_staged m i n j k other mine here pair (Met b p js t) h = h
+  take_staged m i n j k other mine here pair (Met b u) h = h
 
-  restaged : (m m' : Mo) (i : ℕ) (v : V) → m'.start ≡ m.start → m'.whole ≡ m.whole → m.ticket ≤ m'.ticket → (m'.lone ≡ true → m.lone ≡ true) → m'.holder ≡ m.holder → Fit m i v → Stand m' i v.known v.stage → Fit m' i v
-  restaged m m' i v start whole more lone holder f st = let low : v.known.drawn ≤ m.ticket = f.drawn in record {
+  restaged : (m m' : Mo) (i : ℕ) (v : V) → m'.start ≡ m.start → m'.whole ≡ m.whole → m.ticket ≤ m'.ticket → m.serving ≤ m'.serving → (m'.lone ≡ true → m.lone ≡ true) → m'.holder ≡ m.holder → Fit m i v → Stand m' i v.known v.stage → Fit m' i v
+  restaged m m' i v start whole more later lone holder f st = let low : v.known.drawn ≤ m.ticket = f.drawn in let few : v.known.served ≤ m.serving = f.served in record {
     named = λ o e. f.named o e ∙ sym start;
     seen = subst (λ h. StartsWith h v.known.seen) (sym whole) f.seen;
     drawn = omega arith;
+    served = omega arith;
     lone = λ e. f.lone (lone e);
     staged = st;
     port = λ e. subst (λ (z : O × (List ℕ → ℕ) × List (Entry E R)). IsPort z.0 z.1 i z.2 v.known) (λ c. (sym start c, sym holder c, sym whole c)) (f.port e);
@@ -263,9 +286,9 @@ module _ {T E R O : Type 0} (origin : T → O) (stands : T → List (Entry E R) 
 
   takes_at : (id n : ℕ) (v : V) (m : Mo) (vs : List V) → F m vs → Fit m id v → v.stage ≡ Waiting n → m.serving ≡ n → F (after_take m) (set vs id (informed_view m v (Turn n)))
   takes_at id n v m vs f fit is hit = let w : V = informed_view m v (Turn n) in let st = subst (Stand m id v.known) is fit.staged in let home = st.1 (sym hit) in let low : n < m.ticket = st.0.1 in
-      moves m (after_take m) vs id w f f.range f.few f.once f.lawful (inr (omega arith))
-      (restaged m (after_take m) id w refl refl (le_refl m.ticket) (λ e. e) refl (informs m id v (Turn n) fit (st.0, sym hit, refl, home.5)) (st.0, sym hit, refl, home.5))
-      (λ j d other g. restaged m (after_take m) j d refl refl (le_refl m.ticket) (λ e. e) refl g (take_staged m id n j d.known other st.0.2 (sym hit) (not_lone m id j v d other fit g) d.stage g.staged))
+      moves m (after_take m) vs id w f f.range f.few f.once f.lawful f.counted (inr (omega arith))
+      (restaged m (after_take m) id w refl refl (le_refl m.ticket) (le_refl m.serving) (λ e. e) refl (informs m id v (Turn n) fit (st.0, sym hit, refl, home.5)) (st.0, sym hit, refl, home.5))
+      (λ j d other g. restaged m (after_take m) j d refl refl (le_refl m.ticket) (le_refl m.serving) (λ e. e) refl g (take_staged m id n j d.known other st.0.2 (sym hit) (not_lone m id j v d other fit g) d.stage g.staged))
 
   pub reaches : (slots id n : ℕ) (me : M) → me.0.is_port ≡ true → me.0.stage ≡ Waiting n → Allows Rule slots id me 1 (λ x. x) (reached origin stands legal (step slots 1 0 0 none) me)
   reaches slots id n me port is = by_moment
@@ -301,24 +324,26 @@ module _ {T E R O : Type 0} (origin : T → O) (stands : T → List (Entry E R) 
   after_end m p x l = record m { serving = m.serving + 1; whole = m.whole ++ added p l; home = some (full x l) }
 
   end_staged : (m : Mo) (i n j : ℕ) (p : List ℕ) (x : T) (l : Option (Snapshot E × Snapshot R)) (k : Known E R O) → j ≢ i → m.owner n ≡ i → n ≡ m.serving → m.holder p ≡ i → (m.lone ≡ true → ⊥)
-      → IsHome origin stands (after_end m p x l) → (st : Stage E R) → Stand m j k st → Stand (after_end m p x l) j k st
+      → IsHome origin stands (after_end m p x l) → (st : Stage E R O) → Stand m j k st → Stand (after_end m p x l) j k st
   end_staged m i n j p x l k other mine here holds pair home New h = absurd (pair h.0)
   end_staged m i n j p x l k other mine here holds pair home Young h = h
   end_staged m i n j p x l k other mine here holds pair home Idle h = tt
   end_staged m i n j p x l k other mine here holds pair home (Waiting q) h = let low : m.serving ≤ q = h.0.0 in let apart : q ≢ m.serving = λ e. other (sym h.0.2 ∙ (ap m.owner (e ∙ sym here) ∙ mine)) in ((omega arith, h.0.1, h.0.2), λ _. home)
   end_staged m i n j p x l k other mine here holds pair home (Turn q) h = absurd (other (sym h.0.2 ∙ (ap m.owner (h.1 ∙ sym here) ∙ mine)))
   end_staged m i n j p x l k other mine here holds pair home (SawServing q) h = let low : q ≤ m.serving = h in (omega arith)
-  end_staged m i n j p x l k other mine here holds pair home (Met b u js t) h = (
-    starts_more m.whole t (added p l) h.0,
-    λ yes q one. let a = h.1 yes q one in (a.0, added_other q p m.whole l (λ e. other (sym a.0 ∙ (ap m.holder e ∙ holds))) ∙ a.1, a.2, a.3),
+  end_staged m i n j p x l k other mine here holds pair home (Met b u) h = (
+    starts_more m.whole u.seen (added p l) h.0,
+    h.1,
+    λ yes q one. let a = h.2 yes q one in (a.0, added_other q p m.whole l (λ e. other (sym a.0 ∙ (ap m.holder e ∙ holds))) ∙ a.1, a.2, a.3),
   )
 
   end_others : (m : Mo) (i n j : ℕ) (p : List ℕ) (x : T) (l : Option (Snapshot E × Snapshot R)) (d : V) → j ≢ i → m.owner n ≡ i → n ≡ m.serving → m.holder p ≡ i → (m.lone ≡ true → ⊥)
       → IsHome origin stands (after_end m p x l) → Fit m j d → Fit (after_end m p x l) j d
-  end_others m i n j p x l d other mine here holds pair home f = record {
+  end_others m i n j p x l d other mine here holds pair home f = let few : d.known.served ≤ m.serving = f.served in record {
     named = f.named;
     seen = starts_more m.whole d.known.seen (added p l) f.seen;
     drawn = f.drawn;
+    served = omega arith;
     lone = f.lone;
     staged = end_staged m i n j p x l d.known other mine here holds pair home d.stage f.staged;
     port = λ e. let t = f.port e in record {
@@ -334,10 +359,11 @@ module _ {T E R O : Type 0} (origin : T → O) (stands : T → List (Entry E R) 
   ended_view v l = record v { stage = Idle; known = record v.known { seen = v.known.seen ++ added v.known.number l } }
 
   end_mine : (m : Mo) (i : ℕ) (x : T) (l : Option (Snapshot E × Snapshot R)) (v : V) → v.known.seen ≡ m.whole → Fit m i v → Fit (after_end m v.known.number x l) i (ended_view v l)
-  end_mine m i x l v all f = let p : List ℕ = v.known.number in let same : m.whole ++ added p l ≡ v.known.seen ++ added p l = ap (λ h. h ++ added p l) (sym all) in record {
+  end_mine m i x l v all f = let p : List ℕ = v.known.number in let same : m.whole ++ added p l ≡ v.known.seen ++ added p l = ap (λ h. h ++ added p l) (sym all) in let few : v.known.served ≤ m.serving = f.served in record {
     named = f.named;
     seen = subst (λ h. StartsWith h (v.known.seen ++ added p l)) (sym same) (starts_refl (v.known.seen ++ added p l));
     drawn = f.drawn;
+    served = omega arith;
     lone = f.lone;
     staged = tt;
     port = λ e. let t = f.port e in record {
@@ -355,12 +381,12 @@ module _ {T E R O : Type 0} (origin : T → O) (stands : T → List (Entry E R) 
         let start : origin x ≡ m.start = fit.named (origin x) begun in let whole : v.known.seen ++ added p l ≡ m.whole ++ added p l = ap (λ h. h ++ added p l) all in
         let stood' : stands x (m.whole ++ added p l) = subst (stands x) whole stood in let home : IsHome origin stands (after_end m p x l) = (x, l, refl, stood', start, st.3) in
         let lawful : legal m.start (m.whole ++ added p l) = subst (λ o. legal o (m.whole ++ added p l)) start (law x (m.whole ++ added p l) stood') in
-        let low : n < m.ticket = st.0.1 in let here : n ≡ m.serving = st.1 in (
-          moves m (after_end m p x l) vs id (ended_view v l) f (omega arith) f.few f.once lawful (inl home) (end_mine m id x l v all fit)
+        let low : n < m.ticket = st.0.1 in let here : n ≡ m.serving = st.1 in let were : length m.whole ≤ m.serving = f.counted in let more = added_few p m.whole l in (
+          moves m (after_end m p x l) vs id (ended_view v l) f (omega arith) f.few f.once lawful (omega (arith, were, more)) (inl home) (end_mine m id x l v all fit)
               (λ j d other g. end_others m id n j p x l d other st.0.2 here (mine.own p (inl refl)).0 (not_lone m id j v d other fit g) home g),
           record {
             view = refl;
-            lawful = λ o e. subst (λ z. legal z (v.known.seen ++ added p l)) (sym (fit.named o e)) (subst (legal m.start) (sym whole) lawful);
+            lawful = (m.start, mine.begun, subst (legal m.start) (sym whole) lawful);
             own = added_own p v.known.seen l;
             others = λ q a. added_other q p v.known.seen l (mine.apart q a).0;
           },
@@ -389,6 +415,7 @@ module _ {T E R O : Type 0} (origin : T → O) (stands : T → List (Entry E R) 
       named = λ o e. sym (the_value e);
       seen = starts_refl [];
       drawn = le_refl 0;
+      served = le_refl 0;
       lone = λ _. refl;
       staged = (refl, ap (λ (y : T). some (full y None)) same);
       port = λ _. record { begun = refl; own = λ q _. (refl, refl); future = λ q _. (refl, refl); apart = λ q a. absurd a };
@@ -404,28 +431,29 @@ module _ {T E R O : Type 0} (origin : T → O) (stands : T → List (Entry E R) 
           few = omega arith;
           once = omega arith;
           lawful = law x [] empty;
+          counted = le_refl 0;
           held = inl home;
           fits = λ i v at. ⊎_elim (λ (e : get_elem? [] i ≡ some v). absurd (some-ne-none v (sym e))) (λ (t : (i ≡ 0) × (w ≡ v)). subst (λ (z : ℕ × V). Fit m z.0 z.1) (λ c. (sym t.0 c, t.1 c)) mine) (at_end [] w v i at);
-        }) (le_refl 0) (omega arith) (omega arith) (law x [] empty) (inl home) mine (λ _ _ _ g. g))
+        }) (le_refl 0) (omega arith) (omega arith) (law x [] empty) (le_refl 0) (inl home) mine (λ _ _ _ g. g))
 
   -- the lock is closed, and the value taken for good
   abbrev after_close : Mo → Mo
   after_close m = record m { ticket = m.ticket + 1; home = none; closed = 1 }
 
-  close_staged : (m : Mo) (j : ℕ) (k : Known E R O) → m.ticket ≡ m.serving → (m.lone ≡ true → ⊥) → (st : Stage E R) → Stand m j k st → Stand (after_close m) j k st
+  close_staged : (m : Mo) (j : ℕ) (k : Known E R O) → m.ticket ≡ m.serving → (m.lone ≡ true → ⊥) → (st : Stage E R O) → Stand m j k st → Stand (after_close m) j k st
   close_staged m j k ended pair New h = absurd (pair h.0)
   close_staged m j k ended pair Young h = h
   close_staged m j k ended pair Idle h = tt
   close_staged m j k ended pair (Waiting q) h = let low : m.serving ≤ q = h.0.0 in let high : q < m.ticket = h.0.1 in absurd (omega arith)
   close_staged m j k ended pair (Turn q) h = let low : m.serving ≤ q = h.0.0 in let high : q < m.ticket = h.0.1 in absurd (omega arith)
   close_staged m j k ended pair (SawServing q) h = h
-  close_staged m j k ended pair (Met b p js t) h = h
+  close_staged m j k ended pair (Met b u) h = h
 
   closes_at : (id : ℕ) (v : V) (m : Mo) (vs : List V) → F m vs → Fit m id v → m.ticket ≡ m.serving → m.closed ≡ 0 → F (after_close m) (set vs id (informed_view m v Idle))
   closes_at id v m vs f fit ended fresh = let few : m.ticket ≤ MOST_TURNS + m.closed = f.few in let more : m.ticket ≤ m.ticket + 1 = omega arith in let w : V = informed_view m v Idle in
-      moves m (after_close m) vs id w f (omega arith) (omega arith) (omega arith) f.lawful (inr (omega arith))
-      (restaged m (after_close m) id w refl refl more (λ e. e) refl (informs m id v Idle fit tt) tt)
-      (λ j d other g. restaged m (after_close m) j d refl refl more (λ e. e) refl g (close_staged m j d.known ended (not_lone m id j v d other fit g) d.stage g.staged))
+      moves m (after_close m) vs id w f (omega arith) (omega arith) (omega arith) f.lawful f.counted (inr (omega arith))
+      (restaged m (after_close m) id w refl refl more (le_refl m.serving) (λ e. e) refl (informs m id v Idle fit tt) tt)
+      (λ j d other g. restaged m (after_close m) j d refl refl more (le_refl m.serving) (λ e. e) refl g (close_staged m j d.known ended (not_lone m id j v d other fit g) d.stage g.staged))
 
   pub closes : (slots id old new : ℕ) (me : M) → new ≡ old + 1 → me.0.is_port ≡ true → me.0.stage ≡ SawServing old
       → Allows Rule slots id me 0 (λ n. either (eqb n old) new n) (closed origin stands legal (step slots 0 old new none) me)
@@ -459,48 +487,47 @@ module _ {T E R O : Type 0} (origin : T → O) (stands : T → List (Entry E R) 
         keeps,
         tt,
         kept m (set vs id w) (stays m vs id w f (informs m id me.0 Idle fit tt)),
-        ((λ hit. absurd (miss hit)), λ _. (watched m id me Idle me.1 fit port f.lawful, refl, omega arith, refl)),
+        ((λ hit. absurd (miss hit)), λ _. (watched m id me Idle me.1 fit port f.lawful, refl, omega arith, refl, refl)),
       )))
 
-  -- the view of a seat that has merged what it took in
-  abbrev merged_known : Mo → Known E R O → Bool → List ℕ → List (List ℕ) → Known E R O
-  merged_known m k b p js = record k { joined = (if b then k.joined ++ p ∷ js else k.joined); seen = m.whole; drawn = m.ticket }
+  -- what a port knows that has merged what it took in
+  abbrev merged_known : Mo → Known E R O → Bool → Known E R O → Known E R O
+  merged_known m k b u = record k { joined = (if b then k.joined ++ u.number ∷ u.joined else k.joined); seen = m.whole; drawn = m.ticket }
 
-  merge_port : (m : Mo) (i : ℕ) (k : Known E R O) (b : Bool) (p : List ℕ) (js : List (List ℕ)) (h : List (Entry E R)) → Stand m i k (Met b p js h) → IsPort m.start m.holder i m.whole k
-      → IsPort m.start m.holder i m.whole (merged_known m k b p js)
-  merge_port m i k false p js h st t = record { begun = t.begun; own = λ q o. ((t.own q o).0, refl); future = t.future; apart = t.apart }
-  merge_port m i k true p js h st t = record {
+  merge_port : (m : Mo) (i : ℕ) (k : Known E R O) (b : Bool) (u : Known E R O) → Stand m i k (Met b u) → IsPort m.start m.holder i m.whole k
+      → IsPort m.start m.holder i m.whole (merged_known m k b u)
+  merge_port m i k false u st t = record { begun = t.begun; own = λ q o. ((t.own q o).0, refl); future = t.future; apart = t.apart }
+  merge_port m i k true u st t = record {
     begun = t.begun;
-    own = λ q o. (⊎_elim (λ e. (t.own q (inl e)).0) (λ a. ⊎_elim (λ x. (t.own q (inr x)).0) (λ x. (st.1 refl q x).0) (among-append q p k.joined js a)) o, refl);
+    own = λ q o. (⊎_elim (λ e. (t.own q (inl e)).0) (λ a. ⊎_elim (λ x. (t.own q (inr x)).0) (λ x. (st.2 refl q x).0) (among-append q u.number k.joined u.joined a)) o, refl);
     future = t.future;
-    apart = λ q a. ⊎_elim (t.apart q) (λ x. let y = st.1 refl q x in (y.2, y.3)) (among-append q p k.joined js a);
+    apart = λ q a. ⊎_elim (t.apart q) (λ x. let y = st.2 refl q x in (y.2, y.3)) (among-append q u.number k.joined u.joined a);
   }
 
-  pub merges : (slots id : ℕ) (me : M) (b : Bool) (p : List ℕ) (js : List (List ℕ)) (h : List (Entry E R)) → me.0.is_port ≡ true → me.0.stage ≡ Met b p js h
+  pub merges : (slots id : ℕ) (me : M) (b : Bool) (u : Known E R O) → me.0.is_port ≡ true → me.0.stage ≡ Met b u
       → Allows Rule slots id me 1 (λ n. n) (merged legal (step slots 1 0 0 none) me)
-  merges slots id me b p js h port is = loads slots id me 1 (merged legal (step slots 1 0 0 none) me) (λ m vs f fit. let st = subst (Stand m id me.0.known) is fit.staged in let k : Known E R O = me.0.known in
-      let w : V = record { known = merged_known m k b p js; is_port = me.0.is_port; stage = Idle } in let see = (watches m id me.0 fit port f.lawful).sees in
-      let met : Merged legal b p js h me.0.known w = record {
+  merges slots id me b u port is = loads slots id me 1 (merged legal (step slots 1 0 0 none) me) (λ m vs f fit. let st = subst (Stand m id me.0.known) is fit.staged in let k : Known E R O = me.0.known in
+      let w : V = record { known = merged_known m k b u; is_port = me.0.is_port; stage = Idle } in let see = (watches m id me.0 fit port f.lawful).sees in
+      let met : Merged legal b u me.0.known w = record {
         port = port;
         staged = refl;
-        sees = record { origin = refl; number = refl; splits = refl; drawn = see.drawn; seen = see.seen; lawful = see.lawful; own = see.own };
+        sees = record { origin = refl; number = refl; splits = refl; drawn = see.drawn; served = see.served; seen = see.seen; lawful = see.lawful; own = see.own };
         joined = refl;
         told = st.0;
-        theirs = λ yes q x. (st.1 yes q x).1;
+        same = λ o e. (fit.port port).begun ∙ ap (λ (z : O). Some z) (sym (st.1 o e));
+        theirs = λ yes q x. (st.2 yes q x).1;
       } in (
         w,
         record {
           named = fit.named;
           seen = starts_refl m.whole;
           drawn = le_refl m.ticket;
+          served = fit.served;
           lone = fit.lone;
           staged = tt;
-          port = λ e. merge_port m id k b p js h st (fit.port e);
+          port = λ e. merge_port m id k b u st (fit.port e);
         },
-        (
-          refl,
-          λ b' p' js' h' is'. subst (λ (z : Bool × List ℕ × List (List ℕ) × List (Entry E R)). Merged legal z.0 z.1 z.2 z.3 me.0.known w) (ap (met_of (b, p, js, h)) (sym is ∙ is')) met,
-        ),
+        (refl, λ b' u' is'. subst (λ (z : Bool × Known E R O). Merged legal z.0 z.1 me.0.known w) (ap (met_of (b, u)) (sym is ∙ is')) met),
       ))
 
   -- two seats where there was one
@@ -513,14 +540,14 @@ module _ {T E R O : Type 0} (origin : T → O) (stands : T → List (Entry E R) 
   never : {X : Type 0} → false ≡ true → X
   never e = cc
 
-  tell_staged : (m : Mo) (j : ℕ) (k : Known E R O) → (m.lone ≡ true → ⊥) → (st : Stage E R) → Stand m j k st → Stand (after_tell m) j k st
+  tell_staged : (m : Mo) (j : ℕ) (k : Known E R O) → (m.lone ≡ true → ⊥) → (st : Stage E R O) → Stand m j k st → Stand (after_tell m) j k st
   tell_staged m j k pair New h = absurd (pair h.0)
   tell_staged m j k pair Young h = h
   tell_staged m j k pair Idle h = tt
   tell_staged m j k pair (Waiting q) h = h
   tell_staged m j k pair (Turn q) h = h
   tell_staged m j k pair (SawServing q) h = h
-  tell_staged m j k pair (Met b p js t) h = h
+  tell_staged m j k pair (Met b u) h = h
 
   -- the rule once a new seat with the view w has come
   comes : (m m' : Mo) (vs : List V) (i : ℕ) (v w : V) → F m vs → m'.serving ≡ m.serving → m'.ticket ≡ m.ticket → m'.closed ≡ m.closed → m'.start ≡ m.start → m'.whole ≡ m.whole → m'.home ≡ m.home
@@ -531,6 +558,7 @@ module _ {T E R O : Type 0} (origin : T → O) (stands : T → List (Entry E R) 
         few = omega arith;
         once = omega arith;
         lawful = subst (λ (z : O × List (Entry E R)). legal z.0 z.1) (λ c. (sym start c, sym whole c)) f.lawful;
+        counted = subst (λ (z : List (Entry E R) × ℕ). length z.0 ≤ z.1) (λ c. (sym whole c, sym serving c)) f.counted;
         held = ⊎_elim (λ (h : IsHome origin stands m). inl (h.0, h.1, home ∙ h.2, subst (stands h.0) (sym whole) h.3, h.4 ∙ sym start, end ∙ h.5)) (λ (l : m.serving < m.ticket). inr (omega arith)) f.held;
         fits = λ j d at. ⊎_elim (λ e. seats (Fit m') vs i v mine (λ j d n e. others j d n (f.fits j d e)) j d e)
             (λ (t : (j ≡ length (set vs i v)) × (w ≡ d)). subst (λ (z : ℕ × V). Fit m' z.0 z.1) (λ c. (sym t.0 c, t.1 c)) theirs) (at_end (set vs i v) w d j at);
@@ -548,20 +576,21 @@ module _ {T E R O : Type 0} (origin : T → O) (stands : T → List (Entry E R) 
     theirs_stay : (j : ℕ) (q : List ℕ) → j ≢ i → m.holder q ≡ j → Forked.holder q ≡ j
     theirs_stay j q other h = forked_else m.holder (next_number k) new q (apart-not-front k.number k.splits q (λ t. other (sym h ∙ (mine.future q t).0))) ∙ h
 
-    split_staged : (j : ℕ) (d : Known E R O) → j ≢ i → (m.lone ≡ true → ⊥) → (st : Stage E R) → Stand m j d st → Stand Forked j d st
+    split_staged : (j : ℕ) (d : Known E R O) → j ≢ i → (m.lone ≡ true → ⊥) → (st : Stage E R O) → Stand m j d st → Stand Forked j d st
     split_staged j d other pair New h = absurd (pair h.0)
     split_staged j d other pair Young h = h
     split_staged j d other pair Idle h = tt
     split_staged j d other pair (Waiting q) h = h
     split_staged j d other pair (Turn q) h = h
     split_staged j d other pair (SawServing q) h = h
-    split_staged j d other pair (Met b p js t) h = (h.0, λ yes q one. let a = h.1 yes q one in (theirs_stay j q other a.0, a.1, a.2, a.3))
+    split_staged j d other pair (Met b u) h = (h.0, h.1, λ yes q one. let a = h.2 yes q one in (theirs_stay j q other a.0, a.1, a.2, a.3))
 
     split_others : (v : V) (j : ℕ) (d : V) → Fit m i v → j ≢ i → Fit m j d → Fit Forked j d
     split_others v j d fit other f = record {
       named = f.named;
       seen = f.seen;
       drawn = f.drawn;
+      served = f.served;
       lone = λ e. never e;
       staged = split_staged j d.known other (not_lone m i j v d other fit f) d.stage f.staged;
       port = λ e. let t = f.port e in record {
@@ -582,6 +611,7 @@ module _ {T E R O : Type 0} (origin : T → O) (stands : T → List (Entry E R) 
       named = g.named;
       seen = g.seen;
       drawn = g.drawn;
+      served = g.served;
       lone = λ e. never e;
       staged = subst (Stand Forked i (record k { splits = k.splits + 1 })) (sym idle) tt;
       port = λ _. record {
@@ -602,6 +632,7 @@ module _ {T E R O : Type 0} (origin : T → O) (stands : T → List (Entry E R) 
           named = g.named;
           seen = g.seen;
           drawn = omega arith;
+          served = omega arith;
           lone = λ e. never e;
           staged = none_seen;
           port = λ _. record {
@@ -619,27 +650,27 @@ module _ {T E R O : Type 0} (origin : T → O) (stands : T → List (Entry E R) 
       (split_born m id new v.known mine v refl fit) (λ j d other g. split_others m id new v.known mine v j d fit other g)))
 
   told_fit : (m : Mo) (i : ℕ) (v : V) → Fit m i v → Stand (after_tell m) i v.known v.stage → Fit (after_tell m) i v
-  told_fit m i v f st = record { named = f.named; seen = f.seen; drawn = f.drawn; lone = λ e. never e; staged = st; port = f.port }
+  told_fit m i v f st = record { named = f.named; seen = f.seen; drawn = f.drawn; served = f.served; lone = λ e. never e; staged = st; port = f.port }
 
   pub tells : (id : ℕ) (v : V) → v.stage ≡ Idle → Splits Rule id v v (noted_view v)
   tells id v idle = by_moment (λ s. get_elem? s.views id ≡ some v → Rule record { words = s.words; homes = s.homes; views = set s.views id v ++ noted_view v ∷ [] })
       (λ m vs f at. let fit = f.fits id v at in let m' : Mo = after_tell m in
       kept m' (set vs id v ++ noted_view v ∷ []) (comes m m' vs id v (noted_view v) f refl refl refl refl refl refl (told_fit m id v fit (subst (Stand m' id v.known) (sym idle) tt))
-      record { named = fit.named; seen = fit.seen; drawn = omega arith; lone = λ e. never e; staged = tt; port = λ e. never e }
+      record { named = fit.named; seen = fit.seen; drawn = omega arith; served = omega arith; lone = λ e. never e; staged = tt; port = λ e. never e }
       (λ j d other g. told_fit m j d g (tell_staged m j d.known (not_lone m id j v d other fit g) d.stage g.staged))))
 
   -- the numbers of the seat `other` are the seat i's
   abbrev after_join : Mo → ℕ → ℕ → Mo
   after_join m other i = record m { holder = passed_on m.holder other i }
 
-  join_staged : (m : Mo) (other i j : ℕ) (k : Known E R O) → j ≢ other → (st : Stage E R) → Stand m j k st → Stand (after_join m other i) j k st
+  join_staged : (m : Mo) (other i j : ℕ) (k : Known E R O) → j ≢ other → (st : Stage E R O) → Stand m j k st → Stand (after_join m other i) j k st
   join_staged m other i j k apart New h = h
   join_staged m other i j k apart Young h = h
   join_staged m other i j k apart Idle h = tt
   join_staged m other i j k apart (Waiting q) h = h
   join_staged m other i j k apart (Turn q) h = h
   join_staged m other i j k apart (SawServing q) h = h
-  join_staged m other i j k apart (Met b p js t) h = (h.0, λ yes q one. let a = h.1 yes q one in (passed_else m.holder other i j q apart a.0, a.1, a.2, a.3))
+  join_staged m other i j k apart (Met b u) h = (h.0, h.1, λ yes q one. let a = h.2 yes q one in (passed_else m.holder other i j q apart a.0, a.1, a.2, a.3))
 
   -- a seat other than the one that was taken in
   join_fit : (m : Mo) (other i j : ℕ) (d : V) → j ≢ other → Fit m j d → Fit (after_join m other i) j d
@@ -647,6 +678,7 @@ module _ {T E R O : Type 0} (origin : T → O) (stands : T → List (Entry E R) 
     named = f.named;
     seen = f.seen;
     drawn = f.drawn;
+    served = f.served;
     lone = f.lone;
     staged = join_staged m other i j d.known apart d.stage f.staged;
     port = λ e. let t = f.port e in record {
@@ -659,9 +691,10 @@ module _ {T E R O : Type 0} (origin : T → O) (stands : T → List (Entry E R) 
 
   -- what a port knows of the seat that it took in
   join_met : (m : Mo) (other i : ℕ) (v w : V) → i ≢ other → v.is_port ≡ true → Fit m i v → Fit m other w
-      → Stand (after_join m other i) i v.known (Met w.is_port w.known.number w.known.joined w.known.seen)
+      → Stand (after_join m other i) i v.known (Met w.is_port w.known)
   join_met m other i v w apart port f g = let mine = f.port port in (
     g.seen,
+    g.named,
     λ yes q one. let a = (g.port yes).own q one in (
       passed_here m.holder other i q a.0,
       a.1,
@@ -675,13 +708,14 @@ module _ {T E R O : Type 0} (origin : T → O) (stands : T → List (Entry E R) 
       (λ s. get_elem? s.views id ≡ some v → ¬ (other ≡ id) → get_elem? (set s.views id (met_view v w)) other ≡ some w → Rule record { words = s.words; homes = s.homes; views = set (set s.views id (met_view v w)) other spent_view })
       (λ m vs f at apart there. let n : id ≢ other = λ e. apart (sym e) in let fit = f.fits id v at in let m' : Mo = after_join m other id in let both : V = met_view v w in
       let theirs = f.fits other w (sym (set_else vs id other both apart) ∙ there) in let st = join_met m other id v w n port fit theirs in
-      let mine : Fit m' id both = at_stage m' id v (Met w.is_port w.known.number w.known.joined w.known.seen) (join_fit m other id id v n fit) st in
-      let spent : Fit m' other spent_view = record { named = λ o e. no_origin e; seen = (m.whole, refl); drawn = omega arith; lone = theirs.lone; staged = tt; port = λ e. never e } in
+      let mine : Fit m' id both = at_stage m' id v (Met w.is_port w.known) (join_fit m other id id v n fit) st in
+      let spent : Fit m' other spent_view = record { named = λ o e. no_origin e; seen = (m.whole, refl); drawn = omega arith; served = omega arith; lone = theirs.lone; staged = tt; port = λ e. never e } in
       kept m' (set (set vs id both) other spent_view) record {
         range = f.range;
         few = f.few;
         once = f.once;
         lawful = f.lawful;
+        counted = f.counted;
         held = f.held;
         fits = seats (Fit m') (set vs id both) other spent_view spent (λ j d a e. seats (λ j d. j ≢ other → Fit m' j d) vs id both (λ _. mine) (λ j d _ e a. join_fit m other id j d a (f.fits j d e)) j d e a);
       })

@@ -1,15 +1,16 @@
 -- What the public calls promise of what a port knows: `k` before the call, `l` after it.
-use Rattle.std.specs.Prelude.{◌≡◌, ℕ, ◌+◌, ◌≤◌, List, [], ◌∷◌, ◌++◌, Some}
+use Rattle.std.specs.Prelude.{◌≡◌, ℕ, ◌+◌, ◌<◌, ◌≤◌, List, [], ◌∷◌, ◌++◌, length, Option, Some}
 use Rattle.turn_lock.specs.declared.turned.Entry.{Entry}
 use Rattle.turn_lock.specs.declared.known.Known.{Known}
+use Rattle.turn_lock.specs.declared.faults.Busy.{Busy}
 use Rattle.turn_lock.specs.declared.faults.CallFault.{CallFault}
 use Rattle.turn_lock.specs.declared.faults.CallFault.TheVariants.{Memory, Exhausted}
 use Rattle.turn_lock.specs.History.{StartsWith, IsAmong, entry, calls_by}
 use Rattle.turn_lock.specs.Rule.{IsOwn}
 
--- the history that was seen is legal from the origin
+-- the port has an origin, from which the history that it has seen is legal
 abbrev pub IsLegal : {E R O : Type 0} → (O → List (Entry E R) → Type 0) → Known E R O → Type 0
-IsLegal {E} {R} {O} legal k = (o : O) → k.origin ≡ Some o → legal o k.seen
+IsLegal {E} {R} {O} legal k = (o : O) × (k.origin ≡ Some o) × legal o k.seen
 
 -- A legal history was seen that begins with the one seen before and has no further call of the port's number or of one joined into it
 pub record Sees {E R O : Type 0} (legal : O → List (Entry E R) → Type 0) (k l : Known E R O) : Type 0 where
@@ -17,6 +18,7 @@ pub record Sees {E R O : Type 0} (legal : O → List (Entry E R) → Type 0) (k 
   pub number : l.number ≡ k.number
   pub splits : l.splits ≡ k.splits
   pub drawn : k.drawn ≤ l.drawn
+  pub served : k.served ≤ l.served
   pub seen : StartsWith l.seen k.seen
   pub lawful : IsLegal legal l
   pub own : (q : List ℕ) → IsOwn k q → calls_by q l.seen ≡ calls_by q k.seen
@@ -33,6 +35,7 @@ pub record Called {E R O : Type 0} (legal : O → List (Entry E R) → Type 0) (
   pub splits : l.splits ≡ k.splits
   pub joined : l.joined ≡ k.joined
   pub drawn : k.drawn ≤ l.drawn
+  pub served : k.served ≤ l.served
   pub seen : (between : List (Entry E R)) × (l.seen ≡ (k.seen ++ between) ++ entry k.number event reply ∷ [])
   pub lawful : IsLegal legal l
   pub own : calls_by k.number l.seen ≡ calls_by k.number k.seen ++ entry k.number event reply ∷ []
@@ -43,24 +46,34 @@ abbrev pub IsCause : {E R O : Type 0} → (E → Type 0) → E → ℕ → Known
 IsCause sure event bound l Memory = ¬ sure event
 IsCause sure event bound l Exhausted = bound ≤ l.drawn
 
+-- why a lock was not closed: so many turns were read to have ended, one for each call that the port had seen at least, and
+-- then more were read to be drawn
+pub record IsBusy {E R O : Type 0} (k l : Known E R O) (busy : Busy) : Type 0 where
+  pub served : busy.served ≡ l.served
+  pub counted : length k.seen ≤ busy.served
+  pub drawn : busy.drawn ≡ l.drawn
+  pub more : busy.served < busy.drawn
+
 -- the port after a split
 abbrev pub divided : {E R O : Type 0} → Known E R O → Known E R O
 divided k = record k { splits = k.splits + 1 }
 
 -- the port that was split off: its number is the old one, followed by the old count of splits
 abbrev pub born : {E R O : Type 0} → Known E R O → Known E R O
-born k = record { origin = k.origin; number = k.number ++ k.splits ∷ []; splits = 0; joined = []; seen = k.seen; drawn = 0 }
+born k = record { origin = k.origin; number = k.number ++ k.splits ∷ []; splits = 0; joined = []; seen = k.seen; drawn = 0; served = 0 }
 
--- the port saw all that the note tells
-pub record Meets {E R O : Type 0} (legal : O → List (Entry E R) → Type 0) (k : Known E R O) (note : List (Entry E R)) (l : Known E R O) : Type 0 where
+-- the port saw all that the note tells, and both have one origin
+pub record Meets {E R O : Type 0} (legal : O → List (Entry E R) → Type 0) (k : Known E R O) (origin : Option O) (note : List (Entry E R)) (l : Known E R O) : Type 0 where
   pub watches : Watches legal k l
   pub told : StartsWith l.seen note
+  pub same : origin ≡ k.origin
 
--- The port took in the port u: its number, those joined into it, and all that it had seen, with no further call of these numbers
+-- The port took in the port u, which has the same origin: its number, those joined into it, and all that it had seen, with no further call of these numbers
 pub record Joins {E R O : Type 0} (legal : O → List (Entry E R) → Type 0) (k u l : Known E R O) : Type 0 where
   pub sees : Sees legal k l
   pub joined : l.joined ≡ k.joined ++ u.number ∷ u.joined
   pub told : StartsWith l.seen u.seen
+  pub same : u.origin ≡ k.origin
   pub theirs : (q : List ℕ) → IsOwn u q → calls_by q l.seen ≡ calls_by q u.seen
 
 -- the value stands for a legal history that begins with all that the port had seen, with no further call of its number or of one joined into it

@@ -1,5 +1,5 @@
 -- What each step on the table tells the seat that takes it: `m` is the seat before, `n` the number found, `m'` the seat after.
-use Rattle.std.specs.Prelude.{◌≡◌, ◌≢◌, ◌⊎◌, ℕ, ◌+◌, ◌<◌, ◌≤◌, Bool, true, false, if◌then◌else◌, List, [], ◌∷◌, ◌++◌, Option, Some, None}
+use Rattle.std.specs.Prelude.{◌≡◌, ◌≢◌, ℕ, ◌+◌, ◌<◌, ◌≤◌, Bool, true, false, if◌then◌else◌, List, [], ◌∷◌, ◌++◌, length, Option, Some, None}
 use Rattle.std.specs.declared.snapshot.Snapshot.{Snapshot}
 use Rattle.atomic_table.specs.Table.{Me, Step}
 use Rattle.atomic_table.specs.Seated.{TableId}
@@ -12,7 +12,7 @@ use Rattle.turn_lock.specs.declared.known.Stage.TheVariants.{Young, Idle, Waitin
 use Rattle.turn_lock.specs.declared.board.Slot.{Slot}
 use Rattle.turn_lock.specs.declared.board.TheConstants.{MOST_TURNS}
 use Rattle.turn_lock.specs.History.{StartsWith, IsAmong, entry, calls_by}
-use Rattle.turn_lock.specs.Rule.{full}
+use Rattle.turn_lock.specs.Rule.{full, IsOwn}
 use Rattle.turn_lock.specs.Calls.{IsLegal, Sees, Watches, divided, born}
 
 -- two words and one slot
@@ -34,17 +34,17 @@ abbrev pub hollow : {T E R : Type 0} → Slot T E R
 hollow = record { value = None; last = None }
 
 -- the seat is a port's, at this stage, and holds these slots
-abbrev pub IsReady : {T E R O : Type 0} → Seat (Slot T E R) (View E R O) → Stage E R → List (ℕ × Slot T E R) → Type 0
+abbrev pub IsReady : {T E R O : Type 0} → Seat (Slot T E R) (View E R O) → Stage E R O → List (ℕ × Slot T E R) → Type 0
 IsReady s stage carried = (s.me.0.is_port ≡ true) × (s.me.0.stage ≡ stage) × (s.me.1 ≡ carried)
 
 module _ {E R O : Type 0} where
   -- the view at another stage
-  abbrev pub posed : View E R O → Stage E R → View E R O
+  abbrev pub posed : View E R O → Stage E R O → View E R O
   posed v stage = record v { stage = stage }
 
   -- what is left of a seat that was joined into another
   abbrev pub spent_view : View E R O
-  spent_view = record { known = record { origin = None; number = []; splits = 0; joined = []; seen = []; drawn = 0 }; is_port = false; stage = Idle }
+  spent_view = record { known = record { origin = None; number = []; splits = 0; joined = []; seen = []; drawn = 0; served = 0 }; is_port = false; stage = Idle }
 
   abbrev pub divided_view : View E R O → View E R O
   divided_view v = record v { known = divided v.known }
@@ -54,10 +54,14 @@ module _ {E R O : Type 0} where
 
   -- what a note knows
   abbrev pub noted_view : View E R O → View E R O
-  noted_view v = record { known = record { origin = v.known.origin; number = []; splits = 0; joined = []; seen = v.known.seen; drawn = 0 }; is_port = false; stage = Idle }
+  noted_view v = record { known = record { origin = v.known.origin; number = []; splits = 0; joined = []; seen = v.known.seen; drawn = 0; served = 0 }; is_port = false; stage = Idle }
+
+  -- the view of a seat that has read that so many turns have ended
+  abbrev pub counted_view : View E R O → ℕ → View E R O
+  counted_view v n = record v { known = record v.known { served = n }; stage = SawServing n }
 
   abbrev pub met_view : View E R O → View E R O → View E R O
-  met_view v w = posed v (Met w.is_port w.known.number w.known.joined w.known.seen)
+  met_view v w = posed v (Met w.is_port w.known)
 
 abbrev At : Type 0 → Type 0 → Type 0 → Type 0
 At T E R = Step (Slot T E R)
@@ -73,7 +77,7 @@ module _ {T E R O : Type 0} where
   drew st m n m' = (n ≡ st.first → m' ≡ (posed m.0 (Waiting n), m.1)) × (n ≢ st.first → m' ≡ m)
 
   abbrev pub saw : At T E R → Sat T E R O → ℕ → Sat T E R O → Type 0
-  saw st m n m' = (m' ≡ (posed m.0 (SawServing n), m.1)) × (n ≤ MOST_TURNS + 1)
+  saw st m n m' = (m' ≡ (counted_view m.0 n, m.1)) × (m.0.known.served ≤ n) × (length m.0.known.seen ≤ n) × (n ≤ MOST_TURNS + 1)
 
 module _ {E R O : Type 0} (legal : O → List (Entry E R) → Type 0) where
   -- what the end of a turn did
@@ -84,17 +88,18 @@ module _ {E R O : Type 0} (legal : O → List (Entry E R) → Type 0) where
     pub others : (q : List ℕ) → IsAmong q v.known.joined → calls_by q w.known.seen ≡ calls_by q v.known.seen
 
   -- what a load tells a seat that has taken in another
-  pub record Merged (b : Bool) (p : List ℕ) (js : List (List ℕ)) (h : List (Entry E R)) (k : Known E R O) (w : View E R O) : Type 0 where
+  pub record Merged (b : Bool) (u k : Known E R O) (w : View E R O) : Type 0 where
     pub port : w.is_port ≡ true
     pub staged : w.stage ≡ Idle
     pub sees : Sees legal k w.known
-    pub joined : w.known.joined ≡ (if b then k.joined ++ p ∷ js else k.joined)
-    pub told : StartsWith w.known.seen h
-    pub theirs : b ≡ true → (q : List ℕ) → (q ≡ p) ⊎ IsAmong q js → calls_by q w.known.seen ≡ calls_by q h
+    pub joined : w.known.joined ≡ (if b then k.joined ++ u.number ∷ u.joined else k.joined)
+    pub told : StartsWith w.known.seen u.seen
+    pub same : (o : O) → u.origin ≡ Some o → k.origin ≡ Some o
+    pub theirs : b ≡ true → (q : List ℕ) → IsOwn u q → calls_by q w.known.seen ≡ calls_by q u.seen
 
 module _ {T E R O : Type 0} (legal : O → List (Entry E R) → Type 0) where
   -- the seat is a port's still, at this stage, and has watched
-  pub record Watched (stage : Stage E R) (m m' : Sat T E R O) : Type 0 where
+  pub record Watched (stage : Stage E R O) (m m' : Sat T E R O) : Type 0 where
     pub port : m'.0.is_port ≡ true
     pub staged : m'.0.stage ≡ stage
     pub watches : Watches legal m.0.known m'.0.known
@@ -106,11 +111,11 @@ module _ {T E R O : Type 0} (legal : O → List (Entry E R) → Type 0) where
   ended st m n m' = (m'.1 ≡ []) × Ended legal (last_of m.1) m.0 m'.0
 
   abbrev pub merged : At T E R → Sat T E R O → ℕ → Sat T E R O → Type 0
-  merged st m n m' = (m'.1 ≡ m.1) × ((b : Bool) (p : List ℕ) (js : List (List ℕ)) (h : List (Entry E R)) → m.0.stage ≡ Met b p js h → Merged legal b p js h m.0.known m'.0)
+  merged st m n m' = (m'.1 ≡ m.1) × ((b : Bool) (u : Known E R O) → m.0.stage ≡ Met b u → Merged legal b u m.0.known m'.0)
 
 module _ {T E R O : Type 0} (origin : T → O) (stands : T → List (Entry E R) → Type 0) (legal : O → List (Entry E R) → Type 0) where
   -- the seat has the slot with a value that stands for all that was seen
-  pub record Takes (stage : Stage E R) (m m' : Sat T E R O) : Type 0 where
+  pub record Takes (stage : Stage E R O) (m m' : Sat T E R O) : Type 0 where
     pub watched : Watched legal stage m m'
     pub value : T
     pub last : Option (Snapshot E × Snapshot R)
@@ -122,4 +127,4 @@ module _ {T E R O : Type 0} (origin : T → O) (stands : T → List (Entry E R) 
   reached st m n m' = (k : ℕ) → m.0.stage ≡ Waiting k → (n ≡ k → Takes (Turn k) m m') × (n ≢ k → m' ≡ m)
 
   abbrev pub closed : At T E R → Sat T E R O → ℕ → Sat T E R O → Type 0
-  closed st m n m' = (n ≡ st.first → Takes Idle m m') × (n ≢ st.first → Watched legal Idle m m' × (m'.1 ≡ m.1) × (st.first < n) × (m'.0.known.drawn ≡ n))
+  closed st m n m' = (n ≡ st.first → Takes Idle m m') × (n ≢ st.first → Watched legal Idle m m' × (m'.1 ≡ m.1) × (st.first < n) × (m'.0.known.drawn ≡ n) × (m'.0.known.served ≡ m.0.known.served))

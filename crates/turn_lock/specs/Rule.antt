@@ -1,5 +1,5 @@
 -- The rule of the table: what holds of its words, its slot and all views between any two steps.
-use Rattle.std.specs.Prelude.{◌≡◌, ◌≢◌, ◌⊎◌, ℕ, ◌+◌, ◌<◌, ◌≤◌, Bool, true, List, [], ◌∷◌, Option, Some, None}
+use Rattle.std.specs.Prelude.{◌≡◌, ◌≢◌, ◌⊎◌, ℕ, ◌+◌, ◌<◌, ◌≤◌, Bool, true, List, [], ◌∷◌, length, Option, Some, None}
 use mathlib.Core.Option.{some, none}
 use mathlib.Core.Option as maybe
 use lib.ListN.{get_elem?}
@@ -16,7 +16,7 @@ use Rattle.turn_lock.specs.History.{StartsWith, IsAmong, IsFuture, calls_by}
 
 -- what a port knows when its lock has been made
 abbrev pub opened : {E R O : Type 0} → O → Known E R O
-opened o = record { origin = Some o; number = []; splits = 0; joined = []; seen = []; drawn = 0 }
+opened o = record { origin = Some o; number = []; splits = 0; joined = []; seen = []; drawn = 0; served = 0 }
 
 abbrev pub newcomer : {E R O : Type 0} → O → View E R O
 newcomer o = record { known = opened o; is_port = true; stage = New }
@@ -50,15 +50,15 @@ module _ {T E R O : Type 0} (origin : T → O) (stands : T → List (Entry E R) 
   Holds m i n = (m.serving ≤ n) × (n < m.ticket) × (m.owner n ≡ i)
 
   -- what a seat knows by its stage. `first` is the value that the lock was made over
-  abbrev pub Staged : T → Moment T E R O → ℕ → Known E R O → Stage E R → Type 0
+  abbrev pub Staged : T → Moment T E R O → ℕ → Known E R O → Stage E R O → Type 0
   Staged first m i k New = (m.lone ≡ true) × (m.home ≡ some (full first None))
   Staged first m i k Young = calls_by k.number k.seen ≡ []
   Staged first m i k Idle = Unit {0}
   Staged first m i k (Waiting n) = Holds m i n × (n ≡ m.serving → IsHome m)
   Staged first m i k (Turn n) = Holds m i n × (n ≡ m.serving) × (k.seen ≡ m.whole) × (m.closed ≡ 0)
   Staged first m i k (SawServing n) = n ≤ m.serving
-  Staged first m i k (Met b p js h) = StartsWith m.whole h
-      × (b ≡ true → (q : List ℕ) → (q ≡ p) ⊎ IsAmong q js → (m.holder q ≡ i) × (calls_by q m.whole ≡ calls_by q h) × (q ≢ k.number) × ¬ IsFuture k.number k.splits q)
+  Staged first m i k (Met b u) = StartsWith m.whole u.seen × ((o : O) → u.origin ≡ Some o → o ≡ m.start)
+      × (b ≡ true → (q : List ℕ) → IsOwn u q → (m.holder q ≡ i) × (calls_by q m.whole ≡ calls_by q u.seen) × (q ≢ k.number) × ¬ IsFuture k.number k.splits q)
 
 -- Of its own numbers a port has seen all calls; of those that it may come to give there are none; and they all differ
 pub record IsPort {E R O : Type 0} (start : O) (holder : List ℕ → ℕ) (i : ℕ) (whole : List (Entry E R)) (k : Known E R O) : Type 0 where
@@ -72,16 +72,18 @@ pub record Fits {T E R O : Type 0} (origin : T → O) (stands : T → List (Entr
   pub named : (o : O) → v.known.origin ≡ Some o → o ≡ m.start
   pub seen : StartsWith m.whole v.known.seen
   pub drawn : v.known.drawn ≤ m.ticket
+  pub served : v.known.served ≤ m.serving
   pub lone : m.lone ≡ true → i ≡ 0
   pub staged : Staged origin stands first m i v.known v.stage
   pub port : v.is_port ≡ true → IsPort m.start m.holder i m.whole v.known
 
--- The longest history is legal, the value is at home or a turn is held, and each view fits
+-- The longest history is legal and has one call at most of each turn that has ended, the value is at home or a turn is held, and each view fits
 pub record Facts {T E R O : Type 0} (origin : T → O) (stands : T → List (Entry E R) → Type 0) (legal : O → List (Entry E R) → Type 0) (first : T) (m : Moment T E R O) (views : List (View E R O)) : Type 0 where
   pub range : m.serving ≤ m.ticket
   pub few : m.ticket ≤ MOST_TURNS + m.closed
   pub once : m.closed ≤ 1
   pub lawful : legal m.start m.whole
+  pub counted : length m.whole ≤ m.serving
   pub held : IsHome origin stands m ⊎ (m.serving < m.ticket)
   pub fits : (i : ℕ) (v : View E R O) → get_elem? views i ≡ some v → Fits origin stands first m i v
 

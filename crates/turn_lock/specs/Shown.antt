@@ -1,5 +1,5 @@
 -- What contracts see of a port and of a note.
-use Rattle.std.specs.Prelude.{ℕ, List, Option}
+use Rattle.std.specs.Prelude.{◌≡◌, ℕ, List, Option}
 use Rattle.atomic_table.specs.Seated.{TableId}
 use Rattle.turn_lock.specs.declared.turned.Entry.{Entry}
 use Rattle.turn_lock.specs.declared.known.Known.{Known}
@@ -9,6 +9,14 @@ pub record ShownPort (E R O : Type 0) : Type 0 where
   pub lock : TableId
   pub bound : ℕ
   pub known : Known E R O
+
+-- q is the port p, which may have made calls since, and may have seen those of others
+pub record IsSame {E R O : Type 0} (p q : ShownPort E R O) : Type 0 where
+  pub lock : q.lock ≡ p.lock
+  pub bound : q.bound ≡ p.bound
+  pub origin : q.known.origin ≡ p.known.origin
+  pub number : q.known.number ≡ p.known.number
+  pub joined : q.known.joined ≡ p.known.joined
 
 -- a note: which lock it belongs to, the origin, and the history that it tells
 pub record ShownNote (E R O : Type 0) : Type 0 where

@@ -3,7 +3,7 @@ ghost use Rattle.std.specs.Prelude.{◌≡◌, ◌<◌, ◌≤◌, [], ◌∷◌
 ghost use Rattle.std.specs.Arc.{arc_value};
 ghost use Rattle.turn_lock.specs.declared.known.Stage.TheVariants.{New};
 ghost use Rattle.turn_lock.specs.Rule.{opened, newcomer};
-ghost use Rattle.turn_lock.specs.Calls.{Watches, Yields};
+ghost use Rattle.turn_lock.specs.Calls.{Watches, Yields, IsBusy};
 ghost use Rattle.turn_lock.specs.Plays.{IsSized};
 
 use crate::board::{Board, MOST_TURNS, Place, Slot};
@@ -100,13 +100,13 @@ impl<T: Turned> Shared<T> {
 
     /// Takes the value out for good, by a port of this lock. It waits for nobody.
     ///
-    /// `Busy`: it read that so many turns had ended and then that more were drawn; the lock and the
-    /// port come back. At `Ok` ports that were not joined find no turn any more: they wait, or are
+    /// `Busy`: it read that so many turns had ended, and then that more were drawn; as many turns had
+    /// ended as the port has seen calls, or more. The lock and the port come back. At `Ok` ports that were not joined find no turn any more: they wait, or are
     /// Exhausted.
     pub fn close(self, port: Port<T>) -> Result<T, (Busy, Shared<T>, Port<T>)>
         requires { port.lock ≡ self }
         ensures ok { IfOk result (λ x. Yields T.origin T.stands T.legal port.known x) }
-        ensures err { IfErr result (λ e. (e.0.served < e.0.drawn) × (e.0.drawn ≡ e.2.known.drawn) × Watches T.legal port.known e.2.known) }
+        ensures err { IfErr result (λ e. IsBusy port.known e.2.known e.0 × Watches T.legal port.known e.2.known) }
         ensures back { IfErr result (λ e. (e.1 ≡ self) × (e.2.lock ≡ port.lock) × (e.2.bound ≡ port.bound)) }
     {
         let Port {

@@ -1,7 +1,7 @@
 //! Ports, through which threads call the value, and the notes that ports write to one another.
 ghost use Rattle.std.specs.Prelude.{◌≡◌, ◌++◌, [], ◌∷◌, IfOk, IfErr, OnOk, OnErr};
 ghost use Rattle.turn_lock.specs.History.{calls_by};
-ghost use Rattle.turn_lock.specs.Calls.{Called, Watches, IsCause, divided, born, Meets, Joins};
+ghost use Rattle.turn_lock.specs.Calls.{IsLegal, Called, Watches, IsCause, divided, born, Meets, Joins};
 
 use crate::board::{Board, Place};
 use crate::faults::CallFault;
@@ -45,16 +45,24 @@ pub struct Note<T: Turned> {
 
 impl<T: Turned> Model for Note<T> {
     ghost use Rattle.std.specs.Prelude.{◌≡◌, [], false};
+    ghost use Rattle.turn_lock.specs.Calls.{IsLegal};
     ghost use Rattle.turn_lock.specs.Shown.{ShownNote};
 
     ghost Value = { ShownNote T.Event T.Reply T.Origin };
 
     ghost view = { λ n. record { lock = n.place.table_id; origin = n.place.me.0.known.origin; seen = n.place.me.0.known.seen } };
 
-    ghost invariant = { λ n. (n.place.me.1 ≡ []) × (n.place.me.0.is_port ≡ false) };
+    ghost invariant = { λ n. (n.place.me.1 ≡ []) × (n.place.me.0.is_port ≡ false) × IsLegal T.legal n.place.me.0.known };
 }
 
 impl<T: Turned> Port<T> {
+    /// Every port has an origin, which is the lock's, and has seen a history that is legal from it. It does nothing.
+    pub fn has_a_legal_history(&self)
+        ensures { IsLegal T.legal self.now.known }
+    {
+        let _bound = self.bound;
+    }
+
     /// Waits for a turn and has the value take the event.
     ///
     /// At `Ok` the port has seen a legal history that begins with all that it had seen and ends with
@@ -106,7 +114,7 @@ impl<T: Turned> Port<T> {
     pub fn meet(&mut self, note: Note<T>)
         requires { note.lock ≡ self.old.lock }
         ensures lock { (self.new.lock ≡ self.old.lock) × (self.new.bound ≡ self.old.bound) }
-        ensures meets { Meets T.legal self.old.known note.seen self.new.known }
+        ensures meets { Meets T.legal self.old.known note.origin note.seen self.new.known }
     {
         let table = &self.table;
         let Note { place } = note;

@@ -4,7 +4,7 @@ ghost use Rattle.std.specs.declared.snapshot.Snapshot.{Snapshot};
 ghost use Rattle.turn_lock.specs.declared.known.Stage.TheVariants.{Young, Idle, Waiting, Turn};
 ghost use Rattle.turn_lock.specs.History.{calls_by};
 ghost use Rattle.turn_lock.specs.Rule.{full};
-ghost use Rattle.turn_lock.specs.Calls.{IsLegal, Watches, Called, IsCause};
+ghost use Rattle.turn_lock.specs.Calls.{IsLegal, Watches, Called, IsCause, IsBusy};
 ghost use Rattle.turn_lock.specs.Plays.{IsSized, IsReady, hollow, posed, added, divided_view, born_view, noted_view, Ended, Merged, Takes};
 
 use crate::board::{HOME, MOST_TURNS, Place, SERVING, Slot, TICKET, Top};
@@ -212,7 +212,7 @@ pub(crate) fn take_in<T: Turned>(top: &Top<T>, place: &mut Place<T>, other: Plac
     requires table { (place.old.table_id ≡ top.now.table_id) × (other.table_id ≡ top.now.table_id) × IsSized top.now.table_id }
     requires ready { IsReady place.old Idle [] × (other.me.1 ≡ []) }
     ensures seat { (place.new.table_id ≡ place.old.table_id) × (place.new.me.1 ≡ []) }
-    ensures merged { let k = other.me.0.known in Merged T.legal other.me.0.is_port k.number k.joined k.seen place.old.me.0.known place.new.me.0 }
+    ensures merged { Merged T.legal other.me.0.is_port other.me.0.known place.old.me.0.known place.new.me.0 }
 {
     top.join_seat::<TakeIn>(place, other);
     top.load::<Merge<T>>(place, SERVING);
@@ -225,7 +225,7 @@ pub(crate) fn draw_last<T: Turned>(top: &Top<T>, place: &mut Place<T>) -> Result
     ensures seat { place.new.table_id ≡ place.old.table_id }
     ensures watches { Watches T.legal place.old.me.0.known place.new.me.0.known }
     ensures ok { IfOk result (λ x. (place.new.me.0.known.origin ≡ Some (T.origin x)) × T.stands x place.new.me.0.known.seen) }
-    ensures err { IfErr result (λ b. IsReady place.new Idle [] × (b.served < b.drawn) × (b.drawn ≡ place.new.me.0.known.drawn)) }
+    ensures err { IfErr result (λ b. IsReady place.new Idle [] × IsBusy place.old.me.0.known place.new.me.0.known b) }
 {
     let served = top.load::<SeeServing>(place, SERVING);
     let drawn = top.compare_exchange::<Close<T>>(place, TICKET, served, served + 1);

@@ -145,15 +145,18 @@ fn is_busy_while_a_turn_is_held(rt: HostRuntime) -> Result<(), Fail> {
     let gate = Arc::new(alloc, Gate::new())?;
     let value = Gated::new(Arc::try_clone(&gate)?);
     let (shared, mut caller) = Shared::new(alloc, value, 5).map_err(|_| AllocError)?;
+    gate.open();
+    assert_eq!(rt; caller.call(&rt, alloc, Bump), Ok(1));
+    gate.shut();
     let closer = caller.split()?;
     let (called, caller, refusal) = close_while_busy(&rt, alloc, shared, caller, closer, &gate);
     assert!(rt; called);
     let (busy, shared, mut closer) = refusal.ok_or("closed")?;
-    assert_eq!(rt; busy.drawn, 1);
-    assert_eq!(rt; busy.served, 0);
+    assert_eq!(rt; busy.drawn, 2);
+    assert_eq!(rt; busy.served, 1);
     closer.join(caller);
     let value = shared.close(closer).map_err(|_| "busy")?;
-    assert_eq!(rt; value.count, 1);
+    assert_eq!(rt; value.count, 2);
     Ok(())
 }
 

@@ -36,6 +36,12 @@ impl Gate {
         }
     }
 
+    /// Holds up the next turn, after those that went through.
+    pub(super) fn shut(&self) {
+        self.begun.store(false, Ordering::SeqCst);
+        self.open.store(false, Ordering::SeqCst);
+    }
+
     fn pass(&self) {
         self.begun.store(true, Ordering::SeqCst);
         wait_for(&self.open);

@@ -8,8 +8,8 @@ join_seat-requires g c = let t = g.T.Turned in (search rules, search rules, sear
 
 pub load-requires : goal.load-requires
 load-requires g c = let t = g.T.Turned in let now = c.join_seat.ensures.2 in let k = c.args.other.me.0 in
-    (search rules, search rules, merges t.origin t.stands t.legal c.args.top.now.key.value _ _ _ k.is_port k.known.number k.known.joined k.known.seen (ap (λ m. m.0.is_port) now ∙ c.requires.ready.0.0) (ap (λ m. m.0.stage) now))
+    (search rules, search rules, merges t.origin t.stands t.legal c.args.top.now.key.value _ _ _ k.is_port k.known (ap (λ m. m.0.is_port) now ∙ c.requires.ready.0.0) (ap (λ m. m.0.stage) now))
 
 pub returns-clause-merged : goal.returns-clause-merged
 returns-clause-merged g c = let now = c.join_seat.ensures.2 in let k = c.args.other.me.0 in
-    subst (λ m. Merged g.T.Turned.legal k.is_port k.known.number k.known.joined k.known.seen m.0.known c.load.new.seat.me.0) now (c.load.ensures.2.1 k.is_port k.known.number k.known.joined k.known.seen (ap (λ m. m.0.stage) now))
+    subst (λ m. Merged g.T.Turned.legal k.is_port k.known m.0.known c.load.new.seat.me.0) now (c.load.ensures.2.1 k.is_port k.known (ap (λ m. m.0.stage) now))

@@ -1,4 +1,4 @@
-use Rattle.std.proofs.Common.{subst, sym}
+use Rattle.std.proofs.Common.{subst}
 use Rattle.relay_core.specs.Agreeing.{Agree}
 use Rattle.relay_core.specs.Opening.{opened}
 use Rattle.relay_core.specs.Stands.{StandsFor}
