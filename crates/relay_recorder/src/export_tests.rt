@@ -55,18 +55,32 @@ fn codes_of(alloc: Global, lines: &[Line]) -> Result<Vec<u8>, AllocError> {
 
 /// The run over a trace's events from its opening.
 fn played(alloc: Global, trace: &Trace) -> Result<Lines, AllocError> {
-    let Ok(mut core) = RelayCore::from_opening(alloc, &trace.opening) else {
-        return Err(AllocError);
-    };
-    run(&mut core, alloc, &trace.events).map_err(|_| AllocError)
+    let mut core = RelayCore::from_opening(alloc, &trace.opening).map_err(|_| AllocError)?;
+    run_of(&mut core, alloc, trace)
+}
+
+fn run_of(core: &mut RelayCore, alloc: Global, trace: &Trace) -> Result<Lines, AllocError> {
+    run(core, alloc, &trace.events).map_err(|_| AllocError)
+}
+
+/// The codes of the replies when a trace is played.
+fn played_codes(alloc: Global, trace: &Trace) -> Result<Vec<u8>, AllocError> {
+    let lines = played(alloc, trace)?;
+    codes_of(alloc, lines.as_slice())
 }
 
 /// Whether the run of a recorder's export ends in the last of these codes, one for each kept event.
 fn plays_to(alloc: Global, recorder: &Recorder, codes: &[u8]) -> Result<bool, AllocError> {
     let trace = recorder.export(alloc)?;
-    let lines = played(alloc, &trace)?;
-    let last = codes_of(alloc, lines.as_slice())?;
+    let last = played_codes(alloc, &trace)?;
     Ok(last.len() == usize::from(recorder.count()) && codes.ends_with(last.as_slice()))
+}
+
+/// Whether a recorder that takes so many events then plays to the replies that it gave.
+fn takes_and_plays(recorder: &mut Recorder, alloc: Global, count: u32) -> Result<bool, AllocError> {
+    let mut codes = Vec::new(alloc);
+    take_events(recorder, alloc, count, &mut codes)?;
+    plays_to(alloc, recorder, codes.as_slice())
 }
 
 /// Whether the export of a recorder of a capacity, pushed around by so many events, plays to the replies that it gave.
@@ -77,9 +91,7 @@ fn is_played_again(
     count: u32,
 ) -> Result<bool, AllocError> {
     let mut recorder = new_recorder(rt, alloc, capacity)?;
-    let mut codes = Vec::new(alloc);
-    take_events(&mut recorder, alloc, count, &mut codes)?;
-    plays_to(alloc, &recorder, codes.as_slice())
+    takes_and_plays(&mut recorder, alloc, count)
 }
 
 #[test]

@@ -1,0 +1,13 @@
+use Rattle.std.proofs.Common.{◌≡◌, ◌+◌, ◌<◌, ◌≤◌, false}
+use Rattle.session_threads.specs.Sessions.{port_of, Tends, IsServed}
+use Rattle.session_threads.proofs.serving.accept_all.Given as goal
+
+abbrev pub invariant-connections : goal.invariant-connections
+invariant-connections g l = record {
+  can_next : (goal.iterator-connections g).can_next l.iterator';
+  is_finite : (goal.iterator-connections g).is_finite l.iterator';
+  tends : Tends port_of l.initial.port l.initial.sessions.handles l.port l.sessions.handles;
+  served : IsServed l.initial.port.known.splits l.port.known.splits l.accepted;
+  going : l.accepted.has_failed ≡ false;
+  within : 0 < l.limit → l.accepted.served + l.accepted.turned_away ≤ l.limit;
+}

@@ -1,0 +1,8 @@
+use Rattle.session_threads.proofs.Working.{none_lost}
+use Rattle.session_threads.proofs.worker.start_worker.Goals as goal
+
+pub returns-in-Err-clause-none : goal.returns-in-Err-clause-none
+returns-in-Err-clause-none g c =
+    let split = c.in-Ok.ensures in
+    let joined = c.join.ensures in
+    none_lost g.T.Turned.legal _ c.split.new.self _ c.in-Ok.own c.in-Err.unused split.lock.0 split.lock.1 split.this split.other.2 c.in-Err.ensures.err joined.lock.0 joined.lock.1 joined.joins

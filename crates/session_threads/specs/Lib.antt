@@ -1,0 +1,3 @@
+pub mod Ports
+pub mod Sessions
+pub mod Workers

@@ -1,0 +1,41 @@
+-- What becomes of a port while others work through ports that were split off from it.
+use Rattle.std.specs.Prelude.{◌≡◌, ℕ, ◌+◌, ◌<◌, ◌≤◌, List, [], ◌∷◌, ◌++◌}
+use Rattle.turn_lock.specs.History.{StartsWith, IsAmong, calls_by}
+use Rattle.turn_lock.specs.Rule.{IsOwn}
+use Rattle.turn_lock.specs.Shown.{ShownPort}
+
+-- q is the port p, which has made no call, and may since have split off others and taken in some
+pub record GoesOn {E R O : Type 0} (p q : ShownPort E R O) : Type 0 where
+  pub lock : q.lock ≡ p.lock
+  pub bound : q.bound ≡ p.bound
+  pub origin : q.known.origin ≡ p.known.origin
+  pub number : q.known.number ≡ p.known.number
+  pub splits : p.known.splits ≤ q.known.splits
+  pub seen : StartsWith q.known.seen p.known.seen
+  pub joined : (n : List ℕ) → IsAmong n p.known.joined → IsAmong n q.known.joined
+  pub own : (n : List ℕ) → IsOwn p.known n → calls_by n q.known.seen ≡ calls_by n p.known.seen
+
+-- the number of the port that was split off when the count of splits was i
+abbrev pub child : List ℕ → ℕ → List ℕ
+child number i = number ++ i ∷ []
+
+-- each port that was split off, from the count `from` on, was joined in
+abbrev pub AreJoined : {E R O : Type 0} → ℕ → ShownPort E R O → Type 0
+AreJoined from p = (i : ℕ) → from ≤ i → i < p.known.splits → IsAmong (child p.known.number i) p.known.joined
+
+-- The port own was split off from p, which is q since
+pub record SplitsOff {E R O : Type 0} (p own q : ShownPort E R O) : Type 0 where
+  pub goes : GoesOn p q
+  pub splits : q.known.splits ≡ p.known.splits + 1
+  pub lock : own.lock ≡ p.lock
+  pub bound : own.bound ≡ p.bound
+  pub number : own.known.number ≡ child p.known.number p.known.splits
+  pub fresh : calls_by own.known.number own.known.seen ≡ []
+
+-- the port r was joined into p, which is q since
+pub record TakesIn {E R O : Type 0} (p r q : ShownPort E R O) : Type 0 where
+  pub goes : GoesOn p q
+  pub splits : q.known.splits ≡ p.known.splits
+  pub joined : IsAmong r.known.number q.known.joined
+  pub told : StartsWith q.known.seen r.known.seen
+  pub theirs : calls_by r.known.number q.known.seen ≡ calls_by r.known.number r.known.seen

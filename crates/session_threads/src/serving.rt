@@ -1,0 +1,117 @@
+//! The loop that accepts connections.
+ghost use Rattle.std.specs.Prelude.{◌≡◌, IfOk, IfSome, IfNone, OnOk, OnErr};
+ghost use Rattle.session_threads.specs.Ports.{GoesOn, AreJoined};
+ghost use Rattle.session_threads.specs.Sessions.{port_of, AreHeld, Tends, Takes, IsComplete, IsServed};
+ghost use Rattle.turn_lock.specs.Calls.{IsLegal};
+ghost use Rattle.turn_lock.specs.Shown.{IsSame};
+
+use crate::accepted::{Accepted, Outcome};
+use crate::connections::Listener;
+use crate::sessions::Sessions;
+use std::alloc::{AllocError, Global};
+use std::sync::Wait;
+use std::thread::Threads;
+use turn_lock::{Port, Turned};
+
+// Waits for a connection and admits it. `None`: the listener failed.
+fn take_next<
+    T: Turned + Send + 'static,
+    L: Listener<Port<T>>,
+    R: Threads + Wait + Copy + Send + 'static,
+>(
+    rt: &R,
+    alloc: Global,
+    listener: &mut L,
+    sessions: &mut Sessions<T>,
+    port: &mut Port<T>,
+) -> Option<Outcome>
+where
+    T::Event: Send + 'static,
+    T::Reply: Send + 'static,
+    T::Origin: 'static,
+    requires held { AreHeld port_of port.old sessions.old.handles }
+    requires hands_back { (p : _) (q : _) → L.Connection.hands_back p q → IsSame p q }
+    ensures tends { Tends port_of port.old sessions.old.handles port.new sessions.new.handles }
+    ensures splits { IfSome result (λ outcome. Takes outcome port.old.known.splits port.new.known.splits) }
+    ensures failed { IfNone result (port.new.known.splits ≡ port.old.known.splits) }
+{
+    let next = listener.accept(alloc);
+    sessions.reap(rt, port);
+    match next {
+        Ok(Some(connection)) => Some(sessions.admit(rt, alloc, connection, port)),
+        Ok(None) => Some(Outcome::Starved),
+        Err(_) => None,
+    }
+}
+
+// Admits connections until as many came as there may, or the listener fails.
+fn accept_all<
+    T: Turned + Send + 'static,
+    L: Listener<Port<T>>,
+    R: Threads + Wait + Copy + Send + 'static,
+>(
+    rt: &R,
+    alloc: Global,
+    listener: &mut L,
+    sessions: &mut Sessions<T>,
+    port: &mut Port<T>,
+    limit: u64,
+) -> Accepted
+where
+    T::Event: Send + 'static,
+    T::Reply: Send + 'static,
+    T::Origin: 'static,
+    requires held { AreHeld port_of port.old sessions.old.handles }
+    requires hands_back { (p : _) (q : _) → L.Connection.hands_back p q → IsSame p q }
+    ensures tends { Tends port_of port.old sessions.old.handles port.new sessions.new.handles }
+    ensures complete { IsComplete limit result }
+    ensures served { IsServed port.old.known.splits port.new.known.splits result }
+{
+    let mut accepted = Accepted::none();
+    'connections: for _ in rt.forever() {
+        if accepted.has_reached(limit) {
+            return accepted;
+        }
+        let Some(outcome) = take_next(rt, alloc, listener, sessions, port) else {
+            accepted.has_failed = true;
+            return accepted;
+        };
+        accepted.count(outcome);
+    }
+    unreachable!()
+}
+
+/// Accepts connections, and serves each in a thread of its own through a port split off from this one.
+///
+/// It ends once `limit` connections came (0 is no limit) or the listener failed, and then once every session has ended. A connection
+/// that comes while eight sessions are open, or for which no memory, port or thread is had, is closed with no byte sent and counted
+/// as turned away. `AllocError`: the room for eight sessions is not had, and no connection was accepted.
+pub fn serve_connections<
+    T: Turned + Send + 'static,
+    L: Listener<Port<T>>,
+    R: Threads + Wait + Copy + Send + 'static,
+>(
+    rt: &R,
+    alloc: Global,
+    listener: &mut L,
+    port: &mut Port<T>,
+    limit: u64,
+) -> Result<Accepted, AllocError>
+where
+    T::Event: Send + 'static,
+    T::Reply: Send + 'static,
+    T::Origin: 'static,
+    requires { (p : _) (q : _) → L.Connection.hands_back p q → IsSame p q }
+    ensures goes { GoesOn port.old port.new }
+    ensures lawful { OnOk result (IsLegal T.legal port.new.known) }
+    ensures joined { AreJoined port.old.known.splits port.new }
+    ensures complete { IfOk result (IsComplete limit) }
+    ensures served { IfOk result (IsServed port.old.known.splits port.new.known.splits) }
+    ensures err { OnErr result (port.new ≡ port.old) }
+{
+    let mut sessions = Sessions::new(alloc)?;
+    let accepted = accept_all(rt, alloc, listener, &mut sessions, port, limit);
+    sessions.close_all(rt, port);
+    port.has_a_legal_history();
+    Ok(accepted)
+}

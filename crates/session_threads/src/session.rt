@@ -1,0 +1,94 @@
+//! One session in a thread of its own.
+ghost use Rattle.std.specs.Prelude.{◌≡◌, ◌<◌, IfOk, IfErr};
+ghost use Rattle.turn_lock.specs.Shown.{IsSame};
+
+use crate::connections::Connection;
+use crate::flags::{Flags, SESSIONS};
+use std::alloc::Global;
+use std::snapshot::Snapshot;
+use std::sync::{Arc, Wait};
+use std::thread;
+use std::thread::{Promise, PromisedHandle, Threads};
+use turn_lock::{Port, Turned};
+
+/// What a session's thread promises: the port that it hands back is the one that it was lent.
+#[derive(Drop)]
+pub(crate) struct Lent<T: Turned> {
+    pub(crate) port: Snapshot<Port<T>>,
+}
+
+impl<T: Turned> Promise<Port<T>> for Lent<T> {
+    ghost kept_by = { λ lent port. IsSame lent.port.value port };
+}
+
+/// The handle of a session's thread.
+pub(crate) type Session<T> = PromisedHandle<Port<T>, Lent<T>>;
+
+/// What the thread at this place does. Where it was refused it closes the connection with no byte sent.
+pub(crate) fn attend<T: Turned, C: Connection<Port<T>>, W: Wait + Copy>(
+    rt: W,
+    alloc: Global,
+    flags: Arc<Flags, Global>,
+    key: usize,
+    connection: C,
+    port: Port<T>,
+) -> Port<T>
+    requires place { key < SESSIONS }
+    requires hands_back { (p : _) (q : _) → C.hands_back p q → IsSame p q }
+    ensures { IsSame port result }
+{
+    if flags.is_refused(key) {
+        return port;
+    }
+    let port = connection.serve(&rt, alloc, port);
+    flags.end(key);
+    port
+}
+
+/// Starts a thread that serves the connection, at this place. Where no thread is had the connection is closed, and the port comes
+/// back.
+pub(crate) fn start<
+    T: Turned + Send + 'static,
+    C: Connection<Port<T>> + 'static,
+    R: Threads + Wait + Copy + Send + 'static,
+>(
+    rt: &R,
+    alloc: Global,
+    flags: &Arc<Flags, Global>,
+    key: usize,
+    connection: C,
+    port: Port<T>,
+) -> Result<Session<T>, Port<T>>
+where
+    T::Event: Send + 'static,
+    T::Reply: Send + 'static,
+    T::Origin: 'static,
+    requires place { key < SESSIONS }
+    requires hands_back { (p : _) (q : _) → C.hands_back p q → IsSame p q }
+    ensures ok { IfOk result (λ session. session.promise.port.value ≡ port) }
+    ensures err { IfErr result (λ back. IsSame port back) }
+{
+    let Ok(theirs) = Arc::try_clone(flags) else {
+        return Err(port);
+    };
+    flags.begin(key);
+    let here = *rt;
+    let lent = Lent {
+        port: Snapshot::of(&port),
+    };
+    let session = thread::spawn_with(
+        rt,
+        lent,
+        move || -> Port<T>
+            requires place { key < SESSIONS }
+            requires hands_back { (p : _) (q : _) → C.hands_back p q → IsSame p q }
+        { attend(here, alloc, theirs, key, connection, port) },
+    );
+    match session {
+        Ok(session) => Ok(session),
+        Err(refused) => {
+            flags.refuse(key);
+            Err((refused.value)())
+        }
+    }
+}

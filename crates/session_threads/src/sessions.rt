@@ -1,0 +1,126 @@
+//! The open sessions: each has a place, a thread and a port.
+ghost use Rattle.std.specs.Prelude.{◌≡◌, ℕ, ◌<◌, None, IfOk};
+ghost use Rattle.slab.specs.Slab.{get};
+ghost use Rattle.session_threads.specs.Sessions.{port_of, AreHeld, IsEmpty, Tends, Takes};
+ghost use Rattle.turn_lock.specs.Calls.{Joins};
+ghost use Rattle.turn_lock.specs.Shown.{IsSame};
+
+use crate::accepted::Outcome;
+use crate::connections::Connection;
+use crate::flags::{Flags, SESSIONS};
+use crate::session::{Session, start};
+use slab::Slab;
+use std::alloc::{AllocError, Global};
+use std::sync::{Arc, Wait};
+use std::thread::Threads;
+use turn_lock::{Port, Turned};
+
+/// The open sessions, at most eight, and the flags of their places.
+#[derive(Drop)]
+pub(crate) struct Sessions<T: Turned> {
+    pub(crate) handles: Slab<Session<T>>,
+    flags: Arc<Flags, Global>,
+}
+
+// No thread was had for the port that was split off: it is joined in again.
+fn take_back<T: Turned>(port: &mut Port<T>, unused: Port<T>) -> Outcome
+    requires { unused.lock ≡ port.old.lock }
+    ensures lock { (port.new.lock ≡ port.old.lock) × (port.new.bound ≡ port.old.bound) }
+    ensures joins { Joins T.legal port.old.known unused.known port.new.known }
+    ensures outcome { result ≡ Outcome.Starved }
+{
+    port.join(unused);
+    Outcome::Starved
+}
+
+impl<T: Turned> Sessions<T> {
+    /// No session is open. All memory that sessions take is taken here.
+    pub(crate) fn new(alloc: Global) -> Result<Sessions<T>, AllocError>
+        ensures { IfOk result (λ sessions. IsEmpty sessions.handles) }
+    {
+        let mut handles = Slab::new(alloc);
+        handles.reserve(SESSIONS)?;
+        let flags = Arc::new(alloc, Flags::new())?;
+        Ok(Sessions { handles, flags })
+    }
+
+    /// Waits for the end of the session at this place, if one is open there, and joins its port in.
+    fn close<R: Threads>(&mut self, rt: &R, key: usize, port: &mut Port<T>)
+        requires { AreHeld port_of port.old self.old.handles }
+        ensures tends { Tends port_of port.old self.old.handles port.new self.new.handles }
+        ensures splits { port.new.known.splits ≡ port.old.known.splits }
+        ensures closed { get self.new.handles key ≡ None }
+        ensures others { (other : ℕ) → get self.old.handles other ≡ None → get self.new.handles other ≡ None }
+    {
+        if let Some(session) = self.handles.try_remove(key) {
+            let own = session.join(rt);
+            port.join(own);
+        }
+    }
+
+    /// Closes the session at this place, if its thread has come to its end.
+    fn reap_one<R: Threads>(&mut self, rt: &R, key: usize, port: &mut Port<T>)
+        requires place { key < SESSIONS }
+        requires held { AreHeld port_of port.old self.old.handles }
+        ensures tends { Tends port_of port.old self.old.handles port.new self.new.handles }
+        ensures splits { port.new.known.splits ≡ port.old.known.splits }
+    {
+        if self.flags.has_ended(key) {
+            self.close(rt, key, port);
+        }
+    }
+
+    /// Closes each session whose thread has come to its end.
+    pub(crate) fn reap<R: Threads>(&mut self, rt: &R, port: &mut Port<T>)
+        requires { AreHeld port_of port.old self.old.handles }
+        ensures tends { Tends port_of port.old self.old.handles port.new self.new.handles }
+        ensures splits { port.new.known.splits ≡ port.old.known.splits }
+    {
+        'places: for key in 0..SESSIONS {
+            self.reap_one(rt, key, port);
+        }
+    }
+
+    /// Waits for the end of every session.
+    pub(crate) fn close_all<R: Threads>(&mut self, rt: &R, port: &mut Port<T>)
+        requires { AreHeld port_of port.old self.old.handles }
+        ensures tends { Tends port_of port.old self.old.handles port.new self.new.handles }
+        ensures splits { port.new.known.splits ≡ port.old.known.splits }
+        ensures closed { (key : ℕ) → key < SESSIONS → get self.new.handles key ≡ None }
+    {
+        'last: for key in 0..SESSIONS {
+            self.close(rt, key, port);
+        }
+    }
+
+    /// Gives the connection a thread and a port split off from this one, or closes it.
+    pub(crate) fn admit<
+        C: Connection<Port<T>> + 'static,
+        R: Threads + Wait + Copy + Send + 'static,
+    >(&mut self, rt: &R, alloc: Global, connection: C, port: &mut Port<T>) -> Outcome
+    where
+        T: Send + 'static,
+        T::Event: Send + 'static,
+        T::Reply: Send + 'static,
+        T::Origin: 'static,
+        requires held { AreHeld port_of port.old self.old.handles }
+        requires hands_back { (p : _) (q : _) → C.hands_back p q → IsSame p q }
+        ensures tends { Tends port_of port.old self.old.handles port.new self.new.handles }
+        ensures splits { Takes result port.old.known.splits port.new.known.splits }
+    {
+        let key = self.handles.vacant_key();
+        if self.handles.len() >= SESSIONS || key >= SESSIONS {
+            return Outcome::Crowded;
+        }
+        let Ok(own) = port.split() else {
+            return Outcome::Starved;
+        };
+        match start(rt, alloc, &self.flags, key, connection, own) {
+            Ok(session) => {
+                self.handles.insert_reserved(session);
+                Outcome::Served
+            }
+            Err(own) => take_back(port, own),
+        }
+    }
+}

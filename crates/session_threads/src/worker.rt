@@ -1,0 +1,140 @@
+//! Workers: each has a thread of its own and a port that was split off for it.
+ghost use Rattle.std.specs.Prelude.{◌≡◌, IfOk, IfErr, IfSome, IfNone};
+ghost use Rattle.turn_lock.specs.Shown.{IsSame};
+ghost use Rattle.session_threads.specs.Ports.{GoesOn, AreJoined, SplitsOff};
+ghost use Rattle.session_threads.specs.Workers.{Ended, ComesBack};
+
+use std::alloc::Global;
+use std::snapshot::Snapshot;
+use std::sync::atomic::{AtomicBool, Ordering};
+use std::sync::{Arc, Wait};
+use std::thread;
+use std::thread::{Promise, PromisedHandle, Threads};
+use turn_lock::{CallFault, Port, Turned};
+
+/// Work to be done in a thread of its own, through a port of the type `P`.
+///
+/// `did` says what was done: of the worker as it was, its port as it was lent and as it is handed back, and the end.
+pub trait Worker<P>: Drop + Send {
+    ghost use Rattle.std.specs.Prelude.{Result};
+    ghost use Rattle.turn_lock.specs.declared.faults.CallFault.{CallFault};
+
+    ghost did: { Self → P → P → Result Unit CallFault → Type 0 };
+
+    /// Works until there is nothing left to do, or a call is refused, and hands the port back.
+    fn work<W: Wait>(self, rt: &W, alloc: Global, port: P) -> (P, Result<(), CallFault>)
+    where
+        Self: Sized,
+        ensures { did self port result.0 result.1 };
+}
+
+/// What the thread of a worker hands back: the port, and how the work ended. `None`: it was not begun.
+pub type Handed<T> = (Port<T>, Option<Result<(), CallFault>>);
+
+/// What the thread of a worker promises: the worker did its work through this port.
+#[derive(Drop)]
+pub struct Task<T: Turned, K> {
+    pub worker: Snapshot<K>,
+    pub port: Snapshot<Port<T>>,
+}
+
+impl<T: Turned, K: Worker<Port<T>>> Promise<Handed<T>> for Task<T, K> {
+    ghost kept_by = { λ task handed. Ended (K.did task.worker.value) task.port.value handed.0 handed.1 };
+}
+
+/// A worker at work.
+pub type WorkerThread<T, K> = PromisedHandle<Handed<T>, Task<T, K>>;
+
+/// What the worker's thread does. Where it was refused it does nothing.
+pub(crate) fn do_work<T: Turned, K: Worker<Port<T>>, W: Wait + Copy>(
+    rt: W,
+    alloc: Global,
+    refused: Arc<AtomicBool, Global>,
+    worker: K,
+    port: Port<T>,
+) -> Handed<T>
+    ensures { Ended (K.did worker) port result.0 result.1 }
+{
+    if refused.load(Ordering::SeqCst) {
+        return (port, None);
+    }
+    let (port, end) = worker.work(&rt, alloc, port);
+    (port, Some(end))
+}
+
+// Starts the thread of a worker. Where no thread is had, or no memory for it, the port comes back.
+fn start_thread<
+    T: Turned + Send + 'static,
+    K: Worker<Port<T>> + 'static,
+    R: Threads + Wait + Copy + Send + 'static,
+>(rt: &R, alloc: Global, worker: K, port: Port<T>) -> Result<WorkerThread<T, K>, Port<T>>
+where
+    T::Event: Send + 'static,
+    T::Reply: Send + 'static,
+    T::Origin: 'static,
+    requires { (w : _) (p : _) (q : _) (end : _) → K.did w p q end → IsSame p q }
+    ensures ok { IfOk result (λ running. (running.promise.worker.value ≡ worker) × (running.promise.port.value ≡ port)) }
+    ensures err { IfErr result (λ back. IsSame port back) }
+{
+    let Ok(refused) = Arc::new(alloc, AtomicBool::new(false)) else {
+        return Err(port);
+    };
+    let Ok(theirs) = Arc::try_clone(&refused) else {
+        return Err(port);
+    };
+    let here = *rt;
+    let task = Task {
+        worker: Snapshot::of(&worker),
+        port: Snapshot::of(&port),
+    };
+    match thread::spawn_with(rt, task, move || do_work(here, alloc, theirs, worker, port)) {
+        Ok(running) => Ok(running),
+        Err(unused) => {
+            refused.store(true, Ordering::SeqCst);
+            Err((unused.value)().0)
+        }
+    }
+}
+
+/// Starts a thread for the worker, with a port split off from this one. `None`: memory, a port or a thread is not had; the worker is
+/// let go, and no port is lost.
+pub fn start_worker<
+    T: Turned + Send + 'static,
+    K: Worker<Port<T>> + 'static,
+    R: Threads + Wait + Copy + Send + 'static,
+>(rt: &R, alloc: Global, worker: K, port: &mut Port<T>) -> Option<WorkerThread<T, K>>
+where
+    T::Event: Send + 'static,
+    T::Reply: Send + 'static,
+    T::Origin: 'static,
+    requires { (w : _) (p : _) (q : _) (end : _) → K.did w p q end → IsSame p q }
+    ensures worker { IfSome result (λ running. running.promise.worker.value ≡ worker) }
+    ensures port { IfSome result (λ running. SplitsOff port.old running.promise.port.value port.new) }
+    ensures none { IfNone result (GoesOn port.old port.new × AreJoined port.old.known.splits port.new) }
+{
+    let Ok(own) = port.split() else {
+        return None;
+    };
+    match start_thread(rt, alloc, worker, own) {
+        Ok(running) => Some(running),
+        Err(unused) => {
+            port.join(unused);
+            None
+        }
+    }
+}
+
+/// Waits for the end of a worker and joins its port in. `None`: the work was not begun.
+pub fn join_worker<T: Turned, K: Worker<Port<T>>, R: Threads>(
+    rt: &R,
+    running: WorkerThread<T, K>,
+    port: &mut Port<T>,
+) -> Option<Result<(), CallFault>>
+    requires lock { running.promise.port.value.lock ≡ port.old.lock }
+    requires hands_back { (w : _) (p : _) (q : _) (end : _) → K.did w p q end → IsSame p q }
+    ensures { let task = running.promise in ComesBack (K.did task.worker.value) task.port.value result port.old port.new }
+{
+    let (own, end) = running.join(rt);
+    port.join(own);
+    end
+}
