@@ -75,24 +75,3 @@ fn a_core_that_was_written_down_is_the_same(rt: HostRuntime) -> Result<(), Fail>
     assert!(rt; is_told(&mut core, rt.alloc())?);
     Ok(())
 }
-
-/// Whether no core has the opening with this device name and state.
-fn is_unfit(alloc: Global, opening: &mut Opening, name: &[u8]) -> Result<bool, AllocError> {
-    opening.device = Octets::from_slice(alloc, name)?;
-    Ok(matches!(
-        RelayCore::from_opening(alloc, opening),
-        Err(OpeningFault::Unfit)
-    ))
-}
-
-fn name_is_judged(core: &RelayCore, alloc: Global) -> Result<bool, AllocError> {
-    let mut opening = core.to_opening(alloc)?;
-    Ok(is_unfit(alloc, &mut opening, b"")? && !is_unfit(alloc, &mut opening, b"0123456789ABCDEF")?)
-}
-
-#[test]
-fn a_device_name_has_bytes(rt: HostRuntime) -> Result<(), Fail> {
-    let core = new_core(rt.alloc())?;
-    assert!(rt; name_is_judged(&core, rt.alloc())?);
-    Ok(())
-}

@@ -1,0 +1,4 @@
+mod Moving
+mod Lookups
+mod Clients
+mod Passwords

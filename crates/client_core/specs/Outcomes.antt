@@ -1,0 +1,70 @@
+-- The outcome of a job, as a function of the bytes that a connection gave.
+--     heard             the payloads that came from port 1 to port 1
+--     progress_of       what the first two of them say, and what a wrong header behind all whole frames does
+--     decided           the outcome that the bytes settle, if they do
+--     outcome_of        the outcome where the connection gave no more than these bytes
+--     due               the texts that are due, in order
+use Rattle.std.specs.Prelude.{ℕ, Bool, true, false, ◌&&◌, ◌==◌, if◌then◌else◌, Option, Some, None, is_none, unwrap_or, List, [], ◌∷◌}
+use Rattle.wrapper_frame.specs.Header.{head_of}
+use Rattle.wrapper_frame.specs.Messages.{frames_of, rest_of}
+use Rattle.wrapper_frame.specs.declared.header.Head.{Head}
+use Rattle.wrapper_frame.specs.declared.header.Head.TheVariants.{Part, BadVersion, TooLong, Whole}
+use Rattle.wrapper_frame.specs.declared.parts.Frame.{Frame}
+use Rattle.client_core.specs.declared.job.Verb.{Verb}
+use Rattle.client_core.specs.declared.job.Outcome.{Outcome}
+use Rattle.client_core.specs.declared.job.Outcome.TheVariants.{Done, Refused, Rejected, Unknown}
+use Rattle.client_core.specs.declared.progress.Progress.{Progress}
+use Rattle.client_core.specs.Replies.{fresh, opened, replied}
+use Rattle.client_core.specs.Texts.{aarq_frame, request_frame, release_frame}
+
+-- the payloads of the frames from port 1 to port 1, in order; the others are skipped
+abbrev pub heard : List Frame → List (List ℕ)
+heard [] = []
+heard (frame ∷ frames) = if frame.src == 1 && frame.dst == 1 then frame.payload ∷ heard frames else heard frames
+
+-- the request is due, and its answer has not come
+abbrev pub is_asking : Progress → Bool
+is_asking progress = progress.accepted && is_none progress.outcome
+
+-- the request's answer, the first of these payloads, settles the outcome
+abbrev pub answered : Verb → Progress → List (List ℕ) → Progress
+answered verb progress [] = progress
+answered verb progress (answer ∷ later) = if is_asking progress then record progress { outcome = Some (replied verb answer) } else progress
+
+-- what all payloads say: the first is the AARE, the second the answer to the request
+abbrev pub said : Verb → List (List ℕ) → Progress
+said verb [] = fresh
+said verb (aare ∷ later) = answered verb (opened verb aare) later
+
+-- an outcome that is not settled yet is unknown
+abbrev pub or_unknown : Progress → Progress
+or_unknown progress = record progress { outcome = Some (unwrap_or progress.outcome Unknown) }
+
+-- a header that no frame has ends all
+abbrev pub ended_by : Progress → Head → Progress
+ended_by progress Part = progress
+ended_by progress (Whole n) = progress
+ended_by progress BadVersion = or_unknown progress
+ended_by progress TooLong = or_unknown progress
+
+unfoldable pub progress_of : Verb → List ℕ → Progress
+progress_of verb bytes = ended_by (said verb (heard (frames_of bytes))) (head_of (rest_of bytes))
+
+abbrev pub decided : Verb → List ℕ → Option Outcome
+decided verb bytes = (progress_of verb bytes).outcome
+
+unfoldable pub outcome_of : Verb → List ℕ → Outcome
+outcome_of verb bytes = unwrap_or (decided verb bytes) Unknown
+
+-- the meter has answered the request
+abbrev pub is_served : Option Outcome → Bool
+is_served (Some (Done code)) = true
+is_served (Some (Refused code)) = true
+is_served (Some (Rejected diagnostic)) = false
+is_served (Some Unknown) = false
+is_served None = false
+
+-- the AARQ, the request once the association is open, and the release once the meter has answered the request
+abbrev pub due : Verb → List ℕ → Progress → List (List ℕ)
+due verb password progress =
+    aarq_frame password ∷ (if progress.accepted then request_frame verb ∷ (if is_served progress.outcome then release_frame ∷ [] else []) else [])

@@ -1,0 +1,113 @@
+//! The texts that a client sends.
+ghost use Rattle.std.specs.Prelude.{◌≡◌, ◌≤◌, length, IfOk};
+ghost use Rattle.xdlms_apdu.specs.Text.{request_text};
+ghost use Rattle.client_core.specs.Texts.{framed, aarq_payload, action_payload, request_payload, aarq_frame, request_frame, release_frame};
+
+use crate::job::Verb;
+use acse_ber::{RELEASE_REQUEST, low_level_aarq, write_aarq};
+use cosem_axdr::{Data, Octets};
+use cosem_names::{AttrRef, AttributeSelection, ClassId, MethodRef, Obis};
+use std::alloc::{AllocError, Global};
+use wrapper_frame::{WrapperFault, frame};
+use xdlms_apdu::{InvokeId, Request, write_request};
+
+/// The port of the management client, and that of the meter's management logical device.
+const PORT: u16 = 1;
+/// The services that the client proposes: get, set and action, each also in blocks (IEC 62056-5-3, conformance).
+const SERVICES: u32 = 0x001C19;
+/// The longest APDU that the client takes, in bytes.
+const MOST_BYTES: u16 = 1024;
+/// The invoke-id-and-priority of the request: the number 1, confirmed, of high priority.
+const INVOKE_ID: InvokeId = InvokeId(0xC1);
+/// Disconnect control (IEC 62056-6-2, class 70).
+const DISCONNECT_CONTROL: ClassId = ClassId(70);
+/// The logical name of the meter's disconnect control.
+const SUPPLY: Obis = Obis([0, 0, 96, 3, 10, 255]);
+
+/// The request for an association, with a password of at most 32 bytes.
+#[tactic(auto, using(crate::proofs::Passwords::aarq_short), unfolding(crate::specs::Texts::aarq_frame))]
+pub fn aarq_frame(alloc: Global, password: &Octets) -> Result<Octets, AllocError>
+    requires { length password.now ≤ 32 }
+    ensures { IfOk result (λ text. text ≡ aarq_frame password.now) }
+{
+    let payload = aarq_payload(alloc, password)?;
+    framed(alloc, payload.as_slice())
+}
+
+/// The AARQ, with a password of at most 32 bytes.
+#[tactic(auto, using(crate::proofs::Passwords::aarq_written))]
+fn aarq_payload(alloc: Global, password: &Octets) -> Result<Octets, AllocError>
+    requires { length password.now ≤ 32 }
+    ensures { IfOk result (λ text. text ≡ aarq_payload password.now) }
+{
+    let aarq = low_level_aarq(alloc, password.as_slice(), SERVICES, MOST_BYTES)?;
+    write_aarq(alloc, &aarq)
+}
+
+/// The request of a verb.
+#[tactic(auto, unfolding(crate::specs::Texts::request_frame))]
+pub fn request_frame(alloc: Global, verb: Verb) -> Result<Octets, AllocError>
+    ensures { IfOk result (λ text. text ≡ request_frame verb) }
+{
+    let payload = write_request(alloc, &request(verb))?;
+    framed(alloc, payload.as_slice())
+}
+
+/// The end of the association.
+#[tactic(auto, unfolding(crate::specs::Texts::release_frame))]
+pub fn release_frame(alloc: Global) -> Result<Octets, AllocError>
+    ensures { IfOk result (λ text. text ≡ release_frame) }
+{
+    framed(alloc, &RELEASE_REQUEST)
+}
+
+/// A payload in a frame from port 1 to port 1.
+fn framed(alloc: Global, payload: &[u8]) -> Result<Octets, AllocError>
+    requires { length payload.now ≤ 1024 }
+    ensures { IfOk result (λ text. text ≡ framed payload.now) }
+{
+    match frame(alloc, PORT, PORT, payload) {
+        Ok(text) => Ok(text),
+        Err(WrapperFault::Memory) => Err(AllocError),
+        Err(WrapperFault::Version) => unreachable!(),
+        Err(WrapperFault::TooLong) => unreachable!(),
+    }
+}
+
+/// The request of a verb.
+#[tactic(auto, unfolding(xdlms_apdu::specs::Text::request_text))]
+fn request(verb: Verb) -> Request
+    ensures { request_text result ≡ request_payload verb }
+{
+    match verb {
+        Verb::Disconnect => action(1),
+        Verb::Reconnect => action(2),
+        Verb::ReadState => Request::Get {
+            id: INVOKE_ID,
+            target: AttributeSelection {
+                attr: AttrRef {
+                    class: DISCONNECT_CONTROL,
+                    name: SUPPLY,
+                    number: 3,
+                },
+                selected: false,
+            },
+        },
+    }
+}
+
+/// A method of the disconnect control, with parameter 0.
+#[tactic(auto, unfolding(xdlms_apdu::specs::Text::request_text))]
+fn action(number: u8) -> Request
+    ensures { request_text result ≡ action_payload number }
+{
+    Request::Action {
+        id: INVOKE_ID,
+        method: MethodRef {
+            class: DISCONNECT_CONTROL,
+            name: SUPPLY,
+            number,
+        },
+        parameter: Some(Data::Integer(0)),
+    }
+}

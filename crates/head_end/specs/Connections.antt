@@ -1,0 +1,77 @@
+-- What a connection tells of itself, and what its calls then do.
+--     Told              what so many reads of a connection will give
+--     ReadTells, WriteTells, ConnectTells      what a read, a write and a connect say of that
+--     WritesTo          what a write does to the bytes that were written
+use Rattle.std.specs.Prelude.{◌≡◌, ℕ, zero, suc, List, [], ◌++◌, length, take, Option, Some, None, Result, Ok, Err, ⊤}
+use Rattle.byte_streams.specs.declared.fault.StreamFault.{StreamFault}
+use Rattle.head_end.specs.declared.connection.ConnectFault.{ConnectFault}
+
+-- how the bytes of a connection stop: at its end, at a read or a write that fails, or not yet
+pub data Stop : Type 0 where
+  ended : Stop
+  failed : Stop
+  goes_on : Stop
+
+-- what so many reads of a connection, each of which asks for 1,024 bytes, will give, up to its end or to a read or a write that fails
+pub record Told : Type 0 where
+  pub reads : ℕ
+  pub bytes : List ℕ
+  pub stop : Stop
+
+-- a read takes bytes from the front of those told; with the last of the reads it takes all that are left
+pub record GivesPiece (told : Told) (left : ℕ) (piece : List ℕ) (new : Option Told) : Type 0 where
+  pub rest : List ℕ
+  pub bytes_are : told.bytes ≡ piece ++ rest
+  pub new_is : new ≡ Some (record { reads = left; bytes = rest; stop = told.stop })
+  pub last : left ≡ 0 → rest ≡ []
+
+-- a read that gave bytes, one that gave none, and one that failed
+abbrev pub ReadsTold : Told → ℕ → Result ℕ StreamFault → List ℕ → Option Told → Type 0
+ReadsTold told left (Ok (suc count)) buffer new = GivesPiece told left (take (suc count) buffer) new
+ReadsTold told left (Ok zero) buffer new = (told.bytes ≡ []) × (told.stop ≡ ended)
+ReadsTold told left (Err fault) buffer new = (told.bytes ≡ []) × (told.stop ≡ failed)
+
+abbrev pub ReadsBy : Told → ℕ → Result ℕ StreamFault → List ℕ → Option Told → Type 0
+ReadsBy told zero result buffer new = ⊤
+ReadsBy told (suc left) result buffer new = ReadsTold told left result buffer new
+
+-- a read into a buffer of 1,024 bytes, while reads are told
+abbrev pub ReadTells : Option Told → Result ℕ StreamFault → List ℕ → Option Told → Type 0
+ReadTells None result buffer new = ⊤
+ReadTells (Some told) result buffer new = length buffer ≡ 1024 → ReadsBy told told.reads result buffer new
+
+-- a write changes nothing of what is told; one that fails comes where no bytes are left
+abbrev pub WriteTells : {X : Type 0} → Option Told → Result X StreamFault → Option Told → Type 0
+WriteTells None result new = ⊤
+WriteTells (Some told) (Ok x) new = new ≡ Some told
+WriteTells (Some told) (Err fault) new = (told.bytes ≡ []) × (told.stop ≡ failed)
+
+-- a connect gives a connection that tells this of its first 65,536 reads; one that fails stands for a connection that gives no byte and fails
+abbrev pub ConnectTells : {K : Type 0} → Option Told → (K → Option Told) → Result K ConnectFault → Type 0
+ConnectTells None told_of result = ⊤
+ConnectTells (Some told) told_of (Ok connection) = (told_of connection ≡ Some told) × (told.reads ≡ 65536)
+ConnectTells (Some told) told_of (Err fault) = (told.bytes ≡ []) × (told.stop ≡ failed)
+
+-- ---- what was written
+
+-- a front of a text
+pub record IsFront (front text : List ℕ) : Type 0 where
+  pub rest : List ℕ
+  pub parts : text ≡ front ++ rest
+
+-- behind what was written a front of a text comes, and nothing else
+pub record SendsFront (text written : List ℕ) (new : Option (List ℕ)) : Type 0 where
+  pub front : List ℕ
+  pub is_front : IsFront front text
+  pub new_is : new ≡ Some (written ++ front)
+
+-- all of the text comes behind what was written, and of a write that fails a front of it
+abbrev pub WritesTo : {X : Type 0} → Option (List ℕ) → List ℕ → Result X StreamFault → Option (List ℕ) → Type 0
+WritesTo None text result new = ⊤
+WritesTo (Some written) text (Ok x) new = new ≡ Some (written ++ text)
+WritesTo (Some written) text (Err fault) new = SendsFront text written new
+
+-- nothing was written yet, where that is known
+abbrev pub IsUnwritten : Option (List ℕ) → Type 0
+IsUnwritten None = ⊤
+IsUnwritten (Some written) = written ≡ []

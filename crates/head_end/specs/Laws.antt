@@ -1,0 +1,57 @@
+-- A campaign may be cut: its parts run anywhere, and their reports put end to end are a report of the whole.
+--     line_told         the line of a job whose meter's connection is told
+--     AreTold           so it is for all jobs
+--     HaveMemory        no job met want of memory
+--     campaign_text     the report of jobs, as a function of what the connector tells
+use Rattle.std.specs.Prelude.{◌≡◌, ◌≢◌, ℕ, List, [], ◌∷◌, ◌++◌, map, Option, Some, None, IsSome, Ok, ⊤}
+use Rattle.trace_text.specs.Lines.{unended_of}
+use Rattle.client_core.specs.declared.job.Job.{Job}
+use Rattle.client_core.specs.declared.job.Outcome.TheVariants.{Unknown}
+use Rattle.client_core.specs.Outcomes.{outcome_of}
+use Rattle.head_end.specs.declared.row.Row.TheVariants.{Came, Memory}
+use Rattle.head_end.specs.declared.row.Line.{Line}
+use Rattle.head_end.specs.Connections.{Told}
+use Rattle.head_end.specs.Jobs.{job_lines, jobs_in}
+use Rattle.head_end.specs.Reports.{report_text}
+use Rattle.head_end.specs.Rows.{AreLines}
+
+-- the line of a job whose meter's connection is told
+abbrev pub line_by : Job → Option Told → Line
+line_by job (Some told) = record { id = job.id; row = Came (outcome_of job.verb told.bytes) }
+line_by job None = record { id = job.id; row = Came Unknown }
+
+abbrev pub line_told : (List ℕ → Option Told) → Job → Line
+line_told tells job = line_by job (tells job.address)
+
+-- the connections to all their meters are told
+abbrev pub AreTold : (List ℕ → Option Told) → List Job → Type 0
+AreTold tells [] = ⊤
+AreTold tells (job ∷ jobs) = IsSome (tells job.address) × AreTold tells jobs
+
+-- no job met want of memory
+abbrev pub HaveMemory : List Line → Type 0
+HaveMemory [] = ⊤
+HaveMemory (line ∷ lines) = (line.row ≢ Memory) × HaveMemory lines
+
+-- the report of jobs
+abbrev pub campaign_text : (List ℕ → Option Told) → List Job → List ℕ
+campaign_text tells jobs = report_text (map (line_told tells) jobs)
+
+-- the reports of parts, put end to end, are the report of the whole
+abbrev pub ReportsJoin : Type 0
+ReportsJoin = (lines others : List Line) → report_text (lines ++ others) ≡ report_text lines ++ report_text others
+
+-- lines of parts of the jobs are lines of all
+abbrev pub LinesJoin : Type 0
+LinesJoin = (tells : List ℕ → Option Told) (jobs rest : List Job) (lines others : List Line) → AreLines tells jobs lines → AreLines tells rest others
+    → AreLines tells (jobs ++ rest) (lines ++ others)
+
+-- where all is told and memory was there, the report is a function of the jobs, whatever the workers, the machines and the cut
+abbrev pub IsTheReport : Type 0
+IsTheReport = (tells : List ℕ → Option Told) (jobs : List Job) (lines : List Line) → AreLines tells jobs lines → AreTold tells jobs → HaveMemory lines
+    → report_text lines ≡ campaign_text tells jobs
+
+-- a text whose last line is ended, and what comes behind it: the jobs of the whole are those of both, in order
+abbrev pub JobsJoin : Type 0
+JobsJoin = (text rest : List ℕ) (jobs others : List Job) → unended_of text ≡ [] → jobs_in 1 (job_lines text) ≡ Ok jobs → jobs_in 1 (job_lines rest) ≡ Ok others
+    → jobs_in 1 (job_lines (text ++ rest)) ≡ Ok (jobs ++ others)

@@ -1,0 +1,27 @@
+-- The text of a report: a line for each job.
+use Rattle.std.specs.Prelude.{ℕ, List, [], ◌∷◌, ◌++◌, codes, decimal}
+use Rattle.std.specs.List.{flat_map}
+use Rattle.client_core.specs.declared.job.Outcome.TheVariants.{Done, Refused, Rejected, Unknown}
+use Rattle.head_end.specs.declared.row.Row.{Row}
+use Rattle.head_end.specs.declared.row.Row.TheVariants.{Came, Memory}
+use Rattle.head_end.specs.declared.row.Line.{Line}
+
+-- a word and a number
+abbrev pub told_number : List ℕ → ℕ → List ℕ
+told_number word number = word ++ decimal number
+
+-- what came of a job, in words
+abbrev pub row_text : Row → List ℕ
+row_text (Came (Done number)) = told_number (codes " done ") number
+row_text (Came (Refused number)) = told_number (codes " refused ") number
+row_text (Came (Rejected number)) = told_number (codes " rejected ") number
+row_text (Came Unknown) = codes " unknown"
+row_text Memory = codes " memory"
+
+-- a line: the name of the job, a blank, what came of it, and the byte 0A
+abbrev pub line_text : Line → List ℕ
+line_text line = line.id ++ (row_text line.row ++ 10 ∷ [])
+
+-- the lines, in order
+unfoldable pub report_text : List Line → List ℕ
+report_text lines = flat_map line_text lines

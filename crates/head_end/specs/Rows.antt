@@ -1,0 +1,34 @@
+-- The rows of a report, as a function of what the connector tells.
+--     IsRow             the row of a job
+--     AreLines          the lines of all jobs, in order
+use Rattle.std.specs.Prelude.{◌≡◌, ℕ, List, [], ◌∷◌, Option, Some, None, ⊤}
+use Rattle.client_core.specs.declared.job.Job.{Job}
+use Rattle.client_core.specs.declared.job.Outcome.{Outcome}
+use Rattle.client_core.specs.declared.job.Verb.{Verb}
+use Rattle.client_core.specs.Outcomes.{outcome_of}
+use Rattle.head_end.specs.declared.row.Row.{Row}
+use Rattle.head_end.specs.declared.row.Row.TheVariants.{Came, Memory}
+use Rattle.head_end.specs.declared.row.Line.{Line}
+use Rattle.head_end.specs.Connections.{Told}
+
+-- the outcome of a job is that of the bytes which its meter's connection gives
+abbrev pub IsOutcome : Option Told → Verb → Outcome → Type 0
+IsOutcome None verb outcome = ⊤
+IsOutcome (Some told) verb outcome = outcome ≡ outcome_of verb told.bytes
+
+-- the row of a job, or that the job met want of memory
+abbrev pub IsRow : (List ℕ → Option Told) → Job → Row → Type 0
+IsRow tells job (Came outcome) = IsOutcome (tells job.address) job.verb outcome
+IsRow tells job Memory = ⊤
+
+-- the line of a job
+pub record IsLine (tells : List ℕ → Option Told) (job : Job) (line : Line) : Type 0 where
+  pub id_is : line.id ≡ job.id
+  pub row_is : IsRow tells job line.row
+
+-- line i is that of job i, and there are as many
+abbrev pub AreLines : (List ℕ → Option Told) → List Job → List Line → Type 0
+AreLines tells [] [] = ⊤
+AreLines tells (job ∷ jobs) (line ∷ lines) = IsLine tells job line × AreLines tells jobs lines
+AreLines tells [] (line ∷ lines) = ⊥
+AreLines tells (job ∷ jobs) [] = ⊥

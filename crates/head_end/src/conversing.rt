@@ -1,0 +1,86 @@
+//! A client's conversation with the meter at the other end of a connection.
+ghost use Rattle.std.specs.Prelude.{◌≡◌, true, is_none, length, IfOk, OnErr, IfErr};
+ghost use Rattle.head_end.specs.Conversations.{GivesUp, SendsAll, Turns, Converses, Sends, Speaks};
+
+use crate::connection::Connection;
+use client_core::{Client, Outcome};
+use std::alloc::{AllocError, Global};
+
+/// A read asks for so many bytes.
+const MAX_READ: usize = 1_024;
+/// The reads of one connection. What they do not settle is unknown.
+const MAX_READS: u32 = 65_536;
+/// The texts of a job: the AARQ, the request and the release.
+const MAX_TEXTS: u32 = 3;
+
+/// Sends what is due and reads until the outcome is settled, the connection ends or fails, or 65,536 reads have not settled it.
+///
+/// Whatever the meter answers, no more goes out than the AARQ, the client's one request and the release, in this order and each at most once.
+pub fn converse<K: Connection>(
+    alloc: Global,
+    client: &mut Client,
+    connection: &mut K,
+) -> Result<Outcome, AllocError>
+    ensures told { IfOk result (Converses client.old (K.told connection.old)) }
+    ensures written { Speaks client.old (K.written connection.old) (K.written connection.new) }
+{
+    if !send_due(client, connection) {
+        return Ok(give_up(client));
+    }
+    let mut buffer = [0; MAX_READ];
+    'turns: for _ in 0..MAX_READS {
+        if let Some(outcome) = take_turn(alloc, client, connection, &mut buffer)? {
+            return Ok(outcome);
+        }
+    }
+    Ok(give_up(client))
+}
+
+/// One read, what is due after it, and the outcome where it is settled or nothing more can come.
+fn take_turn<K: Connection>(
+    alloc: Global,
+    client: &mut Client,
+    connection: &mut K,
+    buffer: &mut [u8; MAX_READ],
+) -> Result<Option<Outcome>, AllocError>
+    ensures told { IfOk result (λ outcome. Turns client.old (K.told connection.old) outcome client.new (K.told connection.new)) }
+    ensures written { IfOk result (λ outcome. Sends client.old (K.written connection.old) (is_none outcome) client.new (K.written connection.new)) }
+    ensures err { OnErr result (Sends client.old (K.written connection.old) true client.new (K.written connection.new)) }
+{
+    let count = match connection.read(buffer) {
+        Ok(0) => return Ok(Some(give_up(client))),
+        Ok(count) => count,
+        Err(_) => return Ok(Some(give_up(client))),
+    };
+    client.feed(alloc, &buffer[..count])?;
+    if !send_due(client, connection) {
+        return Ok(Some(give_up(client)));
+    }
+    Ok(client.outcome())
+}
+
+/// Writes all texts that are due. False where a write failed.
+fn send_due<K: Connection>(client: &mut Client, connection: &mut K) -> bool
+    ensures told { SendsAll client.old (K.told connection.old) result client.new (K.told connection.new) }
+    ensures written { Sends client.old (K.written connection.old) result client.new (K.written connection.new) }
+{
+    'texts: for _ in 0..MAX_TEXTS {
+        let text = match client.to_send() {
+            Some(text) => text,
+            None => return true,
+        };
+        match connection.write_all(text.as_slice()) {
+            Ok(()) => {}
+            Err(_) => return false,
+        }
+    }
+    true
+}
+
+/// The outcome where the connection gives no more.
+pub fn give_up(client: &mut Client) -> Outcome
+    ensures { GivesUp client.old result }
+{
+    client.ended();
+    client.outcome().unwrap_or(Outcome::Unknown)
+}

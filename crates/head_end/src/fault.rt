@@ -1,0 +1,30 @@
+ghost use Rattle.std.specs.Prelude.{◌≡◌};
+ghost use Rattle.head_end.specs.declared.fault.JobsFault.TheVariants.{Memory};
+
+use std::alloc::AllocError;
+use thiserror::Error;
+
+/// Why a text is no list of jobs.
+#[derive(Clone, Copy, Debug, PartialEq, Eq, Error)]
+pub enum JobsFault {
+    /// It has more than 1,048,576 bytes.
+    #[error("more than 1,048,576 bytes")]
+    TooLong,
+    /// The first wrong line, counted from 1.
+    #[error("line {0}")]
+    Line(u32),
+    /// There are more than 1,000 jobs.
+    #[error("more than 1,000 jobs")]
+    TooMany,
+    /// Memory ran out.
+    #[error("no memory")]
+    Memory,
+}
+
+impl From<AllocError> for JobsFault {
+    ghost from_gives = { λ _ fault. fault ≡ Memory };
+
+    fn from(_error: AllocError) -> JobsFault {
+        JobsFault::Memory
+    }
+}

@@ -1,0 +1,150 @@
+//! A text of jobs: a line `NAME ADDRESS VERB` for each.
+ghost use Rattle.std.specs.Prelude.{◌≡◌, ◌≤◌, length, IfOk};
+ghost use Rattle.head_end.specs.Jobs.{verb_of, is_name, is_visible, job_with, job_of, jobs_in, job_lines, jobs_of, ReadsJobs, ReadsLines, AddsJob};
+ghost use Rattle.std.specs.List.{list_all};
+
+use crate::fault::JobsFault;
+use client_core::{Job, Verb};
+use cosem_axdr::Octets;
+use listed::Listed;
+use std::alloc::{AllocError, Global};
+use trace_text::{Words, split_line};
+
+/// The longest text, in bytes.
+const MAX_TEXT: usize = 1_048_576;
+/// The most jobs.
+const MAX_JOBS: usize = 1_000;
+/// The longest name of a job, in bytes.
+const MAX_ID: usize = 32;
+/// The longest address, in bytes.
+const MAX_ADDRESS: usize = 64;
+
+/// Reads the jobs of a text, one of each line `NAME ADDRESS VERB` with one blank between. The name has 1 to 32 and the address 1 to 64 bytes from 21 to 7E; the verb
+/// is `disconnect`, `reconnect` or `state`. Lines end with the byte 0A, which the last may lack; empty lines are skipped.
+///
+/// Errors, the first that holds: `TooLong` of more than 1,048,576 bytes, `Line` with the first wrong line, `TooMany` of more than 1,000 jobs. `Memory` where it runs
+/// out on the way.
+#[tactic(auto, unfolding(crate::specs::Jobs::jobs_of))]
+pub fn read_jobs(alloc: Global, text: &[u8]) -> Result<Listed<Job>, JobsFault>
+    ensures read { ReadsJobs text.now result }
+    ensures few { IfOk result (λ jobs. length jobs ≤ 1000) }
+{
+    if text.len() > MAX_TEXT {
+        return Err(JobsFault::TooLong);
+    }
+    let jobs = read_lines(alloc, text)?;
+    if jobs.len() > MAX_JOBS {
+        return Err(JobsFault::TooMany);
+    }
+    Ok(jobs)
+}
+
+/// Reads the jobs of all lines.
+fn read_lines(alloc: Global, text: &[u8]) -> Result<Listed<Job>, JobsFault>
+    requires { length text.now ≤ 1048576 }
+    ensures { ReadsLines 1 (job_lines text.now) result }
+{
+    let mut jobs = Listed::new(alloc);
+    let mut rest = text;
+    let mut number: u32 = 1;
+    'lines: while let Some((line, behind)) = split_line(rest) {
+        match add_job(alloc, number, line, &mut jobs) {
+            Ok(()) => {}
+            Err(fault) => return Err(fault),
+        }
+        number += 1;
+        rest = behind;
+    }
+    match add_job(alloc, number, rest, &mut jobs) {
+        Ok(()) => Ok(jobs),
+        Err(fault) => Err(fault),
+    }
+}
+
+/// Adds the job of a line, if the line is not empty.
+fn add_job(alloc: Global, number: u32, line: &[u8], jobs: &mut Listed<Job>) -> Result<(), JobsFault>
+    ensures { AddsJob number line.now jobs.old result jobs.new }
+{
+    if line.is_empty() {
+        return Ok(());
+    }
+    match read_job(alloc, line)? {
+        Some(job) => match jobs.push(job) {
+            Ok(()) => Ok(()),
+            Err(_) => Err(JobsFault::Memory),
+        },
+        None => Err(JobsFault::Line(number)),
+    }
+}
+
+/// The job of a line, or none where the line is wrong.
+#[tactic(auto, unfolding(crate::specs::Jobs::job_of))]
+fn read_job(alloc: Global, line: &[u8]) -> Result<Option<Job>, AllocError>
+    ensures { IfOk result (λ job. job ≡ job_of line.now) }
+{
+    let mut words = Words::new(line);
+    let Some(id) = words.next() else {
+        return Ok(None);
+    };
+    let Some(address) = words.next() else {
+        return Ok(None);
+    };
+    let Some(verb) = words.next() else {
+        return Ok(None);
+    };
+    if words.next().is_some() {
+        return Ok(None);
+    }
+    job_with(alloc, id, address, verb_of(verb))
+}
+
+/// The job of a name, an address and a verb, or none where one of them is wrong.
+fn job_with(
+    alloc: Global,
+    id: &[u8],
+    address: &[u8],
+    verb: Option<Verb>,
+) -> Result<Option<Job>, AllocError>
+    ensures { IfOk result (λ job. job ≡ job_with id.now address.now verb) }
+{
+    let Some(verb) = verb else {
+        return Ok(None);
+    };
+    if !is_name(id, MAX_ID) || !is_name(address, MAX_ADDRESS) {
+        return Ok(None);
+    }
+    Ok(Some(Job {
+        id: Octets::from_slice(alloc, id)?,
+        address: Octets::from_slice(alloc, address)?,
+        verb,
+    }))
+}
+
+/// What a word asks for.
+fn verb_of(word: &[u8]) -> Option<Verb>
+    ensures { result ≡ verb_of word.now }
+{
+    if word == b"disconnect".as_slice() {
+        Some(Verb::Disconnect)
+    } else if word == b"reconnect".as_slice() {
+        Some(Verb::Reconnect)
+    } else if word == b"state".as_slice() {
+        Some(Verb::ReadState)
+    } else {
+        None
+    }
+}
+
+/// Whether a word has a byte, no more than so many, and none that is not seen.
+fn is_name(word: &[u8], most: usize) -> bool
+    ensures { result ≡ is_name most word.now }
+{
+    !word.is_empty() && word.len() <= most && all_visible(word)
+}
+
+/// Whether each byte is one from 21 to 7E.
+fn all_visible(word: &[u8]) -> bool
+    ensures { result ≡ list_all is_visible word.now }
+{
+    word.iter().all(|byte| *byte >= 0x21 && *byte <= 0x7E)
+}

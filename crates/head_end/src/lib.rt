@@ -1,0 +1,31 @@
+//! Switching campaigns: many jobs at many meters, side by side, and one report in the order of the jobs.
+//!
+//! `specs/Connections.antt` says what a connection may tell of itself, `specs/Rows.antt` what the report's rows then are, for every number of workers, and
+//! `specs/Wires.antt` what goes out on a connection, whatever the meter answers.
+#![tactic(auto)]
+
+mod campaign;
+mod connection;
+mod conversing;
+mod fault;
+mod jobs;
+mod laws;
+mod reporting;
+mod row;
+mod running;
+mod tcp;
+#[cfg(test)]
+mod tests;
+mod watching;
+
+pub use campaign::{run_campaign, run_watched_campaign};
+pub use connection::{ConnectFault, Connection, Connector};
+pub use conversing::converse;
+pub use fault::JobsFault;
+pub use jobs::read_jobs;
+pub use laws::{jobs_may_be_cut, reports_stand_end_to_end};
+pub use reporting::report;
+pub use row::{Line, Row};
+pub use running::run_job;
+pub use tcp::{TcpConnection, TcpConnector};
+pub use watching::{Unwatched, Watcher};

@@ -1,0 +1,52 @@
+ghost use Rattle.std.specs.Prelude.{◌≡◌, ◌++◌, ◌∷◌, [], codes, decimal, IfOk, OnOk};
+ghost use Rattle.head_end.specs.Reports.{row_text, line_text, report_text};
+
+use crate::row::{Line, Row};
+use client_core::Outcome;
+use cosem_axdr::Octets;
+use itoa::Buffer;
+use listed::Listed;
+use std::alloc::{AllocError, Global};
+
+/// The text of a report: for each job its name, a blank and `done N`, `refused N`, `rejected N`, `unknown` or `memory`, ended by the byte 0A.
+#[tactic(auto, unfolding(crate::specs::Reports::report_text))]
+pub fn report(alloc: Global, lines: &Listed<Line>) -> Result<Octets, AllocError>
+    ensures { IfOk result (λ text. text ≡ report_text lines.now) }
+{
+    let mut out = Octets::new(alloc);
+    'lines: for line in lines.as_slice() {
+        put_line(line, &mut out)?;
+    }
+    Ok(out)
+}
+
+/// One line.
+fn put_line(line: &Line, out: &mut Octets) -> Result<(), AllocError>
+    ensures { OnOk result (out.new ≡ out.old ++ line_text line.now) }
+{
+    out.extend_from_slice(line.id.as_slice())?;
+    put_row(line.row, out)?;
+    out.push(b'\n')
+}
+
+/// What came of a job.
+fn put_row(row: Row, out: &mut Octets) -> Result<(), AllocError>
+    ensures { OnOk result (out.new ≡ out.old ++ row_text row) }
+{
+    match row {
+        Row::Came(Outcome::Done(number)) => put_number(b" done ", number, out),
+        Row::Came(Outcome::Refused(number)) => put_number(b" refused ", number, out),
+        Row::Came(Outcome::Rejected(number)) => put_number(b" rejected ", number, out),
+        Row::Came(Outcome::Unknown) => out.extend_from_slice(b" unknown"),
+        Row::Memory => out.extend_from_slice(b" memory"),
+    }
+}
+
+/// A word and a number.
+fn put_number(word: &[u8], number: u8, out: &mut Octets) -> Result<(), AllocError>
+    ensures { OnOk result (out.new ≡ out.old ++ (word.now ++ decimal number)) }
+{
+    let mut buffer = Buffer::new();
+    out.extend_from_slice(word)?;
+    out.extend_from_slice(buffer.format(number).as_bytes())
+}

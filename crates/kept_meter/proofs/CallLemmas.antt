@@ -1,0 +1,25 @@
+-- A history of calls with one call more.
+use Rattle.std.proofs.Common.{◌≡◌, ℕ, List, [], ◌∷◌, ◌++◌, IfOk, Result, Ok, Err, sym, subst}
+use Rattle.std.proofs.lemmas.List.{map-append}
+use Rattle.std.specs.declared.alloc.AllocError.{AllocError}
+use Rattle.relay_core.specs.declared.event.Event.{Event}
+use Rattle.relay_core.specs.declared.event.Reply.{Reply}
+use Rattle.relay_core.specs.declared.opening.Opening.{Opening}
+use Rattle.relay_core.specs.Opening.{opened}
+use Rattle.relay_recorder.specs.Histories.{Told, StandsForHistory, Continues}
+use Rattle.relay_recorder.specs.Recording.{Recording}
+use Rattle.turn_lock.specs.declared.turned.Entry.{Entry}
+use Rattle.turn_lock.specs.History.{entry}
+use Rattle.kept_meter.specs.Calls.{Calls, told, Stands}
+
+told_more : (calls : Calls) (call : Entry Event Reply) → told (calls ++ call ∷ []) ≡ told calls ++ (call.event, call.reply) ∷ []
+told_more calls call = map-append (λ (c : Entry Event Reply). (c.event, c.reply)) calls (call ∷ [])
+
+-- a recorder that took an event and answered it stands for a call more, whoever made it
+pub stands_on : (result : Result Reply AllocError) (old new : Recording) (origin : Opening) (event : Event) → IfOk result (Continues old new event)
+    → IfOk result (λ (reply : Reply). (by : List ℕ) (calls : Calls) → Stands (record { recorder = old; origin = origin }) calls
+    → Stands (record { recorder = new; origin = origin }) (calls ++ entry by event reply ∷ []))
+stands_on (Ok reply) old new origin event continues = λ by calls stands.
+    subst (λ (history : List Told). StandsForHistory new history (opened origin)) (sym (told_more calls (entry by event reply)))
+    (continues.histories (told calls) (opened origin) stands)
+stands_on (Err error) old new origin event continues = tt

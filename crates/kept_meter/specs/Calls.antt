@@ -1,0 +1,30 @@
+-- The histories of calls that a recorder behind a lock stands for.
+use Rattle.std.specs.Prelude.{◌≡◌, List, map, IsTrue}
+use Rattle.turn_lock.specs.declared.turned.Entry.{Entry}
+use Rattle.relay_core.specs.declared.event.Event.{Event}
+use Rattle.relay_core.specs.declared.event.Reply.{Reply}
+use Rattle.relay_core.specs.declared.opening.Opening.{Opening}
+use Rattle.relay_core.specs.Machine.{is_sure}
+use Rattle.relay_core.specs.Opening.{opened}
+use Rattle.relay_recorder.specs.Histories.{Told, StandsForHistory, events_of, replies_of, replies_from}
+use Rattle.kept_meter.specs.KeptRecorder.{KeptRecorder}
+
+-- the calls of all ports, the oldest first
+abbrev pub Calls : Type 0
+Calls = List (Entry Event Reply)
+
+-- the events of the calls, and the replies that they got, whoever made them
+abbrev pub told : Calls → List Told
+told calls = map (λ (call : Entry Event Reply). (call.event, call.reply)) calls
+
+-- the replies are those of the run over the events, from the world that the opening tells of
+abbrev pub IsLegal : Opening → Calls → Type 0
+IsLegal origin calls = replies_of (told calls) ≡ replies_from (opened origin) (events_of (told calls))
+
+-- the recorder stands for the calls, from the world of its origin
+abbrev pub Stands : KeptRecorder → Calls → Type 0
+Stands kept calls = StandsForHistory kept.recorder (told calls) (opened kept.origin)
+
+-- the event takes no memory, so that it is always answered
+abbrev pub IsSure : Event → Type 0
+IsSure event = IsTrue (is_sure event)

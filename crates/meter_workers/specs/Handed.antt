@@ -1,0 +1,38 @@
+-- The events that a worker hands to the meter through its port.
+use Rattle.std.specs.Prelude.{◌≡◌, ℕ, Bool, true, false, not, List, ◌++◌, map, filter, replicate, Option, IfSome}
+use Rattle.lane_sampler.specs.Samples.{Samples}
+use Rattle.relay_core.specs.declared.event.Event.{Event}
+use Rattle.relay_core.specs.declared.event.Event.TheVariants as event
+use Rattle.relay_core.specs.declared.event.Reply.{Reply}
+use Rattle.relay_core.specs.declared.opening.Opening.{Opening}
+use Rattle.turn_lock.specs.declared.turned.Entry.{Entry}
+use Rattle.turn_lock.specs.History.{calls_by}
+use Rattle.turn_lock.specs.Shown.{ShownPort}
+
+-- a port of a meter
+abbrev pub MeterPort : Type 0
+MeterPort = ShownPort Event Reply Opening
+
+-- the events of the port's own calls, in order
+abbrev pub handed : MeterPort → List Event
+handed port = map (λ (call : Entry Event Reply). call.event) (calls_by port.known.number port.known.seen)
+
+abbrev pub is_read : Event → Bool
+is_read (event.GetList level items) = true
+is_read _ = false
+
+-- the events but for the reads
+abbrev pub unread : List Event → List Event
+unread events = filter (λ (e : Event). not (is_read e)) events
+
+-- all of the blocks were handed in since, in order, each once; reads may stand between them
+abbrev pub HandsBlocks : Option (List Samples) → MeterPort → MeterPort → Type 0
+HandsBlocks told p q = IfSome told (λ blocks. unread (handed q) ≡ unread (handed p) ++ map event.Samples blocks)
+
+-- all of the moments were handed in since, in order, each once
+abbrev pub HandsMoments : Option (List ℕ) → MeterPort → MeterPort → Type 0
+HandsMoments told p q = IfSome told (λ moments. handed q ≡ handed p ++ map event.Moment moments)
+
+-- so many presses were handed in since
+abbrev pub HandsPresses : Option ℕ → MeterPort → MeterPort → Type 0
+HandsPresses told p q = IfSome told (λ count. handed q ≡ handed p ++ replicate count event.Button)

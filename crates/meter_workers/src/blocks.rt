@@ -1,0 +1,117 @@
+//! The worker of what samples the power.
+ghost use Rattle.std.specs.Prelude.{◌≡◌, ◌<◌, ◌+◌, ◌%◌, OnOk};
+ghost use Rattle.turn_lock.specs.Shown.{IsSame};
+ghost use Rattle.meter_workers.specs.Blocks.{BringsBlock, GoesAhead, ReadsBetween};
+ghost use Rattle.meter_workers.specs.Handed.{HandsBlocks, handed};
+
+use crate::handing::hand_in;
+use crate::sources::BlockSource;
+use crate::thresholds::{Thresholds, read_thresholds};
+use kept_meter::Kept;
+use lane_sampler::Block;
+use relay_core::Event;
+use std::alloc::Global;
+use std::sync::Wait;
+use turn_lock::{CallFault, Port};
+
+/// How many blocks are scanned with thresholds that were read once.
+const BLOCKS_PER_READ: u8 = 64;
+
+/// Which thresholds the next block is scanned with.
+#[derive(Drop)]
+struct Scanner {
+    /// As they were read last, if a read gave them.
+    thresholds: Option<Thresholds>,
+    /// How many blocks were scanned since a read was due.
+    since_read: u8,
+    ghost within: { since_read < 64 },
+}
+
+impl Scanner {
+    fn new() -> Scanner
+        ensures { result.since_read ≡ 0 }
+    {
+        Scanner {
+            thresholds: None,
+            since_read: 0,
+        }
+    }
+
+    // Reads the thresholds where that is due: before the first block and after each 64 further ones.
+    #[tactic(auto, using(crate::proofs::BlockLemmas::none_ahead))]
+    fn renew<W: Wait>(
+        &mut self,
+        rt: &W,
+        alloc: Global,
+        port: &mut Port<Kept>,
+    ) -> Result<(), CallFault>
+        ensures same { IsSame port.old port.new }
+        ensures ahead { GoesAhead self.old.since_read (handed port.old) (handed port.new) }
+        ensures since_read { self.new.since_read ≡ self.old.since_read }
+    {
+        if self.since_read != 0 {
+            return Ok(());
+        }
+        let read = read_thresholds(rt, alloc, port)?;
+        self.thresholds = read.or(self.thresholds);
+        Ok(())
+    }
+
+    // Scans a block ahead of its use.
+    fn scan(&self, block: &mut Block)
+        ensures { block.new ≡ block.old }
+    {
+        if let Some(thresholds) = self.thresholds {
+            block.scan(thresholds.import, thresholds.export);
+        }
+    }
+}
+
+// Hands a block in, scanned with the thresholds last read. Where it is due, these are read before.
+#[tactic(auto, using(crate::proofs::BlockLemmas::brings))]
+fn hand_block<W: Wait>(
+    rt: &W,
+    alloc: Global,
+    port: &mut Port<Kept>,
+    scanner: &mut Scanner,
+    block: Block,
+) -> Result<(), CallFault>
+    ensures same { IsSame port.old port.new }
+    ensures ok { OnOk result (BringsBlock scanner.old.since_read block (handed port.old) (handed port.new)) }
+    ensures since_read { OnOk result (scanner.new.since_read ≡ (scanner.old.since_read + 1) % 64) }
+{
+    let mut block = block;
+    scanner.renew(rt, alloc, port)?;
+    scanner.scan(&mut block);
+    scanner.since_read = (scanner.since_read + 1) % BLOCKS_PER_READ;
+    hand_in(rt, alloc, port, Event::Samples(block))
+}
+
+/// Hands in each block that the source gives, until it gives none or a call is refused, and hands the port back.
+///
+/// Before the first block, and before each that comes after 64 further ones, it reads the active thresholds of both limiters, and it scans each
+/// block with those that it read last. Where memory runs out for a read it goes on with what it has, or without a scan.
+///
+/// At `Ok` all blocks that the source told were handed in, in order, each once; the reads stand between them.
+#[tactic(auto, using(crate::proofs::BlockLemmas::blocks_first, crate::proofs::BlockLemmas::blocks_on))]
+pub fn run_blocks<S: BlockSource, W: Wait>(
+    rt: &W,
+    alloc: Global,
+    mut source: S,
+    mut port: Port<Kept>,
+) -> (Port<Kept>, Result<(), CallFault>)
+    ensures same { IsSame port result.0 }
+    ensures all { OnOk result.1 (HandsBlocks (S.told source) port result.0) }
+    ensures reads { OnOk result.1 (ReadsBetween (S.told source) port result.0) }
+{
+    let mut scanner = Scanner::new();
+    'giving: for _ in rt.forever() {
+        let Some(block) = source.next_block() else {
+            return (port, Ok(()));
+        };
+        if let Err(fault) = hand_block(rt, alloc, &mut port, &mut scanner, block) {
+            return (port, Err(fault));
+        }
+    }
+    unreachable!()
+}

@@ -1,0 +1,36 @@
+//! The worker of the button.
+ghost use Rattle.std.specs.Prelude.{OnOk};
+ghost use Rattle.meter_workers.specs.Handed.{HandsPresses};
+ghost use Rattle.turn_lock.specs.Shown.{IsSame};
+
+use crate::handing::hand_in;
+use crate::sources::ButtonSource;
+use kept_meter::Kept;
+use relay_core::Event;
+use std::alloc::Global;
+use std::sync::Wait;
+use turn_lock::{CallFault, Port};
+
+/// Hands in each press that the source gives, until no further one comes or a call is refused, and hands the port back.
+///
+/// At `Ok` as many presses as the source told were handed in.
+#[tactic(auto, using(crate::proofs::SourceLemmas::presses_first, crate::proofs::SourceLemmas::presses_on, crate::proofs::SourceLemmas::presses_none))]
+pub fn run_buttons<S: ButtonSource, W: Wait>(
+    rt: &W,
+    alloc: Global,
+    mut source: S,
+    mut port: Port<Kept>,
+) -> (Port<Kept>, Result<(), CallFault>)
+    ensures same { IsSame port result.0 }
+    ensures all { OnOk result.1 (HandsPresses (S.told source) port result.0) }
+{
+    'giving: for _ in rt.forever() {
+        if !source.pressed() {
+            return (port, Ok(()));
+        }
+        if let Err(fault) = hand_in(rt, alloc, &mut port, Event::Button) {
+            return (port, Err(fault));
+        }
+    }
+    unreachable!()
+}

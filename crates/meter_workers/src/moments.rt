@@ -1,0 +1,36 @@
+//! The worker of the clock.
+ghost use Rattle.std.specs.Prelude.{OnOk};
+ghost use Rattle.meter_workers.specs.Handed.{HandsMoments};
+ghost use Rattle.turn_lock.specs.Shown.{IsSame};
+
+use crate::handing::hand_in;
+use crate::sources::MomentSource;
+use kept_meter::Kept;
+use relay_core::Event;
+use std::alloc::Global;
+use std::sync::Wait;
+use turn_lock::{CallFault, Port};
+
+/// Hands in each moment that the source gives, until it gives none or a call is refused, and hands the port back.
+///
+/// At `Ok` all moments that the source told were handed in, in order, each once.
+#[tactic(auto, using(crate::proofs::SourceLemmas::leaves_first, crate::proofs::SourceLemmas::leaves_on, crate::proofs::SourceLemmas::leaves_none))]
+pub fn run_moments<S: MomentSource, W: Wait>(
+    rt: &W,
+    alloc: Global,
+    mut source: S,
+    mut port: Port<Kept>,
+) -> (Port<Kept>, Result<(), CallFault>)
+    ensures same { IsSame port result.0 }
+    ensures all { OnOk result.1 (HandsMoments (S.told source) port result.0) }
+{
+    'giving: for _ in rt.forever() {
+        let Some(now) = source.next_moment() else {
+            return (port, Ok(()));
+        };
+        if let Err(fault) = hand_in(rt, alloc, &mut port, Event::Moment(now)) {
+            return (port, Err(fault));
+        }
+    }
+    unreachable!()
+}
