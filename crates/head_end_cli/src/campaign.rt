@@ -1,0 +1,120 @@
+//! `head_end run`.
+ghost use Rattle.std.specs.Prelude.{◌≤◌, length, IfOk};
+
+use crate::jobs_of;
+use crate::progress::{Progress, Watch};
+use clap::ArgMatches;
+use client_core::Job;
+use cosem_axdr::Octets;
+use head_end::{Connector, report, run_watched_campaign};
+use listed::Listed;
+use program_fault::Fault;
+use std::alloc::Global;
+use std::env;
+use std::io::Write;
+use std::thread::Threads;
+use std::time::Duration;
+
+/// What the command line asks for.
+#[derive(Drop)]
+pub(crate) struct Plan {
+    pub(crate) jobs: Listed<Job>,
+    pub(crate) password: Octets,
+    pub(crate) workers: u8,
+    pub(crate) connect_within: Duration,
+    pub(crate) answer_within: Duration,
+    pub(crate) is_shown: bool,
+    ghost short: { length password ≤ 32 },
+    ghost some: { 1 ≤ workers },
+    ghost few: { workers ≤ 16 },
+}
+
+/// A limit of time; 0 seconds stand for none, which is as long as 32 bits of seconds are.
+fn limit(matches: &ArgMatches<'_>, name: &str) -> Duration {
+    let seconds: u32 = matches.get_one::<u32>(name).unwrap_or(0);
+    Duration::from_secs(u64::from(if seconds == 0 { u32::MAX } else { seconds }))
+}
+
+/// How many workers there are to be, 1 to 16.
+fn workers(matches: &ArgMatches<'_>) -> u8
+    ensures some { 1 ≤ result }
+    ensures few { result ≤ 16 }
+{
+    let workers: u8 = matches.get_one::<u8>("workers").unwrap_or(4);
+    workers.clamp(1, 16)
+}
+
+/// A password of 1 to 32 bytes.
+fn judged(alloc: Global, text: &str) -> Result<Octets, Fault>
+    ensures { IfOk result (λ password. length password ≤ 32) }
+{
+    let bytes = text.as_bytes();
+    if bytes.is_empty() || bytes.len() > 32 {
+        return Err(Fault::Input);
+    }
+    match Octets::from_slice(alloc, bytes) {
+        Ok(password) => Ok(password),
+        Err(_) => Err(Fault::Memory),
+    }
+}
+
+/// The password of the command line, or else of the environment.
+fn password(rt: &HostRuntime, matches: &ArgMatches<'_>) -> Result<Octets, Fault>
+    ensures { IfOk result (λ password. length password ≤ 32) }
+{
+    if let Some(text) = matches.get_str("password") {
+        return judged(rt.alloc(), text);
+    }
+    match env::var(rt, "METER_PASSWORD") {
+        Ok(text) => judged(rt.alloc(), text.as_str()),
+        Err(_) => Err(Fault::Input),
+    }
+}
+
+/// What the command line asks for, with the jobs on standard input.
+pub(crate) fn planned(rt: &HostRuntime, matches: &ArgMatches<'_>) -> Result<Plan, Fault> {
+    let password = password(rt, matches)?;
+    let jobs = jobs_of(rt.alloc(), rt.stdin())?;
+    Ok(Plan {
+        jobs,
+        password,
+        workers: workers(matches),
+        connect_within: limit(matches, "connect-timeout"),
+        answer_within: limit(matches, "timeout"),
+        is_shown: matches.get_flag("progress"),
+    })
+}
+
+/// Runs the jobs and prints the report.
+pub(crate) fn run<R: Threads + Sync, C: Connector>(
+    rt: &HostRuntime,
+    threads: &R,
+    connector: &C,
+    plan: &Plan,
+) -> Result<(), Fault> {
+    let progress = Progress::new(plan.jobs.len());
+    let watch = Watch {
+        rt,
+        progress: &progress,
+        is_shown: plan.is_shown,
+    };
+    let campaign = run_watched_campaign(
+        threads,
+        rt.alloc(),
+        &plan.jobs,
+        connector,
+        &plan.password,
+        plan.workers,
+        &watch,
+    );
+    let lines = campaign.map_err(|_| Fault::Memory)?;
+    let text = report(rt.alloc(), &lines).map_err(|_| Fault::Memory)?;
+    print(rt, text.as_slice())
+}
+
+/// Writes all to standard output.
+fn print(rt: &HostRuntime, text: &[u8]) -> Result<(), Fault> {
+    let mut out = rt.stdout();
+    out.write_all(text).map_err(|_| Fault::Write)?;
+    out.flush().map_err(|_| Fault::Write)
+}
