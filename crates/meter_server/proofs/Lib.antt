@@ -2,3 +2,6 @@ pub mod Replies
 pub mod Reaching
 pub mod Sessions
 pub mod HexSessions
+pub mod PortLemmas
+pub mod ServingAllLemmas
+pub mod Sent

@@ -202,7 +202,7 @@ fn push_frame(
 }
 
 /// The texts of a talk: an opening and its answer, and then the payloads of requests from a port and of their answers.
-fn talk(
+pub(crate) fn talk(
     alloc: Global,
     opening: (&str, &str),
     port: u8,

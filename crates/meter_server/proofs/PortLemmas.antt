@@ -1,0 +1,104 @@
+-- What a session does of a port, which takes the session's events.
+use Rattle.std.proofs.Common.{◌≡◌, ℕ, List, [], ◌∷◌, ◌++◌, Option, Result, Ok, Err, IfOk, refl, sym, ap, ◌∙◌, subst, ⊎_elim}
+use Rattle.std.proofs.lemmas.List.{append-nil, append_assoc}
+use Rattle.kept_meter.specs.Calls.{IsLegal, told}
+use Rattle.meter_server.specs.Meters.{Replied, Refused}
+use Rattle.meter_server.specs.Ports.{MeterPort, PortSteps, entries, Enters}
+use Rattle.meter_server.specs.Served.{Served, Did}
+use Rattle.meter_server.specs.declared.fault.ServeFault.{ServeFault}
+use Rattle.meter_server.specs.declared.fault.ServeFault.TheVariants as fault
+use Rattle.relay_core.specs.declared.event.Event.{Event}
+use Rattle.relay_core.specs.declared.event.Reply.{Reply}
+use Rattle.relay_core.specs.declared.opening.Opening.{Opening}
+use Rattle.relay_core.specs.Machine.{at_event, Fits}
+use Rattle.relay_core.specs.Opening.{opened}
+use Rattle.relay_core.specs.World.{World}
+use Rattle.relay_core.proofs.Replies.{reply_fits}
+use Rattle.relay_recorder.specs.Histories.{events_of, replies_of, replies_from}
+use Rattle.session_core.specs.declared.end.SessionEnd.{SessionEnd}
+use Rattle.turn_lock.specs.Calls.{Called}
+use Rattle.turn_lock.specs.History.{entry, calls_by}
+use Rattle.turn_lock.specs.Shown.{IsSame}
+use Rattle.turn_lock.specs.declared.faults.CallFault.{CallFault}
+use Rattle.turn_lock.specs.declared.known.Known.{Known}
+use Rattle.turn_lock.specs.declared.turned.Entry.{Entry}
+
+-- the last reply of a run is of its event's kind
+last_fits : (w : World) (calls : List (Entry Event Reply)) (by : List ℕ) (event : Event) (reply : Reply)
+    → replies_of (told (calls ++ entry by event reply ∷ [])) ≡ replies_from w (events_of (told (calls ++ entry by event reply ∷ []))) → Fits event reply
+last_fits w [] by event reply legal = let same : reply ≡ (at_event event w).reply = cc in subst (Fits event) (sym same) (reply_fits event w)
+last_fits w (call ∷ calls) by event reply legal = let after : World = (at_event call.event w).world in
+    let rest : replies_of (told (calls ++ entry by event reply ∷ [])) ≡ replies_from after (events_of (told (calls ++ entry by event reply ∷ []))) = cc in
+    last_fits after calls by event reply rest
+
+called_fits : (k : Known Event Reply Opening) (event : Event) (reply : Reply) (l : Known Event Reply Opening) → Called IsLegal k event reply l → Fits event reply
+called_fits k event reply l called =
+    let legal : IsLegal called.lawful.0 ((k.seen ++ called.seen.0) ++ entry k.number event reply ∷ []) = subst (IsLegal called.lawful.0) called.seen.1 called.lawful.2 in
+    last_fits (opened called.lawful.0) (k.seen ++ called.seen.0) k.number event reply legal
+
+-- a reply that a port gave is of its event's kind
+pub port_fits : (k : Known Event Reply Opening) (event : Event) (result : Result Reply CallFault) (l : Known Event Reply Opening)
+    → IfOk result (λ (reply : Reply). Called IsLegal k event reply l) → IfOk result (Fits event)
+port_fits k event (Ok reply) l called = called_fits k event reply l called
+port_fits k event (Err fault) l called = tt
+
+-- what is so of a meter and itself, of what a step makes of it, and goes on, is so of the first and the last meter of a session
+module _ {M : Type 0} (steps : M → Event → Result Reply CallFault → M → Type 0) (P : M → M → Type 0)
+    (here : (m : M) → P m m) (on : (a b c : M) → P a b → P b c → P a c) (by : (m : M) (event : Event) (result : Result Reply CallFault) (n : M) → steps m event result n → P m n) where
+  replied_on : (m : M) (events : List Event) (replies : List Reply) (n : M) → Replied steps m events replies n → P m n
+  replied_on m [] [] n same = subst (P m) (sym same) (here m)
+  replied_on m [] (reply ∷ replies) n never = absurd never
+  replied_on m (event ∷ events) [] n never = absurd never
+  replied_on m (event ∷ events) (reply ∷ replies) n (next, step, rest) = on m next n (by m event (Ok reply) next step) (replied_on next events replies n rest)
+
+  refused_on : (m : M) (events : List Event) (replies : List Reply) (fault : CallFault) (n : M) → Refused steps m events replies fault n → P m n
+  refused_on m events replies fault n refused =
+      on m refused.before n (replied_on m refused.taken replies refused.before refused.replied) (by refused.before refused.event (Err fault) n refused.refused)
+
+  module _ {R W : Type 0} (remaining : R → Option (List ℕ)) (read_failures : R → ℕ) (contents : W → Option (List ℕ)) (write_failures : W → ℕ) (password seen : List ℕ) where
+    did_on : (r : R) (w : W) (m : M) (result : Result SessionEnd ServeFault) (r' : R) (w' : W) (m' : M)
+        → Did remaining read_failures contents write_failures steps password seen r w m result r' w' m' → P m m'
+    did_on r w m (Ok end) r' w' m' did = replied_on m _ did.0.replies m' did.0.replied
+    did_on r w m (Err fault.Read) r' w' m' did = replied_on m _ did.0.replies m' did.0.replied
+    did_on r w m (Err fault.Write) r' w' m' did = replied_on m did.0.asked did.0.replies m' did.0.replied
+    did_on r w m (Err fault.Memory) r' w' m' did = ⊎_elim (replied_on m did.asked did.replies m') (refused_on m did.asked did.replies _ m') did.replied
+    did_on r w m (Err fault.Exhausted) r' w' m' did = refused_on m did.asked did.replies _ m' did.refused
+    did_on r w m (Err fault.Listen) r' w' m' did = absurd did
+
+is_same : (p : MeterPort) → IsSame p p
+is_same p = record { lock = refl; bound = refl; origin = refl; number = refl; joined = refl }
+
+same_on : (p q s : MeterPort) → IsSame p q → IsSame q s → IsSame p s
+same_on p q s a b = record {
+  lock = b.lock ∙ a.lock;
+  bound = b.bound ∙ a.bound;
+  origin = b.origin ∙ a.origin;
+  number = b.number ∙ a.number;
+  joined = b.joined ∙ a.joined;
+}
+
+step_same : (p : MeterPort) (event : Event) (result : Result Reply CallFault) (q : MeterPort) → PortSteps p event result q → IsSame p q
+step_same p event (Ok reply) q step =
+    record { lock = step.lock; bound = step.bound; origin = step.calls.origin; number = step.calls.number; joined = step.calls.joined }
+step_same p event (Err fault) q step =
+    record { lock = step.lock; bound = step.bound; origin = step.calls.0.sees.origin; number = step.calls.0.sees.number; joined = step.calls.0.joined }
+
+-- a port that served a session is the same port
+pub served_same : {R W : Type 0} (remaining : R → Option (List ℕ)) (read_failures : R → ℕ) (contents : W → Option (List ℕ)) (write_failures : W → ℕ) (password : List ℕ)
+    (r : R) (w : W) (p : MeterPort) (result : Result SessionEnd ServeFault) (r' : R) (w' : W) (q : MeterPort)
+    → Served remaining read_failures contents write_failures PortSteps password r w p result r' w' q → IsSame p q
+served_same remaining read_failures contents write_failures password r w p result r' w' q served =
+    did_on PortSteps IsSame is_same same_on step_same remaining read_failures contents write_failures password served.seen r w p result r' w' q served.did
+
+-- a port's calls go on with the events that it took
+pub entered : (p : MeterPort) (events : List Event) (replies : List Reply) (q : MeterPort) → Replied PortSteps p events replies q → Enters p events replies q
+entered p [] [] q same = subst (λ (q : MeterPort). Enters p [] [] q) (sym same) (sym (append-nil (calls_by p.known.number p.known.seen)))
+entered p [] (reply ∷ replies) q never = absurd never
+entered p (event ∷ events) [] q never = absurd never
+entered p (event ∷ events) (reply ∷ replies) q (next, step, rest) =
+    let by : List ℕ = p.known.number in
+    let P : List ℕ → Type 0 = λ n. calls_by n q.known.seen ≡ calls_by n next.known.seen ++ entries n events replies in
+    let later : P by = subst P step.calls.number (entered next events replies q rest) in
+    later
+    ∙ (ap (λ (calls : List (Entry Event Reply)). calls ++ entries by events replies) step.calls.own
+    ∙ append_assoc (calls_by by p.known.seen) (entry by event reply ∷ []) (entries by events replies))

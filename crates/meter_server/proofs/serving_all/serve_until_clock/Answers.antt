@@ -1,0 +1,21 @@
+use Rattle.session_threads.proofs.Going.{goes_trans}
+use Rattle.meter_server.proofs.ServingAllLemmas.{acted_clock, acted_on, joined_on, on_end, on_ok, if_ok}
+use Rattle.meter_server.proofs.serving_all.serve_until_clock.Goals as goal
+
+pub returns-clause-goes : goal.returns-clause-goes
+returns-clause-goes g c = goes_trans _ _ _ c.serve_with_button-served.ensures.goes c.join_worker-end.ensures.taken.goes
+
+pub returns-clause-joined : goal.returns-clause-joined
+returns-clause-joined g c =
+    joined_on c.args.port.now _ _ _ c.join_worker-end.ensures.taken.goes c.join_worker-end.ensures.taken.splits c.serve_with_button-served.ensures.joined
+
+pub returns-clause-limit : goal.returns-clause-limit
+returns-clause-limit g c = if_ok _ _ _ _ c.first_fault.ensures c.serve_with_button-served.ensures.limit
+
+pub returns-clause-moments : goal.returns-clause-moments
+returns-clause-moments g c =
+    on_end _ _ _ _ c.first_fault.ensures (λ is fresh. acted_clock _ _ _ _ (λ w. g.M.MomentSource.told w.source) c.args.running.promise.worker.value c.join_worker-end.ensures is fresh)
+
+pub returns-clause-presses : goal.returns-clause-presses
+returns-clause-presses g c =
+    on_ok _ _ _ _ _ c.first_fault.ensures c.serve_with_button-served.ensures.presses (λ acted. acted_on _ _ _ _ c.join_worker-end.ensures.taken.goes acted)

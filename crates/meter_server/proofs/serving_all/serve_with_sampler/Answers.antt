@@ -1,0 +1,40 @@
+use denote.Param.Send.{sendable}
+use Rattle.std.proofs.Crossing.{crosses}
+use Rattle.kept_meter.proofs.Sent.{kept_send}
+use Rattle.meter_server.proofs.Sent.{event_send, reply_send}
+use Rattle.std.proofs.Common.{◌≡◌, ◌+◌, ◌∙◌, ap, arith}
+use Rattle.session_threads.specs.Ports.{child}
+use Rattle.session_threads.proofs.Going.{goes_trans}
+use Rattle.meter_server.specs.ServingAll.{AllBlocks}
+use Rattle.meter_server.proofs.ServingAllLemmas.{acted_by, acted_told, joined_more, map_ok}
+use Rattle.meter_server.proofs.serving_all.serve_with_sampler.Goals as goal
+
+pub returns-clause-goes : goal.returns-clause-goes
+returns-clause-goes g c = goes_trans _ _ _ c.in-Some.ensures.port.goes c.serve_until_sampler.ensures.goes
+
+pub returns-clause-joined : goal.returns-clause-joined
+returns-clause-joined g c = joined_more _ _ _ _ c.in-Some.ensures.port c.serve_until_sampler.ensures.goes c.serve_until_sampler.ensures.joined c.serve_until_sampler.ensures.own
+
+pub returns-clause-blocks : goal.returns-clause-blocks
+returns-clause-blocks g c =
+    map_ok _ _ _ c.serve_until_sampler.ensures.blocks (λ all. acted_told (λ w. g.B.BlockSource.told w.source) AllBlocks _ _ _ _ _ c.in-Some.ensures.port.number c.in-Some.ensures.worker (all c.in-Some.ensures.port.fresh))
+
+pub returns-clause-moments : goal.returns-clause-moments
+returns-clause-moments g c =
+    let off = c.in-Some.ensures.port in
+    map_ok _ _ _ c.serve_until_sampler.ensures.moments (λ acted. acted_by _ _ _ _ (ap (λ n. child n c.start_worker.new.port.known.splits) off.goes.number ∙ ap (λ k. child c.args.port.now.known.number k) off.splits) acted)
+
+pub returns-clause-presses : goal.returns-clause-presses
+returns-clause-presses g c =
+    let off = c.in-Some.ensures.port in
+    let next : c.start_worker.new.port.known.splits + 1 ≡ c.args.port.now.known.splits + 2 = omega (arith, off.splits) in
+    map_ok _ _ _ c.serve_until_sampler.ensures.presses (λ acted. acted_by _ _ _ _ (ap (λ n. child n (c.start_worker.new.port.known.splits + 1)) off.goes.number ∙ ap (λ k. child c.args.port.now.known.number k) next) acted)
+
+pub start_worker-requires-send-T : goal.start_worker-requires-send-T
+start_worker-requires-send-T g c κs within = search (sendable, crosses, kept_send) depth 20 fits 100000
+
+pub start_worker-requires-send-T-Event : goal.start_worker-requires-send-T-Event
+start_worker-requires-send-T-Event g c κs within = search (sendable, crosses, event_send) depth 20 fits 100000
+
+pub start_worker-requires-send-T-Reply : goal.start_worker-requires-send-T-Reply
+start_worker-requires-send-T-Reply g c κs within = search (sendable, crosses, reply_send) depth 20 fits 100000

@@ -1,0 +1,35 @@
+-- A port to a meter that others share, as a meter.
+use Rattle.std.specs.Prelude.{◌≡◌, ℕ, List, [], ◌∷◌, ◌++◌, Result, Ok, Err}
+use Rattle.kept_meter.specs.Calls.{IsLegal, IsSure}
+use Rattle.relay_core.specs.declared.event.Event.{Event}
+use Rattle.relay_core.specs.declared.event.Reply.{Reply}
+use Rattle.relay_core.specs.declared.opening.Opening.{Opening}
+use Rattle.turn_lock.specs.Calls.{Called, Watches, IsCause}
+use Rattle.turn_lock.specs.History.{entry, calls_by}
+use Rattle.turn_lock.specs.Shown.{ShownPort}
+use Rattle.turn_lock.specs.declared.faults.CallFault.{CallFault}
+use Rattle.turn_lock.specs.declared.turned.Entry.{Entry}
+
+abbrev pub MeterPort : Type 0
+MeterPort = ShownPort Event Reply Opening
+
+-- a call through a port: the legal history that the port then knows ends with it, or has no further call of the port's and there is a cause
+abbrev pub Calls : MeterPort → Event → Result Reply CallFault → MeterPort → Type 0
+Calls p event (Ok reply) q = Called IsLegal p.known event reply q.known
+Calls p event (Err fault) q = Watches IsLegal p.known q.known × IsCause IsSure event p.bound q.known fault
+
+-- how a port takes an event
+pub record PortSteps (p : MeterPort) (event : Event) (result : Result Reply CallFault) (q : MeterPort) : Type 0 where
+  pub lock : q.lock ≡ p.lock
+  pub bound : q.bound ≡ p.bound
+  pub calls : Calls p event result q
+
+-- the calls of one port, by their events and replies
+abbrev pub entries : List ℕ → List Event → List Reply → List (Entry Event Reply)
+entries by (event ∷ events) (reply ∷ replies) = entry by event reply ∷ entries by events replies
+entries by _ _ = []
+
+-- in the history that the port knows its own calls went on with these, and with no others
+abbrev pub Enters : MeterPort → List Event → List Reply → MeterPort → Type 0
+Enters p events replies q =
+    calls_by p.known.number q.known.seen ≡ calls_by p.known.number p.known.seen ++ entries p.known.number events replies

@@ -1,0 +1,85 @@
+//! Where clients come from, and who is told of their sessions.
+ghost use Rattle.turn_lock.specs.Shown.{IsSame};
+
+use crate::fault::ServeFault;
+use crate::ports::serve_port;
+use byte_streams::Counted;
+use cosem_axdr::Octets;
+use kept_meter::Kept;
+use session_core::SessionEnd;
+use session_threads::{Connection, ListenFault};
+use std::alloc::Global;
+use std::io::{Read, Write};
+use std::sync::Wait;
+use turn_lock::Port;
+
+/// Who is told of a session. Nothing that it does changes the session.
+pub trait Observer {
+    /// The session has ended so, or for this fault.
+    fn ended(&self, end: &Result<SessionEnd, ServeFault>);
+}
+
+/// Where clients come from.
+pub trait Listener {
+    type Input: Read + Drop + Send + 'static;
+
+    type Output: Write + Drop + Send + 'static;
+
+    type Observer: Observer + Drop + Send + 'static;
+
+    /// Waits for the next client: what it sends, what is sent to it, and who is told of its session. An error: no further one comes.
+    fn accept(&mut self) -> Result<(Self::Input, Self::Output, Self::Observer), ListenFault>;
+}
+
+/// A client that was accepted.
+#[derive(Drop)]
+pub(crate) struct Client<I, O, V> {
+    input: I,
+    output: O,
+    observer: V,
+    password: Octets,
+}
+
+impl<I: Read + Drop + Send, O: Write + Drop + Send, V: Observer + Drop + Send> Connection<
+    Port<Kept>,
+> for Client<I, O, V> {
+    ghost hands_back = { IsSame };
+
+    fn serve<W: Wait>(self, rt: &W, alloc: Global, port: Port<Kept>) -> Port<Kept> {
+        let Client {
+            input,
+            output,
+            observer,
+            password,
+        } = self;
+        let mut reader = Counted::new(input);
+        let mut writer = Counted::new(output);
+        let (port, end) = serve_port(rt, alloc, &mut reader, &mut writer, port, &password);
+        observer.ended(&end);
+        port
+    }
+}
+
+/// The clients of a listener, each of whom has the password of the management client beside it.
+#[derive(Drop)]
+pub(crate) struct Clients<'a, L> {
+    pub(crate) listener: &'a mut L,
+    pub(crate) password: &'a Octets,
+}
+
+impl<'a, L: Listener> session_threads::Listener<Port<Kept>> for Clients<'a, L> {
+    type Connection = Client<L::Input, L::Output, L::Observer>;
+
+    fn accept(&mut self, alloc: Global) -> Result<Option<Self::Connection>, ListenFault> {
+        let (input, output, observer) = self.listener.accept()?;
+        match self.password.try_clone(alloc) {
+            Ok(password) => Ok(Some(Client {
+                input,
+                output,
+                observer,
+                password,
+            })),
+            Err(_) => Ok(None),
+        }
+    }
+}

@@ -1,0 +1,76 @@
+//! A session that shares its meter with others.
+ghost use Rattle.std.specs.Prelude.{List};
+ghost use Rattle.meter_server.specs.Meters.{Replied};
+ghost use Rattle.meter_server.specs.Ports.{MeterPort, PortSteps, Enters};
+ghost use Rattle.meter_server.specs.Served.{Served};
+ghost use Rattle.relay_core.specs.declared.event.Event.{Event};
+ghost use Rattle.relay_core.specs.declared.event.Reply.{Reply};
+ghost use Rattle.turn_lock.specs.Shown.{IsSame};
+
+use crate::fault::ServeFault;
+use crate::meter::Meter;
+use crate::serving::serve_session;
+use byte_streams::{Reader, Writer};
+use cosem_axdr::Octets;
+use kept_meter::Kept;
+use relay_core::{Event, Reply};
+use session_core::SessionEnd;
+use std::alloc::Global;
+use std::marker::Model;
+use std::sync::Wait;
+use turn_lock::{CallFault, Port};
+
+/// A port to a meter that others share, with leave to wait for its turns. Contracts see the port.
+struct Wired<'a, W: Wait> {
+    rt: &'a W,
+    port: Port<Kept>,
+}
+
+impl<'a, W: Wait> Model for Wired<'a, W> {
+    ghost use Rattle.std.specs.Coded.{codes};
+    ghost use Rattle.meter_server.specs.Ports.{MeterPort};
+    ghost use Rattle.relay_core.specs.contracts.event.Event as event_row;
+    ghost use Rattle.relay_core.specs.contracts.event.Reply as reply_row;
+    ghost use Rattle.relay_core.specs.contracts.opening.Opening as opening_row;
+
+    ghost Value = { MeterPort };
+
+    ghost coded = { Prim.hlevel (codes, event_row.the_row.coded, reply_row.the_row.coded, opening_row.the_row.coded) };
+
+    ghost view = { λ wired. wired.port };
+}
+
+impl<'a, W: Wait> Meter for Wired<'a, W> {
+    ghost steps = { PortSteps };
+
+    fn call(&mut self, alloc: Global, event: Event) -> Result<Reply, CallFault> {
+        self.port.call(self.rt, alloc, event)
+    }
+}
+
+/// Events that a port took, one after the other, stand with their replies and in this order in the history that it then knows, and its number has no other new
+/// calls there.
+pub fn calls_are_entered()
+    ensures { (p : MeterPort) (events : List Event) (replies : List Reply) (q : MeterPort) → Replied PortSteps p events replies q → Enters p events replies q }
+{}
+
+/// Serves one session as [`serve_session`] does, by the events of a port: each event that the session asks is a call of the port, and waits for its turn. Between
+/// two events the session holds no turn. The port comes back.
+pub fn serve_port<R: Reader, O: Writer, W: Wait>(
+    rt: &W,
+    alloc: Global,
+    reader: &mut R,
+    writer: &mut O,
+    port: Port<Kept>,
+    password: &Octets,
+) -> (Port<Kept>, Result<SessionEnd, ServeFault>)
+    requires readable { R.can_read reader.now }
+    requires writable { O.can_write writer.now }
+    ensures served { Served R.remaining R.failures O.contents O.failures PortSteps password.now reader.old writer.old port result.1 reader.new writer.new result.0 }
+    ensures same { IsSame port result.0 }
+{
+    let mut wired = Wired { rt, port };
+    let result = serve_session(alloc, reader, writer, &mut wired, password);
+    let Wired { rt: _, port } = wired;
+    (port, result)
+}

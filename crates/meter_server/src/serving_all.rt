@@ -1,0 +1,289 @@
+//! The whole server: sessions of clients, blocks of samples, moments and presses, each in a thread of its own, over one meter.
+ghost use Rattle.std.specs.Prelude.{◌≡◌, ◌≤◌, ◌+◌, [], length, Some, Ok, IfOk, IfErr, OnOk};
+ghost use Rattle.kept_meter.specs.Calls.{IsLegal as IsLegalRun};
+ghost use Rattle.meter_server.specs.ServingAll.{AllBlocks, AllMoments, AllPresses, Acted, IsFresh, IsLimit};
+ghost use Rattle.session_threads.specs.Ports.{GoesOn, AreJoined, child};
+ghost use Rattle.turn_lock.specs.Calls.{IsLegal};
+ghost use Rattle.turn_lock.specs.History.{IsAmong};
+
+use crate::acting::{Button, Clock, Sampler};
+use crate::fault::ServeFault;
+use crate::listening::{Clients, Listener};
+use cosem_axdr::Octets;
+use kept_meter::Kept;
+use meter_workers::{BlockSource, ButtonSource, MomentSource};
+use session_threads::{WorkerThread, join_worker, serve_connections, start_worker};
+use std::alloc::Global;
+use std::sync::Wait;
+use std::thread::Threads;
+use turn_lock::{CallFault, Port};
+
+/// What became of the connections. Each count stops at `u64::MAX`.
+#[derive(Clone, Copy, Debug, PartialEq, Eq)]
+pub struct Served {
+    /// Those that were given to a session.
+    pub served: u64,
+    /// Those that were closed with no byte sent.
+    pub turned_away: u64,
+}
+
+// The first fault: want of memory, then why a worker stopped, then what came of the rest.
+fn first_fault(
+    served: Result<Served, ServeFault>,
+    end: Option<Result<(), CallFault>>,
+) -> Result<Served, ServeFault>
+    ensures { IfOk result (λ all. (served ≡ Ok all) × (end ≡ Some (Ok tt))) }
+{
+    match (served, end) {
+        (Err(ServeFault::Memory), _) => Err(ServeFault::Memory),
+        (_, None) => Err(ServeFault::Memory),
+        (_, Some(Err(fault))) => Err(ServeFault::from(fault)),
+        (served, Some(Ok(()))) => served,
+    }
+}
+
+// Serves the clients of a listener.
+fn serve_clients<L: Listener, R: Threads + Wait + Copy + Send + 'static>(
+    rt: &R,
+    alloc: Global,
+    listener: &mut L,
+    port: &mut Port<Kept>,
+    password: &Octets,
+    limit: u64,
+) -> Result<Served, ServeFault>
+    ensures goes { GoesOn port.old port.new }
+    ensures joined { AreJoined port.old.known.splits port.new }
+    ensures limit { IfOk result (IsLimit limit) }
+{
+    let mut clients = Clients { listener, password };
+    let accepted = serve_connections(rt, alloc, &mut clients, port, limit)?;
+    if accepted.has_starved {
+        return Err(ServeFault::Memory);
+    }
+    if accepted.has_failed {
+        return Err(ServeFault::Listen);
+    }
+    Ok(Served {
+        served: accepted.served,
+        turned_away: accepted.turned_away,
+    })
+}
+
+// Serves them, and then joins the button's port in.
+fn serve_until_button<
+    L: Listener,
+    U: ButtonSource + Send + 'static,
+    R: Threads + Wait + Copy + Send + 'static,
+>(
+    rt: &R,
+    alloc: Global,
+    listener: &mut L,
+    running: WorkerThread<Kept, Button<U>>,
+    port: &mut Port<Kept>,
+    password: &Octets,
+    limit: u64,
+) -> Result<Served, ServeFault>
+    requires { running.promise.port.value.lock ≡ port.old.lock }
+    ensures goes { GoesOn port.old port.new }
+    ensures joined { AreJoined port.old.known.splits port.new }
+    ensures own { IsAmong running.promise.port.value.known.number port.new.known.joined }
+    ensures limit { IfOk result (IsLimit limit) }
+    ensures presses { OnOk result (IsFresh running.promise.port.value → Acted port.new running.promise.port.value.known.number (AllPresses (U.told running.promise.worker.value.source))) }
+{
+    let served = serve_clients(rt, alloc, listener, port, password, limit);
+    let end = join_worker(rt, running, port);
+    first_fault(served, end)
+}
+
+// Serves them while the button is pressed.
+fn serve_with_button<
+    L: Listener,
+    U: ButtonSource + Send + 'static,
+    R: Threads + Wait + Copy + Send + 'static,
+>(
+    rt: &R,
+    alloc: Global,
+    listener: &mut L,
+    buttons: U,
+    port: &mut Port<Kept>,
+    password: &Octets,
+    limit: u64,
+) -> Result<Served, ServeFault>
+    ensures goes { GoesOn port.old port.new }
+    ensures joined { AreJoined port.old.known.splits port.new }
+    ensures limit { IfOk result (IsLimit limit) }
+    ensures presses { OnOk result (Acted port.new (child port.old.known.number port.old.known.splits) (AllPresses (U.told buttons))) }
+{
+    let Some(running) = start_worker(rt, alloc, Button { source: buttons }, port) else {
+        return Err(ServeFault::Memory);
+    };
+    serve_until_button(rt, alloc, listener, running, port, password, limit)
+}
+
+// Serves them with the button, and then joins the clock's port in.
+fn serve_until_clock<
+    L: Listener,
+    M: MomentSource + Send + 'static,
+    U: ButtonSource + Send + 'static,
+    R: Threads + Wait + Copy + Send + 'static,
+>(
+    rt: &R,
+    alloc: Global,
+    listener: &mut L,
+    running: WorkerThread<Kept, Clock<M>>,
+    buttons: U,
+    port: &mut Port<Kept>,
+    password: &Octets,
+    limit: u64,
+) -> Result<Served, ServeFault>
+    requires { running.promise.port.value.lock ≡ port.old.lock }
+    ensures goes { GoesOn port.old port.new }
+    ensures joined { AreJoined port.old.known.splits port.new }
+    ensures own { IsAmong running.promise.port.value.known.number port.new.known.joined }
+    ensures limit { IfOk result (IsLimit limit) }
+    ensures moments { OnOk result (IsFresh running.promise.port.value → Acted port.new running.promise.port.value.known.number (AllMoments (M.told running.promise.worker.value.source))) }
+    ensures presses { OnOk result (Acted port.new (child port.old.known.number port.old.known.splits) (AllPresses (U.told buttons))) }
+{
+    let served = serve_with_button(rt, alloc, listener, buttons, port, password, limit);
+    let end = join_worker(rt, running, port);
+    first_fault(served, end)
+}
+
+// Serves them with the button while the clock ticks.
+fn serve_with_clock<
+    L: Listener,
+    M: MomentSource + Send + 'static,
+    U: ButtonSource + Send + 'static,
+    R: Threads + Wait + Copy + Send + 'static,
+>(
+    rt: &R,
+    alloc: Global,
+    listener: &mut L,
+    moments: M,
+    buttons: U,
+    port: &mut Port<Kept>,
+    password: &Octets,
+    limit: u64,
+) -> Result<Served, ServeFault>
+    ensures goes { GoesOn port.old port.new }
+    ensures joined { AreJoined port.old.known.splits port.new }
+    ensures limit { IfOk result (IsLimit limit) }
+    ensures moments { OnOk result (Acted port.new (child port.old.known.number port.old.known.splits) (AllMoments (M.told moments))) }
+    ensures presses { OnOk result (Acted port.new (child port.old.known.number (port.old.known.splits + 1)) (AllPresses (U.told buttons))) }
+{
+    let Some(running) = start_worker(rt, alloc, Clock { source: moments }, port) else {
+        return Err(ServeFault::Memory);
+    };
+    serve_until_clock(rt, alloc, listener, running, buttons, port, password, limit)
+}
+
+// Serves them with the button and the clock, and then joins the sampler's port in.
+fn serve_until_sampler<
+    L: Listener,
+    B: BlockSource + Send + 'static,
+    M: MomentSource + Send + 'static,
+    U: ButtonSource + Send + 'static,
+    R: Threads + Wait + Copy + Send + 'static,
+>(
+    rt: &R,
+    alloc: Global,
+    listener: &mut L,
+    running: WorkerThread<Kept, Sampler<B>>,
+    moments: M,
+    buttons: U,
+    port: &mut Port<Kept>,
+    password: &Octets,
+    limit: u64,
+) -> Result<Served, ServeFault>
+    requires { running.promise.port.value.lock ≡ port.old.lock }
+    ensures goes { GoesOn port.old port.new }
+    ensures joined { AreJoined port.old.known.splits port.new }
+    ensures own { IsAmong running.promise.port.value.known.number port.new.known.joined }
+    ensures limit { IfOk result (IsLimit limit) }
+    ensures blocks { OnOk result (IsFresh running.promise.port.value → Acted port.new running.promise.port.value.known.number (AllBlocks (B.told running.promise.worker.value.source))) }
+    ensures moments { OnOk result (Acted port.new (child port.old.known.number port.old.known.splits) (AllMoments (M.told moments))) }
+    ensures presses { OnOk result (Acted port.new (child port.old.known.number (port.old.known.splits + 1)) (AllPresses (U.told buttons))) }
+{
+    let served = serve_with_clock(rt, alloc, listener, moments, buttons, port, password, limit);
+    let end = join_worker(rt, running, port);
+    first_fault(served, end)
+}
+
+// Serves them with the button and the clock while samples come.
+fn serve_with_sampler<
+    L: Listener,
+    B: BlockSource + Send + 'static,
+    M: MomentSource + Send + 'static,
+    U: ButtonSource + Send + 'static,
+    R: Threads + Wait + Copy + Send + 'static,
+>(
+    rt: &R,
+    alloc: Global,
+    listener: &mut L,
+    blocks: B,
+    moments: M,
+    buttons: U,
+    port: &mut Port<Kept>,
+    password: &Octets,
+    limit: u64,
+) -> Result<Served, ServeFault>
+    ensures goes { GoesOn port.old port.new }
+    ensures joined { AreJoined port.old.known.splits port.new }
+    ensures limit { IfOk result (IsLimit limit) }
+    ensures blocks { OnOk result (Acted port.new (child port.old.known.number port.old.known.splits) (AllBlocks (B.told blocks))) }
+    ensures moments { OnOk result (Acted port.new (child port.old.known.number (port.old.known.splits + 1)) (AllMoments (M.told moments))) }
+    ensures presses { OnOk result (Acted port.new (child port.old.known.number (port.old.known.splits + 2)) (AllPresses (U.told buttons))) }
+{
+    let Some(running) = start_worker(rt, alloc, Sampler { source: blocks }, port) else {
+        return Err(ServeFault::Memory);
+    };
+    serve_until_sampler(
+        rt, alloc, listener, running, moments, buttons, port, password, limit,
+    )
+}
+
+/// Serves clients, and hands in blocks of samples, moments and presses, over one meter: a thread for each of at most eight open sessions, and one each for the three
+/// sources, each with a port of its own. The management client has this password, 1 to 32 bytes.
+///
+/// It ends once every source has given all, every session has ended, and `limit` connections came (0 is no limit) or the listener failed. A connection that comes while
+/// eight sessions are open, or for which a port, a thread or memory is not had, is closed with no byte sent.
+///
+/// The port comes back in every case: it has seen a legal history that begins with what it had seen, and every port that was split off is joined in. At `Ok` what a source
+/// tells was handed in, all of it, in order: the blocks by the first of these ports, beside its reads, the moments by the second and the presses by the third.
+///
+/// The fault is the first of these: `Memory`, where the room for eight sessions, or a port, thread or copy of the password for a worker or a connection was not had;
+/// `Exhausted`, where the meter took no more events of the sampler, the clock or the button; `Listen`, where the listener failed. A session's own fault ends that session alone.
+pub fn serve_all<
+    L: Listener,
+    B: BlockSource + Send + 'static,
+    M: MomentSource + Send + 'static,
+    U: ButtonSource + Send + 'static,
+    R: Threads + Wait + Copy + Send + 'static,
+>(
+    rt: &R,
+    alloc: Global,
+    listener: &mut L,
+    blocks: B,
+    moments: M,
+    buttons: U,
+    mut port: Port<Kept>,
+    password: &Octets,
+    limit: u64,
+) -> Result<(Port<Kept>, Served), (Port<Kept>, ServeFault)>
+    requires { (1 ≤ length password.now) × (length password.now ≤ 32) }
+    ensures goes { IfOk result (λ r. GoesOn port r.0 × IsLegal IsLegalRun r.0.known × AreJoined port.known.splits r.0) }
+    ensures goes_err { IfErr result (λ r. GoesOn port r.0 × IsLegal IsLegalRun r.0.known × AreJoined port.known.splits r.0) }
+    ensures limit { IfOk result (λ r. IsLimit limit r.1) }
+    ensures blocks { IfOk result (λ r. Acted r.0 (child port.known.number port.known.splits) (AllBlocks (B.told blocks))) }
+    ensures moments { IfOk result (λ r. Acted r.0 (child port.known.number (port.known.splits + 1)) (AllMoments (M.told moments))) }
+    ensures presses { IfOk result (λ r. Acted r.0 (child port.known.number (port.known.splits + 2)) (AllPresses (U.told buttons))) }
+{
+    let served = serve_with_sampler(
+        rt, alloc, listener, blocks, moments, buttons, &mut port, password, limit,
+    );
+    port.has_a_legal_history();
+    match served {
+        Ok(served) => Ok((port, served)),
+        Err(fault) => Err((port, fault)),
+    }
+}
