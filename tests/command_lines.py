@@ -1,14 +1,20 @@
 #!/usr/bin/env python3
 """Runs the programs' command lines over the executables that the gate left, and compares output, fault and status."""
 
+import os
 import pathlib
 import subprocess
 import sys
 
 TOP = pathlib.Path(__file__).resolve().parent.parent
+# No password stands in the environment.
+ENVIRONMENT = {name: value for name, value in os.environ.items() if name != "METER_PASSWORD"}
+
 FAULT_INPUT = b"fault: input\n"
+FAULT_LISTEN = b"fault: listen\n"
 
 HEX = ["hex", "--password", "12345678"]
+SERVE = ["serve", "--password", "12345678"]
 
 # Frames of a session: the public client's AARQ and GET of the control state, the management client's AARQ, and the answers.
 AARQ = b"000100100001001F601DA109060760857405080101BE10040E01000000065F1F0400007E1F04B0"
@@ -131,12 +137,24 @@ CASES = [
     ("a password of 33 bytes", "meter_server_cli", ["hex", "--password", "p" * 33], b"", b"", FAULT_INPUT, 2),
     ("an empty device name", "meter_server_cli", HEX + ["--device", ""], b"", b"", FAULT_INPUT, 2),
     ("a device name of 17 bytes", "meter_server_cli", HEX + ["--device", "d" * 17], b"", b"", FAULT_INPUT, 2),
+    ("a server without a password", "meter_server_cli", ["serve"], b"", b"", None, 2),
+    ("a server's password of 33 bytes", "meter_server_cli", ["serve", "--password", "p" * 33], b"", b"", FAULT_INPUT, 2),
+    ("a server's empty device name", "meter_server_cli", SERVE + ["--device", ""], b"", b"", FAULT_INPUT, 2),
+    ("a server's device name of 17 bytes", "meter_server_cli", SERVE + ["--device", "d" * 17], b"", b"", FAULT_INPUT, 2),
+    ("a trace of no event", "meter_server_cli", SERVE + ["--depth", "0"], b"", b"", None, 2),
+    ("a trace of 1,025 events", "meter_server_cli", SERVE + ["--depth", "1025"], b"", b"", None, 2),
+    ("connections that are no number", "meter_server_cli", SERVE + ["--connections", "-1"], b"", b"", None, 2),
+    ("a text that is no address", "meter_server_cli", SERVE + ["--listen", "nowhere"], b"", b"", FAULT_LISTEN, 3),
+    ("a password is looked at before the address", "meter_server_cli", ["serve", "--password", "", "--listen", "nowhere"], b"", b"",
+     FAULT_INPUT, 2),
+    ("nothing to go on from", "meter_server_cli", SERVE + ["--resume", "--listen", "nowhere"], b"", b"", FAULT_INPUT, 2),
     ("no subcommand", "meter_server_cli", [], b"", b"", None, 2),
     ("an unknown subcommand", "meter_server_cli", ["apud"], b"", b"", None, 2),
     ("an argument too many", "meter_server_cli", ["apdu", "now"], b"", b"", None, 2),
     ("help", "meter_server_cli", ["--help"], b"", None, b"", 0),
     ("help of apdu", "meter_server_cli", ["apdu", "--help"], b"", None, b"", 0),
     ("help of hex", "meter_server_cli", ["hex", "--help"], b"", None, b"", 0),
+    ("help of serve", "meter_server_cli", ["serve", "--help"], b"", None, b"", 0),
     ("a trace", "trace_player_cli", [], TRACE, PLAYED, b"", 0),
     ("the same in version 2", "trace_player_cli", [], OPENING_2 + TRACE[len(OPENING):], PLAYED, b"", 0),
     ("no event", "trace_player_cli", [], with_events(OPENING), b"", b"", 0),
@@ -207,7 +225,7 @@ def main():
     for name, crate, words, stdin, stdout, stderr, status in CASES:
         program = TOP / "crates" / crate / "out" / crate
         try:
-            run = subprocess.run([program, *words], input=stdin, capture_output=True, timeout=60)
+            run = subprocess.run([program, *words], input=stdin, capture_output=True, timeout=60, env=ENVIRONMENT)
         except (OSError, subprocess.TimeoutExpired) as error:
             print(f"FAILED {crate}: {name}: {error}")
             failed += 1

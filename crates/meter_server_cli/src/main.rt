@@ -1,84 +1,90 @@
-//! The program `meter_server`: `meter_server apdu` answers requests in hexadecimal, a line each; `meter_server hex` runs a client's session.
+//! The program `meter_server`: `meter_server serve` is a meter that clients reach over TCP, `meter_server apdu` answers requests in hexadecimal, a line each, and
+//! `meter_server hex` runs a client's session.
 //!
-//! Each answer is that of `meter_server::answer_apdu` or `run_hex`; this crate has the command line, the standard streams and the exit status.
+//! Each answer is that of `meter_server::serve_all`, `answer_apdu` or `run_hex`; this crate has the command line, the sockets, the standard streams and the exit status.
 #![tactic(auto)]
 
 mod apdu;
+mod arguments;
+mod console;
 mod hex_session;
+mod lines;
+mod listening;
+mod serving;
+mod texts;
 
+use crate::arguments::command_line;
+use crate::serving::{PASSWORD_VARIABLE, Plan};
+use clap::ArgMatches;
 use clap::error::ErrorKind;
-use clap::{Arg, ArgAction, ArgMatches, Command};
 use program_fault::Fault;
-use std::alloc::{AllocError, Global};
 use std::env;
+use std::env::VarError;
+use std::io::Read;
 use std::process::ExitCode;
 use std::rt::Env;
 
-/// The commands of the program, as its users see them.
-fn command_line<'a>(alloc: Global) -> Result<Command<'a>, AllocError> {
-    let apdu = Command::new(alloc, "apdu").about(
-        "Answers xDLMS requests: each line of standard input is one, in hexadecimal",
-    );
-    let password = Arg::new(alloc, "password")
-        .long("password")
-        .value_name("TEXT")
-        .help("The password of the management client, 1 to 32 bytes")
-        .required(true)
-        .action(ArgAction::Set);
-    let device = Arg::new(alloc, "device")
-        .long("device")
-        .value_name("TEXT")
-        .help("The name of the meter, 1 to 16 bytes")
-        .default_value("RELAY1")
-        .action(ArgAction::Set);
-    let hex = Command::new(alloc, "hex")
-        .about(
-            "Runs a client's session: standard input is its stream in hexadecimal, and each frame sent is a line",
-        )
-        .arg(password)?
-        .arg(device)?;
-    Command::new(alloc, "meter_server")
-        .bin_name("meter_server")?
-        .about("The supply switch of a DLMS/COSEM electricity meter")
-        .subcommand_required(true)
-        .subcommand(apdu)?
-        .subcommand(hex)
+/// What is to be done once the command line is read.
+#[derive(Drop)]
+enum Next<I> {
+    /// Nothing more: the exit status.
+    Ended(u8),
+    /// Clients are to be served.
+    Serve(Plan<I>),
 }
 
-/// Runs the command that was chosen.
-fn run_chosen(rt: &HostRuntime, matches: &ArgMatches<'_>) -> Result<(), Fault> {
+/// Does what was chosen, up to the first client of a server.
+fn begin_chosen<I: Read + Drop>(
+    rt: &HostRuntime,
+    input: I,
+    matches: &ArgMatches<'_>,
+) -> Result<Next<I>, Fault> {
     match matches.subcommand() {
-        Some(("apdu", _)) => apdu::run(rt),
-        Some(("hex", matches)) => hex_session::run(rt.alloc(), rt.stdin(), rt.stdout(), matches),
+        Some(("serve", matches)) => Ok(Next::Serve(serving::planned(rt, input, matches)?)),
+        Some(("apdu", _)) => {
+            apdu::run(rt)?;
+            Ok(Next::Ended(0))
+        }
+        Some(("hex", matches)) => {
+            hex_session::run(rt.alloc(), input, rt.stdout(), matches)?;
+            Ok(Next::Ended(0))
+        }
         _ => Err(Fault::Input),
     }
 }
 
-/// Reads the command line and does what it asks for. Gives the exit status: 0, or 2 for a command line that is wrong.
-fn run(rt: &HostRuntime) -> Result<u8, Fault> {
+/// Reads the command line and does what it asks for, up to the first client of a server. The exit status is 2 for a command line that is wrong.
+fn begin<I: Read + Drop>(rt: &HostRuntime, input: I) -> Result<Next<I>, Fault> {
     let alloc = rt.alloc();
     let words = env::args(rt).map_err(|_| Fault::Memory)?;
     let words: Vec<String> = words.collect(alloc).map_err(|_| Fault::Memory)?;
-    let command = command_line(alloc).map_err(|_| Fault::Memory)?;
+    let has_password = !matches!(env::var(rt, PASSWORD_VARIABLE), Err(VarError::NotPresent));
+    let command = command_line(alloc, has_password).map_err(|_| Fault::Memory)?;
     match command.try_get_matches_from(words.as_slice()) {
-        Ok(matches) => {
-            run_chosen(rt, &matches)?;
-            Ok(0)
-        }
+        Ok(matches) => begin_chosen(rt, input, &matches),
         Err(error) if error.kind() == ErrorKind::OutOfMemory => Err(Fault::Memory),
         Err(error) => {
             error.print(rt).map_err(|_| Fault::Write)?;
-            Ok(if error.use_stderr() { 2 } else { 0 })
+            Ok(Next::Ended(if error.use_stderr() { 2 } else { 0 }))
         }
     }
 }
 
-fn main(rt: HostRuntime) -> ExitCode {
-    match run(&rt) {
+/// The exit status of what was done; a fault is told on standard error.
+fn status_of(rt: &HostRuntime, done: Result<u8, Fault>) -> ExitCode {
+    match done {
         Ok(status) => ExitCode::from(status),
         Err(fault) => {
             let _ = eprintln!(rt; "fault: {fault}");
             ExitCode::from(fault.status())
         }
+    }
+}
+
+fn main(rt: HostRuntime) -> ExitCode {
+    match begin(&rt, rt.stdin()) {
+        Ok(Next::Ended(status)) => ExitCode::from(status),
+        Ok(Next::Serve(plan)) => status_of(&rt, serving::run(&rt, &rt, plan).map(|_| 0)),
+        Err(fault) => status_of(&rt, Err(fault)),
     }
 }

@@ -1,0 +1,71 @@
+#!/usr/bin/env bash
+# Runs campaigns of 1,000 jobs against a scripted meter of this machine by `head_end run` and by a plain program in Rust (rustc -O) that sends the same bytes,
+# with 1, 4 and 16 workers, in one run. It prints the jobs a second of both and the ratio; the same of the time of a processor that a job took, which other
+# work on the machine disturbs less; and the most memory that `head_end` held in a campaign of 16 workers. Its argument is how often each is run (15 if there
+# is none); the best run counts. HEAD_END names another executable than the proved one.
+set -eu
+here=$(cd "$(dirname "$0")" && pwd)
+top=$(cd "$here/../.." && pwd)
+proved=${HEAD_END:-$top/crates/head_end_cli/out/head_end_cli}
+[ -x "$proved" ] || { echo "there is no proved executable: run bin/test first" >&2; exit 1; }
+work=$(mktemp -d)
+trap 'rm -rf "$work"' EXIT
+for program in plain peer; do
+    rustc --edition 2021 -O -o "$work/$program" "$here/$program.rs"
+done
+python3 - "$proved" "$work/plain" "$work/peer" "${1:-15}" <<'PY'
+import fcntl, os, resource, subprocess, sys, time
+
+proved, plain, peer, rounds = sys.argv[1], sys.argv[2], sys.argv[3], int(sys.argv[4])
+JOBS = 1000
+F_SETPIPE_SZ = 1031
+environment = {**os.environ, "METER_PASSWORD": "12345678"}
+meter = subprocess.Popen([peer], stdin=subprocess.PIPE, stdout=subprocess.PIPE)
+port = int(meter.stdout.readline())
+# names of 32 bytes, so that a report is longer than a small pipe
+names = [f"meter{number:027d}" for number in range(JOBS)]
+jobs = "".join(f"{name} 127.0.0.1:{port} {'reconnect' if place % 2 else 'disconnect'}\n" for place, name in enumerate(names)).encode()
+wanted = "".join(f"{name} done 0\n" for name in names).encode()
+
+def processor_seconds():
+    spent = resource.getrusage(resource.RUSAGE_CHILDREN)
+    return spent.ru_utime + spent.ru_stime
+
+def seconds(words):
+    """How long a campaign took, and how long processors worked for it."""
+    start, worked = time.perf_counter(), processor_seconds()
+    made = subprocess.run(words, input=jobs, stdout=subprocess.PIPE, check=True, env=environment)
+    taken, worked = time.perf_counter() - start, processor_seconds() - worked
+    if made.stdout != wanted:
+        sys.exit(f"{words[0]} reports something else")
+    return taken, worked
+
+def most_memory(words):
+    """The most resident memory, in KiB: it is read while the program waits to print the end of its report into a pipe of 4,096 bytes."""
+    running = subprocess.Popen(words, stdin=subprocess.PIPE, stdout=subprocess.PIPE, env=environment)
+    fcntl.fcntl(running.stdout, F_SETPIPE_SZ, 4096)
+    running.stdin.write(jobs)
+    running.stdin.close()
+    begun = running.stdout.read(1)
+    status = dict(line.split(":", 1) for line in open(f"/proc/{running.pid}/status"))
+    report = begun + running.stdout.read()
+    if running.wait() or report != wanted:
+        sys.exit("the report of the campaign whose memory is looked at is another")
+    return {key: int(status[key].split()[0]) for key in ("VmHWM", "RssAnon", "RssFile")}
+
+print("workers  head_end jobs/s  plain Rust jobs/s  ratio   head_end us a job  plain Rust us a job  ratio   (of a processor; best of %d)" % rounds)
+for workers in (1, 4, 16):
+    both = {"proved": [proved, "run", "--workers", str(workers)], "plain": [plain, str(workers)]}
+    taken = dict.fromkeys(both, float("inf"))
+    worked = dict(taken)
+    for _ in range(rounds):
+        for name, words in both.items():
+            taken[name], worked[name] = map(min, (taken[name], worked[name]), seconds(words))
+    speeds = (JOBS / taken["proved"], JOBS / taken["plain"], taken["plain"] / taken["proved"])
+    costs = (worked["proved"] / JOBS * 1e6, worked["plain"] / JOBS * 1e6, worked["plain"] / worked["proved"])
+    print("%7d  %15.0f  %17.0f  %5.2f   %17.1f  %19.1f  %5.2f" % (workers, *speeds, *costs))
+memory = most_memory([proved, "run", "--workers", "16"])
+print("most memory of a campaign of 1,000 jobs and 16 workers: %(VmHWM)d KiB, at its end %(RssAnon)d KiB of its own and %(RssFile)d KiB of files" % memory)
+meter.stdin.close()
+meter.wait()
+PY

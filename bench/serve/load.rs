@@ -1,0 +1,47 @@
+//! Clients of a meter on this machine: `load PORT CLIENTS REQUESTS`. Each client is a thread with a connection of its own, which associates once and then sends
+//! so many GETs of the control state, each once the answer to the last has come. It prints how many nanoseconds passed from the first GET of any to the last
+//! answer of all.
+use std::io::{Read, Write};
+use std::net::TcpStream;
+use std::sync::Barrier;
+use std::thread;
+use std::time::Instant;
+
+const AARQ: &[u8] = b"\x00\x01\x00\x01\x00\x01\x00\x38\x60\x36\xA1\x09\x06\x07\x60\x85\x74\x05\x08\x01\x01\x8A\x02\x07\x80\
+\x8B\x07\x60\x85\x74\x05\x08\x02\x01\xAC\x0A\x80\x0812345678\xBE\x10\x04\x0E\x01\x00\x00\x00\x06\x5F\x1F\x04\x00\x00\x1C\x19\x04\x00";
+const AARE: &[u8] = b"\x00\x01\x00\x01\x00\x01\x00\x2B\x61\x29\xA1\x09\x06\x07\x60\x85\x74\x05\x08\x01\x01\xA2\x03\x02\x01\x00\
+\xA3\x05\xA1\x03\x02\x01\x00\xBE\x10\x04\x0E\x08\x00\x06\x5F\x1F\x04\x00\x00\x1C\x19\x04\x00\x00\x07";
+const GET: &[u8] = b"\x00\x01\x00\x01\x00\x01\x00\x0D\xC0\x01\xC1\x00\x46\x00\x00\x60\x03\x0A\xFF\x03\x00";
+const STATE: &[u8] = b"\x00\x01\x00\x01\x00\x01\x00\x06\xC4\x01\xC1\x00\x16\x01";
+
+fn ask(meter: &mut TcpStream, request: &[u8], answer: &[u8]) {
+    let mut came = [0; 128];
+    meter.write_all(request).expect("the request is sent");
+    meter.read_exact(&mut came[..answer.len()]).expect("an answer comes");
+    assert!(came[..answer.len()] == *answer, "another answer: {:02X?}", &came[..answer.len()]);
+}
+
+fn client(port: u16, requests: u32, begin: &Barrier) -> (Instant, Instant) {
+    let mut meter = TcpStream::connect(("127.0.0.1", port)).expect("a connection");
+    meter.set_nodelay(true).expect("no delay");
+    ask(&mut meter, AARQ, AARE);
+    begin.wait();
+    let begun = Instant::now();
+    for _ in 0..requests {
+        ask(&mut meter, GET, STATE);
+    }
+    (begun, Instant::now())
+}
+
+fn main() {
+    let words: Vec<u32> = std::env::args().skip(1).map(|word| word.parse().expect("a number")).collect();
+    let [port, clients, requests] = words[..] else { panic!("load PORT CLIENTS REQUESTS") };
+    let begin = Barrier::new(clients as usize);
+    let times: Vec<(Instant, Instant)> = thread::scope(|scope| {
+        let all: Vec<_> = (0..clients).map(|_| scope.spawn(|| client(port as u16, requests, &begin))).collect();
+        all.into_iter().map(|one| one.join().expect("a client")).collect()
+    });
+    let first = times.iter().map(|one| one.0).min().expect("a client");
+    let last = times.iter().map(|one| one.1).max().expect("a client");
+    println!("{}", last.duration_since(first).as_nanos());
+}

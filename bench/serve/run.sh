@@ -1,0 +1,53 @@
+#!/usr/bin/env bash
+# Asks `meter_server serve` for the control state over the loopback interface, by one client and by eight, each of which waits for its answer, and likewise a
+# bare server in plain Rust (rustc -O) that gives the same bytes and does nothing else. It prints the requests a second of both and the ratio, and the same of
+# the time of a processor that the servers took, which other work on the machine disturbs less. Its arguments are how many requests a run has (40,000 if there
+# is none) and how often each is run (5); the best run counts. METER_SERVER names another executable than the proved one.
+set -eu
+here=$(cd "$(dirname "$0")" && pwd)
+top=$(cd "$here/../.." && pwd)
+proved=${METER_SERVER:-$top/crates/meter_server_cli/out/meter_server_cli}
+[ -x "$proved" ] || { echo "there is no proved executable: run bin/test first" >&2; exit 1; }
+work=$(mktemp -d)
+trap 'rm -rf "$work"' EXIT
+for program in echo load; do
+    rustc --edition 2021 -O -o "$work/$program" "$here/$program.rs"
+done
+python3 - "$proved" "$work/echo" "$work/load" "${1:-40000}" "${2:-5}" <<'PY'
+import os, re, subprocess, sys
+
+proved, echo, load, requests, rounds = sys.argv[1], sys.argv[2], sys.argv[3], int(sys.argv[4]), int(sys.argv[5])
+OPTIONS = ["--listen", "127.0.0.1:0", "--password", "12345678", "--verbose"]
+
+def begun(name, clients):
+    """A server, and its port."""
+    if name == "bare":
+        server = subprocess.Popen([echo], stdin=subprocess.PIPE, stdout=subprocess.PIPE)
+        return server, int(server.stdout.readline())
+    words = [proved, "serve", *OPTIONS, "--connections", str(clients)]
+    server = subprocess.Popen(words, stdin=subprocess.PIPE, stdout=subprocess.DEVNULL, stderr=subprocess.PIPE)
+    return server, int(re.fullmatch(rb"listening on .*:(\d+)\n", server.stderr.readline())[1])
+
+def run(name, clients):
+    """How long a run took, and how long processors worked for the server, in microseconds a request."""
+    server, port = begun(name, clients)
+    each = requests // clients
+    made = subprocess.run([load, str(port), str(clients), str(each)], stdout=subprocess.PIPE, check=True)
+    server.stdin.close()
+    _, status, spent = os.wait4(server.pid, 0)
+    server.returncode = os.waitstatus_to_exitcode(status)
+    if server.returncode:
+        sys.exit("the %s server ended with status %d" % (name, server.returncode))
+    return int(made.stdout) / 1e3 / (each * clients), (spent.ru_utime + spent.ru_stime) * 1e6 / (each * clients)
+
+print("clients  serve requests/s  bare server requests/s  ratio   serve us a request  bare server us a request  ratio   (of a processor; best of %d)" % rounds)
+for clients in (1, 8):
+    taken = {"serve": float("inf"), "bare": float("inf")}
+    worked = dict(taken)
+    for _ in range(rounds):
+        for name in taken:
+            taken[name], worked[name] = map(min, (taken[name], worked[name]), run(name, clients))
+    speeds = (1e6 / taken["serve"], 1e6 / taken["bare"], taken["bare"] / taken["serve"])
+    costs = (worked["serve"], worked["bare"], worked["bare"] / worked["serve"])
+    print("%7d  %16.0f  %22.0f  %5.2f   %18.1f  %24.1f  %5.2f" % (clients, *speeds, *costs))
+PY

@@ -1,0 +1,126 @@
+//! The command line, as its users see it.
+use clap::{Arg, ArgAction, Command, value_parser};
+use std::alloc::{AllocError, Global};
+
+/// The option `--password`.
+fn password<'a>(alloc: Global, is_required: bool) -> Arg<'a> {
+    Arg::new(alloc, "password")
+        .long("password")
+        .value_name("TEXT")
+        .help("The password of the management client, 1 to 32 bytes")
+        .required(is_required)
+        .action(ArgAction::Set)
+}
+
+/// The option `--device`.
+fn device<'a>(alloc: Global) -> Arg<'a> {
+    Arg::new(alloc, "device")
+        .long("device")
+        .value_name("TEXT")
+        .help("The name of the meter, 1 to 16 bytes")
+        .default_value("RELAY1")
+        .action(ArgAction::Set)
+}
+
+/// An option without a value.
+fn flag<'a>(alloc: Global, name: &'a str, help: &'a str) -> Arg<'a> {
+    Arg::new(alloc, name)
+        .long(name)
+        .help(help)
+        .action(ArgAction::SetTrue)
+}
+
+/// The command `hex`.
+fn hex<'a>(alloc: Global) -> Result<Command<'a>, AllocError> {
+    Command::new(alloc, "hex")
+        .about(
+            "Runs a client's session: standard input is its stream in hexadecimal, and each frame sent is a line",
+        )
+        .arg(password(alloc, true))?
+        .arg(device(alloc))
+}
+
+/// The option `--listen`.
+fn listen<'a>(alloc: Global) -> Arg<'a> {
+    Arg::new(alloc, "listen")
+        .long("listen")
+        .value_name("ADDRESS")
+        .help("Where clients connect to")
+        .default_value("127.0.0.1:4059")
+        .action(ArgAction::Set)
+}
+
+/// The option `--depth`.
+fn depth<'a>(alloc: Global) -> Arg<'a> {
+    Arg::new(alloc, "depth")
+        .long("depth")
+        .value_name("N")
+        .help("How many events the trace holds, 1 to 1024: the last ones")
+        .default_value("256")
+        .value_parser(value_parser!(u16).range(1..=1024))
+}
+
+/// The option `--connections`.
+fn connections<'a>(alloc: Global) -> Arg<'a> {
+    Arg::new(alloc, "connections")
+        .long("connections")
+        .value_name("N")
+        .help("How many connections are accepted; 0 is no limit")
+        .default_value("0")
+        .value_parser(value_parser!(u64))
+}
+
+/// The option `--inactivity`.
+fn inactivity<'a>(alloc: Global) -> Arg<'a> {
+    Arg::new(alloc, "inactivity")
+        .long("inactivity")
+        .value_name("SECONDS")
+        .help(
+            "How long a read or a write of a client may take before its session ends; 0 is no limit",
+        )
+        .default_value("180")
+        .value_parser(value_parser!(u32))
+}
+
+/// The command `serve`. Where the environment has no password, the command line has to give it.
+fn serve<'a>(alloc: Global, has_password: bool) -> Result<Command<'a>, AllocError> {
+    Command::new(alloc, "serve")
+        .about(
+            "Serves clients over TCP. Lines of standard input press the button, give samples and tell the time; at the end the trace is printed",
+        )
+        .arg(password(alloc, !has_password))?
+        .arg(device(alloc))?
+        .arg(listen(alloc))?
+        .arg(depth(alloc))?
+        .arg(connections(alloc))?
+        .arg(inactivity(alloc))?
+        .arg(flag(
+            alloc,
+            "stop-with-input",
+            "Accept no further connection once standard input has ended",
+        ))?
+        .arg(flag(
+            alloc,
+            "resume",
+            "Go on from the trace at the head of standard input",
+        ))?
+        .arg(flag(
+            alloc,
+            "verbose",
+            "Tell on standard error who connects and how each session ends",
+        ))
+}
+
+/// The commands of the program. The environment may have the password of `serve`.
+pub fn command_line<'a>(alloc: Global, has_password: bool) -> Result<Command<'a>, AllocError> {
+    let apdu = Command::new(alloc, "apdu").about(
+        "Answers xDLMS requests: each line of standard input is one, in hexadecimal",
+    );
+    Command::new(alloc, "meter_server")
+        .bin_name("meter_server")?
+        .about("The supply switch of a DLMS/COSEM electricity meter")
+        .subcommand_required(true)
+        .subcommand(apdu)?
+        .subcommand(hex(alloc)?)?
+        .subcommand(serve(alloc, has_password)?)
+}

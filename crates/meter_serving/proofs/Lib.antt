@@ -1,0 +1,4 @@
+pub mod Alike
+pub mod Heads
+pub mod Ranges
+pub mod Taking

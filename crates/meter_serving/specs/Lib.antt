@@ -1,0 +1,4 @@
+pub mod Console
+pub mod Ending
+pub mod Heads
+pub mod Resuming

@@ -1,0 +1,71 @@
+//! A meter that goes on from an earlier run.
+ghost use Rattle.std.specs.Prelude.{◌≡◌, ◌<◌, ◌≤◌, [], IfOk, OnOk};
+ghost use Rattle.meter_serving.specs.Resuming.{GoesOn, world_of};
+ghost use Rattle.relay_core.specs.Agreeing.{IsWorld};
+ghost use Rattle.relay_core.specs.Opening.{IsFitOpening, opened};
+ghost use Rattle.relay_core.specs.Runs.{world_after};
+ghost use Rattle.relay_core.specs.Stands.{StandsFor};
+ghost use Rattle.relay_core.specs.World.{World};
+
+use relay_core::{Event, LimiterOpening, Opening, OpeningFault, RelayCore};
+use relay_recorder::{Recorder, Trace};
+use std::alloc::{AllocError, Global};
+
+/// A core that stands as an opening says.
+fn opened_core(alloc: Global, opening: &Opening) -> Result<RelayCore, AllocError>
+    requires { IsFitOpening opening.now }
+    ensures { IfOk result (λ core. StandsFor core (opened opening.now)) }
+{
+    match RelayCore::from_opening(alloc, opening) {
+        Ok(core) => Ok(core),
+        Err(OpeningFault::Memory) => Err(AllocError),
+        Err(OpeningFault::Unfit) => unreachable!(),
+    }
+}
+
+/// Lets a core take events, one after the other.
+fn take_events(core: &mut RelayCore, alloc: Global, events: &[Event]) -> Result<(), AllocError>
+    ensures { OnOk result ((w : World) → StandsFor core.old w → StandsFor core.new (world_after events.now w)) }
+{
+    'events: for event in events {
+        let _reply = core.step(alloc, event)?;
+    }
+    Ok(())
+}
+
+/// The recorder of a meter that goes on from where the run of a trace stood; no event has come to it yet, and it keeps at most `capacity` events, 1 to 1,024.
+///
+/// Whatever comes next, it is answered as the meter that wrote the trace down would have answered.
+#[tactic(auto, using(crate::proofs::Alike::goes_on))]
+pub fn resumed_recorder(alloc: Global, trace: &Trace, capacity: u16) -> Result<Recorder, AllocError>
+    requires fit { IsFitOpening trace.now.opening }
+    requires capacity { (1 ≤ capacity) × (capacity ≤ 1024) }
+    ensures empty { IfOk result (λ recorder. recorder.events ≡ []) }
+    ensures capacity { IfOk result (λ recorder. recorder.capacity ≡ capacity) }
+    ensures stands { IfOk result (λ recorder. StandsFor recorder.core (world_of trace.now)) }
+    ensures goes_on { GoesOn trace.now (world_of trace.now) }
+{
+    has_range(alloc, &trace.opening);
+    let mut core = opened_core(alloc, &trace.opening)?;
+    take_events(&mut core, alloc, trace.events.as_slice())?;
+    Recorder::from_core(alloc, core, capacity)
+}
+
+/// The durations of a limiter that is written down are numbers of 32 bits.
+fn limiter_has_range(opening: &LimiterOpening)
+    ensures over { opening.now.min_over_duration < 4294967296 }
+    ensures under { opening.now.min_under_duration < 4294967296 }
+{
+    let _over = opening.min_over_duration;
+    let _under = opening.min_under_duration;
+}
+
+/// The durations of a core that is written down are numbers of 32 bits, those in its scripts' steps too: a copy of these tells that.
+#[tactic(auto, using(crate::proofs::Ranges::scripts_in_range))]
+fn has_range(alloc: Global, opening: &Opening)
+    ensures { IsWorld (opened opening.now) }
+{
+    limiter_has_range(&opening.import);
+    limiter_has_range(&opening.export);
+    let _scripts = opening.scripts.try_clone(alloc);
+}

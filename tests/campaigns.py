@@ -1,0 +1,441 @@
+#!/usr/bin/env python3
+"""Runs switching campaigns over the loopback interface: `head_end run` against 200 running meters (`meter_server serve`) and against meters that refuse,
+reject, are silent, vanish or babble; and `bin/campaign` against a crowd of scripted meters, by GNU parallel and by ssh. Ends by itself: every wait is bounded.
+
+usage: tests/campaigns.py [--short]     (--short: campaigns of 2,000 jobs in place of 20,000)"""
+
+import argparse
+import os
+import pathlib
+import re
+import resource
+import shutil
+import socket
+import subprocess
+import sys
+import tempfile
+import time
+
+sys.dont_write_bytecode = True  # the modules beside this one leave nothing behind
+
+import serving
+from scripted_meters import AARQ, CROWD, HOLDING, RELEASE, REQUESTS, SCRIPTS, Crowd, ScriptedMeter, Unheard, does_it
+from serving import MODE, PASSWORD, PATIENCE, PLAYER, SERVER, TOP, Client, Server, check, played, test
+
+HEAD_END = os.environ.get("HEAD_END") or TOP / "crates" / "head_end_cli" / "out" / "head_end_cli"
+CAMPAIGN = TOP / "bin" / "campaign"
+
+METERS = 200
+REFUSING, REJECTING = 7, 13  # of each 20 meters the one that stays in mode 0, and the one that has another password
+MODES = 6
+VERBS = ("disconnect", "state", "reconnect", "state")  # the campaigns that all meters go through
+WORKERS = (16, 1)
+LIMITS = ("--timeout", "5", "--connect-timeout", "2")
+LONGEST = 300  # seconds that a campaign may take
+
+OPENING = """RELAYTRACE 2
+device 52454C415931
+state 1
+mode {mode}
+value 0
+now -
+{limiter}
+xvalue 0
+{export}
+scripts 0100
+schedule 0 0 5 0100
+schedule 1 0 5 0100
+schedule 2 0 5 0100
+schedule 3 0 5 0100
+events 0
+"""
+LIMITER = ("normal 4294967295", "emergency 4294967295", "minover 0", "minunder 0", "profile 0 FFFFFFFFFFFFFFFFFF8000FF 0", "groups", "actions 0 0", "over 0 0",
+           "under 0 0")
+
+
+def trace_in_mode(mode):
+    """A trace without events, of a new meter in this mode."""
+    return OPENING.format(mode=mode, limiter="\n".join(LIMITER), export="\n".join("x" + line for line in LIMITER)).encode()
+
+
+class Meter(Server):
+    """A running meter. Its mode is written by a client, or told by a trace that it goes on from; it ends after its connections, or with its standard input."""
+
+    def __init__(self, number):
+        self.name = f"meter{number}"
+        self.mode = {REFUSING: 0}.get(number % 20, 1 + number % MODES)
+        self.rejects = number % 20 == REJECTING
+        self.resumes = number % 2 == 0
+        self.writes = self.mode > 0 and not self.resumes and not self.rejects
+        self.counts = number % 3 == 0
+        words = [str(SERVER), "serve", "--listen", "127.0.0.1:0", "--verbose", "--password", "87654321" if self.rejects else PASSWORD]
+        words += ["--connections", str(len(VERBS) + self.writes)] if self.counts else ["--stop-with-input"]
+        words += ["--resume"] if self.resumes else []
+        self.process = subprocess.Popen(words, stdin=subprocess.PIPE, stdout=subprocess.PIPE, stderr=subprocess.PIPE)
+        os.set_blocking(self.process.stderr.fileno(), False)
+        self.errors = b""
+        if self.resumes:
+            self.say_bytes(trace_in_mode(self.mode))
+
+    def begin(self):
+        """Waits until it listens, and writes its mode."""
+        self.wait_for(b"\n")
+        told = re.match(rb"listening on 127\.0\.0\.1:(\d+)\n", self.errors)
+        assert told, f"{self.name} does not listen: {self.errors}"
+        self.port = int(told[1])
+        if self.writes:
+            client = Client(self.port)
+            client.associate()
+            assert client.set(MODE, f"160{self.mode}") == "code 0"
+            client.close()
+        if self.counts:
+            self.end_input()
+
+    def wanted(self):
+        """What comes of each of the campaigns (IEC 62056-6-2, class 70, control modes)."""
+        if self.rejects:
+            return ["rejected 13"] * len(VERBS)
+        if self.mode == 0:
+            return ["refused 2", "done 1", "done 0", "done 1"]
+        return ["done 0", "done 0", "done 0", "done 1" if self.mode in (2, 4) else "done 2"]
+
+    def history_of(self, rows):
+        """The events and replies of its trace that these rows of the reports tell of."""
+        history = [(f"set 1 70 000060030AFF 4 0 160{self.mode}", "code 0")] if self.writes else []
+        for verb, row in zip(VERBS, rows):
+            word, number = (*row.split(), "")[:2]
+            if word in ("rejected", "unknown"):
+                continue
+            if verb == "state":
+                history.append(("get 1 70 000060030AFF 3 0", f"value 160{number}" if word == "done" else f"code {number}"))
+            else:
+                history.append((f"execute 1 70 000060030AFF {1 if verb == 'disconnect' else 2} 0F00", f"code {number}"))
+        return history
+
+
+class OddMeter:
+    """A scripted meter in the list of jobs. One that holds its worker up to the limit of time is there in the first campaign alone."""
+
+    def __init__(self, script, outcomes, frames):
+        self.name = script.__name__
+        self.outcomes = dict(zip(("disconnect", "reconnect", "state"), outcomes))
+        self.frames = frames
+        self.verbs = VERBS[:1] if script in HOLDING else VERBS
+        self.meter = ScriptedMeter(script)
+        self.port = self.meter.port
+
+    def wanted(self):
+        return [self.outcomes[verb] for verb in self.verbs]
+
+    def check_talks(self, name):
+        """Each connection brought the AARQ, the request at most once and the release only after an outcome, and nothing else."""
+        talks = self.meter.talked(len(self.verbs))
+        check(f"{name}: {self.name}: a connection for each job", len(talks) == len(self.verbs), len(talks))
+        for verb, talk in zip(self.verbs, talks):
+            right = [AARQ, REQUESTS[verb], RELEASE][:len(talk.frames)]
+            check(f"{name}: {self.name}: {verb}", talk.frames == right and len(talk.frames) in self.frames and not talk.text, talk.frames, talk.text)
+
+
+class Place:
+    """An address where nothing is to be had."""
+
+    def __init__(self, name, port, times):
+        self.name = name
+        self.port = port
+        self.times = times
+
+    def wanted(self):
+        return ["unknown"] * self.times
+
+
+def start_meters(meters, count):
+    """Adds so many meters that listen, or as many as the machine holds."""
+    try:
+        for number in range(count):
+            meters.append(Meter(number))
+    except OSError as error:
+        print(f"only {len(meters)} of {count} meters start: {error}")
+    for meter in meters:
+        meter.begin()
+
+
+def mixed(many, few):
+    """The few strewn among the many."""
+    step = len(many) // len(few)
+    rest = list(many)
+    for place, one in enumerate(few):
+        rest.insert(place * (step + 1), one)
+    return rest
+
+
+def report_of(rows):
+    return "".join(f"{name} {row}\n" for name, row in rows)
+
+
+def run_head_end(jobs, *words):
+    """The status, standard output and standard error of a campaign."""
+    made = subprocess.run([str(HEAD_END), "run", "--password", PASSWORD, *words], input=jobs.encode(), capture_output=True, timeout=LONGEST)
+    return made.returncode, made.stdout.decode(), made.stderr.decode()
+
+
+def differing(wanted, got):
+    """The first lines that differ."""
+    pairs = list(zip(wanted.splitlines(), got.splitlines()))
+    return [pair for pair in pairs if pair[0] != pair[1]][:5], len(wanted.splitlines()), len(got.splitlines())
+
+
+def run_campaigns(name, street, workers):
+    """Takes all that stand in a street through the campaigns; the rows of each are given."""
+    rows = {one.name: [] for one in street}
+    texts = []
+    for turn, verb in enumerate(VERBS):
+        there = [one for one in street if len(one.wanted()) > turn]
+        jobs = "".join(f"{one.name} 127.0.0.1:{one.port} {verb}\n" for one in there)
+        status, text, errors = run_head_end(jobs, "--workers", str(workers), *LIMITS)
+        wanted = report_of((one.name, one.wanted()[turn]) for one in there)
+        check(f"{name}: {verb}", (status, text, errors) == (0, wanted, ""), status, differing(wanted, text), errors[:200])
+        texts.append(text)
+        for line in text.splitlines():
+            known, row = line.split(" ", 1)
+            rows[known].append(row)
+    return texts, rows
+
+
+def check_meters(name, meters, rows):
+    """What each meter's trace plays to is what the reports told: each command once, and nothing else."""
+    for meter in meters:
+        if not meter.process.stdin.closed:
+            meter.end_input()
+    for meter in meters:
+        status, trace, errors = meter.ended()
+        check(f"{name}: {meter.name}: ends", status == 0 and "fault" not in errors, status, errors)
+        history = [pair for pair in played(trace) if not pair[0].startswith("getlist 1 2 71 ")]  # the sampler's own reading of the thresholds
+        check(f"{name}: {meter.name}: its trace", history == meter.history_of(rows[meter.name]), history, rows[meter.name])
+
+
+def a_street(name, workers, count):
+    """Takes so many meters and the odd ones among them through the campaigns; gives the reports, and how many meters there were."""
+    meters, odd, unheard = [], [], Unheard()
+    try:
+        start_meters(meters, count)
+        odd = [OddMeter(*row) for row in SCRIPTS]
+        nobody = [Place("nobody_listens", unheard.closed_port, len(VERBS)), Place("nobody_accepts", unheard.full_port, 1)]
+        texts, rows = run_campaigns(name, mixed(meters, odd + nobody), workers)
+        check_meters(name, meters, rows)
+        for one in odd:
+            one.check_talks(name)
+        print(f"{name}: {len(meters)} running meters, {len(odd) + len(nobody)} odd ones")
+        return texts, len(meters)
+    finally:
+        for meter in meters:
+            meter.stop()
+        for one in odd:
+            one.meter.stop()
+        unheard.stop()
+
+
+def campaigns_among_running_meters(name):
+    many, one = WORKERS
+    texts, count = a_street(f"{name}, workers {many}", many, METERS)
+    others, _ = a_street(f"{name}, workers {one}", one, count)
+    check(f"{name}: one text for each number of workers", texts == others)
+
+
+def a_meter_is_reached_by_its_name(name):
+    meter = ScriptedMeter(does_it)
+    made = run_head_end(f"m1 localhost:{meter.port} disconnect\nm2 nowhere state\n", *LIMITS)
+    check(f"{name}: report", made == (0, "m1 done 0\nm2 unknown\n", ""), made)
+    check(f"{name}: what it got", [talk.frames for talk in meter.talked(1)] == [[AARQ, REQUESTS["disconnect"], RELEASE]])
+    meter.stop()
+
+
+def progress_is_told(name):
+    meter = ScriptedMeter(does_it)
+    status, text, errors = run_head_end(f"m1 127.0.0.1:{meter.port} state\nm2 127.0.0.1:{meter.port} reconnect\n", "--progress", "--workers", "1")
+    check(name, (status, text, errors) == (0, "m1 done 0\nm2 done 0\n", "jobs done 1 of 2, unknown 0\njobs done 2 of 2, unknown 0\n"), status, text, errors)
+    meter.stop()
+
+
+def crowd_jobs(crowd, count):
+    """A list of jobs, each a kind of meter and a verb, the report that they bring, and how many of each kind and verb there are."""
+    verbs = list(REQUESTS)
+    jobs, rows, expected = [], [], [dict.fromkeys(("jobs", *verbs), 0) for _ in CROWD]
+    for number in range(count):
+        kind, verb = number % len(CROWD), verbs[number // len(CROWD) % len(verbs)]
+        jobs.append(f"job{number} 127.0.0.1:{crowd.ports[kind]} {verb}\n")
+        rows.append((f"job{number}", CROWD[kind][2][verb]))
+        expected[kind]["jobs"] += 1
+        expected[kind][verb] += 1
+    return "".join(jobs), report_of(rows), expected
+
+
+def counted(expected):
+    """What the crowd counts when such jobs are done: of each job one connection and one AARQ, one request where the association was opened, and a release where
+    the request was answered."""
+    counts = []
+    for (opening, answers, outcomes), jobs in zip(CROWD, expected):
+        opens = opening is not None and outcomes["state"] != "rejected 13"
+        counts.append({"connections": jobs["jobs"], "aarq": jobs["jobs"], **{verb: jobs[verb] if opens else 0 for verb in REQUESTS},
+                       "release": jobs["jobs"] if answers else 0, "strange": 0})
+    return counts
+
+
+def run_campaign(path, *words):
+    """The status, standard output and standard error of bin/campaign, and how many seconds it took. What parallel keeps goes into the folder of the jobs."""
+    begun = time.monotonic()
+    made = subprocess.run([str(CAMPAIGN), "--program", str(HEAD_END), "--workers", "8", *words, str(path)], stdin=subprocess.DEVNULL, capture_output=True,
+                          timeout=LONGEST, env={**os.environ, "METER_PASSWORD": PASSWORD, "PARALLEL_HOME": str(path.parent)})
+    return made.returncode, made.stdout.decode(), made.stderr.decode(), time.monotonic() - begun
+
+
+def check_campaign(name, crowd, path, wanted, expected, *words):
+    """Runs a campaign of a crowd: the report is the wanted one, and each meter got each command once."""
+    status, text, errors, seconds = run_campaign(path, *words)
+    check(f"{name}: report", (status, text, errors) == (0, wanted, ""), status, differing(wanted, text), errors[:500])
+    got = crowd.counts()
+    check(f"{name}: each command once", got == counted(expected), got, counted(expected))
+    print(f"{name}: {wanted.count(chr(10)):,} jobs in {seconds:.1f} s")
+
+
+def campaigns_side_by_side(name, crowd, folder, count):
+    jobs, wanted, expected = crowd_jobs(crowd, count)
+    path = folder / "jobs"
+    path.write_text(jobs)
+    for side in ("1", "2", "8"):
+        check_campaign(f"{name}: {side} side by side", crowd, path, wanted, expected, "--jobs", side)
+
+
+def a_part_that_fails_is_named(name, crowd, folder):
+    jobs, wanted, expected = crowd_jobs(crowd, 1000)
+    path = folder / "part"
+    path.write_text("wrong1 127.0.0.1:1 close\nwrong2 127.0.0.1:1 state\n" + "\n" * 998 + jobs)
+    status, text, errors, _ = run_campaign(path, "--jobs", "2")
+    check(f"{name}: the other part's report", (status, text) == (1, wanted), status, differing(wanted, text))
+    told = ["campaign: part 1 failed (status and signal: 2 0); nothing of it is known, and nothing is sent again. Its jobs:", "campaign:     wrong1",
+            "campaign:     wrong2"]
+    check(f"{name}: its jobs", [line for line in errors.splitlines() if line.startswith("campaign:")] == told, errors)
+    check(f"{name}: each command once", crowd.counts() == counted(expected))
+
+
+class Shell:
+    """A daemon of OpenSSH on a free port of the loopback interface, with keys made for it, which all go with its folder."""
+
+    def __init__(self, folder):
+        self.folder = folder
+        self.made = None
+        self.process = None
+        for key in ("host", "own"):
+            subprocess.run(["ssh-keygen", "-q", "-t", "ed25519", "-N", "", "-f", folder / key], check=True, timeout=PATIENCE)
+        (folder / "allowed").write_text((folder / "own.pub").read_text())
+        with socket.socket() as free:
+            free.bind(("127.0.0.1", 0))
+            self.port = free.getsockname()[1]
+        self.start()
+
+    def start(self):
+        parted = pathlib.Path("/run/sshd")
+        if os.geteuid() == 0 and not parted.exists():
+            parted.mkdir(mode=0o755)
+            self.made = parted
+        options = [f"HostKey={self.folder}/host", "ListenAddress=127.0.0.1", f"AuthorizedKeysFile={self.folder}/allowed", "StrictModes=no", "UsePAM=no",
+                   "PasswordAuthentication=no", f"PidFile={self.folder}/pid", "MaxStartups=100"]
+        words = [shutil.which("sshd", path=SSHD_PATH), "-D", "-f", "/dev/null", "-p", str(self.port)]
+        for option in options:
+            words += ["-o", option]
+        self.process = subprocess.Popen(words, stdin=subprocess.DEVNULL, stdout=subprocess.DEVNULL, stderr=subprocess.DEVNULL)
+
+    def login(self, host):
+        return (f"ssh -F /dev/null -p {self.port} -i {self.folder}/own -o BatchMode=yes -o IdentitiesOnly=yes -o StrictHostKeyChecking=no"
+                f" -o UserKnownHostsFile={self.folder}/known -o LogLevel=ERROR {host}")
+
+    def logs_in(self):
+        words = [*self.login("127.0.0.1").split(), "true"]
+        try:
+            return subprocess.run(words, stdin=subprocess.DEVNULL, capture_output=True, timeout=PATIENCE).returncode == 0
+        except subprocess.TimeoutExpired:
+            return False
+
+    def answers(self):
+        end = time.monotonic() + PATIENCE
+        while self.process.poll() is None and time.monotonic() < end:
+            if self.logs_in():
+                return True
+            time.sleep(0.1)
+        return False
+
+    def stop(self):
+        if self.process:
+            self.process.terminate()
+            self.process.wait(PATIENCE)
+        if self.made:
+            self.made.rmdir()
+
+
+SSHD_PATH = os.environ.get("PATH", "") + ":/usr/sbin:/usr/local/sbin"
+
+
+def campaigns_by_ssh(name, crowd, folder, count):
+    missing = [word for word in ("ssh", "ssh-keygen", "sshd") if not shutil.which(word, path=SSHD_PATH)]
+    if missing:
+        print(f"SKIPPED ssh: {', '.join(missing)} not installed")
+        return
+    jobs, wanted, expected = crowd_jobs(crowd, count)
+    path = folder / "jobs"
+    path.write_text(jobs)
+    shell = None
+    try:
+        shell = Shell(folder)
+        if not shell.answers():
+            print("SKIPPED ssh: a daemon of the test's own does not serve here")
+            return
+        hosts = f"{shell.login('127.0.0.1')},{shell.login('localhost')}"
+        # (the password isn't sent: the command there finds it)
+        (folder / "password").write_text(PASSWORD)
+        there = folder / "there"
+        there.write_text(f'#!/bin/sh\nMETER_PASSWORD=$(cat {folder}/password) exec {HEAD_END} "$@"\n')
+        there.chmod(0o700)
+        check_campaign(f"{name}: two hosts", crowd, path, wanted, expected, "--jobs", "1", "--sshlogin", hosts, "--program", str(there))
+    finally:
+        if shell:
+            shell.stop()
+
+
+def campaigns_of_a_crowd(name, count):
+    if not shutil.which("parallel"):
+        print("SKIPPED bin/campaign: GNU parallel is not installed")
+        return
+    crowd = Crowd()
+    try:
+        with tempfile.TemporaryDirectory() as folder:
+            folder = pathlib.Path(folder)
+            campaigns_side_by_side(name, crowd, folder, count)
+            a_part_that_fails_is_named(f"{name}: a part fails", crowd, folder)
+            campaigns_by_ssh(f"{name}: by ssh", crowd, folder, count)
+    finally:
+        crowd.stop()
+
+
+def main():
+    parser = argparse.ArgumentParser()
+    parser.add_argument("--short", action="store_true", help="campaigns of 2,000 jobs in place of 20,000")
+    count = 2_000 if parser.parse_args().short else 20_000
+    for executable in (SERVER, PLAYER, HEAD_END):
+        if not os.access(executable, os.X_OK):
+            print(f"{executable} is not there: run the gate, or `rt run` in its crate")
+            print("0 passed, 1 failed")
+            return 1
+    _, most = resource.getrlimit(resource.RLIMIT_NOFILE)
+    resource.setrlimit(resource.RLIMIT_NOFILE, (most, most))
+    for function in (campaigns_among_running_meters, a_meter_is_reached_by_its_name, progress_is_told):
+        test(function)
+
+    def campaigns_of_many_jobs(name):
+        campaigns_of_a_crowd(name, count)
+
+    test(campaigns_of_many_jobs)
+    print(f"{serving.passed} passed, {serving.failed} failed")
+    return 1 if serving.failed else 0
+
+
+if __name__ == "__main__":
+    sys.exit(main())

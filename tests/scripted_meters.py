@@ -1,0 +1,432 @@
+"""Meters that follow a script, for tests of the head end: each keeps what it got from its clients."""
+
+import multiprocessing
+import random
+import select
+import socket
+import struct
+import threading
+import time
+
+from serving import AARE, PATIENCE, REFUSED
+
+# What the head end sends, framed from port 1 to port 1, with the password 12345678 (IEC 62056-4-7, IEC 62056-5-3).
+AARQ = bytes.fromhex("00010001000100386036A1090607608574050801018A0207808B0760857405080201AC0A80083132333435363738BE10040E01000000065F1F0400001C190400")
+REQUESTS = {
+    "disconnect": bytes.fromhex("000100010001000FC301C10046000060030AFF01010F00"),
+    "reconnect": bytes.fromhex("000100010001000FC301C10046000060030AFF02010F00"),
+    "state": bytes.fromhex("000100010001000DC001C10046000060030AFF0300"),
+}
+RELEASE = bytes.fromhex("00010001000100056203800100")
+
+OPENED = AARE + "001C1904000007"  # with get, set and action
+WITHOUT_SERVICE = AARE + "00000804000007"  # with set alone
+
+
+def framed(payload, source=1, destination=1):
+    return bytes.fromhex(f"0001{source:04X}{destination:04X}{len(payload) // 2:04X}{payload}")
+
+
+class Left(Exception):
+    """The client closed the connection."""
+
+
+class Talk:
+    """One connection of a client: the frames that came, and what came behind them."""
+
+    def __init__(self, stream):
+        self.stream = stream
+        self.frames = []
+        self.text = b""
+        stream.settimeout(PATIENCE)
+        stream.setsockopt(socket.IPPROTO_TCP, socket.TCP_NODELAY, 1)
+
+    def more(self):
+        try:
+            piece = self.stream.recv(4096)
+        except OSError as error:
+            raise Left from error
+        if not piece:
+            raise Left
+        self.text += piece
+
+    def take(self):
+        """The next frame."""
+        while len(self.text) < 8 or len(self.text) < self.length():
+            self.more()
+        length = self.length()
+        self.frames.append(self.text[:length])
+        self.text = self.text[length:]
+        return self.frames[-1]
+
+    def length(self):
+        return 8 + int.from_bytes(self.text[6:8], "big")
+
+    def send_bytes(self, text):
+        try:
+            self.stream.sendall(text)
+        except OSError as error:
+            raise Left from error
+
+    def send(self, *payloads):
+        self.send_bytes(b"".join(framed(payload) for payload in payloads))
+
+    def reset(self):
+        """Leaves the connection without its end."""
+        self.stream.setsockopt(socket.SOL_SOCKET, socket.SO_LINGER, struct.pack("ii", 1, 0))
+
+    def open(self, payload=OPENED):
+        """Answers the AARQ, and gives the request that comes then."""
+        self.take()
+        self.send(payload)
+        return self.take()
+
+    def to_the_end(self):
+        """Takes all that comes until the client closes the connection."""
+        while True:
+            self.take()
+
+
+class ScriptedMeter:
+    """Plays a script with each client, one after the other, and keeps each talk. A script that returns True closes the connection; else the client has to."""
+
+    def __init__(self, script):
+        self.script = script
+        self.talks = []
+        self.listener = socket.create_server(("127.0.0.1", 0), backlog=16)
+        self.port = self.listener.getsockname()[1]
+        self.thread = threading.Thread(target=self.serve, daemon=True)
+        self.thread.start()
+
+    def serve(self):
+        while True:
+            try:
+                stream, _ = self.listener.accept()
+            except OSError:
+                return
+            with stream:
+                talk = Talk(stream)
+                try:
+                    if not self.script(talk):
+                        talk.to_the_end()
+                except Left:
+                    pass
+            self.talks.append(talk)
+
+    def talked(self, times):
+        """Its talks, once there are so many."""
+        end = time.monotonic() + PATIENCE
+        while len(self.talks) < times and time.monotonic() < end:
+            time.sleep(0.005)
+        return self.talks
+
+    def stop(self):
+        try:
+            self.listener.shutdown(socket.SHUT_RDWR)  # wakes the thread
+        except OSError:
+            pass
+        self.listener.close()
+        self.thread.join(PATIENCE)
+
+
+def answer_to(request, code="00", state="00"):
+    """The answer to a request: a result of an action, or a control state."""
+    return f"C401C10016{state}" if request == REQUESTS["state"] else f"C701C1{code}00"
+
+
+def does_it(talk):
+    talk.send(answer_to(talk.open()))
+
+
+def is_silent(talk):
+    talk.take()
+
+
+def is_silent_later(talk):
+    talk.open()
+
+
+def closes_at_once(talk):
+    return True
+
+
+def closes_without_aare(talk):
+    talk.take()
+    return True
+
+
+def closes_in_mid_aare(talk):
+    talk.take()
+    talk.send_bytes(framed(OPENED)[:20])
+    return True
+
+
+def closes_without_answer(talk):
+    talk.open()
+    return True
+
+
+def closes_in_mid_answer(talk):
+    talk.send_bytes(framed(answer_to(talk.open()))[:11])
+    return True
+
+
+def resets_the_connection(talk):
+    talk.open()
+    talk.reset()
+    return True
+
+
+def babbles(talk):
+    talk.take()
+    talk.send_bytes(b"\xB5" + random.Random(7).randbytes(4000))
+
+
+def babbles_in_a_frame(talk):
+    talk.take()
+    talk.send(random.Random(8).randbytes(300).hex())
+
+
+def babbles_instead_of_an_answer(talk):
+    talk.open()
+    talk.send_bytes(b"\xB5" + random.Random(9).randbytes(4000))
+
+
+def says_too_long_a_frame(talk):
+    talk.open()
+    talk.send_bytes(bytes.fromhex("0001000100010401") + bytes(1025))
+
+
+def speaks_to_others_first(talk):
+    """Frames of other ports, each an answer that would count if its ports were 1, stand before the right ones."""
+    others = b"".join(framed("C701C10200", *ports) for ports in ((16, 1), (1, 16), (2, 2), (0, 1))) + framed("00" * 1024, 1, 16)
+    talk.take()
+    talk.send_bytes(others + framed(REFUSED + "0D", 16, 1) + framed(OPENED))
+    request = talk.take()
+    talk.send_bytes(others + framed(answer_to(request)))
+
+
+def says_byte_by_byte(talk):
+    talk.take()
+    for byte in framed(OPENED):
+        talk.send_bytes(bytes([byte]))
+    for byte in framed(answer_to(talk.take())):
+        talk.send_bytes(bytes([byte]))
+        time.sleep(0.002)
+
+
+def says_more_than_asked(talk):
+    talk.send(answer_to(talk.open()), "C701C10200", "C701C10200")
+
+
+def drips(talk):
+    talk.take()
+    for byte in framed("00" * 1024, 16, 1):
+        talk.send_bytes(bytes([byte]))
+        time.sleep(0.1)
+
+
+def floods(talk):
+    talk.take()
+    piece = framed("00" * 1024, 16, 1) * 64
+    while True:
+        talk.send_bytes(piece)
+
+
+def rejects(talk):
+    talk.take()
+    talk.send(REFUSED + "01")
+
+
+def opens_without_the_service(talk):
+    talk.take()
+    talk.send(WITHOUT_SERVICE)
+
+
+def refuses(talk):
+    request = talk.open()
+    talk.send("C401C1010C" if request == REQUESTS["state"] else "C701C1FA00")
+
+
+def says_an_unknown_state(talk):
+    talk.send(answer_to(talk.open(), state="03").replace("C701C1", "C701C2"))  # and to an action the answer to another request
+
+
+def says_an_exception(talk):
+    talk.open()
+    talk.send("D80101")
+
+
+# A script, what comes of a disconnect, a reconnect and a reading of the state, and how many frames it may get of one client.
+DONE, UNKNOWN = ("done 0",) * 3, ("unknown",) * 3
+SCRIPTS = [
+    (does_it, DONE, (3,)),
+    (is_silent, UNKNOWN, (1,)),
+    (is_silent_later, UNKNOWN, (2,)),
+    (closes_at_once, UNKNOWN, (0,)),
+    (closes_without_aare, UNKNOWN, (1,)),
+    (closes_in_mid_aare, UNKNOWN, (1,)),
+    (closes_without_answer, UNKNOWN, (2,)),
+    (closes_in_mid_answer, UNKNOWN, (2,)),
+    (resets_the_connection, UNKNOWN, (2,)),
+    (babbles, UNKNOWN, (1,)),
+    (babbles_in_a_frame, UNKNOWN, (1,)),
+    (babbles_instead_of_an_answer, UNKNOWN, (2,)),
+    (says_too_long_a_frame, UNKNOWN, (2,)),
+    (speaks_to_others_first, DONE, (3,)),
+    (says_byte_by_byte, DONE, (3,)),
+    (says_more_than_asked, DONE, (2, 3)),  # the client may have closed with bytes unread, and so the release may be lost
+    (drips, UNKNOWN, (1,)),
+    (floods, UNKNOWN, (1,)),
+    (rejects, ("rejected 1",) * 3, (1,)),
+    (opens_without_the_service, ("rejected 0",) * 3, (1,)),
+    (refuses, ("refused 250", "refused 250", "refused 12"), (3,)),
+    (says_an_unknown_state, UNKNOWN, (2,)),
+    (says_an_exception, UNKNOWN, (2,)),
+]
+
+HOLDING = (is_silent, is_silent_later, drips, floods)  # these hold a client as long as it lets them
+
+
+class Unheard:
+    """Addresses where nothing answers: a port without a listener, and one whose queue of connections is full."""
+
+    def __init__(self):
+        self.taken = socket.socket()
+        self.taken.bind(("127.0.0.1", 0))
+        self.closed_port = self.taken.getsockname()[1]
+        self.full = socket.create_server(("127.0.0.1", 0), backlog=0)
+        self.full_port = self.full.getsockname()[1]
+        self.waiting = [socket.socket() for _ in range(4)]
+        for one in self.waiting:
+            one.setblocking(False)
+            one.connect_ex(("127.0.0.1", self.full_port))
+        time.sleep(0.05)
+
+    def stop(self):
+        for one in (self.taken, self.full, *self.waiting):
+            one.close()
+
+
+def kind(opening, disconnect=None, reconnect=None, state=None):
+    """A kind of meter: what it sends at an AARQ and at each request. Where there is no text, it closes the connection."""
+    answers = {"disconnect": disconnect, "reconnect": reconnect, "state": state}
+    return opening, {verb: answer for verb, answer in answers.items() if answer}
+
+
+# The kinds of a crowd's meters, and what comes of a job of each verb.
+CROWD = [
+    (*kind(OPENED, "C701C10000", "C701C10000", "C401C1001600"), {"disconnect": "done 0", "reconnect": "done 0", "state": "done 0"}),
+    (*kind(OPENED, "C701C10200", "C701C10300", "C401C10103"), {"disconnect": "refused 2", "reconnect": "refused 3", "state": "refused 3"}),
+    (*kind(OPENED, "C701C10000", "C701C1FA00", "C401C1001602"), {"disconnect": "done 0", "reconnect": "refused 250", "state": "done 2"}),
+    (*kind(REFUSED + "0D"), dict.fromkeys(REQUESTS, "rejected 13")),
+    (*kind(OPENED), dict.fromkeys(REQUESTS, "unknown")),
+    (*kind(None), dict.fromkeys(REQUESTS, "unknown")),
+]
+
+
+class Crowd:
+    """A process that answers any number of clients at once on a port for each kind of `CROWD`, and counts what it gets."""
+
+    def __init__(self):
+        listeners = [socket.create_server(("127.0.0.1", 0), backlog=1024) for _ in CROWD]
+        self.ports = [listener.getsockname()[1] for listener in listeners]
+        self.pipe, theirs = multiprocessing.Pipe()
+        self.process = multiprocessing.get_context("fork").Process(target=answer_all, args=(listeners, self.pipe, theirs), daemon=True)
+        self.process.start()
+        theirs.close()
+        for listener in listeners:
+            listener.close()
+
+    def counts(self):
+        """For each kind, how often it got a connection, an AARQ, a request of each verb and a release since it was asked last, and frames that are none of
+        these or not in this order. None where it doesn't answer."""
+        self.pipe.send("counts")
+        return self.pipe.recv() if self.pipe.poll(PATIENCE) else None
+
+    def stop(self):
+        self.process.kill()
+        self.process.join(PATIENCE)
+
+
+class Answering:
+    """A client of the crowd."""
+
+    def __init__(self, stream, kind):
+        self.stream = stream
+        self.kind = kind
+        self.text = b""
+        self.stage = 0
+
+
+NAMES = {AARQ: "aarq", RELEASE: "release", **{text: verb for verb, text in REQUESTS.items()}}
+STAGES = {"aarq": 0, "disconnect": 1, "reconnect": 1, "state": 1, "release": 2}
+
+
+def text_for(kind, name):
+    """What a frame is answered by: bytes, none for a release, False where the connection is closed."""
+    opening, answers, _ = CROWD[kind]
+    if name == "release":
+        return b""
+    payload = opening if name == "aarq" else answers.get(name)
+    return framed(payload) if payload else False
+
+
+TEXTS = {(kind, name): text_for(kind, name) for kind in range(len(CROWD)) for name in STAGES}
+
+
+def fresh_counts():
+    return [dict.fromkeys(("connections", *STAGES, "strange"), 0) for _ in CROWD]
+
+
+def answer_more(client, count):
+    """Takes what a client of the crowd sent, and answers it. False at its end."""
+    piece = client.stream.recv(4096)
+    client.text += piece
+    while len(client.text) >= 8 and len(client.text) >= (length := 8 + int.from_bytes(client.text[6:8], "big")):
+        frame, client.text = client.text[:length], client.text[length:]
+        name = NAMES.get(frame, "strange")
+        count[name] += 1
+        if name == "strange" or STAGES[name] != client.stage:
+            count["strange"] += 1
+            return False
+        client.stage += 1
+        text = TEXTS[client.kind, name]
+        if text is False:
+            return False
+        if text:
+            client.stream.send(text)
+    return bool(piece)
+
+
+def answer_all(listeners, others, pipe):
+    """The crowd's process, which ends with the one that started it."""
+    others.close()
+    poll = select.epoll()
+    clients, counts, is_asked = {}, fresh_counts(), False
+    by_number = {listener.fileno(): (kind, listener) for kind, listener in enumerate(listeners)}
+    for number in (*by_number, pipe.fileno()):
+        poll.register(number, select.EPOLLIN)
+    while True:
+        for number, _ in poll.poll():
+            if number in clients:
+                client = clients[number]
+                try:
+                    goes_on = answer_more(client, counts[client.kind])
+                except OSError:
+                    goes_on = False
+                if not goes_on:
+                    del clients[number]
+                    client.stream.close()
+            elif number in by_number:
+                kind, listener = by_number[number]
+                stream, _ = listener.accept()
+                counts[kind]["connections"] += 1
+                stream.setsockopt(socket.IPPROTO_TCP, socket.TCP_NODELAY, 1)
+                clients[stream.fileno()] = Answering(stream, kind)
+                poll.register(stream.fileno(), select.EPOLLIN)
+            else:
+                is_asked = pipe.recv() == "counts"
+        if is_asked and not clients:
+            pipe.send(counts)
+            counts, is_asked = fresh_counts(), False

@@ -1,0 +1,562 @@
+#!/usr/bin/env python3
+"""Serves real clients: starts `meter_server serve` on a free port of the loopback interface, talks DLMS/COSEM to it through a client written here (AARQ, GET, SET,
+ACTION, blocks, lists and release over the TCP wrapper), and plays the traces that it prints through the trace player. Ends by itself: every wait is bounded."""
+
+import os
+import pathlib
+import re
+import socket
+import subprocess
+import sys
+import time
+
+TOP = pathlib.Path(__file__).resolve().parent.parent
+SERVER = os.environ.get("METER_SERVER") or TOP / "crates" / "meter_server_cli" / "out" / "meter_server_cli"
+PLAYER = os.environ.get("TRACE_PLAYER") or TOP / "crates" / "trace_player_cli" / "out" / "trace_player_cli"
+
+PASSWORD = "12345678"
+PATIENCE = 20  # seconds that anything may take
+MANAGEMENT, PUBLIC = 1, 16
+SESSIONS = 8
+
+# What the client asks for: class, logical name and number (IEC 62056-6-2).
+SWITCH = (70, "000060030AFF")
+STATE, MODE = (*SWITCH, 3), (*SWITCH, 4)
+DISCONNECT, RECONNECT = (*SWITCH, 1), (*SWITCH, 2)
+LIMITER = (71, "0000110000FF")
+ACTIVE, NORMAL = (*LIMITER, 3), (*LIMITER, 4)
+REGISTER = (3, "0100010700FF", 2)
+OBJECTS = (15, "0000280000FF", 2)
+DEVICE = (1, "00002A0000FF", 2)
+
+NAMING = "A109060760857405080101"  # application context: logical names, no ciphering
+AARE = "6129" + NAMING + "A203020100A305A103020100BE10040E0800065F1F0400"
+REFUSED = "6117" + NAMING + "A203020101A305A1030201"
+RELEASED = "6303800100"
+
+
+class Vanished(Exception):
+    """The server closed the connection, or sent nothing in time."""
+
+
+def described(place):
+    kind, name, number = place
+    return f"{kind:04X}{name}{number:02X}"
+
+
+class Client:
+    """A client of the meter. It keeps each request that its server's trace shall hold, as the trace's line, and the reply that came."""
+
+    def __init__(self, port, source=MANAGEMENT):
+        self.source = source
+        self.seen = []
+        self.socket = socket.create_connection(("127.0.0.1", port), timeout=PATIENCE)
+
+    def send(self, payload):
+        self.send_bytes(bytes.fromhex(f"0001{self.source:04X}0001{len(payload) // 2:04X}{payload}"))
+
+    def send_bytes(self, text):
+        self.socket.sendall(text)
+
+    def wanted(self, count):
+        text = b""
+        while len(text) < count:
+            try:
+                piece = self.socket.recv(count - len(text))
+            except OSError as error:
+                raise Vanished from error
+            if not piece:
+                raise Vanished
+            text += piece
+        return text
+
+    def received(self):
+        head = self.wanted(8)
+        version, source, destination, length = (int.from_bytes(head[i:i + 2], "big") for i in (0, 2, 4, 6))
+        assert (version, source, destination) == (1, 1, self.source), head.hex()
+        return self.wanted(length).hex().upper()
+
+    def ask(self, payload):
+        self.send(payload)
+        return self.received()
+
+    def is_closed(self):
+        """Whether the server closed the connection with no byte sent."""
+        try:
+            return self.socket.recv(1) == b""
+        except ConnectionResetError:
+            return True
+        except OSError:
+            return False
+
+    def close(self):
+        self.socket.close()
+
+    def associate(self, password=PASSWORD, size="04B0", bits="00FEFF"):
+        """The answer to an AARQ; the management client gives the password."""
+        secret = ""
+        if self.source == MANAGEMENT:
+            text = password.encode().hex().upper()
+            secret = f"8A0207808B0760857405080201AC{len(text) // 2 + 2:02X}80{len(text) // 2:02X}{text}"
+        fields = f"{NAMING}{secret}BE10040E01000000065F1F0400{bits}{size}"
+        return self.ask(f"60{len(fields) // 2:02X}{fields}")
+
+    def release(self):
+        return self.ask("6203800100")
+
+    def told(self, event, reply):
+        self.seen.append((event, reply))
+        return reply
+
+    def line(self, place):
+        kind, name, number = place
+        return f"{self.source} {kind} {name} {number}"
+
+    def get(self, place):
+        """The Data that an attribute has, or the number of the refusal."""
+        answer = self.ask(f"C001C1{described(place)}00")
+        if answer.startswith("C402C1"):
+            data = self.rest_of_blocks(answer)
+        elif answer.startswith("C401C100"):
+            data = answer[8:]
+        else:
+            assert answer.startswith("C401C101") and len(answer) == 10, answer
+            return self.told(f"get {self.line(place)} 0", f"code {int(answer[8:], 16)}")
+        return self.told(f"get {self.line(place)} 0", f"value {data}")
+
+    def rest_of_blocks(self, answer):
+        """The Data of an answer that came in blocks, the first of which is given."""
+        data, number = "", 1
+        while True:
+            is_last, block, length = answer[6:8], int(answer[8:16], 16), int(answer[18:20], 16)
+            assert answer[16:18] == "00" and block == number and len(answer) == 20 + 2 * length, answer
+            data += answer[20:]
+            if is_last == "01":
+                return data
+            answer = self.ask(f"C002C1{number:08X}")
+            number += 1
+
+    def get_list(self, *places):
+        answer = self.ask(f"C003C1{len(places):02X}" + "".join(described(place) + "00" for place in places))
+        assert answer.startswith(f"C403C1{len(places):02X}"), answer
+        return answer[8:]
+
+    def set(self, place, data):
+        answer = self.ask(f"C101C1{described(place)}00{data}")
+        assert answer.startswith("C501C1") and len(answer) == 8, answer
+        return self.told(f"set {self.line(place)} 0 {data}", f"code {int(answer[6:], 16)}")
+
+    def set_in_blocks(self, place, *pieces):
+        """A SET whose Data is sent in these pieces."""
+        for number, piece in enumerate(pieces, 1):
+            last = f"{number == len(pieces):02X}"
+            raw = f"{last}{number:08X}{len(piece) // 2:02X}{piece}"
+            answer = self.ask(f"C102C1{described(place)}00{raw}" if number == 1 else f"C103C1{raw}")
+            if number < len(pieces):
+                assert answer == f"C502C1{number:08X}", answer
+        assert answer[:6] == "C503C1" and answer[8:] == f"{len(pieces):08X}", answer
+        return self.told(f"set {self.line(place)} 0 {''.join(pieces)}", f"code {int(answer[6:8], 16)}")
+
+    def execute(self, place, parameter="0F00"):
+        answer = self.ask(f"C301C1{described(place)}" + (f"01{parameter}" if parameter else "00"))
+        assert answer.startswith("C701C1") and answer.endswith("00") and len(answer) == 10, answer
+        return self.told(f"execute {self.line(place)} {parameter or '-'}", f"code {int(answer[6:8], 16)}")
+
+
+class Server:
+    """A running `meter_server serve`, with its console."""
+
+    def __init__(self, *options, password=PASSWORD, environment=None, port=None, console=b""):
+        self.port = port or free_port()
+        words = [str(SERVER), "serve", "--listen", f"127.0.0.1:{self.port}", "--verbose", *options]
+        if password is not None:
+            words += ["--password", password]
+        self.process = subprocess.Popen(words, stdin=subprocess.PIPE, stdout=subprocess.PIPE, stderr=subprocess.PIPE,
+                                        env={**os.environ, **(environment or {})})
+        os.set_blocking(self.process.stderr.fileno(), False)
+        self.errors = b""
+        if console:
+            self.say_bytes(console)
+        self.wait_for(b"listening on")
+
+    def wait_for(self, words, times=1):
+        """Waits until standard error has these words so many times, or the server has ended."""
+        end = time.monotonic() + PATIENCE
+        while self.errors.count(words) < times and time.monotonic() < end:
+            piece = self.process.stderr.read()
+            if piece:
+                self.errors += piece
+            elif self.process.poll() is not None:
+                self.errors += self.process.stderr.read() or b""
+                break
+            else:
+                time.sleep(0.005)
+        return self.errors.count(words) >= times
+
+    def say(self, *lines):
+        self.say_bytes("".join(line + "\n" for line in lines).encode())
+
+    def say_bytes(self, text):
+        self.process.stdin.write(text)
+        self.process.stdin.flush()
+
+    def client(self, source=MANAGEMENT):
+        """A client with an open association."""
+        client = Client(self.port, source)
+        answer = client.associate()
+        assert answer.startswith(AARE), answer
+        return client
+
+    def end_input(self):
+        self.process.stdin.close()
+
+    def ended(self):
+        """Ends the console, and gives the status, standard output and standard error once the server has ended."""
+        try:
+            if not self.process.stdin.closed:
+                self.end_input()
+            end = time.monotonic() + PATIENCE
+            output = b""
+            os.set_blocking(self.process.stdout.fileno(), False)
+            while time.monotonic() < end:
+                is_over = self.process.poll() is not None
+                output += self.process.stdout.read() or b""
+                self.errors += self.process.stderr.read() or b""
+                if is_over:
+                    return self.process.returncode, output.decode(), self.errors.decode()
+                time.sleep(0.005)
+            return "does not end", output.decode(), self.errors.decode()
+        finally:
+            self.stop()
+
+    def stop(self):
+        if self.process.poll() is None:
+            self.process.kill()
+        self.process.wait()
+
+
+def free_port():
+    with socket.socket() as taken:
+        taken.bind(("127.0.0.1", 0))
+        return taken.getsockname()[1]
+
+
+def run_with(*words, environment=None, console=b""):
+    """The status, standard output and standard error of a server that is to end at once."""
+    made = subprocess.run([str(SERVER), "serve", *words], input=console, capture_output=True, timeout=PATIENCE, env={**os.environ, **(environment or {})})
+    return made.returncode, made.stdout.decode(), made.stderr.decode()
+
+
+def played(trace):
+    """The events of a trace, each with the reply and the state that the trace player tells."""
+    made = subprocess.run([str(PLAYER)], input=trace.encode(), capture_output=True, timeout=PATIENCE)
+    assert made.returncode == 0, made.stderr
+    lines = trace.splitlines()
+    count = next(i for i, line in enumerate(lines) if line.startswith("events "))
+    events = lines[count + 1:]
+    replies = [re.fullmatch(r"\d+: (.*); state (\d); supply (on|off)", line) for line in made.stdout.decode().splitlines()]
+    assert len(events) == len(replies) == int(lines[count].split()[1]), trace
+    return [(event, reply[1]) for event, reply in zip(events, replies)]
+
+
+def stands_in(seen, all_events):
+    """Whether these events stand in the history with these replies, in this order."""
+    rest = iter(all_events)
+    return all(event in rest for event in seen)
+
+
+passed = failed = 0
+
+
+def check(name, holds, *told):
+    global passed, failed
+    if holds:
+        passed += 1
+    else:
+        failed += 1
+        print(f"FAILED {name}", *told)
+
+
+def test(function):
+    """Runs one test, whose server is stopped whatever comes of it."""
+    global failed
+    try:
+        function(function.__name__.replace("_", " "))
+    except (AssertionError, Vanished, OSError, subprocess.TimeoutExpired) as error:
+        failed += 1
+        print(f"FAILED {function.__name__.replace('_', ' ')}: {type(error).__name__} {error}")
+
+
+def requests_of_every_kind(name):
+    server = Server("--connections", "2")
+    public, client = server.client(PUBLIC), server.client()
+    check(f"{name}: state", public.get(STATE) == "value 1601")
+    check(f"{name}: a public client's write", public.set(MODE, "1601") == "code 3")
+    check(f"{name}: mode", client.set(MODE, "1604") == "code 0")
+    check(f"{name}: disconnect", client.execute(DISCONNECT) == "code 0" and client.get(STATE) == "value 1600")
+    check(f"{name}: reconnect", client.execute(RECONNECT, "") == "code 0" and public.get(STATE) == "value 1601")
+    check(f"{name}: blocks", client.set_in_blocks(NORMAL, "0600", "001B", "58") == "code 0" and client.get(ACTIVE) == "value 0600001B58")
+    listed = client.get_list(STATE, DEVICE, (70, "0000600000FF", 2))
+    check(f"{name}: list", listed == "001601" + "000906" + "RELAY1".encode().hex().upper() + "0104", listed)
+    objects = client.get(OBJECTS)
+    check(f"{name}: object list", objects.startswith("value 010C0204") and len(objects) == 6 + 2 * 650, objects)
+    check(f"{name}: release", public.release() == RELEASED and client.release() == RELEASED)
+    check(f"{name}: after the release", client.ask("C001C1" + described(STATE) + "00") == "D80101")
+    public.close()
+    client.close()
+    status, trace, errors = server.ended()
+    check(f"{name}: end", status == 0 and "fault" not in errors, status, errors)
+    history = played(trace)
+    check(f"{name}: public replies", stands_in(public.seen, history))
+    check(f"{name}: management replies", stands_in(client.seen, history))
+    check(f"{name}: nothing else", len(history) == len(public.seen) + len(client.seen) + 1, trace)
+
+
+def a_long_answer_comes_in_blocks(name):
+    server = Server("--connections", "1")
+    client = Client(server.port)
+    check(f"{name}: associated", client.associate(size="0040").startswith(AARE))
+    objects = client.get(OBJECTS)
+    check(f"{name}: all blocks", objects.startswith("value 010C0204") and len(objects) == 6 + 2 * 650)
+    check(f"{name}: then others", client.get(STATE) == "value 1601")
+    client.close()
+    status, trace, _ = server.ended()
+    check(f"{name}: played", status == 0 and stands_in(client.seen, played(trace)))
+
+
+def clients_interleave(name):
+    server = Server("--connections", "2", "--depth", "1024")
+    one, other = server.client(), server.client()
+    one.set(MODE, "1604")
+    for turn in range(20):
+        one.execute(DISCONNECT)
+        check(f"{name}: cut", other.get(STATE) == "value 1600", turn)
+        other.execute(RECONNECT)
+        check(f"{name}: connected", one.get(STATE) == "value 1601", turn)
+    for client in (one, other):  # both ask before either reads
+        client.send("C001C1" + described(MODE) + "00")
+    check(f"{name}: asked at once", one.received() == other.received() == "C401C1001604")
+    one.close()
+    other.close()
+    status, trace, _ = server.ended()
+    history = played(trace)
+    check(f"{name}: played", status == 0 and stands_in(one.seen, history) and stands_in(other.seen, history))
+    check(f"{name}: the whole history", len(history) == len(one.seen) + len(other.seen) + 2)
+
+
+def a_ninth_client_is_turned_away(name):
+    server = Server("--connections", "10", "--stop-with-input")
+    clients = [server.client() for _ in range(SESSIONS)]
+    ninth = Client(server.port)
+    check(f"{name}: closed without a byte", ninth.is_closed())
+    check(f"{name}: told", server.wait_for(b"turned away"))
+    check(f"{name}: the eight go on", all(client.get(STATE) == "value 1601" for client in clients))
+    clients[3].close()
+    check(f"{name}: one ends", server.wait_for(b"closed by the client"))
+    later = again_served(server)
+    check(f"{name}: then another is served", later.get(STATE) == "value 1601")
+    for client in (*clients, later, ninth):
+        client.close()
+    status, trace, _ = server.ended()
+    check(f"{name}: end", status == 0)
+    check(f"{name}: played", stands_in(later.seen, played(trace)))
+
+
+def again_served(server):
+    """A client, once a place is free: the server sees an ended session where it accepts the next client."""
+    end = time.monotonic() + PATIENCE
+    while time.monotonic() < end:
+        try:
+            return server.client()
+        except (Vanished, OSError):
+            time.sleep(0.02)
+    raise Vanished
+
+
+def console_lines_act_beside_clients(name):
+    server = Server("--connections", "1")
+    client = server.client()
+    client.set(MODE, "1604")
+    client.execute(DISCONNECT)
+    server.say("moment 100", "nonsense", "samples 10 20", "set 1 70 000060030AFF 4 0 1600", "pairs 30 40", "button", "button 2", "moment 100\r", "x" * 20_000, "samples")
+    end = time.monotonic() + PATIENCE
+    while client.get(REGISTER) != "value 060000001E" and time.monotonic() < end:
+        time.sleep(0.01)
+    check(f"{name}: the last sample", client.get(REGISTER) == "value 060000001E")
+    client.close()
+    server.say_bytes(b"moment 200\nmoment 300")  # the last line is not ended
+    status, trace, _ = server.ended()
+    history = played(trace)
+    own = [event for event, _ in history if event.split()[0] in ("samples", "pairs", "moment", "button")]
+    check(f"{name}: each good line once", sorted(own) == sorted(["moment 100", "samples 10 20", "pairs 30 40", "button", "samples", "moment 200"]), own)
+    samples = [event for event in own if event.split()[0] in ("samples", "pairs")]
+    check(f"{name}: samples in order", samples == ["samples 10 20", "pairs 30 40", "samples"], own)
+    check(f"{name}: moments in order", own.index("moment 100") < own.index("moment 200"))
+    check(f"{name}: the sampler reads the thresholds first",
+          next(event for event, _ in history if event.startswith(("getlist", "samples"))).startswith("getlist 1 2 71 0000110000FF 3 0 71 0001110000FF 3 0"))
+    check(f"{name}: played", status == 0 and stands_in(client.seen, history))
+
+
+def a_limit_of_connections_ends_the_server(name):
+    server = Server("--connections", "2")
+    server.end_input()
+    for _ in range(2):
+        client = server.client(PUBLIC)
+        client.get(STATE)
+        client.close()
+    status, trace, errors = server.ended()
+    check(f"{name}", status == 0 and len(played(trace)) == 2 and "fault" not in errors, status, errors)
+
+
+def the_end_of_input_ends_the_server(name):
+    server = Server("--stop-with-input")
+    client = server.client()
+    client.get(STATE)
+    server.say("button")
+    server.end_input()
+    end = time.monotonic() + PATIENCE
+    is_open = True
+    while is_open and time.monotonic() < end:  # from then on no client is served
+        late = None
+        try:
+            late = Client(server.port, PUBLIC)
+            late.socket.settimeout(0.5)
+            late.associate()
+        except (Vanished, OSError):
+            is_open = False
+        finally:
+            if late:
+                late.close()
+    check(f"{name}: no further client", not is_open)
+    check(f"{name}: an open session goes on", client.set(MODE, "1601") == "code 0" and server.process.poll() is None)
+    client.close()
+    status, trace, errors = server.ended()
+    check(f"{name}: end", status == 0 and "fault" not in errors, status, errors)
+    check(f"{name}: played", stands_in(client.seen, played(trace)) and ("button", "code 2") in played(trace))
+
+
+def an_address_in_use_is_a_fault(name):
+    with socket.socket() as taken:
+        taken.bind(("127.0.0.1", 0))
+        taken.listen()
+        status, output, errors = run_with("--password", PASSWORD, "--listen", "127.0.0.1:%d" % taken.getsockname()[1])
+    check(f"{name}", (status, output, errors) == (3, "", "fault: listen\n"), status, output, errors)
+    status, output, errors = run_with("--password", PASSWORD, "--listen", "nowhere")
+    check(f"{name}: no address", (status, output, errors) == (3, "", "fault: listen\n"), status, output, errors)
+
+
+def a_meter_goes_on_from_its_trace(name):
+    server = Server("--connections", "1", "--device", "METER7", "--depth", "4")
+    first = server.client()
+    first.set(MODE, "1604")
+    first.set(NORMAL, "0600001B58")
+    first.set((*LIMITER, 6), "0600000002")
+    first.execute(DISCONNECT)
+    first.close()
+    server.say("moment 500", "samples 8000 8000 8000")
+    status, trace, _ = server.ended()
+    check(f"{name}: a first run", status == 0 and "events 4\n" in trace, trace)
+    server = Server("--connections", "1", "--resume", console=trace.encode() + b"moment 400\n")
+    then = server.client()
+    check(f"{name}: device", then.get(DEVICE) == "value 0906" + "METER7".encode().hex().upper())
+    check(f"{name}: state", then.get(STATE) == "value 1600")
+    check(f"{name}: threshold", then.get(NORMAL) == "value 0600001B58")
+    check(f"{name}: last sample", then.get(REGISTER) == "value 0600001F40")
+    check(f"{name}: reconnect", then.execute(RECONNECT) == "code 0")
+    then.close()
+    status, trace, _ = server.ended()
+    history = played(trace)
+    check(f"{name}: the time too", status == 0 and ("moment 400", "stale 500") in history, history)
+    check(f"{name}: no event of the first run", stands_in(then.seen, history) and len(history) == len(then.seen) + 1, history)
+
+
+def a_wrong_trace_is_not_gone_on_from(name):
+    good = Server("--connections", "1")
+    client = good.client(PUBLIC)
+    client.get(STATE)
+    client.close()
+    trace = good.ended()[1].encode()
+    for what, text in (("no trace", b"button\n"), ("nothing", b""), ("cut", trace[:-1]), ("an unfit state", trace.replace(b"state 1", b"state 3")),
+                       ("another version", trace.replace(b"RELAYTRACE 2", b"RELAYTRACE 3")), ("too few events", trace.replace(b"events 1", b"events 2")),
+                       ("a wrong event", trace.replace(b"get 16", b"get 17"))):
+        made = run_with("--password", PASSWORD, "--resume", "--listen", f"127.0.0.1:{free_port()}", console=text)
+        check(f"{name}: {what}", made == (2, "", "fault: input\n"), made)
+
+
+def wrong_passwords_are_refused(name):
+    server = Server("--connections", "3")
+    for password, diagnostic in (("1234567", "0D"), ("87654321", "0D")):
+        client = Client(server.port)
+        check(f"{name}: {password}", client.associate(password) == REFUSED + diagnostic)
+        check(f"{name}: no association", client.ask("C001C1" + described(STATE) + "00") == "D80101")
+        client.close()
+    client = server.client()
+    check(f"{name}: the right one", client.get(STATE) == "value 1601")
+    client.close()
+    check(f"{name}: end", server.ended()[0] == 0)
+    for words in (["--password", ""], ["--password", "x" * 33], ["--password", "x", "--device", ""], ["--password", "x", "--device", "x" * 17]):
+        made = run_with(*words)
+        check(f"{name}: length", made == (2, "", "fault: input\n"), words, made)
+
+
+def the_environment_has_the_password(name):
+    server = Server("--connections", "1", password=None, environment={"METER_PASSWORD": "of the environment"})
+    client = Client(server.port)
+    check(f"{name}: taken", client.associate("of the environment").startswith(AARE))
+    client.close()
+    check(f"{name}: end", server.ended()[0] == 0)
+    server = Server("--connections", "1", environment={"METER_PASSWORD": "of the environment"})
+    client = Client(server.port)
+    check(f"{name}: the command line comes first", client.associate().startswith(AARE))
+    client.close()
+    check(f"{name}: its end", server.ended()[0] == 0)
+    made = run_with("--listen", "127.0.0.1:0", environment={"METER_PASSWORD": ""})
+    check(f"{name}: empty", made == (2, "", "fault: input\n"), made)
+    status, output, errors = run_with("--listen", "127.0.0.1:0")
+    check(f"{name}: neither", status == 2 and output == "" and "--password <TEXT>" in errors, errors)
+
+
+def a_client_may_vanish_in_mid_frame(name):
+    server = Server("--connections", "3")
+    cut = server.client()
+    cut.send_bytes(bytes.fromhex("000100010001000DC001C1"))
+    cut.close()
+    check(f"{name}: told", server.wait_for(b"within a frame"))
+    other = Client(server.port)
+    other.send_bytes(bytes.fromhex("0002001000010000"))
+    check(f"{name}: another version", other.is_closed())
+    client = server.client()
+    check(f"{name}: others go on", client.get(STATE) == "value 1601")
+    client.close()
+    other.close()
+    status, trace, errors = server.ended()
+    check(f"{name}: end", status == 0 and len(played(trace)) == 1 and "another version" in errors, status, errors)
+
+
+def a_silent_client_is_closed(name):
+    server = Server("--connections", "1", "--inactivity", "1", "--stop-with-input")
+    client = server.client()
+    client.get(STATE)
+    begun = time.monotonic()
+    check(f"{name}: closed", client.is_closed() and 0.8 <= time.monotonic() - begun < 10)
+    client.close()
+    status, trace, errors = server.ended()
+    check(f"{name}: end", status == 0 and len(played(trace)) == 1 and "nothing came in time" in errors, status, errors)
+
+
+def main():
+    for executable in (SERVER, PLAYER):
+        if not os.access(executable, os.X_OK):
+            print(f"{executable} is not there: run the gate, or `rt run` in its crate")
+            return 1
+    for function in (requests_of_every_kind, a_long_answer_comes_in_blocks, clients_interleave, a_ninth_client_is_turned_away,
+                     console_lines_act_beside_clients, a_limit_of_connections_ends_the_server, the_end_of_input_ends_the_server,
+                     an_address_in_use_is_a_fault, a_meter_goes_on_from_its_trace, a_wrong_trace_is_not_gone_on_from, wrong_passwords_are_refused,
+                     the_environment_has_the_password, a_client_may_vanish_in_mid_frame, a_silent_client_is_closed):
+        test(function)
+    print(f"{passed} passed, {failed} failed")
+    return 1 if failed else 0
+
+
+if __name__ == "__main__":
+    sys.exit(main())
