@@ -36,6 +36,3 @@ pub use laws::{
 };
 pub use release::{RELEASE_REQUEST, RELEASE_RESPONSE, is_release};
 pub use verdict::Verdict;
-
-#[cfg(test)]
-mod tests;

@@ -13,8 +13,6 @@ mod kind;
 mod names;
 mod reading;
 mod schedule;
-#[cfg(test)]
-mod tests;
 mod writing;
 
 pub use attribute::ScheduleAttribute;

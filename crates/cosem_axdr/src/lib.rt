@@ -27,6 +27,3 @@ pub use octets::Octets;
 pub use reading::read;
 pub use value::{Data, Items};
 pub use writing::write;
-
-#[cfg(test)]
-mod tests;

@@ -11,8 +11,6 @@ mod groups;
 mod names;
 mod reading;
 mod setting;
-#[cfg(test)]
-mod tests;
 mod writing;
 
 pub use attribute::LimiterAttribute;

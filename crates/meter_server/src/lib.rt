@@ -6,22 +6,12 @@ mod answering;
 mod fault;
 mod form;
 mod hex_session;
-#[cfg(test)]
-mod hex_tests;
 mod hex_text;
 mod listening;
 mod meter;
-#[cfg(test)]
-mod port_tests;
 mod ports;
 mod serving;
 mod serving_all;
-#[cfg(test)]
-mod serving_tests;
-#[cfg(test)]
-mod tests;
-#[cfg(test)]
-mod transfer_tests;
 
 pub use answering::answer_apdu;
 pub use fault::{HexFault, ServeFault};

@@ -95,7 +95,12 @@ fn a_meter_goes_on_from_a_trace(rt: HostRuntime) -> Result<(), Fail> {
 
 #[test]
 fn another_head_is_wrong(rt: HostRuntime) -> Result<(), Fail> {
-    for mut input in [b"".as_slice(), b"button\n", b"RELAYTRACE 1\nbutton\n", &TRACE[..300]] {
+    for mut input in [
+        b"".as_slice(),
+        b"button\n",
+        b"RELAYTRACE 1\nbutton\n",
+        &TRACE[..300],
+    ] {
         assert!(rt; matches!(resumed(rt.alloc(), &mut input), Err(Fault::Input)));
     }
     Ok(())

@@ -18,8 +18,6 @@ mod sampling;
 mod schedules;
 mod scripts;
 mod stretches;
-#[cfg(test)]
-mod tests;
 mod writing;
 
 pub use event::{Event, Events, Line, Lines, Reply};

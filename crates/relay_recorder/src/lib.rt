@@ -3,12 +3,8 @@
 //! `specs/Recording.antt` says what a recorder keeps, and `specs/Histories.antt` which histories it stands for.
 #![tactic(auto)]
 
-#[cfg(test)]
-mod export_tests;
 mod kept;
 mod recorder;
-#[cfg(test)]
-mod tests;
 mod trace;
 
 pub use recorder::Recorder;

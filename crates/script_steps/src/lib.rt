@@ -13,8 +13,6 @@ mod names;
 mod reading;
 mod step;
 mod table;
-#[cfg(test)]
-mod tests;
 mod writing;
 
 pub use cosem_names::Which;

@@ -19,8 +19,6 @@ mod session;
 mod state;
 mod step;
 mod task;
-#[cfg(test)]
-mod tests;
 mod unframed;
 
 pub use asked::Asked;

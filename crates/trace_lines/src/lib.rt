@@ -23,20 +23,14 @@ mod limiter_lines;
 mod limiter_writing;
 mod opening_fields;
 mod opening_lines;
-#[cfg(test)]
-mod opening_tests;
 mod opening_writing;
 mod place;
 mod reply_lines;
 mod samples;
-#[cfg(test)]
-mod tests;
 mod verb;
 mod version;
 mod words;
 mod writing;
-#[cfg(test)]
-mod writing_tests;
 
 pub use event_lines::write_event;
 pub use event_places::{next_event, read_event_count};

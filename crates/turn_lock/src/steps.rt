@@ -15,6 +15,10 @@ use crossbeam_utils::Backoff;
 use std::alloc::Global;
 use std::snapshot::Snapshot;
 use std::sync::Wait;
+use std::time::Duration;
+
+/// The longest sleep of a waiting call between two looks, in microseconds.
+const NAP: u64 = 50;
 
 /// The first step of a seat.
 pub(crate) fn settle<T: Turned>(top: &Top<T>, place: &mut Place<T>)
@@ -47,7 +51,25 @@ fn try_draw<T: Turned>(top: &Top<T>, place: &mut Place<T>, turn: u64) -> bool
     top.compare_exchange::<Draw>(place, TICKET, turn, turn + 1) == turn
 }
 
-/// Draws a turn, unless `bound` turns were drawn.
+/// Waits a while: spins at first, then yields the processor, and then sleeps until another turn than
+/// `served` is served, for `NAP` at most, since no turn's end wakes anybody.
+fn pause<T: Turned, W: Wait>(top: &Top<T>, rt: &W, backoff: &Backoff, served: u64)
+    requires { IsSized top.now.table_id }
+{
+    if backoff.is_completed() {
+        top.park_timeout(
+            rt,
+            SERVING,
+            (served % (1 << 32)) as u32,
+            Duration::from_micros(NAP),
+        );
+    } else {
+        backoff.snooze();
+    }
+}
+
+/// Draws a turn, unless `bound` turns were drawn. It draws only where all drawn turns have ended, so
+/// no thread holds up the others before it runs.
 pub(crate) fn draw<T: Turned, W: Wait>(
     top: &Top<T>,
     place: &mut Place<T>,
@@ -68,10 +90,11 @@ pub(crate) fn draw<T: Turned, W: Wait>(
         if turn >= bound {
             return None;
         }
-        if try_draw(top, place, turn) {
+        let served = top.peek(SERVING);
+        if served == turn && try_draw(top, place, turn) {
             return Some(turn);
         }
-        backoff.spin();
+        pause(top, rt, &backoff, served);
     }
     unreachable!()
 }
@@ -110,7 +133,7 @@ fn put_back<T: Turned>(top: &Top<T>, place: &mut Place<T>, slot: Slot<T, T::Even
     drop(top.exchange(place, HOME, slot));
 }
 
-/// Waits for the turn, and takes the value. It spins for a while, and then yields the processor at each look.
+/// Waits for the turn, and takes the value. A turn that `draw` drew has come at the first look.
 pub(crate) fn reach<T: Turned, W: Wait>(top: &Top<T>, place: &mut Place<T>, rt: &W, turn: u64) -> T
     requires table { (place.old.table_id ≡ top.now.table_id) × IsSized top.now.table_id }
     requires waiting { IsReady place.old (Waiting turn) [] }

@@ -18,8 +18,6 @@ mod response;
 mod response_reading;
 mod response_writing;
 mod tag;
-#[cfg(test)]
-mod tests;
 
 pub use block::Block;
 pub use fault::ApduFault;

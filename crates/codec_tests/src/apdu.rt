@@ -1,0 +1,402 @@
+use cosem_axdr::{Data, Octets};
+use cosem_names::{AttrRef, AttributeSelection, ClassId, GetResult, MethodRef, Obis, ResultCode};
+use listed::Listed;
+use std::alloc::{AllocError, Global};
+use std::test::Fail;
+use xdlms_apdu::{
+    ApduFault, Block, Exception, InvokeId, Request, Response, read_request, read_response,
+    text_of_request_spells, text_of_response_spells, write_request, write_response,
+};
+
+const ID: InvokeId = InvokeId(0xC1);
+
+// A request of each form, and some forms with other contents.
+const REQUESTS: [&[u8]; 13] = [
+    &[
+        0xC0, 0x01, 0xC1, 0x00, 0x46, 0x00, 0x00, 0x60, 0x03, 0x0A, 0xFF, 0x03, 0x00,
+    ],
+    &[
+        0xC0, 0x01, 0xC1, 0x00, 0x46, 0x00, 0x00, 0x60, 0x03, 0x0A, 0xFF, 0x03, 0x01, 0x00, 0x00,
+    ],
+    &[0xC0, 0x02, 0xC1, 0x00, 0x00, 0x00, 0x01],
+    &[
+        0xC0, 0x03, 0xC1, 0x02, 0x00, 0x46, 0x00, 0x00, 0x60, 0x03, 0x0A, 0xFF, 0x03, 0x00, 0x00,
+        0x46, 0x00, 0x00, 0x60, 0x03, 0x0B, 0xFF, 0x03, 0x00,
+    ],
+    &[0xC0, 0x03, 0xC1, 0x00],
+    &[
+        0xC1, 0x01, 0xC1, 0x00, 0x46, 0x00, 0x00, 0x60, 0x03, 0x0A, 0xFF, 0x04, 0x00, 0x16, 0x02,
+    ],
+    &[
+        0xC1, 0x02, 0xC1, 0x00, 0x47, 0x00, 0x00, 0x11, 0x00, 0x00, 0xFF, 0x04, 0x00, 0x00, 0x00,
+        0x00, 0x00, 0x01, 0x03, 0x06, 0x00, 0x00,
+    ],
+    &[
+        0xC1, 0x03, 0xC1, 0x01, 0x00, 0x00, 0x00, 0x02, 0x02, 0x1B, 0x58,
+    ],
+    &[
+        0xC3, 0x01, 0xC1, 0x00, 0x46, 0x00, 0x00, 0x60, 0x03, 0x0A, 0xFF, 0x02, 0x00,
+    ],
+    &[
+        0xC3, 0x01, 0xC1, 0x00, 0x46, 0x00, 0x00, 0x60, 0x03, 0x0A, 0xFF, 0x02, 0x01, 0x0F, 0x00,
+    ],
+    &[
+        0xC3, 0x04, 0xC1, 0x00, 0x46, 0x00, 0x00, 0x60, 0x03, 0x0A, 0xFF, 0x01, 0x00, 0x00, 0x00,
+        0x00, 0x01, 0x01, 0x0F,
+    ],
+    &[0xC3, 0x06, 0xC1, 0x01, 0x00, 0x00, 0x00, 0x02, 0x01, 0x00],
+    &[
+        0xC0, 0x01, 0xC1, 0x00, 0x01, 0x00, 0x00, 0x2A, 0x00, 0x00, 0xFF, 0x02, 0x00,
+    ],
+];
+
+// An attribute of disconnect control, of the one with that value group E.
+fn control(group: u8, number: u8, selected: bool) -> AttributeSelection {
+    AttributeSelection {
+        attr: AttrRef {
+            class: ClassId(70),
+            name: Obis([0, 0, 96, 3, group, 255]),
+            number,
+        },
+        selected,
+    }
+}
+
+// A method of disconnect control.
+fn method(number: u8) -> MethodRef {
+    MethodRef {
+        class: ClassId(70),
+        name: Obis([0, 0, 96, 3, 10, 255]),
+        number,
+    }
+}
+
+fn block(alloc: Global, last: bool, number: u32, raw: &[u8]) -> Result<Block, AllocError> {
+    Ok(Block {
+        last,
+        number,
+        raw: Octets::from_slice(alloc, raw)?,
+    })
+}
+
+// What the text at that place of the table spells.
+fn request_at(alloc: Global, place: usize) -> Result<Request, AllocError> {
+    Ok(match place {
+        0 => Request::Get {
+            id: ID,
+            target: control(10, 3, false),
+        },
+        1 => Request::Get {
+            id: ID,
+            target: control(10, 3, true),
+        },
+        2 => Request::GetNext { id: ID, number: 1 },
+        3 => Request::GetList {
+            id: ID,
+            targets: Listed::from_vec(vec![in alloc;
+                control(10, 3, false),
+                control(11, 3, false),
+            ]?),
+        },
+        4 => Request::GetList {
+            id: ID,
+            targets: Listed::new(alloc),
+        },
+        5 => Request::Set {
+            id: ID,
+            target: control(10, 4, false),
+            value: Data::Enum(2),
+        },
+        6 => Request::SetFirst {
+            id: ID,
+            target: AttributeSelection {
+                attr: AttrRef {
+                    class: ClassId(71),
+                    name: Obis([0, 0, 17, 0, 0, 255]),
+                    number: 4,
+                },
+                selected: false,
+            },
+            block: block(alloc, false, 1, &[0x06, 0x00, 0x00])?,
+        },
+        7 => Request::SetNext {
+            id: ID,
+            block: block(alloc, true, 2, &[0x1B, 0x58])?,
+        },
+        8 => Request::Action {
+            id: ID,
+            method: method(2),
+            parameter: None,
+        },
+        9 => Request::Action {
+            id: ID,
+            method: method(2),
+            parameter: Some(Data::Integer(0)),
+        },
+        10 => Request::ActionFirst {
+            id: ID,
+            method: method(1),
+            block: block(alloc, false, 1, &[0x0F])?,
+        },
+        11 => Request::ActionNext {
+            id: ID,
+            block: block(alloc, true, 2, &[0x00])?,
+        },
+        _ => Request::Get {
+            id: ID,
+            target: AttributeSelection {
+                attr: AttrRef {
+                    class: ClassId(1),
+                    name: Obis([0, 0, 42, 0, 0, 255]),
+                    number: 2,
+                },
+                selected: false,
+            },
+        },
+    })
+}
+
+// A response of each form, and some forms with other contents.
+const RESPONSES: [&[u8]; 18] = [
+    &[0xC4, 0x01, 0xC1, 0x00, 0x16, 0x01],
+    &[
+        0xC4, 0x01, 0xC1, 0x00, 0x09, 0x06, 0x52, 0x45, 0x4C, 0x41, 0x59, 0x31,
+    ],
+    &[0xC4, 0x01, 0xC1, 0x01, 0xFA],
+    &[
+        0xC4, 0x02, 0xC1, 0x01, 0x00, 0x00, 0x00, 0x1A, 0x00, 0x03, 0x04, 0x04, 0x04,
+    ],
+    &[0xC4, 0x02, 0xC1, 0x01, 0x00, 0x00, 0x00, 0x07, 0x01, 0x13],
+    &[0xC4, 0x03, 0xC1, 0x02, 0x00, 0x16, 0x01, 0x01, 0x04],
+    &[0xC4, 0x03, 0xC1, 0x00],
+    &[0xC5, 0x01, 0xC1, 0x00],
+    &[0xC5, 0x01, 0xC1, 0x03],
+    &[0xC5, 0x02, 0xC1, 0x00, 0x00, 0x00, 0x01],
+    &[0xC5, 0x03, 0xC1, 0x00, 0x00, 0x00, 0x00, 0x02],
+    &[0xC7, 0x01, 0xC1, 0x02, 0x00],
+    &[0xC7, 0x01, 0xC1, 0xFA, 0x00],
+    &[0xC7, 0x04, 0xC1, 0x00, 0x00, 0x00, 0x01],
+    &[0xD8, 0x01, 0x01],
+    &[0xD8, 0x02, 0x02],
+    &[0xD8, 0x01, 0x03],
+    &[
+        0xC4, 0x02, 0xC1, 0x00, 0x00, 0x00, 0x00, 0x01, 0x00, 0x02, 0x02, 0x04,
+    ],
+];
+
+// What the text at that place of the table spells.
+fn response_at(alloc: Global, place: usize) -> Result<Response, AllocError> {
+    Ok(match place {
+        0 => Response::Get {
+            id: ID,
+            result: GetResult::Value(Data::Enum(1)),
+        },
+        1 => Response::Get {
+            id: ID,
+            result: GetResult::Value(Data::OctetString(Octets::from_slice(alloc, b"RELAY1")?)),
+        },
+        2 => Response::Get {
+            id: ID,
+            result: GetResult::Code(ResultCode::OtherReason),
+        },
+        3 => Response::GetBlock {
+            id: ID,
+            block: block(alloc, true, 26, &[0x04, 0x04, 0x04])?,
+        },
+        4 => Response::GetBlockRefused {
+            id: ID,
+            last: true,
+            number: 7,
+            code: ResultCode::DataBlockNumberInvalid,
+        },
+        5 => Response::GetList {
+            id: ID,
+            results: Listed::from_vec(vec![in alloc;
+                GetResult::Value(Data::Enum(1)),
+                GetResult::Code(ResultCode::ObjectUndefined),
+            ]?),
+        },
+        6 => Response::GetList {
+            id: ID,
+            results: Listed::new(alloc),
+        },
+        7 => Response::Set {
+            id: ID,
+            code: ResultCode::Success,
+        },
+        8 => Response::Set {
+            id: ID,
+            code: ResultCode::ReadWriteDenied,
+        },
+        9 => Response::SetBlock { id: ID, number: 1 },
+        10 => Response::SetLastBlock {
+            id: ID,
+            code: ResultCode::Success,
+            number: 2,
+        },
+        11 => Response::Action {
+            id: ID,
+            code: ResultCode::TemporaryFailure,
+        },
+        12 => Response::Action {
+            id: ID,
+            code: ResultCode::OtherReason,
+        },
+        13 => Response::ActionBlock { id: ID, number: 1 },
+        14 => Response::Exception(Exception::NotAllowed),
+        15 => Response::Exception(Exception::Unknown),
+        16 => Response::Exception(Exception::Unreadable),
+        _ => Response::GetBlock {
+            id: ID,
+            block: block(alloc, false, 1, &[0x02, 0x04])?,
+        },
+    })
+}
+
+// Whether the bytes are read as that request, seen by what Debug writes of both, and are what is written of it.
+fn is_request(alloc: Global, bytes: &[u8], expected: &Request) -> Result<bool, Fail> {
+    let read = read_request(alloc, bytes)?;
+    let same = format!(in alloc; "{read:?}")? == format!(in alloc; "{expected:?}")?;
+    Ok(same && write_request(alloc, expected)?.as_slice() == bytes)
+}
+
+fn is_response(alloc: Global, bytes: &[u8], expected: &Response) -> Result<bool, Fail> {
+    let read = read_response(alloc, bytes)?;
+    let same = format!(in alloc; "{read:?}")? == format!(in alloc; "{expected:?}")?;
+    Ok(same && write_response(alloc, expected)?.as_slice() == bytes)
+}
+
+#[test]
+fn each_request_is_read_and_written(rt: HostRuntime) -> Result<(), Fail> {
+    text_of_request_spells();
+    for (place, text) in REQUESTS.iter().enumerate() {
+        let expected = request_at(rt.alloc(), place)?;
+        assert!(rt; is_request(rt.alloc(), text, &expected)?, "at {place}");
+    }
+    Ok(())
+}
+
+#[test]
+fn each_response_is_read_and_written(rt: HostRuntime) -> Result<(), Fail> {
+    text_of_response_spells();
+    for (place, text) in RESPONSES.iter().enumerate() {
+        let expected = response_at(rt.alloc(), place)?;
+        assert!(rt; is_response(rt.alloc(), text, &expected)?, "at {place}");
+    }
+    Ok(())
+}
+
+// Why bytes are no request, and no response; None where they are one.
+fn request_fault(alloc: Global, bytes: &[u8]) -> Option<ApduFault> {
+    read_request(alloc, bytes).err()
+}
+
+fn response_fault(alloc: Global, bytes: &[u8]) -> Option<ApduFault> {
+    read_response(alloc, bytes).err()
+}
+
+#[test]
+fn what_ends_too_early_or_too_late_is_unreadable(rt: HostRuntime) -> Result<(), Fail> {
+    for text in REQUESTS {
+        for end in 1..text.len() {
+            assert_eq!(rt;
+                request_fault(rt.alloc(), &text[..end]),
+                Some(ApduFault::Unreadable)
+            );
+        }
+        let mut longer = text.to_vec(rt.alloc())?;
+        longer.push(0)?;
+        assert_eq!(rt;
+            request_fault(rt.alloc(), &longer),
+            Some(ApduFault::Unreadable)
+        );
+    }
+    for text in RESPONSES {
+        for end in 1..text.len() {
+            assert_eq!(rt;
+                response_fault(rt.alloc(), &text[..end]),
+                Some(ApduFault::Unreadable)
+            );
+        }
+        let mut longer = text.to_vec(rt.alloc())?;
+        longer.push(0)?;
+        assert_eq!(rt;
+            response_fault(rt.alloc(), &longer),
+            Some(ApduFault::Unreadable)
+        );
+    }
+    Ok(())
+}
+
+#[test]
+fn a_fault_says_how_far_the_bytes_are_known(rt: HostRuntime) {
+    let requests: [(&[u8], ApduFault); 9] = [
+        (&[], ApduFault::UnknownTag),
+        (&[0x60, 0x01], ApduFault::UnknownTag),
+        (&[0xC2], ApduFault::UnknownTag),
+        (RESPONSES[0], ApduFault::UnknownTag),
+        (&[0xC0, 0x00], ApduFault::UnknownForm),
+        (&[0xC0, 0x04, 0xC1], ApduFault::UnknownForm),
+        (&[0xC1, 0x04], ApduFault::UnknownForm),
+        (&[0xC3, 0x02], ApduFault::UnknownForm),
+        (&[0xC3, 0x05], ApduFault::UnknownForm),
+    ];
+    for (bytes, fault) in &requests {
+        assert_eq!(rt; request_fault(rt.alloc(), bytes), Some(*fault), "{bytes:?}");
+    }
+    let responses: [(&[u8], ApduFault); 12] = [
+        (&[], ApduFault::UnknownTag),
+        (&[0x61, 0x01], ApduFault::UnknownTag),
+        (REQUESTS[0], ApduFault::UnknownTag),
+        (&[0xD9, 0x01, 0x01], ApduFault::UnknownTag),
+        (&[0xC4, 0x04], ApduFault::UnknownForm),
+        (&[0xC5, 0x04], ApduFault::UnknownForm),
+        (&[0xC7, 0x02], ApduFault::UnknownForm),
+        (&[0xC7, 0x03, 0xC1], ApduFault::UnknownForm),
+        (&[0xC5, 0x01, 0xC1, 0x05], ApduFault::Unreadable),
+        (&[0xC4, 0x01, 0xC1, 0x02, 0x00], ApduFault::Unreadable),
+        (&[0xC7, 0x01, 0xC1, 0x00, 0x01], ApduFault::Unreadable),
+        (&[0xD8, 0x02, 0x01], ApduFault::Unreadable),
+    ];
+    for (bytes, fault) in &responses {
+        assert_eq!(rt;
+            response_fault(rt.alloc(), bytes),
+            Some(*fault),
+            "{bytes:?}"
+        );
+    }
+}
+
+// A length in a longer form, any byte for yes, and any selector with any parameters: other spellings of what is written in one way.
+#[test]
+fn other_spellings_are_read_and_not_written(rt: HostRuntime) -> Result<(), Fail> {
+    let long = [
+        0xC1, 0x03, 0xC1, 0xFF, 0x00, 0x00, 0x00, 0x02, 0x82, 0x00, 0x02, 0x1B, 0x58,
+    ];
+    let request = read_request(rt.alloc(), &long)?;
+    assert_eq!(rt;
+        write_request(rt.alloc(), &request)?.as_slice(),
+        REQUESTS[7]
+    );
+
+    let selected = [
+        0xC0, 0x01, 0xC1, 0x00, 0x46, 0x00, 0x00, 0x60, 0x03, 0x0A, 0xFF, 0x03, 0x05, 0x02, 0x02,
+        0x02, 0x11, 0x01, 0x11, 0x02,
+    ];
+    let request = read_request(rt.alloc(), &selected)?;
+    assert_eq!(rt;
+        write_request(rt.alloc(), &request)?.as_slice(),
+        REQUESTS[1]
+    );
+
+    for form in [0x80, 0x85] {
+        let refused = [
+            0xC1, 0x03, 0xC1, 0x01, 0x00, 0x00, 0x00, 0x02, form, 0x00, 0x00, 0x00, 0x00, 0x00,
+        ];
+        assert_eq!(rt;
+            request_fault(rt.alloc(), &refused),
+            Some(ApduFault::Unreadable)
+        );
+    }
+    Ok(())
+}

@@ -1,0 +1,325 @@
+use cosem_axdr::{
+    Data, DataFault, Items, Octets, fits, no_spelling_begins_another, read, text_len,
+    text_of_fit_spells, write,
+};
+use std::alloc::{AllocError, Global};
+use std::test::Fail;
+
+// One text of each tag, in the order of the tags.
+const TEXTS: [&[u8]; 20] = [
+    &[0x00],
+    &[0x01, 0x02, 0x11, 0x01, 0x11, 0x02],
+    &[0x02, 0x02, 0x00, 0x03, 0x01],
+    &[0x03, 0x01],
+    &[0x04, 0x05, 0xB8],
+    &[0x05, 0xFF, 0xFF, 0xFF, 0xFE],
+    &[0x06, 0x00, 0x00, 0x1B, 0x58],
+    &[0x09, 0x02, 0xAB, 0xCD],
+    &[0x0A, 0x02, b'H', b'I'],
+    &[0x0C, 0x02, 0xC3, 0xA9],
+    &[0x0F, 0xFE],
+    &[0x10, 0xFF, 0xFE],
+    &[0x11, 0x07],
+    &[0x12, 0x1B, 0x58],
+    &[0x14, 0xFF, 0xFF, 0xFF, 0xFF, 0xFF, 0xFF, 0xFF, 0xFE],
+    &[0x15, 0x00, 0x00, 0x00, 0x00, 0x00, 0x00, 0x1B, 0x58],
+    &[0x16, 0x03],
+    &[
+        0x19, 0x07, 0xEA, 0x0B, 0x16, 0x07, 0x0C, 0x1E, 0x00, 0x00, 0x80, 0x00, 0x00,
+    ],
+    &[0x1A, 0x07, 0xEA, 0x0B, 0x16, 0x07],
+    &[0x1B, 0x0C, 0x1E, 0x00, 0x00],
+];
+
+const DATE_TIME: [u8; 12] = [
+    0x07, 0xEA, 0x0B, 0x16, 0x07, 0x0C, 0x1E, 0x00, 0x00, 0x80, 0x00, 0x00,
+];
+
+const DATE: [u8; 5] = [0x07, 0xEA, 0x0B, 0x16, 0x07];
+
+const TIME: [u8; 4] = [0x0C, 0x1E, 0x00, 0x00];
+
+// What the text at that place of the table spells.
+fn value_at(alloc: Global, place: usize) -> Result<Data, AllocError> {
+    Ok(match place {
+        0 => Data::Null,
+        1 => Data::Array(Items::from_vec(vec![in alloc; Data::Unsigned(1), Data::Unsigned(2)]?)),
+        2 => Data::Structure(Items::from_vec(vec![in alloc; Data::Null, Data::Boolean(true)]?)),
+        3 => Data::Boolean(true),
+        4 => Data::BitString {
+            bits: 5,
+            bytes: Octets::from_slice(alloc, &[0xB8])?,
+        },
+        5 => Data::DoubleLong(-2),
+        6 => Data::DoubleLongUnsigned(7000),
+        7 => Data::OctetString(Octets::from_slice(alloc, &[0xAB, 0xCD])?),
+        8 => Data::VisibleString(Octets::from_slice(alloc, b"HI")?),
+        9 => Data::Utf8String(Octets::from_slice(alloc, &[0xC3, 0xA9])?),
+        10 => Data::Integer(-2),
+        11 => Data::Long(-2),
+        12 => Data::Unsigned(7),
+        13 => Data::LongUnsigned(7000),
+        14 => Data::Long64(-2),
+        15 => Data::Long64Unsigned(7000),
+        16 => Data::Enum(3),
+        17 => Data::DateTime(DATE_TIME),
+        18 => Data::Date(DATE),
+        _ => Data::Time(TIME),
+    })
+}
+
+// The calls under test, without their contracts: a test is run for what no clause says, and its own proof then has little to look at.
+fn read_from(alloc: Global, text: &[u8]) -> Result<(Data, usize), DataFault> {
+    read(alloc, text)
+}
+
+fn fault_of(alloc: Global, text: &[u8]) -> Option<DataFault> {
+    read(alloc, text).err()
+}
+
+fn written(alloc: Global, value: &Data) -> Result<Octets, AllocError> {
+    let mut text = Octets::new(alloc);
+    write(alloc, value, &mut text)?;
+    Ok(text)
+}
+
+fn is_fit(value: &Data) -> bool {
+    fits(value)
+}
+
+fn len_of(value: &Data) -> u64 {
+    text_len(value)
+}
+
+// Whether all of the text is read as this value, of which it is the written text.
+fn is_text_of(alloc: Global, text: &[u8], value: &Data) -> Result<bool, DataFault> {
+    let (found, len) = read_from(alloc, text)?;
+    Ok(
+        found == *value
+            && len == text.len()
+            && written(alloc, &found)?.as_slice() == text
+            && len_of(value) == len as u64
+            && is_fit(value),
+    )
+}
+
+// Whether all of the text is read, and written as the other.
+fn is_written_as(alloc: Global, text: &[u8], other: &[u8]) -> Result<bool, DataFault> {
+    let (value, len) = read_from(alloc, text)?;
+    Ok(len == text.len() && written(alloc, &value)?.as_slice() == other)
+}
+
+#[test]
+fn each_tag_is_read_and_written(rt: HostRuntime) -> Result<(), Fail> {
+    for (place, text) in TEXTS.iter().enumerate() {
+        let value = value_at(rt.alloc(), place)?;
+        assert!(rt; is_text_of(rt.alloc(), text, &value)?, "at {place}");
+        assert!(rt; value.try_clone(rt.alloc())? == value, "at {place}");
+    }
+    Ok(())
+}
+
+#[test]
+fn each_part_of_a_text_is_truncated(rt: HostRuntime) {
+    for text in &TEXTS {
+        for len in 0..text.len() {
+            assert!(rt;
+                fault_of(rt.alloc(), &text[..len]) == Some(DataFault::Truncated),
+                "{len} bytes of {text:?}"
+            );
+        }
+    }
+}
+
+#[test]
+fn other_forms_are_read(rt: HostRuntime) -> Result<(), Fail> {
+    assert!(rt;
+        is_written_as(
+            rt.alloc(),
+            &[0x09, 0x82, 0x00, 0x02, 0xAB, 0xCD],
+            &[0x09, 0x02, 0xAB, 0xCD]
+        )?
+    );
+    assert!(rt; is_written_as(rt.alloc(), &[0x03, 0x05], &[0x03, 0x01])?);
+    assert!(rt; is_written_as(rt.alloc(), &[0x04, 0x81, 0x05, 0xBF], &[0x04, 0x05, 0xB8])?);
+    Ok(())
+}
+
+#[test]
+fn bytes_behind_a_value_are_left(rt: HostRuntime) -> Result<(), Fail> {
+    let (value, len) = read_from(rt.alloc(), &[0x16, 0x03, 0x16])?;
+    assert!(rt; value == Data::Enum(3) && len == 2);
+    Ok(())
+}
+
+// Nine structures of one item, one within the other, around a null-data.
+const NINE_DEEP: [u8; 19] = [
+    0x02, 0x01, 0x02, 0x01, 0x02, 0x01, 0x02, 0x01, 0x02, 0x01, 0x02, 0x01, 0x02, 0x01, 0x02, 0x01,
+    0x02, 0x01, 0x00,
+];
+
+const FAULTS: [(&[u8], DataFault); 10] = [
+    (&[0x09, 0x05, 0xAB], DataFault::Truncated),
+    (&[], DataFault::Truncated),
+    (&[0x0D, 0x00], DataFault::UnknownTag),
+    (&[0x01, 0x82, 0x01, 0x00], DataFault::TooLong),
+    (&[0x09, 0x82, 0x20, 0x01], DataFault::TooLong),
+    (&[0x09, 0x80], DataFault::TooLong),
+    (&[0x09, 0x85], DataFault::TooLong),
+    (&[0x02, 0x02, 0x0D], DataFault::UnknownTag),
+    (&[0x02, 0x02, 0x11, 0x07], DataFault::Truncated),
+    (&[0x12, 0x1B], DataFault::Truncated),
+];
+
+#[test]
+fn the_first_fault_is_the_answer(rt: HostRuntime) {
+    for (text, fault) in &FAULTS {
+        assert!(rt;
+            fault_of(rt.alloc(), text) == Some(*fault),
+            "{text:?} is to be {fault:?}"
+        );
+    }
+}
+
+#[test]
+fn depth_is_judged_at_the_ninth_tag(rt: HostRuntime) {
+    for (len, fault) in [
+        (19, DataFault::TooDeep),
+        (18, DataFault::TooDeep),
+        (17, DataFault::TooDeep),
+        (16, DataFault::Truncated),
+    ] {
+        assert!(rt;
+            fault_of(rt.alloc(), NINE_DEEP.get(..len).unwrap_or(&[])) == Some(fault),
+            "{len} bytes"
+        );
+    }
+}
+
+#[test]
+fn the_deepest_value_is_read_and_written(rt: HostRuntime) -> Result<(), Fail> {
+    let text = &NINE_DEEP[2..];
+    let (value, _) = read_from(rt.alloc(), text)?;
+    assert!(rt; is_text_of(rt.alloc(), text, &value)?);
+    let deeper = Data::Structure(Items::from_vec(vec![in rt.alloc(); value]?));
+    assert!(rt; !is_fit(&deeper) && len_of(&deeper) == 19);
+    Ok(())
+}
+
+// A string of so many bytes.
+fn string_of(alloc: Global, len: usize) -> Result<Data, AllocError> {
+    Ok(Data::OctetString(Octets::from_vec(vec![in alloc; 0x5A; len]?)))
+}
+
+// An array of so many null-data.
+fn nulls(alloc: Global, count: usize) -> Result<Data, AllocError> {
+    let mut items = Vec::new(alloc);
+    for _ in 0..count {
+        items.push(Data::Null)?;
+    }
+    Ok(Data::Array(Items::from_vec(items)))
+}
+
+// Whether a value has a text of so many bytes and is read from it again.
+fn is_widest(alloc: Global, value: &Data, len: u64) -> Result<bool, DataFault> {
+    Ok(len_of(value) == len && is_text_of(alloc, written(alloc, value)?.as_slice(), value)?)
+}
+
+// Whether a value has a text of so many bytes, is not fit, and is too long to be read.
+fn is_too_wide(alloc: Global, value: &Data, len: u64) -> Result<bool, AllocError> {
+    let fault = fault_of(alloc, written(alloc, value)?.as_slice());
+    Ok(len_of(value) == len && !is_fit(value) && fault == Some(DataFault::TooLong))
+}
+
+#[test]
+fn the_widest_values_are_read_and_written(rt: HostRuntime) -> Result<(), Fail> {
+    assert!(rt; is_widest(rt.alloc(), &nulls(rt.alloc(), 255)?, 258)?);
+    assert!(rt; is_widest(rt.alloc(), &string_of(rt.alloc(), 8188)?, 8192)?);
+    assert!(rt; is_too_wide(rt.alloc(), &nulls(rt.alloc(), 256)?, 260)?);
+    assert!(rt; is_too_wide(rt.alloc(), &string_of(rt.alloc(), 8189)?, 8193)?);
+    Ok(())
+}
+
+// Whether a bit-string of so many bits in one byte fits.
+fn bits_fit(alloc: Global, bits: usize, byte: u8) -> Result<bool, AllocError> {
+    let bytes = Octets::from_slice(alloc, &[byte])?;
+    Ok(is_fit(&Data::BitString { bits, bytes }))
+}
+
+#[test]
+fn bit_strings_that_are_not_whole_do_not_fit(rt: HostRuntime) -> Result<(), Fail> {
+    assert!(rt; bits_fit(rt.alloc(), 5, 0xB8)? && bits_fit(rt.alloc(), 8, 0xFF)?);
+    assert!(rt; !bits_fit(rt.alloc(), 9, 0xB8)? && !bits_fit(rt.alloc(), 0, 0x00)?);
+    assert!(rt; !bits_fit(rt.alloc(), 5, 0xB9)?);
+    Ok(())
+}
+
+#[test]
+fn accessors_give_numbers(rt: HostRuntime) {
+    assert_eq!(rt; Data::Boolean(true).boolean(), Some(true));
+    assert_eq!(rt;
+        Data::DoubleLongUnsigned(7000).double_long_unsigned(),
+        Some(7000)
+    );
+    assert_eq!(rt; Data::LongUnsigned(7000).long_unsigned(), Some(7000));
+    assert_eq!(rt; Data::Unsigned(7).unsigned(), Some(7));
+    assert_eq!(rt; Data::Enum(3).enumerated(), Some(3));
+    assert_eq!(rt; Data::Integer(-2).integer(), Some(-2));
+}
+
+#[test]
+fn accessors_give_bytes(rt: HostRuntime) -> Result<(), Fail> {
+    assert!(rt; value_at(rt.alloc(), 7)?.octets() == Some([0xAB, 0xCD].as_slice()));
+    assert!(rt; Data::DateTime(DATE_TIME).date_time() == Some(DATE_TIME.as_slice()));
+    assert!(rt; Data::Date(DATE).date() == Some(DATE.as_slice()));
+    assert!(rt; Data::Time(TIME).time() == Some(TIME.as_slice()));
+    Ok(())
+}
+
+#[test]
+fn accessors_give_items(rt: HostRuntime) -> Result<(), Fail> {
+    let array = value_at(rt.alloc(), 1)?;
+    assert!(rt; array.array().is_some_and(|items| items.len() == 2) && array.structure().is_none());
+    let structure = value_at(rt.alloc(), 2)?;
+    assert!(rt;
+        structure.structure().is_some_and(|items| items.len() == 2) && structure.array().is_none()
+    );
+    Ok(())
+}
+
+#[test]
+fn values_are_equal_to_themselves_alone(rt: HostRuntime) -> Result<(), Fail> {
+    for a in 0..20 {
+        for b in 0..20 {
+            let same = value_at(rt.alloc(), a)? == value_at(rt.alloc(), b)?;
+            assert!(rt; same == (a == b), "{a} and {b}");
+        }
+    }
+    Ok(())
+}
+
+#[test]
+fn items_keep_what_is_put_in(rt: HostRuntime) -> Result<(), Fail> {
+    let items = Items::from_vec(vec![in rt.alloc(); Data::Null, Data::Unsigned(7)]?);
+    assert!(rt; !items.is_empty() && items.len() == 2 && items.as_slice().len() == 2);
+    assert_eq!(rt; items.into_vec().len(), 2);
+    Ok(())
+}
+
+#[test]
+fn octets_keep_what_is_put_in(rt: HostRuntime) -> Result<(), Fail> {
+    let mut octets = Octets::new(rt.alloc());
+    octets.push(0xAB)?;
+    octets.extend_from_slice(&[0xCD, 0xEF])?;
+    assert!(rt; !octets.is_empty() && octets.len() == 3);
+    let copy = octets.try_clone(rt.alloc())?;
+    assert!(rt; copy == octets);
+    assert!(rt; copy.into_vec().as_slice() == [0xAB, 0xCD, 0xEF].as_slice());
+    Ok(())
+}
+
+#[test]
+fn the_laws_can_be_called() {
+    no_spelling_begins_another();
+    text_of_fit_spells();
+}

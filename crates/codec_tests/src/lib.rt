@@ -1,0 +1,11 @@
+//! Tests of `cosem_axdr`, `acse_ber` and `xdlms_apdu`: texts of the standard, read and written.
+//!
+//! They stand apart from what they test, since a check of tests proves anew all that stands in their crate.
+#![tactic(auto)]
+
+#[cfg(test)]
+mod acse;
+#[cfg(test)]
+mod apdu;
+#[cfg(test)]
+mod axdr;

@@ -1,0 +1,146 @@
+//! What the tests share: names, events, and short ways to give them to a core. What the tables and the limiter's rules give for long lists of events is played by the
+//! trace player (tests/core_rows.py of the repository), which costs no proof.
+
+mod advance;
+mod opening;
+mod running;
+mod scan;
+
+use cosem_axdr::{Data, Octets, read as read_data};
+use cosem_names::{AttrRef, ClassId, Level, MethodRef, Obis};
+use lane_sampler::Block;
+use relay_core::{Event, Events, LimiterOpening, Lines, Opening, Parts, RelayCore, Reply, run};
+use std::alloc::{AllocError, Global};
+
+const DISCONNECT_CONTROL: Obis = Obis([0, 0, 96, 3, 10, 255]);
+
+const SCRIPT_TABLE: Obis = Obis([0, 0, 10, 0, 106, 255]);
+
+const IMPORT_LIMITER: Obis = Obis([0, 0, 17, 0, 0, 255]);
+
+const EXPORT_LIMITER: Obis = Obis([0, 1, 17, 0, 0, 255]);
+
+/// Actions of a limiter: script 1 at the upper side, none at the lower.
+const OVER_1: &[u8] = b"\x02\x02\x02\x02\x09\x06\x00\x00\x0A\x00\x6A\xFF\x12\x00\x01\
+    \x02\x02\x09\x06\x00\x00\x0A\x00\x6A\xFF\x12\x00\x00";
+
+/// An attribute by its class, its object's name and its number.
+type Place = (u16, Obis, u8);
+
+const MODE: Place = (70, DISCONNECT_CONTROL, 4);
+
+const SCRIPTS: Place = (9, SCRIPT_TABLE, 2);
+
+fn new_core(alloc: Global) -> Result<RelayCore, AllocError> {
+    RelayCore::new(alloc, &Octets::from_slice(alloc, b"A")?)
+}
+
+fn attribute_at(place: Place) -> AttrRef {
+    AttrRef {
+        class: ClassId(place.0),
+        name: place.1,
+        number: place.2,
+    }
+}
+
+/// The Data that bytes spell.
+fn data(alloc: Global, bytes: &[u8]) -> Result<Data, AllocError> {
+    match read_data(alloc, bytes) {
+        Ok((value, _)) => Ok(value),
+        Err(_) => Err(AllocError),
+    }
+}
+
+/// A management client's write of a value.
+fn set(place: Place, value: Data) -> Event {
+    Event::Set {
+        level: Level::Management,
+        attr: attribute_at(place),
+        selected: false,
+        value,
+    }
+}
+
+/// A management client's write of what bytes spell.
+fn written(alloc: Global, place: Place, bytes: &[u8]) -> Result<Event, AllocError> {
+    Ok(set(place, data(alloc, bytes)?))
+}
+
+/// A management client's execution of a method of the switch, without a parameter.
+fn execute(number: u8) -> Event {
+    Event::Execute {
+        level: Level::Management,
+        method: MethodRef {
+            class: ClassId(70),
+            name: DISCONNECT_CONTROL,
+            number,
+        },
+        parameter: None,
+    }
+}
+
+/// The code of a reply, or 255 where it has none.
+fn code(reply: &Reply) -> u8 {
+    match reply {
+        Reply::Code(code) => code.code(),
+        _ => 255,
+    }
+}
+
+/// Whether a core takes a write of what bytes spell with success.
+fn takes(
+    core: &mut RelayCore,
+    alloc: Global,
+    place: Place,
+    bytes: &[u8],
+) -> Result<bool, AllocError> {
+    let event = written(alloc, place, bytes)?;
+    let reply = core.step(alloc, &event)?;
+    Ok(code(&reply) == 0)
+}
+
+/// Whether it takes all of these.
+fn takes_all(
+    core: &mut RelayCore,
+    alloc: Global,
+    writes: &[(Place, &[u8])],
+) -> Result<bool, AllocError> {
+    for (place, bytes) in writes {
+        if !takes(core, alloc, *place, bytes)? {
+            return Ok(false);
+        }
+    }
+    Ok(true)
+}
+
+/// What a new core is led through.
+#[derive(Clone, Copy)]
+enum Scenario {
+    /// Events are taken without a reply.
+    Advancing,
+    /// A core that was set is written down, and opened again.
+    WritingDown,
+    /// A run in mode 1.
+    Running,
+    /// A list is read.
+    ListReading,
+    /// A firing raises the threshold within a block, scanned at this threshold if there is one.
+    Firing(Option<u32>),
+}
+
+/// Whether a core does as a scenario wants.
+fn does(core: &mut RelayCore, alloc: Global, scenario: Scenario) -> Result<bool, AllocError> {
+    match scenario {
+        Scenario::Advancing => advance::advances(core, alloc),
+        Scenario::WritingDown => opening::is_told(core, alloc),
+        Scenario::Running => running::runs_in_mode_1(core, alloc),
+        Scenario::ListReading => running::reads_a_list(core, alloc),
+        Scenario::Firing(scan) => scan::fires_with(core, alloc, scan),
+    }
+}
+
+/// Whether a new core does so. It is let go here alone: that it may be is long to prove.
+fn is_done(alloc: Global, scenario: Scenario) -> Result<bool, AllocError> {
+    let mut core = new_core(alloc)?;
+    does(&mut core, alloc, scenario)
+}

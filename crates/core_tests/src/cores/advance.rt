@@ -1,0 +1,83 @@
+use super::*;
+use std::test::Fail;
+
+/// Script 3: mode 0 is written, and the supply is disconnected.
+const MODE_0_AND_DISCONNECT: &[u8] = b"\x01\x01\x02\x02\x12\x00\x03\x01\x02\
+    \x02\x05\x16\x01\x12\x00\x46\x09\x06\x00\x00\x60\x03\x0A\xFF\x0F\x04\x16\x00\
+    \x02\x05\x16\x02\x12\x00\x46\x09\x06\x00\x00\x60\x03\x0A\xFF\x0F\x01\x0F\x00";
+
+/// How many steps the script of this identifier has, of scripts that are moved in.
+fn steps_of(parts: &Parts, identifier: u16) -> Option<u8> {
+    match parts {
+        Parts::Scripts(scripts) => scripts.step_count(identifier),
+        _ => None,
+    }
+}
+
+/// Whether script 3 of what the event moves in has two steps, and there is no script 1.
+fn moves_script_3(alloc: Global, event: &Event) -> Result<bool, AllocError> {
+    let parts = RelayCore::parts(alloc, event)?;
+    Ok(steps_of(&parts, 3) == Some(2) && steps_of(&parts, 1) == None)
+}
+
+fn is_moved(alloc: Global) -> Result<bool, AllocError> {
+    let event = written(alloc, SCRIPTS, MODE_0_AND_DISCONNECT)?;
+    moves_script_3(alloc, &event)
+}
+
+fn is_plain(alloc: Global, event: &Event) -> Result<bool, AllocError> {
+    let parts = RelayCore::parts(alloc, event)?;
+    Ok(matches!(parts, Parts::Plain))
+}
+
+#[test]
+fn written_scripts_are_moved_in(rt: HostRuntime) -> Result<(), Fail> {
+    assert!(rt; is_moved(rt.alloc())?);
+    assert!(rt; is_plain(rt.alloc(), &Event::Button)?);
+    Ok(())
+}
+
+/// Takes a copy of an event with its parts read apart, and without a reply.
+fn advance(core: &mut RelayCore, alloc: Global, event: &Event) -> Result<(), AllocError> {
+    let copy = event.try_copy(alloc)?;
+    let parts = RelayCore::parts(alloc, &copy)?;
+    core.advance(&copy, parts);
+    Ok(())
+}
+
+fn advance_write(core: &mut RelayCore, alloc: Global, bytes: &[u8]) -> Result<(), AllocError> {
+    let event = written(alloc, MODE, bytes)?;
+    advance(core, alloc, &event)
+}
+
+/// In mode 1 a moment comes, and the supply is disconnected.
+fn advance_to_disconnected(core: &mut RelayCore, alloc: Global) -> Result<(), AllocError> {
+    advance_write(core, alloc, &[0x16, 1])?;
+    advance(core, alloc, &Event::Moment(5))?;
+    advance(core, alloc, &execute(1))
+}
+
+fn is_disconnected(core: &RelayCore) -> bool {
+    core.state().number() == 0
+        && core.mode().number() == 1
+        && !core.output()
+        && core.last_moment() == Some(5)
+}
+
+/// Whether a copy is in the same state.
+fn is_copied(core: &RelayCore, alloc: Global) -> Result<bool, AllocError> {
+    let copy = core.try_copy(alloc)?;
+    Ok(is_disconnected(&copy))
+}
+
+/// Whether a core comes to that state, and a copy is in it too.
+pub(super) fn advances(core: &mut RelayCore, alloc: Global) -> Result<bool, AllocError> {
+    advance_to_disconnected(core, alloc)?;
+    Ok(is_disconnected(core) && is_copied(core, alloc)?)
+}
+
+#[test]
+fn an_event_without_a_reply_does_the_same(rt: HostRuntime) -> Result<(), Fail> {
+    assert!(rt; is_done(rt.alloc(), Scenario::Advancing)?);
+    Ok(())
+}

@@ -1,0 +1,88 @@
+use super::*;
+use cosem_names::Which;
+use disconnect_control::{ControlMode, ControlState};
+use limiter_core::Count;
+use std::test::Fail;
+
+/// The switch in mode 5, limiters with thresholds, and a group of the export limiter.
+const SETTINGS: &[(Place, &[u8])] = &[
+    (MODE, &[0x16, 5]),
+    ((71, IMPORT_LIMITER, 4), b"\x06\x00\x00\x13\x88"),
+    ((71, IMPORT_LIMITER, 6), b"\x06\x00\x00\x00\x01"),
+    ((71, EXPORT_LIMITER, 4), b"\x06\x00\x00\x23\x28"),
+    ((71, EXPORT_LIMITER, 6), b"\x06\x00\x00\x00\x04"),
+    ((71, EXPORT_LIMITER, 9), b"\x01\x01\x12\x00\x07"),
+];
+
+/// Moment 50 comes, and three pairs of 5001 and 9001 W.
+fn pass(core: &mut RelayCore, alloc: Global) -> Result<(), AllocError> {
+    let _ran = core.step(alloc, &Event::Moment(50))?;
+    let pairs = Block::from_pairs(alloc, &[5001; 3], &[9001; 3]).map_err(|_| AllocError)?;
+    let _sampled = core.step(alloc, &Event::Samples(pairs))?;
+    Ok(())
+}
+
+fn is_set_limiter(limiter: &LimiterOpening, value: u32, threshold: u32) -> bool {
+    limiter.value == value
+        && limiter.normal_threshold == threshold
+        && limiter.over
+            == Count {
+                run: 3,
+                fired: false,
+            }
+        && limiter.under
+            == Count {
+                run: 0,
+                fired: false,
+            }
+}
+
+fn is_set(opening: &Opening) -> bool {
+    opening.device.as_slice() == b"A".as_slice()
+        && opening.state == ControlState::Connected
+        && opening.mode == ControlMode::Mode5
+        && opening.moment == Some(50)
+        && is_set_limiter(&opening.import, 5001, 5000)
+        && is_set_limiter(&opening.export, 9001, 9000)
+        && opening.export.groups.as_slice() == [7].as_slice()
+}
+
+fn tells(core: &RelayCore, alloc: Global) -> Result<bool, AllocError> {
+    let opening = core.to_opening(alloc)?;
+    Ok(is_set(&opening))
+}
+
+/// Whether a core has these last samples, and tells so.
+fn is_the_same(core: &RelayCore, alloc: Global) -> Result<bool, AllocError> {
+    Ok(core.value() == 5001 && core.value_of(Which::Export) == 9001 && tells(core, alloc)?)
+}
+
+/// Whether a core of an opening is the same.
+fn is_opened_again(alloc: Global, opening: &Opening) -> Result<bool, AllocError> {
+    match RelayCore::from_opening(alloc, opening) {
+        Ok(core) => is_the_same(&core, alloc),
+        Err(_) => Err(AllocError),
+    }
+}
+
+fn is_written_down(core: &RelayCore, alloc: Global) -> Result<bool, AllocError> {
+    let opening = core.to_opening(alloc)?;
+    is_opened_again(alloc, &opening)
+}
+
+pub(super) fn is_told(core: &mut RelayCore, alloc: Global) -> Result<bool, AllocError> {
+    let taken = takes_all(core, alloc, SETTINGS)?;
+    pass(core, alloc)?;
+    Ok(
+        taken
+            && core.threshold_of(Which::Export) == 9000
+            && tells(core, alloc)?
+            && is_written_down(core, alloc)?,
+    )
+}
+
+#[test]
+fn a_core_that_was_written_down_is_the_same(rt: HostRuntime) -> Result<(), Fail> {
+    assert!(rt; is_done(rt.alloc(), Scenario::WritingDown)?);
+    Ok(())
+}

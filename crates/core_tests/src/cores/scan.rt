@@ -1,0 +1,54 @@
+//! What a block brings of scans changes nothing.
+
+use super::*;
+use std::test::Fail;
+
+/// Script 1: 9000 is written to threshold_normal of the import limiter.
+const RAISE_IMPORT: &[u8] = b"\x01\x01\x02\x02\x12\x00\x01\x01\x01\
+    \x02\x05\x16\x01\x12\x00\x47\x09\x06\x00\x00\x11\x00\x00\xFF\x0F\x04\x06\x00\x00\x23\x28";
+
+/// 5000 W.
+const W5000: &[u8] = b"\x06\x00\x00\x13\x88";
+
+/// Four seconds over 5000 W raise the threshold of the import limiter to 9000 W; five seconds under it count.
+const RAISES: &[(Place, &[u8])] = &[
+    (SCRIPTS, RAISE_IMPORT),
+    ((71, IMPORT_LIMITER, 4), W5000),
+    ((71, IMPORT_LIMITER, 6), b"\x06\x00\x00\x00\x04"),
+    ((71, IMPORT_LIMITER, 7), b"\x06\x00\x00\x00\x05"),
+    ((71, IMPORT_LIMITER, 11), OVER_1),
+];
+
+/// A block of 256 import values of 6000 W, scanned at this threshold if there is one.
+fn block_of(alloc: Global, scan: Option<u32>) -> Result<Block, AllocError> {
+    let values = [6000; 256];
+    let mut block = Block::from_slice(alloc, values.as_slice()).map_err(|_| AllocError)?;
+    if let Some(threshold) = scan {
+        block.scan(threshold, 5000);
+    }
+    Ok(block)
+}
+
+/// Whether each side fires once: the upper at the 40th sample, and the lower at the 50th after it.
+fn fires_twice(core: &mut RelayCore, alloc: Global, scan: Option<u32>) -> Result<bool, AllocError> {
+    let event = Event::Samples(block_of(alloc, scan)?);
+    let reply = core.step(alloc, &event)?;
+    Ok(matches!(reply, Reply::Sampled { over: 1, under: 1 }) && core.threshold() == 9000)
+}
+
+/// Whether it does so once it is set.
+pub(super) fn fires_with(
+    core: &mut RelayCore,
+    alloc: Global,
+    scan: Option<u32>,
+) -> Result<bool, AllocError> {
+    Ok(takes_all(core, alloc, RAISES)? && fires_twice(core, alloc, scan)?)
+}
+
+#[test]
+fn a_firing_raises_the_threshold_within_a_block(rt: HostRuntime) -> Result<(), Fail> {
+    assert!(rt; is_done(rt.alloc(), Scenario::Firing(None))?);
+    assert!(rt; is_done(rt.alloc(), Scenario::Firing(Some(5000)))?);
+    assert!(rt; is_done(rt.alloc(), Scenario::Firing(Some(4000)))?);
+    Ok(())
+}

@@ -1,0 +1,119 @@
+//! What a recorder writes down plays to the replies that it gave.
+use crate::recorders::{Scenario, code, code_of, disconnect, with_recorder, write_mode_1};
+use cosem_names::{ClassId, Level, MethodRef, Obis};
+use relay_core::{Event, Events, Line, RelayCore, run};
+use relay_recorder::{Recorder, Trace};
+use std::alloc::{AllocError, Global};
+use std::process::Abort;
+use std::test::Fail;
+
+/// A management client's reconnect.
+fn reconnect() -> Event {
+    Event::Execute {
+        level: Level::Management,
+        method: MethodRef {
+            class: ClassId(70),
+            name: Obis([0, 0, 96, 3, 10, 255]),
+            number: 2,
+        },
+        parameter: None,
+    }
+}
+
+/// Events of each kind in turn.
+fn event_at(i: u32) -> Event {
+    match i % 5 {
+        0 => write_mode_1(),
+        1 => disconnect(),
+        2 => reconnect(),
+        3 => Event::Button,
+        _ => Event::Moment(i),
+    }
+}
+
+/// Lets a recorder take so many events, and keeps the codes of its replies.
+fn take_events(
+    recorder: &mut Recorder,
+    alloc: Global,
+    count: u32,
+    codes: &mut Vec<u8>,
+) -> Result<(), AllocError> {
+    for i in 0..count {
+        codes.push(code_of(recorder, alloc, event_at(i))?)?;
+    }
+    Ok(())
+}
+
+/// The codes of a run's replies.
+fn codes_of(alloc: Global, lines: &[Line]) -> Result<Vec<u8>, AllocError> {
+    let mut codes = Vec::new(alloc);
+    for line in lines {
+        codes.push(code(&line.reply))?;
+    }
+    Ok(codes)
+}
+
+/// The codes of the replies when a core takes these events.
+fn run_codes(core: &mut RelayCore, alloc: Global, events: &Events) -> Result<Vec<u8>, AllocError> {
+    match run(core, alloc, events) {
+        Ok(lines) => codes_of(alloc, lines.as_slice()),
+        Err(_) => Err(AllocError),
+    }
+}
+
+/// The codes of the replies when a trace's events are taken from its opening on.
+fn played_codes(alloc: Global, trace: &Trace) -> Result<Vec<u8>, AllocError> {
+    match RelayCore::from_opening(alloc, &trace.opening) {
+        Ok(mut core) => run_codes(&mut core, alloc, &trace.events),
+        Err(_) => Err(AllocError),
+    }
+}
+
+/// Whether a trace of so many events plays to the last of these codes.
+fn trace_plays_to(
+    alloc: Global,
+    trace: &Trace,
+    count: u16,
+    codes: &[u8],
+) -> Result<bool, AllocError> {
+    let last = played_codes(alloc, trace)?;
+    Ok(last.len() == usize::from(count) && codes.ends_with(last.as_slice()))
+}
+
+/// Whether the run of a recorder's export ends in the last of these codes, one for each kept event.
+fn plays_to(alloc: Global, recorder: &Recorder, codes: &[u8]) -> Result<bool, AllocError> {
+    let trace = recorder.export(alloc)?;
+    trace_plays_to(alloc, &trace, recorder.count(), codes)
+}
+
+/// The export of a recorder, pushed around by so many events, plays to the replies that it gave.
+pub(crate) fn plays_again(
+    rt: &impl Abort,
+    recorder: &mut Recorder,
+    alloc: Global,
+    count: u32,
+) -> Result<(), AllocError> {
+    let mut codes = Vec::new(alloc);
+    take_events(recorder, alloc, count, &mut codes)?;
+    assert!(rt; plays_to(alloc, recorder, codes.as_slice())?);
+    Ok(())
+}
+
+#[test]
+fn an_export_of_one_event_plays_again(rt: HostRuntime) -> Result<(), Fail> {
+    with_recorder(&rt, rt.alloc(), 1, Scenario::Export { count: 4 })?;
+    Ok(())
+}
+
+#[test]
+fn an_export_of_1024_events_plays_again(rt: HostRuntime) -> Result<(), Fail> {
+    with_recorder(&rt, rt.alloc(), 1024, Scenario::Export { count: 3077 })?;
+    Ok(())
+}
+
+#[test]
+fn an_export_of_a_part_plays_again(rt: HostRuntime) -> Result<(), Fail> {
+    with_recorder(&rt, rt.alloc(), 7, Scenario::Export { count: 24 })?;
+    with_recorder(&rt, rt.alloc(), 7, Scenario::Export { count: 3 })?;
+    Ok(())
+}

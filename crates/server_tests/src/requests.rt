@@ -1,0 +1,135 @@
+use cosem_axdr::Octets;
+use meter_server::answer_apdu;
+use relay_core::RelayCore;
+use std::alloc::{AllocError, Global};
+use std::process::Abort;
+use std::test::Fail;
+
+fn new_core(rt: &impl Abort, alloc: Global) -> Result<RelayCore, AllocError> {
+    let device = Octets::from_slice(alloc, b"RELAY1")?;
+    assert!(rt; device.len() == 6);
+    RelayCore::new(alloc, &device)
+}
+
+/// Asks for the request of the first text, and wants the answer of the second. Both are hexadecimal.
+fn ask(
+    rt: &impl Abort,
+    alloc: Global,
+    core: &mut RelayCore,
+    pair: (&str, &str),
+) -> Result<(), Fail> {
+    let request = hex::decode(alloc, pair.0)?;
+    let expected = hex::decode(alloc, pair.1)?;
+    let answer = answer_apdu(core, alloc, request.as_slice())?;
+    assert!(rt; answer.as_slice() == expected.as_slice(), "to {}", pair.0);
+    Ok(())
+}
+
+/// Asks one core for all requests, in order.
+fn ask_all(rt: &impl Abort, alloc: Global, pairs: &[(&str, &str)]) -> Result<(), Fail> {
+    let mut core = new_core(rt, alloc)?;
+    for pair in pairs {
+        ask(rt, alloc, &mut core, *pair)?;
+    }
+    Ok(())
+}
+
+#[test]
+fn attributes_are_read(rt: HostRuntime) -> Result<(), Fail> {
+    ask_all(
+        &rt,
+        rt.alloc(),
+        &[
+            ("C001C10046000060030AFF0300", "C401C1001601"),
+            ("C001C10046000060030AFF0200", "C401C1000301"),
+            ("C001C10046000060030AFF0100", "C401C1000906000060030AFF"),
+            ("C001C1000100002A0000FF0200", "C401C100090652454C415931"),
+            ("C00105000100002A0000FF0200", "C4010500090652454C415931"),
+        ],
+    )
+}
+
+#[test]
+fn reads_are_refused_in_their_order(rt: HostRuntime) -> Result<(), Fail> {
+    ask_all(
+        &rt,
+        rt.alloc(),
+        &[
+            ("C001C10046000060030BFF0200", "C401C10104"),
+            ("C001C10047000060030AFF0200", "C401C10109"),
+            ("C001C10046000060030AFF0500", "C401C10103"),
+            ("C001C10046000060030AFF03010100", "C401C1010D"),
+        ],
+    )
+}
+
+#[test]
+fn the_mode_is_written(rt: HostRuntime) -> Result<(), Fail> {
+    ask_all(
+        &rt,
+        rt.alloc(),
+        &[
+            ("C101C10046000060030AFF04001102", "C501C10C"),
+            ("C101C10046000060030AFF04001607", "C501C1FA"),
+            ("C101C10046000060030AFF04001602", "C501C100"),
+            ("C001C10046000060030AFF0400", "C401C1001602"),
+        ],
+    )
+}
+
+#[test]
+fn a_client_disconnects_and_reconnects(rt: HostRuntime) -> Result<(), Fail> {
+    ask_all(
+        &rt,
+        rt.alloc(),
+        &[
+            ("C301C10046000060030AFF0100", "C701C10200"),
+            ("C101C10046000060030AFF04001602", "C501C100"),
+            ("C301C10046000060030AFF01010F00", "C701C10000"),
+            ("C001C10046000060030AFF0300", "C401C1001600"),
+            ("C101C10046000060030AFF04001600", "C501C102"),
+            ("C301C10046000060030AFF0200", "C701C10000"),
+            ("C001C10046000060030AFF0300", "C401C1001601"),
+        ],
+    )
+}
+
+#[test]
+fn what_is_no_request_has_an_exception(rt: HostRuntime) -> Result<(), Fail> {
+    ask_all(
+        &rt,
+        rt.alloc(),
+        &[
+            ("", "D80202"),
+            ("CA", "D80202"),
+            ("60", "D80202"),
+            ("62", "D80202"),
+            ("C0", "D80103"),
+            ("C1", "D80103"),
+            ("C3", "D80103"),
+            ("C002C100000001", "D80202"),
+            ("C00200", "D80202"),
+            ("C102C1", "D80202"),
+            ("C304C1", "D80202"),
+            ("C0FF", "D80202"),
+            ("C001C10046000060030AFF0300FF", "D80103"),
+            ("C101C10046000060030AFF040016", "D80103"),
+        ],
+    )
+}
+
+#[test]
+fn a_list_is_read(rt: HostRuntime) -> Result<(), Fail> {
+    ask_all(
+        &rt,
+        rt.alloc(),
+        &[
+            (
+                "C003C1020046000060030AFF03000046000060030BFF0300",
+                "C403C1020016010104",
+            ),
+            ("C003C100", "C403C100"),
+            ("C003C101", "D80103"),
+        ],
+    )
+}

@@ -1,0 +1,387 @@
+//! Lines of a trace, and the events and replies that they stand for.
+use cosem_axdr::Data;
+use cosem_names::{
+    AttrRef, AttributeSelection, ClassId, GetResult, Level, MethodRef, Obis, ResultCode,
+};
+use disconnect_control::ControlState;
+use lane_sampler::Block;
+use listed::Listed;
+use relay_core::{Event, Line, Reply};
+use std::alloc::Global;
+use std::test::Fail;
+use trace_lines::{RowFault, Version, read_event, write_event, write_line};
+use trace_text::Lines;
+
+// 0.0.96.3.10.255, the disconnect control.
+const CONTROL: Obis = Obis([0, 0, 0x60, 3, 0x0A, 0xFF]);
+
+// 0.0.96.3.11.255, which is no object.
+const NO_OBJECT: Obis = Obis([0, 0, 0x60, 3, 0x0B, 0xFF]);
+
+fn attribute(name: Obis, number: u8) -> AttrRef {
+    AttrRef {
+        class: ClassId(70),
+        name,
+        number,
+    }
+}
+
+// A read of the disconnect control's state by a public client.
+fn get_state() -> Event {
+    Event::Get {
+        level: Level::Public,
+        attr: attribute(CONTROL, 2),
+        selected: false,
+    }
+}
+
+// A write of the disconnect control's mode.
+fn set_mode(mode: u8) -> Event {
+    Event::Set {
+        level: Level::Management,
+        attr: attribute(CONTROL, 4),
+        selected: false,
+        value: Data::Enum(mode),
+    }
+}
+
+// A call of a method of the disconnect control.
+fn execute(number: u8, parameter: Option<Data>) -> Event {
+    let method = MethodRef {
+        class: ClassId(70),
+        name: CONTROL,
+        number,
+    };
+    Event::Execute {
+        level: Level::Management,
+        method,
+        parameter,
+    }
+}
+
+// A read of two attributes, of the second a part.
+fn get_two(alloc: Global) -> Result<Event, Fail> {
+    let mut items = Vec::new(alloc);
+    items.push(AttributeSelection {
+        attr: attribute(CONTROL, 3),
+        selected: false,
+    })?;
+    items.push(AttributeSelection {
+        attr: attribute(NO_OBJECT, 3),
+        selected: true,
+    })?;
+    Ok(Event::GetList {
+        level: Level::Management,
+        items: Listed::from_vec(items),
+    })
+}
+
+// Whether an event is written as this line.
+fn is_written(alloc: Global, event: Event, line: &[u8]) -> Result<bool, Fail> {
+    let mut out = Vec::new(alloc);
+    write_event(alloc, &mut out, &event)?;
+    Ok(out.as_slice() == line)
+}
+
+// Whether samples are written as this line.
+fn are_samples(alloc: Global, values: &[u32], line: &[u8]) -> Result<bool, Fail> {
+    match Block::from_slice(alloc, values) {
+        Ok(block) => is_written(alloc, Event::Samples(block), line),
+        Err(_) => Ok(false),
+    }
+}
+
+// Whether pairs of samples are written as this line.
+fn are_pairs(alloc: Global, imports: &[u32], exports: &[u32], line: &[u8]) -> Result<bool, Fail> {
+    match Block::from_pairs(alloc, imports, exports) {
+        Ok(block) => is_written(alloc, Event::Samples(block), line),
+        Err(_) => Ok(false),
+    }
+}
+
+// Whether a line is read, and the event written as the same line.
+fn is_read_again(alloc: Global, version: Version, line: &[u8]) -> Result<bool, Fail> {
+    match read_event(alloc, version, line) {
+        Ok(event) => is_written(alloc, event, line),
+        Err(_) => Ok(false),
+    }
+}
+
+// Whether this holds of each line of a text.
+fn are_read_again(alloc: Global, version: Version, text: &[u8]) -> Result<bool, Fail> {
+    for line in Lines::new(text) {
+        if !is_read_again(alloc, version, line)? {
+            return Ok(false);
+        }
+    }
+    Ok(true)
+}
+
+// Whether a line is that of no event.
+fn is_wrong(alloc: Global, version: Version, line: &[u8]) -> bool {
+    matches!(read_event(alloc, version, line), Err(RowFault::Wrong))
+}
+
+// Whether this holds of each line of a text.
+fn are_wrong(alloc: Global, version: Version, text: &[u8]) -> bool {
+    for line in Lines::new(text) {
+        if !is_wrong(alloc, version, line) {
+            return false;
+        }
+    }
+    true
+}
+
+// A line of so many samples of 5.
+fn samples_line(alloc: Global, count: usize) -> Result<Vec<u8>, Fail> {
+    let mut line = Vec::from_slice(alloc, b"samples")?;
+    for _ in 0..count {
+        line.extend_from_slice(b" 5")?;
+    }
+    Ok(line)
+}
+
+// Whether a line of so many samples is read.
+fn is_read_with(alloc: Global, count: usize) -> Result<bool, Fail> {
+    let line = samples_line(alloc, count)?;
+    is_read_again(alloc, Version::Two, line.as_slice())
+}
+
+// Whether this is the line of a reply, with the switch as told.
+fn is_line(
+    alloc: Global,
+    number: u64,
+    reply: Reply,
+    state: ControlState,
+    output: bool,
+    text: &[u8],
+) -> Result<bool, Fail> {
+    let line = Line {
+        reply,
+        state,
+        output,
+    };
+    let mut out = Vec::new(alloc);
+    write_line(alloc, &mut out, number, &line)?;
+    Ok(out.as_slice() == text)
+}
+
+// Whether this is the line of a reply, the switch connected.
+fn is_line_on(alloc: Global, number: u64, reply: Reply, text: &[u8]) -> Result<bool, Fail> {
+    is_line(alloc, number, reply, ControlState::Connected, true, text)
+}
+
+// What a read of two attributes gives, of which the second is not there.
+fn two_values(alloc: Global) -> Result<Reply, Fail> {
+    let mut items = Vec::new(alloc);
+    items.push(GetResult::Value(Data::Enum(1)))?;
+    items.push(GetResult::Code(ResultCode::ObjectUndefined))?;
+    Ok(Reply::Values(Listed::from_vec(items)))
+}
+
+#[test]
+fn calls_are_written(rt: HostRuntime) -> Result<(), Fail> {
+    let alloc = rt.alloc();
+    assert!(rt; is_written(alloc, set_mode(1), b"set 1 70 000060030AFF 4 0 1601")?);
+    assert!(rt; is_written(alloc, get_state(), b"get 16 70 000060030AFF 2 0")?);
+    Ok(())
+}
+
+#[test]
+fn calls_of_methods_are_written(rt: HostRuntime) -> Result<(), Fail> {
+    let alloc = rt.alloc();
+    let disconnect = execute(1, Some(Data::Integer(0)));
+    assert!(rt; is_written(alloc, disconnect, b"execute 1 70 000060030AFF 1 0F00")?);
+    assert!(rt; is_written(alloc, execute(2, None), b"execute 1 70 000060030AFF 2 -")?);
+    Ok(())
+}
+
+#[test]
+fn a_list_is_written(rt: HostRuntime) -> Result<(), Fail> {
+    let alloc = rt.alloc();
+    let line = b"getlist 1 2 70 000060030AFF 3 0 70 000060030BFF 3 1";
+    assert!(rt; is_written(alloc, get_two(alloc)?, line)?);
+    Ok(())
+}
+
+#[test]
+fn what_comes_by_itself_is_written(rt: HostRuntime) -> Result<(), Fail> {
+    let alloc = rt.alloc();
+    assert!(rt; is_written(alloc, Event::Button, b"button")?);
+    assert!(rt; is_written(alloc, Event::Moment(5), b"moment 5")?);
+    assert!(rt; are_samples(alloc, &[10, 20], b"samples 10 20")?);
+    assert!(rt;
+        are_pairs(
+            alloc,
+            &[0, 60],
+            &[51, 4_294_967_295],
+            b"pairs 0 51 60 4294967295"
+        )?
+    );
+    Ok(())
+}
+
+#[test]
+fn calls_are_read(rt: HostRuntime) -> Result<(), Fail> {
+    let alloc = rt.alloc();
+    let calls = b"set 1 70 000060030AFF 4 0 1601\n\
+          execute 1 70 000060030AFF 1 0F00\n\
+          execute 1 70 000060030AFF 2 -\n\
+          get 16 70 000060030AFF 2 0\n";
+    assert!(rt; are_read_again(alloc, Version::One, calls)?);
+    let lists = b"getlist 1 0\ngetlist 1 2 70 000060030AFF 3 0 70 000060030BFF 3 1\n";
+    assert!(rt; are_read_again(alloc, Version::One, lists)?);
+    Ok(())
+}
+
+#[test]
+fn what_comes_by_itself_is_read(rt: HostRuntime) -> Result<(), Fail> {
+    let alloc = rt.alloc();
+    let events = b"button\nsamples 10 20\nsamples\nmoment 5\nmoment 4294967295\n";
+    assert!(rt; are_read_again(alloc, Version::One, events)?);
+    assert!(rt; are_read_again(alloc, Version::Two, b"pairs 0 5001\npairs\n")?);
+    assert!(rt; are_wrong(alloc, Version::One, b"pairs 0 5001\npairs\n"));
+    Ok(())
+}
+
+#[test]
+fn samples_are_read_up_to_256(rt: HostRuntime) -> Result<(), Fail> {
+    let alloc = rt.alloc();
+    assert!(rt; is_read_with(alloc, 256)?);
+    assert!(rt; !is_read_with(alloc, 257)?);
+    Ok(())
+}
+
+#[test]
+fn other_calls_are_wrong(rt: HostRuntime) {
+    let alloc = rt.alloc();
+    let numbers = b"get 2 70 000060030AFF 2 0\n\
+          get 1 65536 000060030AFF 2 0\n\
+          get 1 70 000060030AFF 256 0\n\
+          get 1 70 000060030AFF 2 2\n\
+          get 1 70 000060030AFF 02 0\n";
+    assert!(rt; are_wrong(alloc, Version::Two, numbers));
+    let names = b"get 1 70 000060030A 2 0\nget 1 70 000060030aff 2 0\n";
+    assert!(rt; are_wrong(alloc, Version::Two, names));
+    let words = b"get 1 70 000060030AFF 2\n\
+          get  1 70 000060030AFF 2 0\n\
+          getlist 1 1\n\
+          getlist 1 0 70 000060030AFF 3 0\n";
+    assert!(rt; are_wrong(alloc, Version::Two, words));
+}
+
+#[test]
+fn other_lines_are_wrong(rt: HostRuntime) {
+    let alloc = rt.alloc();
+    let buttons = b"\nButton\nbutton \nbutton 1\nbutton\r\n";
+    assert!(rt; are_wrong(alloc, Version::Two, buttons));
+    let numbers = b"moment\nmoment 4294967296\nmoment 04\nmoment 4\t\npairs 0\n";
+    assert!(rt; are_wrong(alloc, Version::Two, numbers));
+}
+
+// A longer length, another true, a byte more, a byte less and no value are wrong.
+#[test]
+fn data_is_read_in_its_written_spelling_alone(rt: HostRuntime) -> Result<(), Fail> {
+    let alloc = rt.alloc();
+    let written = b"set 1 70 000060030AFF 4 0 0100\nset 1 70 000060030AFF 4 0 0301\n";
+    assert!(rt; are_read_again(alloc, Version::Two, written)?);
+    let others = b"set 1 70 000060030AFF 4 0 018100\n\
+          set 1 70 000060030AFF 4 0 0302\n\
+          set 1 70 000060030AFF 4 0 160100\n\
+          set 1 70 000060030AFF 4 0 16\n\
+          set 1 70 000060030AFF 4 0 -\n";
+    assert!(rt; are_wrong(alloc, Version::Two, others));
+    Ok(())
+}
+
+#[test]
+fn codes_are_written(rt: HostRuntime) -> Result<(), Fail> {
+    let alloc = rt.alloc();
+    let off = ControlState::Disconnected;
+    let ready = ControlState::ReadyForReconnection;
+    let success = ResultCode::Success;
+    let failure = ResultCode::TemporaryFailure;
+    assert!(rt;
+        is_line_on(
+            alloc,
+            1,
+            Reply::Code(success),
+            b"1: code 0; state 1; supply on"
+        )?
+    );
+    assert!(rt;
+        is_line(
+            alloc,
+            2,
+            Reply::Code(success),
+            off,
+            false,
+            b"2: code 0; state 0; supply off"
+        )?
+    );
+    assert!(rt;
+        is_line(
+            alloc,
+            3,
+            Reply::Code(failure),
+            off,
+            false,
+            b"3: code 2; state 0; supply off"
+        )?
+    );
+    assert!(rt;
+        is_line(
+            alloc,
+            4,
+            Reply::Code(success),
+            ready,
+            false,
+            b"4: code 0; state 2; supply off"
+        )?
+    );
+    assert!(rt;
+        is_line_on(
+            alloc,
+            5,
+            Reply::Code(success),
+            b"5: code 0; state 1; supply on"
+        )?
+    );
+    Ok(())
+}
+
+#[test]
+fn other_replies_are_written(rt: HostRuntime) -> Result<(), Fail> {
+    let alloc = rt.alloc();
+    let value = Reply::Value(Data::Boolean(true));
+    assert!(rt; is_line_on(alloc, 6, value, b"6: value 0301; state 1; supply on")?);
+    let sampled = Reply::Sampled { over: 0, under: 1 };
+    assert!(rt; is_line_on(alloc, 7, sampled, b"7: sampled 0 1; state 1; supply on")?);
+    assert!(rt; is_line_on(alloc, 8, Reply::Ran(0), b"8: ran 0; state 1; supply on")?);
+    let stale = Reply::Stale { last: 5 };
+    assert!(rt; is_line_on(alloc, 9, stale, b"9: stale 5; state 1; supply on")?);
+    Ok(())
+}
+
+#[test]
+fn a_reply_to_pairs_is_written(rt: HostRuntime) -> Result<(), Fail> {
+    let alloc = rt.alloc();
+    let both = Reply::SampledBoth {
+        over: 0,
+        under: 1,
+        export_over: 1,
+        export_under: 0,
+    };
+    let text = b"65536: sampled 0 1 1 0; state 2; supply off";
+    let ready = ControlState::ReadyForReconnection;
+    assert!(rt; is_line(alloc, 65_536, both, ready, false, text)?);
+    Ok(())
+}
+
+#[test]
+fn a_reply_to_a_list_is_written(rt: HostRuntime) -> Result<(), Fail> {
+    let alloc = rt.alloc();
+    let text = b"1: values 2 value 1601 code 4; state 1; supply on";
+    assert!(rt; is_line_on(alloc, 1, two_values(alloc)?, text)?);
+    Ok(())
+}

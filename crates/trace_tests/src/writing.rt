@@ -1,0 +1,209 @@
+//! Openings, and the lines that are written for them.
+use action_schedule::{ActionSchedule, ScheduleType};
+use cosem_axdr::Octets;
+use disconnect_control::{ControlMode, ControlState};
+use limiter_core::{Actions, Count};
+use listed::Listed;
+use relay_core::{LimiterOpening, Opening, RelayCore};
+use std::alloc::{AllocError, Global};
+use std::test::Fail;
+use trace_lines::{write_event_count, write_opening};
+
+// The lines of a new meter of the name RELAY1.
+const NEW: &[u8] = b"RELAYTRACE 2\n\
+    device 52454C415931\n\
+    state 1\n\
+    mode 0\n\
+    value 0\n\
+    now -\n\
+    normal 4294967295\n\
+    emergency 4294967295\n\
+    minover 0\n\
+    minunder 0\n\
+    profile 0 FFFFFFFFFFFFFFFFFF8000FF 0\n\
+    groups\n\
+    actions 0 0\n\
+    over 0 0\n\
+    under 0 0\n\
+    xvalue 0\n\
+    xnormal 4294967295\n\
+    xemergency 4294967295\n\
+    xminover 0\n\
+    xminunder 0\n\
+    xprofile 0 FFFFFFFFFFFFFFFFFF8000FF 0\n\
+    xgroups\n\
+    xactions 0 0\n\
+    xover 0 0\n\
+    xunder 0 0\n\
+    scripts 0100\n\
+    schedule 0 0 5 0100\n\
+    schedule 1 0 5 0100\n\
+    schedule 2 0 5 0100\n\
+    schedule 3 0 5 0100\n";
+
+// Those of a meter of which each number is another one.
+const BUSY: &[u8] = b"RELAYTRACE 2\n\
+    device 52454C415931\n\
+    state 2\n\
+    mode 5\n\
+    value 5001\n\
+    now 50\n\
+    normal 5000\n\
+    emergency 6000\n\
+    minover 10\n\
+    minunder 20\n\
+    profile 7 FFFFFFFFFFFFFFFFFF8000FF 30\n\
+    groups 1 65535\n\
+    actions 3 4\n\
+    over 42949672950 1\n\
+    under 0 0\n\
+    xvalue 8000\n\
+    xnormal 9000\n\
+    xemergency 9500\n\
+    xminover 40\n\
+    xminunder 60\n\
+    xprofile 8 FFFFFFFFFFFFFFFFFF8000FF 70\n\
+    xgroups 2\n\
+    xactions 5 6\n\
+    xover 0 0\n\
+    xunder 12 0\n\
+    scripts 0100\n\
+    schedule 0 9 1 0100\n\
+    schedule 1 0 5 0100\n\
+    schedule 2 0 5 0100\n\
+    schedule 3 11 4 0100\n";
+
+// A new meter.
+fn new_core(alloc: Global) -> Result<RelayCore, AllocError> {
+    RelayCore::new(alloc, &Octets::from_slice(alloc, b"RELAY1")?)
+}
+
+// The opening of a new meter.
+fn new_opening(alloc: Global) -> Result<Opening, AllocError> {
+    let core = new_core(alloc)?;
+    core.to_opening(alloc)
+}
+
+// Whether these are the lines of an opening.
+fn are_lines(alloc: Global, opening: &Opening, lines: &[u8]) -> Result<bool, AllocError> {
+    let mut out = Vec::new(alloc);
+    write_opening(alloc, &mut out, opening)?;
+    Ok(out.as_slice() == lines)
+}
+
+// Whether the lines of an opening are written behind what is there.
+fn are_lines_behind(alloc: Global, opening: &Opening, lines: &[u8]) -> Result<bool, AllocError> {
+    let mut out = Vec::from_slice(alloc, b"before\n")?;
+    write_opening(alloc, &mut out, opening)?;
+    let mut text = Vec::from_slice(alloc, b"before\n")?;
+    text.extend_from_slice(lines)?;
+    Ok(out.as_slice() == text.as_slice())
+}
+
+// Sets an import limiter that has fired over its threshold.
+fn set_import(alloc: Global, limiter: &mut LimiterOpening) -> Result<(), AllocError> {
+    limiter.value = 5001;
+    limiter.normal_threshold = 5000;
+    limiter.emergency_threshold = 6000;
+    limiter.min_over_duration = 10;
+    limiter.min_under_duration = 20;
+    limiter.profile.id = 7;
+    limiter.profile.duration = 30;
+    limiter.groups = Listed::from_vec(Vec::from_slice(alloc, &[1, 65_535])?);
+    limiter.actions = Actions { over: 3, under: 4 };
+    limiter.over = Count {
+        run: 42_949_672_950,
+        fired: true,
+    };
+    Ok(())
+}
+
+// Sets an export limiter with a run under its threshold.
+fn set_export(alloc: Global, limiter: &mut LimiterOpening) -> Result<(), AllocError> {
+    limiter.value = 8000;
+    limiter.normal_threshold = 9000;
+    limiter.emergency_threshold = 9500;
+    limiter.min_over_duration = 40;
+    limiter.min_under_duration = 60;
+    limiter.profile.id = 8;
+    limiter.profile.duration = 70;
+    limiter.groups = Listed::from_vec(Vec::from_slice(alloc, &[2])?);
+    limiter.actions = Actions { over: 5, under: 6 };
+    limiter.under = Count {
+        run: 12,
+        fired: false,
+    };
+    Ok(())
+}
+
+// Sets the switch, the clock, both limiters and two schedules.
+fn set_busy(alloc: Global, opening: &mut Opening) -> Result<(), AllocError> {
+    opening.state = ControlState::ReadyForReconnection;
+    opening.mode = ControlMode::Mode5;
+    opening.moment = Some(50);
+    set_import(alloc, &mut opening.import)?;
+    set_export(alloc, &mut opening.export)?;
+    opening.schedules.first = ActionSchedule::without_entries(alloc, 9, ScheduleType::Type1);
+    opening.schedules.fourth = ActionSchedule::without_entries(alloc, 11, ScheduleType::Type4);
+    Ok(())
+}
+
+// What is written of an opening.
+#[derive(Clone, Copy)]
+enum Written {
+    // That of a new meter, alone.
+    New,
+    // That of a new meter, behind other lines.
+    NewBehind,
+    // That of a meter of which each number is another one.
+    Busy,
+}
+
+fn is_written_from(
+    alloc: Global,
+    opening: &mut Opening,
+    written: Written,
+) -> Result<bool, AllocError> {
+    match written {
+        Written::New => are_lines(alloc, opening, NEW),
+        Written::NewBehind => are_lines_behind(alloc, opening, NEW),
+        Written::Busy => {
+            set_busy(alloc, opening)?;
+            are_lines(alloc, opening, BUSY)
+        }
+    }
+}
+
+// Whether the opening of a new meter is written so. It is let go here alone: that it may be is long to prove.
+fn is_written(alloc: Global, written: Written) -> Result<bool, AllocError> {
+    let mut opening = new_opening(alloc)?;
+    is_written_from(alloc, &mut opening, written)
+}
+
+// Whether this is the line of so many events.
+fn is_count(alloc: Global, count: u64, line: &[u8]) -> Result<bool, Fail> {
+    let mut out = Vec::new(alloc);
+    write_event_count(&mut out, count)?;
+    Ok(out.as_slice() == line)
+}
+
+#[test]
+fn a_new_opening_is_written(rt: HostRuntime) -> Result<(), Fail> {
+    assert!(rt; is_written(rt.alloc(), Written::New)?);
+    assert!(rt; is_written(rt.alloc(), Written::NewBehind)?);
+    Ok(())
+}
+
+#[test]
+fn a_busy_opening_is_written(rt: HostRuntime) -> Result<(), Fail> {
+    assert!(rt; is_written(rt.alloc(), Written::Busy)?);
+    Ok(())
+}
+
+#[test]
+fn a_count_is_written(rt: HostRuntime) -> Result<(), Fail> {
+    let alloc = rt.alloc();
+    assert!(rt; is_count(alloc, 0, b"events 0\n")?);
+    assert!(rt; is_count(alloc, 65_536, b"events 65536\n")?);
+    Ok(())
+}
