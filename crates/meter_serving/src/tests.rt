@@ -61,6 +61,7 @@ fn lines_bring_events(rt: HostRuntime) -> Result<(), Fail> {
 }
 
 /// What a meter has kept, and the moment that it has for an earlier one's answer.
+#[derive(Clone, Copy, Drop)]
 struct Seen {
     kept: u16,
     last: u32,
