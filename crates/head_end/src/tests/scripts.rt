@@ -91,6 +91,7 @@ pub struct Everywhere {
 }
 
 impl Everywhere {
+    /// Meters that give these bytes, 1,024 at most.
     pub fn new(bytes: &'static [u8]) -> Everywhere
         requires { length bytes.now ≤ 1024 }
     {
