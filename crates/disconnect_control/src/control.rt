@@ -132,9 +132,10 @@ impl DisconnectControl {
         self.state
     }
 
-    /// Attribute 4, control_mode.
+    /// Attribute 4, control_mode. In mode 0 the switch is Connected.
     pub fn mode(&self) -> ControlMode
-        ensures { result ≡ self.now.mode }
+        ensures mode { result ≡ self.now.mode }
+        ensures fit { self.now.mode ≡ Mode0 → self.now.state ≡ Connected }
     {
         self.mode
     }

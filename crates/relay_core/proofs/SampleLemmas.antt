@@ -19,7 +19,7 @@ use Rattle.relay_core.specs.Limiters.{metered_of, with_metered}
 use Rattle.relay_core.specs.Sampling.{Measurement, Metering, imports, pairs, with_sample, fire_at, after_fire, after_sample, counted, measured, after_samples}
 use Rattle.relay_core.specs.Stands.{StandsFor, MeteredStands}
 use Rattle.relay_core.specs.Taking.{Takes, AreAtMost, amid}
-use Rattle.relay_core.specs.World.{World, Metered}
+use Rattle.relay_core.specs.World.{World, Metered, IsDeviceName}
 
 -- the element that a list goes on with
 pub take_one : {A : Type 0} (xs : List A) (i : ℕ) (d : A) → i < length xs → take 1 (drop i xs) ≡ get_or xs i d ∷ []
@@ -252,14 +252,14 @@ quiet_pairs (value ∷ values) (other ∷ others) w firings even quiet other_qui
     ∙ quiet_pairs values others (record between { export = with_sample other w.export }) firings (omega (arith, even)) quiet.1 other_quiet.1
 
 -- a core that took import values which bring nothing
-pub skipped_values : (old : RelayCore) (limiter : State) (values : List ℕ)
+pub skipped_values : (old : RelayCore) (limiter : State) (values : List ℕ) (named : IsDeviceName old.device)
     (import_clock : limiter.settings.moment ≡ old.moment) (export_clock : old.export.settings.moment ≡ old.moment) → 0 < length values
     → limiter.settings ≡ old.import.settings → limiter.last ≡ get_or values (length values - 1) 0
     → ((rows : List Row) → Keeps old.import rows → Keeps limiter (rows_after old.import.settings values rows))
     → ((rows : List Row) → Keeps old.import rows → IsQuiet old.import.settings values rows)
-    → (firings : Firings) → Takes old (record old { import = limiter; import_clock = import_clock; export_clock = export_clock }) firings firings (imports values)
-skipped_values old limiter values import_clock export_clock some settings last keeps quiet firings =
-    let new : RelayCore = record old { import = limiter; import_clock = import_clock; export_clock = export_clock } in
+    → (firings : Firings) → Takes old (record old { import = limiter; named = named; import_clock = import_clock; export_clock = export_clock }) firings firings (imports values)
+skipped_values old limiter values named import_clock export_clock some settings last keeps quiet firings =
+    let new : RelayCore = record old { import = limiter; named = named; import_clock = import_clock; export_clock = export_clock } in
     let after : (w : World) → StandsFor old w
     → after_samples (imports values) (amid w firings) ≡ amid (record w { import = metered_after values w.import }) firings =
     λ w stands.
@@ -284,7 +284,7 @@ skipped_values old limiter values import_clock export_clock some settings last k
     }
 
 -- a core that took pairs which bring nothing
-pub skipped_pairs : (old : RelayCore) (import export : State) (values others : List ℕ)
+pub skipped_pairs : (old : RelayCore) (import export : State) (values others : List ℕ) (named : IsDeviceName old.device)
     (import_clock : import.settings.moment ≡ old.moment) (export_clock : export.settings.moment ≡ old.moment)
     → 0 < length values → length others ≡ length values
     → import.settings ≡ old.import.settings → import.last ≡ get_or values (length values - 1) 0
@@ -293,9 +293,9 @@ pub skipped_pairs : (old : RelayCore) (import export : State) (values others : L
     → ((rows : List Row) → Keeps old.export rows → Keeps export (rows_after old.export.settings others rows))
     → ((rows : List Row) → Keeps old.import rows → IsQuiet old.import.settings values rows)
     → ((rows : List Row) → Keeps old.export rows → IsQuiet old.export.settings others rows)
-    → (firings : Firings) → Takes old (record old { import = import; export = export; import_clock = import_clock; export_clock = export_clock }) firings firings (pairs values others)
-skipped_pairs old import export values others import_clock export_clock some even settings last other_settings other_last keeps other_keeps quiet other_quiet firings =
-    let new : RelayCore = record old { import = import; export = export; import_clock = import_clock; export_clock = export_clock } in
+    → (firings : Firings) → Takes old (record old { import = import; export = export; named = named; import_clock = import_clock; export_clock = export_clock }) firings firings (pairs values others)
+skipped_pairs old import export values others named import_clock export_clock some even settings last other_settings other_last keeps other_keeps quiet other_quiet firings =
+    let new : RelayCore = record old { import = import; export = export; named = named; import_clock = import_clock; export_clock = export_clock } in
     let after : (w : World) → StandsFor old w
     → after_samples (pairs values others) (amid w firings)
     ≡ amid (record w { import = metered_after values w.import; export = metered_after others w.export }) firings =

@@ -28,7 +28,7 @@ use Rattle.relay_core.specs.declared.schedules.Schedules.{Schedules}
 use Rattle.relay_core.specs.Moving.{scripts_part, entries_part, groups_part, parts_read, parts_or_plain}
 use Rattle.relay_core.specs.Schedules.{schedule_of, with_schedule, schedule_written, schedule_code, write_code}
 use Rattle.relay_core.specs.Stands.{StandsFor}
-use Rattle.relay_core.specs.World.{World, Outcome}
+use Rattle.relay_core.specs.World.{World, Outcome, IsDeviceName}
 use Rattle.relay_core.specs.Writing.{refused, at_scripts, at_setting_form, at_groups, at_limiter, at_schedule, at_write, with_schedule_entries}
 use Rattle.script_steps.specs.declared.fault.ScriptFault.{ScriptFault}
 use Rattle.script_steps.specs.declared.step.Script.{Script}
@@ -82,12 +82,12 @@ scripts_moved number value scripts w is =
     cases (number == 2) (table_of value) is
 
 -- a core that has taken scripts in
-pub with_scripts : (core : RelayCore) (w : World) (scripts : List Script)
+pub with_scripts : (core : RelayCore) (w : World) (scripts : List Script) (named : IsDeviceName core.device)
     (import_clock : core.import.settings.moment ≡ core.moment) (export_clock : core.export.settings.moment ≡ core.moment) (outcome : Outcome)
     → outcome ≡ record { world = record w { scripts = scripts }; code = Success } → StandsFor core w
-    → StandsFor (record core { scripts = scripts; import_clock = import_clock; export_clock = export_clock }) outcome.world
-with_scripts core w scripts import_clock export_clock outcome written stands =
-    let next : RelayCore = record core { scripts = scripts; import_clock = import_clock; export_clock = export_clock } in
+    → StandsFor (record core { scripts = scripts; named = named; import_clock = import_clock; export_clock = export_clock }) outcome.world
+with_scripts core w scripts named import_clock export_clock outcome written stands =
+    let next : RelayCore = record core { scripts = scripts; named = named; import_clock = import_clock; export_clock = export_clock } in
     let after : StandsFor next (record w { scripts = scripts }) = record {
       device = stands.device;
       control = stands.control;

@@ -1,4 +1,4 @@
-use Rattle.std.specs.Prelude.{ℕ, List, [], Option, None}
+use Rattle.std.specs.Prelude.{ℕ, ◌≤◌, List, [], length, Option, None}
 use Rattle.cosem_names.specs.declared.result_code.ResultCode.{ResultCode}
 use Rattle.disconnect_control.specs.declared.state.ControlState.TheVariants.{Connected}
 use Rattle.disconnect_control.specs.declared.state.ControlMode.TheVariants.{Mode0}
@@ -28,6 +28,10 @@ pub record World : Type 0 where
   pub export : Metered
   pub scripts : List Script
   pub schedules : Schedules
+
+-- a device name has 1 to 16 bytes
+abbrev pub IsDeviceName : List ℕ → Type 0
+IsDeviceName device = (1 ≤ length device) × (length device ≤ 16)
 
 -- what a call does: the world after it, and its result
 pub record Outcome : Type 0 where

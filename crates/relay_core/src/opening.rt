@@ -96,7 +96,8 @@ impl LimiterOpening {
     /// A limiter written down.
     fn of(alloc: Global, limiter: &Limiter) -> Result<LimiterOpening, AllocError>
         ensures opening { IfOk result (λ opening. opening ≡ limiter_opening_of limiter.now) }
-        ensures fit { IfOk result (λ _. IsFit limiter.now.last limiter.now.over limiter.now.under) }
+        ensures runs { IfOk result (λ _. IsFit limiter.now.last limiter.now.over limiter.now.under) }
+        ensures fit { IfOk result IsFitLimiterOpening }
         ensures range { IfOk result (λ opening. (opening.min_over_duration < 4294967296) × (opening.min_under_duration < 4294967296)) }
     {
         let groups = Vec::from_slice(alloc, limiter.groups())?;
@@ -145,6 +146,7 @@ impl RelayCore {
         ensures opening { IfOk result (λ opening. opening ≡ opening_of self.now) }
         ensures import { IfOk result (λ _. IsFit self.now.import.last self.now.import.over self.now.import.under) }
         ensures export { IfOk result (λ _. IsFit self.now.export.last self.now.export.over self.now.export.under) }
+        ensures fit { IfOk result IsFitOpening }
         ensures range { IfOk result (λ opening. IsWorld (opened opening)) }
     {
         Ok(Opening {
@@ -159,10 +161,11 @@ impl RelayCore {
         })
     }
 
-    /// The core written down. The world that it tells of can't be told apart from any that the core stands for, and its
-    /// numbers are in their ranges.
+    /// The core written down, which [`from_opening`](RelayCore::from_opening) takes back. The world that it tells of can't be
+    /// told apart from any that the core stands for, and its numbers are in their ranges.
     pub fn to_opening(&self, alloc: Global) -> Result<Opening, AllocError>
         ensures opening { IfOk result (λ opening. opening ≡ opening_of self.now) }
+        ensures fit { IfOk result IsFitOpening }
         ensures agrees { IfOk result (λ opening. (w : World) → StandsFor self.now w → Agree (opened opening) w) }
         ensures range { IfOk result (λ opening. IsWorld (opened opening)) }
     {

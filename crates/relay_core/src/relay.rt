@@ -1,4 +1,5 @@
-ghost use Rattle.std.specs.Prelude.{◌≡◌, ◌≤◌, length, IfOk};
+ghost use Rattle.std.specs.Prelude.{◌≡◌, IfOk};
+ghost use Rattle.relay_core.specs.World.{IsDeviceName};
 
 use crate::schedules::Schedules;
 use cosem_axdr::Octets;
@@ -20,6 +21,8 @@ pub struct RelayCore {
     pub(crate) export: Limiter,
     pub(crate) scripts: ScriptTable,
     pub(crate) schedules: Schedules,
+    /// The device name has 1 to 16 bytes.
+    pub ghost named: { IsDeviceName device },
     /// The clocks of the limiters are the meter's.
     pub ghost import_clock: { import.settings.moment ≡ moment },
     pub ghost export_clock: { export.settings.moment ≡ moment },
@@ -36,7 +39,7 @@ impl RelayCore {
     /// A new meter of this device name, 1 to 16 bytes: connected, in mode 0, without scripts, with no
     /// schedule that is ever due, with limiters whose thresholds are at their greatest, and no sample or moment has come.
     pub fn new(alloc: Global, device: &Octets) -> Result<RelayCore, AllocError>
-        requires { (1 ≤ length device.now) × (length device.now ≤ 16) }
+        requires { IsDeviceName device.now }
         ensures { IfOk result (λ core. StandsFor core (new_world device.now)) }
     {
         Ok(RelayCore {

@@ -33,6 +33,12 @@ pub record StandsForHistory (r : Recording) (history : List Told) (origin : Worl
   pub kept : r.events ≡ keep_last r.capacity (events_of history)
   pub opening : StandsFor r.opening (world_after (all_but_last r.capacity (events_of history)) origin)
 
+-- there is a history, from some world, that a recorder stands for
+pub record HasHistory (r : Recording) : Type 0 where
+  pub history : List Told
+  pub origin : World
+  pub stands : StandsForHistory r history origin
+
 -- a recorder took an event and answered it: every history that it stood for goes on with both
 pub record Continues (old new : Recording) (event : Event) (reply : Reply) : Type 0 where
   pub histories : (history : List Told) (origin : World) → StandsForHistory old history origin

@@ -1,10 +1,11 @@
 ghost use Rattle.std.specs.Prelude.{◌≡◌, ◌<◌, ◌≤◌, [], ◌∷◌, ◌++◌, length, slice_get, IfOk, IsOk, IsTrue, OnOk, OnErr, Some};
 ghost use Rattle.circular_buffer.specs.Buffer.{keep_last};
 ghost use Rattle.relay_core.specs.Machine.{is_sure, Fits};
-ghost use Rattle.relay_core.specs.Opening.{opened, opening_of};
+ghost use Rattle.relay_core.specs.Agreeing.{Agree};
+ghost use Rattle.relay_core.specs.Opening.{opened, opening_of, IsFitOpening};
 ghost use Rattle.relay_core.specs.Stands.{StandsFor};
 ghost use Rattle.relay_core.specs.World.{World, new_world};
-ghost use Rattle.relay_recorder.specs.Histories.{StandsForHistory, Continues};
+ghost use Rattle.relay_recorder.specs.Histories.{StandsForHistory, HasHistory, Continues};
 ghost use Rattle.relay_recorder.specs.Replaying.{Replays};
 
 use crate::kept::{Kept, Ring, keep};
@@ -27,6 +28,7 @@ impl Model for Recorder {
     ghost use Rattle.std.specs.Coded.{codes};
     ghost use Rattle.relay_core.specs.contracts.event.Event as event_row;
     ghost use Rattle.relay_core.specs.contracts.relay.RelayCore as core_row;
+    ghost use Rattle.relay_recorder.specs.Histories.{HasHistory};
     ghost use Rattle.relay_recorder.specs.Recording.{Recording, IsRecording, recording};
 
     ghost Value = { Recording };
@@ -35,7 +37,7 @@ impl Model for Recorder {
 
     ghost view = { λ r. recording r.core r.opening r.kept };
 
-    ghost invariant = { λ r. IsRecording (recording r.core r.opening r.kept) };
+    ghost invariant = { λ r. IsRecording (recording r.core r.opening r.kept) × HasHistory (recording r.core r.opening r.kept) };
 }
 
 impl Recorder {
@@ -62,6 +64,7 @@ impl Recorder {
         ensures capacity { IfOk result (λ recorder. recorder.capacity ≡ capacity) }
         ensures stands { IfOk result (λ recorder. (w : World) → StandsFor core w → StandsForHistory recorder [] w) }
     {
+        core.stands_for_its_opening();
         let opening = core.try_copy(alloc)?;
         let kept = HeapCircularBuffer::with_capacity(alloc, usize::from(capacity))?;
         Ok(Recorder {
@@ -86,6 +89,13 @@ impl Recorder {
         let reply = self.core.step(alloc, &event)?;
         keep(&mut self.kept, &mut self.opening, Kept::new(event, parts));
         Ok(reply)
+    }
+
+    /// There is a history that the recorder stands for. It takes no memory, and the recorder is only looked at.
+    pub fn has_a_history(&self)
+        ensures { HasHistory self.now }
+    {
+        let _core = &self.core;
     }
 
     /// The core that stands now.
@@ -132,9 +142,13 @@ impl Recorder {
     }
 
     /// The core before the kept events written down, and these. From the world that the opening tells of they run as they did: in
-    /// every history that the recorder stands for, with the same lines and the replies that [`apply`](Recorder::apply) gave.
+    /// every history that the recorder stands for, with the same lines and the replies that [`apply`](Recorder::apply) gave. That
+    /// world can't be told apart from any that the core before the kept events stands for.
     pub fn export(&self, alloc: Global) -> Result<Trace, AllocError>
         ensures opening { IfOk result (λ trace. trace.opening ≡ opening_of self.now.opening) }
+        ensures fit { IfOk result (λ trace. IsFitOpening trace.opening) }
+        ensures agrees { IfOk result (λ trace. (w : World) → StandsFor self.now.opening w → Agree (opened trace.opening) w) }
+        ensures few { IfOk result (λ trace. length trace.events ≤ 1024) }
         ensures events { IfOk result (λ trace. trace.events ≡ self.now.events) }
         ensures replays { IfOk result (λ trace. Replays self.now (opened trace.opening)) }
     {

@@ -16,5 +16,5 @@ returns-in_default c =
 
 pub returns-clause-world : goal.returns-clause-world
 returns-clause-world c = λ w stands.
-    with_scripts c.args.self.now w c.in-Scripts.scripts _ _ (at_write ScriptTable c.args.number c.args.value.now w)
+    with_scripts c.args.self.now w c.in-Scripts.scripts _ _ _ (at_write ScriptTable c.args.number c.args.value.now w)
     (scripts_moved c.args.number c.args.value.now c.in-Scripts.scripts w (sym c.in-Scripts.is ∙ c.requires)) stands

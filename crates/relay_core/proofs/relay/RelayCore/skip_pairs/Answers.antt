@@ -18,7 +18,7 @@ returns c =
     let run = c.skip_run.ensures in
     let other_run = c.skip_run-2.ensures in
     let at : ℕ → ℕ = λ n. get_or others (n - 1) 0 in
-    skipped_pairs c.args.self.now c.skip_run.new.self c.skip_run-2.new.self values others _ _ c.requires.some c.requires.even
+    skipped_pairs c.args.self.now c.skip_run.new.self c.skip_run-2.new.self values others _ _ _ c.requires.some c.requires.even
     run.settings (last_of_some (length values) _ _ _ c.requires.some run.last)
     other_run.settings (last_of_some (length values) _ _ _ c.requires.some other_run.last ∙ ap at (sym c.requires.even))
     (λ rows keeps. run.rows rows values keeps c.requires.kind refl)

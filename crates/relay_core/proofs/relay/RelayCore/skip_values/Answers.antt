@@ -10,7 +10,7 @@ pub returns : goal.returns
 returns c =
     let values = c.args.values.now in
     let run = c.skip_run.ensures in
-    skipped_values c.args.self.now c.skip_run.new.self values _ _ c.requires.some run.settings
+    skipped_values c.args.self.now c.skip_run.new.self values _ _ _ c.requires.some run.settings
     (last_of_some (length values) _ _ _ c.requires.some run.last)
     (λ rows keeps. run.rows rows values keeps c.requires.kind refl)
     (λ rows keeps. run.quiet rows values keeps c.requires.kind refl)
