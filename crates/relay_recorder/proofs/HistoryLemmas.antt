@@ -1,17 +1,18 @@
 -- Histories go on.
-use Rattle.std.proofs.Common.{◌≡◌, List, [], ◌∷◌, ◌++◌, map, ap, sym, ◌∙◌, subst}
+use Rattle.std.proofs.Common.{◌≡◌, ℕ, zero, suc, ◌-◌, List, [], ◌∷◌, ◌++◌, length, take, drop, map, refl, ap, sym, ◌∙◌, subst}
 use Rattle.std.proofs.lemmas.List.{map_push}
-use Rattle.circular_buffer.specs.Buffer.{keep_last}
+use Rattle.circular_buffer.specs.Buffer.{Buffer, buffer, keep_last}
 use Rattle.relay_core.specs.declared.event.Event.{Event}
 use Rattle.relay_core.specs.declared.event.Line.{Line}
 use Rattle.relay_core.specs.declared.event.Reply.{Reply}
+use Rattle.relay_core.specs.declared.relay.RelayCore.{RelayCore}
 use Rattle.relay_core.specs.Machine.{at_event}
 use Rattle.relay_core.specs.Runs.{line_at, world_after, lines_of}
 use Rattle.relay_core.specs.Stands.{StandsFor}
 use Rattle.relay_core.specs.World.{World}
 use Rattle.relay_core.proofs.RunLemmas.{world_after-append, lines_of-append}
-use Rattle.relay_recorder.specs.Recording.{Recording, all_but_last}
-use Rattle.relay_recorder.specs.Histories.{Told, events_of, replies_of, replies_from, Continues}
+use Rattle.relay_recorder.specs.Recording.{Recording, recording, all_but_last}
+use Rattle.relay_recorder.specs.Histories.{Told, events_of, replies_of, replies_from, StandsForHistory, HasHistory, Continues}
 use Rattle.relay_recorder.proofs.Pushed.{keep_last-more, all_but_last-more}
 
 -- the replies of a run with one event more
@@ -62,4 +63,50 @@ continues old new event reply core_goes answers kept opening_goes same = record 
             (sym (world_after-append (all_but_last n events) (all_but_last n (old.events ++ event ∷ [])) origin))
             (opening_goes first_world stands.opening));
       };
+}
+
+-- the same of the parts of a recorder
+pub applied : (core opening next next_opening : RelayCore) (kept ring : Buffer Event) (event newest : Event) (reply : Reply)
+    → ((w : World) → StandsFor core w → StandsFor next (at_event event w).world)
+    → ((w : World) → StandsFor core w → reply ≡ (at_event event w).reply)
+    → newest ≡ event
+    → ring ≡ buffer (keep_last kept.capacity (kept.items ++ newest ∷ [])) kept.capacity
+    → ((w : World) → StandsFor opening w → StandsFor next_opening (world_after (all_but_last kept.capacity (kept.items ++ newest ∷ [])) w))
+    → Continues (recording core opening kept) (recording next next_opening ring) event reply
+applied core opening next next_opening kept ring event newest reply core_goes answers same pushed opening_goes =
+    continues (recording core opening kept) (recording next next_opening ring) event reply core_goes answers
+    (ap (λ (b : Buffer Event). b.items) pushed ∙ ap (λ (e : Event). keep_last kept.capacity (kept.items ++ e ∷ [])) same)
+    (λ w stands. subst (λ (e : Event). StandsFor next_opening (world_after (all_but_last kept.capacity (kept.items ++ e ∷ [])) w)) same (opening_goes w stands))
+    (ap (λ (b : Buffer Event). b.capacity) pushed)
+
+-- nothing is taken of no events, and nothing is left of them
+take_of_none : (n : ℕ) → take n (events_of []) ≡ []
+take_of_none zero = refl
+take_of_none (suc n) = refl
+
+drop_of_none : (n : ℕ) → drop n (events_of []) ≡ []
+drop_of_none zero = refl
+drop_of_none (suc n) = refl
+
+-- a recorder that has taken no event stands for the empty history
+pub begins : (core opening : RelayCore) (ring : Buffer Event) (origin : World) → StandsFor core origin → opening ≡ core → ring.items ≡ []
+    → HasHistory (recording core opening ring)
+begins core opening ring origin stands same empty = record {
+  history = [];
+  origin = origin;
+  stands = record {
+    legal = refl;
+    core = stands;
+    kept = empty ∙ sym (drop_of_none (length (events_of []) - ring.capacity));
+    opening = subst (λ (es : List Event). StandsFor opening (world_after es origin)) (sym (take_of_none (length (events_of []) - ring.capacity)))
+        (subst (λ (c : RelayCore). StandsFor c origin) (sym same) stands);
+  };
+}
+
+-- a recorder that took an event has a history still
+pub goes_on : (old new : Recording) (event : Event) (reply : Reply) → Continues old new event reply → HasHistory old → HasHistory new
+goes_on old new event reply continues has = record {
+  history = has.history ++ (event, reply) ∷ [];
+  origin = has.origin;
+  stands = continues.histories has.history has.origin has.stands;
 }
