@@ -1,5 +1,5 @@
 -- A history of calls with one call more.
-use Rattle.std.proofs.Common.{◌≡◌, ℕ, List, [], ◌∷◌, ◌++◌, IfOk, Result, Ok, Err, sym, subst}
+use Rattle.std.proofs.Common.{◌≡◌, ℕ, List, [], ◌∷◌, ◌++◌, IfOk, OnErr, Result, Ok, Err, refl, sym, subst}
 use Rattle.std.proofs.lemmas.List.{map-append}
 use Rattle.std.specs.declared.alloc.AllocError.{AllocError}
 use Rattle.relay_core.specs.declared.event.Event.{Event}
@@ -10,7 +10,7 @@ use Rattle.relay_recorder.specs.Histories.{Told, StandsForHistory, Continues}
 use Rattle.relay_recorder.specs.Recording.{Recording}
 use Rattle.turn_lock.specs.declared.turned.Entry.{Entry}
 use Rattle.turn_lock.specs.History.{entry}
-use Rattle.kept_meter.specs.Calls.{Calls, told, Stands}
+use Rattle.kept_meter.specs.Calls.{Calls, told, Stands, HasCalls}
 
 told_more : (calls : Calls) (call : Entry Event Reply) → told (calls ++ call ∷ []) ≡ told calls ++ (call.event, call.reply) ∷ []
 told_more calls call = map-append (λ (c : Entry Event Reply). (c.event, c.reply)) calls (call ∷ [])
@@ -23,3 +23,17 @@ stands_on (Ok reply) old new origin event continues = λ by calls stands.
     subst (λ (history : List Told). StandsForHistory new history (opened origin)) (sym (told_more calls (entry by event reply)))
     (continues.histories (told calls) (opened origin) stands)
 stands_on (Err error) old new origin event continues = tt
+
+-- a recorder that has taken no event stands for no calls
+pub has_none : (recorder : Recording) (origin : Opening) → StandsForHistory recorder [] (opened origin) → HasCalls (record { recorder = recorder; origin = origin })
+has_none recorder origin stands = record { calls = []; stands = stands }
+
+-- a recorder that took an event, or didn't, has its calls still
+pub has_still : (result : Result Reply AllocError) (old new : Recording) (origin : Opening) (event : Event) → IfOk result (Continues old new event) → OnErr result (new ≡ old)
+    → HasCalls (record { recorder = old; origin = origin }) → HasCalls (record { recorder = new; origin = origin })
+has_still (Ok reply) old new origin event continues same has = record {
+  calls = has.calls ++ entry [] event reply ∷ [];
+  stands = stands_on (Ok reply) old new origin event continues [] has.calls has.stands;
+}
+has_still (Err error) old new origin event continues same has =
+    subst (λ (r : Recording). HasCalls (record { recorder = r; origin = origin })) (sym same) has

@@ -25,6 +25,11 @@ IsLegal origin calls = replies_of (told calls) ≡ replies_from (opened origin) 
 abbrev pub Stands : KeptRecorder → Calls → Type 0
 Stands kept calls = StandsForHistory kept.recorder (told calls) (opened kept.origin)
 
+-- there are calls that the recorder stands for
+pub record HasCalls (kept : KeptRecorder) : Type 0 where
+  pub calls : Calls
+  pub stands : Stands kept calls
+
 -- the event takes no memory, so that it is always answered
 abbrev pub IsSure : Event → Type 0
 IsSure event = IsTrue (is_sure event)

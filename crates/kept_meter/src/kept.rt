@@ -1,6 +1,6 @@
 ghost use Rattle.std.specs.Prelude.{◌≡◌, []};
 ghost use Rattle.relay_core.specs.Opening.{opening_of};
-ghost use Rattle.kept_meter.specs.Calls.{IsLegal, IsSure, Stands};
+ghost use Rattle.kept_meter.specs.Calls.{HasCalls, IsLegal, IsSure, Stands};
 
 use relay_core::{Event, Opening, RelayCore, Reply};
 use relay_recorder::Recorder;
@@ -24,6 +24,7 @@ impl Model for Kept {
     ghost use Rattle.relay_core.specs.contracts.opening.Opening as opening_row;
     ghost use Rattle.relay_core.specs.contracts.relay.RelayCore as core_row;
     ghost use Rattle.relay_core.specs.Opening.{opening_of};
+    ghost use Rattle.kept_meter.specs.Calls.{HasCalls};
     ghost use Rattle.kept_meter.specs.KeptRecorder.{KeptRecorder};
 
     ghost Value = { KeptRecorder };
@@ -31,6 +32,8 @@ impl Model for Kept {
     ghost coded = { Prim.hlevel (codes, core_row.the_row.coded, event_row.the_row.coded, opening_row.the_row.coded) };
 
     ghost view = { λ k. record { recorder = k.recorder; origin = opening_of k.start.value } };
+
+    ghost invariant = { λ k. HasCalls (record { recorder = k.recorder; origin = opening_of k.start.value }) };
 }
 
 impl Kept {
@@ -45,6 +48,13 @@ impl Kept {
         recorder.core().stands_for_its_opening();
         let _opening = recorder.opening();
         Kept { recorder, start }
+    }
+
+    /// There are calls that it stands for. It takes no memory, and the recorder is only looked at.
+    pub fn has_calls(&self)
+        ensures { HasCalls self.now }
+    {
+        let _recorder = &self.recorder;
     }
 
     /// The recorder.
