@@ -2,12 +2,12 @@
 use super::*;
 use byte_streams::Counted;
 use cosem_axdr::Octets;
-use relay_core::{Event, Reply};
+use relay_core::{Event, RelayCore, Reply};
 use relay_recorder::Recorder;
 use std::alloc::{AllocError, Global};
 use std::process::Abort;
 use std::test::Fail;
-use trace_lines::{Version, read_event};
+use trace_lines::{Version, read_event, write_event, write_opening};
 use trace_text::Lines;
 
 // Script 1 writes a threshold of 9,000 watts; over the threshold of 5,000 it runs after 4 seconds, under it the null script after 5. Then three samples.
@@ -23,6 +23,12 @@ samples 6000 6000 6000
 // A threshold is written and read.
 const THRESHOLD: &[u8] = b"set 1 71 0000110000FF 4 0 0600001B58
 get 1 71 0000110000FF 4 0
+";
+
+// Mode 1 is written, the supply is cut remotely, and the button is pressed in vain.
+const CUT: &[u8] = b"set 1 70 000060030AFF 4 0 1601
+execute 1 70 000060030AFF 1 0F00
+button
 ";
 
 fn new_recorder(rt: &impl Abort, alloc: Global, capacity: u16) -> Result<Recorder, AllocError> {
@@ -143,4 +149,74 @@ fn exports_both(rt: &impl Abort, alloc: Global, recorder: &mut Recorder) -> Resu
 fn a_write_and_a_read_are_exported(rt: HostRuntime) -> Result<(), Fail> {
     let mut recorder = new_recorder(&rt, rt.alloc(), 4)?;
     Ok(exports_both(&rt, rt.alloc(), &mut recorder)?)
+}
+
+// The lines that tell of a core.
+fn opening_lines(alloc: Global, core: &RelayCore) -> Result<Vec<u8>, AllocError> {
+    let opening = core.to_opening(alloc)?;
+    let mut lines = Vec::new(alloc);
+    write_opening(alloc, &mut lines, &opening)?;
+    Ok(lines)
+}
+
+// The lines that tell of a copy of a core.
+fn copied_lines(alloc: Global, core: &RelayCore) -> Result<Vec<u8>, AllocError> {
+    let copy = core.try_copy(alloc)?;
+    opening_lines(alloc, &copy)
+}
+
+// Whether a copy of a core is written down as the core itself.
+fn core_is_copied(alloc: Global, core: &RelayCore) -> Result<bool, AllocError> {
+    let own = opening_lines(alloc, core)?;
+    Ok(copied_lines(alloc, core)?.as_slice() == own.as_slice())
+}
+
+// The line of a copy of an event.
+fn copied_line(alloc: Global, event: &Event) -> Result<Vec<u8>, AllocError> {
+    let copy = event.try_copy(alloc)?;
+    let mut line = Vec::new(alloc);
+    write_event(alloc, &mut line, &copy)?;
+    Ok(line)
+}
+
+// Whether a copy of an event is written as this line.
+fn event_is_copied(alloc: Global, event: &Event, line: &[u8]) -> Result<bool, AllocError> {
+    Ok(copied_line(alloc, event)?.as_slice() == line)
+}
+
+// Wants the opening and the events of an export whose first event was pushed out.
+fn begins_in_mode_1(rt: &impl Abort, text: &[u8]) {
+    assert!(rt; has_line(text, 3, b"state 1") && has_line(text, 4, b"mode 1"));
+    assert!(rt; has_line(text, 31, b"events 2") && has_line(text, 33, b"button"));
+}
+
+// Wants what is exported once the first of three events was pushed out.
+fn exports_the_last(rt: &impl Abort, alloc: Global, recorder: &Recorder) -> Result<(), AllocError> {
+    let text = exported(alloc, recorder)?;
+    begins_in_mode_1(rt, text.as_slice());
+    let lines = b"1: code 0; state 0; supply off\n2: code 2; state 0; supply off\n";
+    assert!(rt; plays_to(alloc, recorder, lines)?);
+    Ok(())
+}
+
+// Wants that copies of the core and of the first kept event are written as these.
+fn is_copied(rt: &impl Abort, alloc: Global, recorder: &Recorder) -> Result<(), AllocError> {
+    assert!(rt; core_is_copied(alloc, recorder.core())?);
+    assert!(rt; recorder.count() == 2);
+    let first = b"execute 1 70 000060030AFF 1 0F00";
+    assert!(rt; event_is_copied(alloc, recorder.event(0), first)?);
+    Ok(())
+}
+
+// Lets a recorder take three events, of which it keeps two.
+fn take_a_cut(rt: &impl Abort, alloc: Global, recorder: &mut Recorder) -> Result<(), AllocError> {
+    take(recorder, alloc, CUT)?;
+    exports_the_last(rt, alloc, recorder)?;
+    is_copied(rt, alloc, recorder)
+}
+
+#[test]
+fn what_was_pushed_out_stands_in_the_opening(rt: HostRuntime) -> Result<(), Fail> {
+    let mut recorder = new_recorder(&rt, rt.alloc(), 2)?;
+    Ok(take_a_cut(&rt, rt.alloc(), &mut recorder)?)
 }
