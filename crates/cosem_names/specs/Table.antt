@@ -17,9 +17,9 @@ use Rattle.cosem_names.specs.declared.objects.Which.TheVariants.{Import, Export}
 abbrev pub class : ℕ → ClassId
 class class_id = record { 0 = class_id }
 
--- a logical name, by its value groups A to F
-abbrev pub name : ℕ → ℕ → ℕ → ℕ → ℕ → ℕ → Obis
-name a b c d e f = record { 0 = a ∷ b ∷ c ∷ d ∷ e ∷ f ∷ [] }
+-- a logical name: an OBIS code, by its value groups A to F
+abbrev pub obis : ℕ → ℕ → ℕ → ℕ → ℕ → ℕ → Obis
+obis a b c d e f = record { 0 = a ∷ b ∷ c ∷ d ∷ e ∷ f ∷ [] }
 
 -- an object: its class_id, version and logical name
 abbrev pub object : Instance → ℕ → ℕ → Obis → Object
@@ -36,18 +36,18 @@ method class_id number public management = record { class = class class_id; numb
 -- the objects, in the order of the object list: class_id, version and logical name
 abbrev pub objects : List Object
 objects =
-    object Association        15 1 (name 0 0 40 0 0 255) ∷     -- Association LN
-    object DeviceName          1 0 (name 0 0 42 0 0 255) ∷     -- Data
-    object (Register Import)   3 0 (name 1 0 1 7 0 255) ∷      -- Register
-    object (Register Export)   3 0 (name 1 0 2 7 0 255) ∷
-    object ScriptTable         9 0 (name 0 0 10 0 106 255) ∷   -- Script table
-    object (Schedule First)   22 0 (name 0 0 15 0 1 255) ∷     -- Single action schedule
-    object (Schedule Second)  22 0 (name 0 1 15 0 1 255) ∷
-    object (Schedule Third)   22 0 (name 0 2 15 0 1 255) ∷
-    object (Schedule Fourth)  22 0 (name 0 3 15 0 1 255) ∷
-    object DisconnectControl  70 0 (name 0 0 96 3 10 255) ∷    -- Disconnect control
-    object (Limiter Import)   71 0 (name 0 0 17 0 0 255) ∷     -- Limiter
-    object (Limiter Export)   71 0 (name 0 1 17 0 0 255) ∷
+    object Association        15 1 (obis 0 0 40 0 0 255) ∷     -- Association LN
+    object DeviceName          1 0 (obis 0 0 42 0 0 255) ∷     -- Data
+    object (Register Import)   3 0 (obis 1 0 1 7 0 255) ∷      -- Register
+    object (Register Export)   3 0 (obis 1 0 2 7 0 255) ∷
+    object ScriptTable         9 0 (obis 0 0 10 0 106 255) ∷   -- Script table
+    object (Schedule First)   22 0 (obis 0 0 15 0 1 255) ∷     -- Single action schedule
+    object (Schedule Second)  22 0 (obis 0 1 15 0 1 255) ∷
+    object (Schedule Third)   22 0 (obis 0 2 15 0 1 255) ∷
+    object (Schedule Fourth)  22 0 (obis 0 3 15 0 1 255) ∷
+    object DisconnectControl  70 0 (obis 0 0 96 3 10 255) ∷    -- Disconnect control
+    object (Limiter Import)   71 0 (obis 0 0 17 0 0 255) ∷     -- Limiter
+    object (Limiter Export)   71 0 (obis 0 1 17 0 0 255) ∷
     []
 
 -- the attributes of the classes: number, and access of the public and of the management client
