@@ -2,7 +2,7 @@
 use Rattle.std.specs.Prelude.{ℤ, pos, ℕ, Bool, Option, List, [], ◌∷◌, ◌==◌, ◌&&◌, find}
 use Rattle.std.specs.Ordering.{int_eq}
 use Rattle.std.specs.Str.{bytes_eq}
-use Rattle.cosem_names.specs.Table.{class, obis}
+use Rattle.cosem_names.specs.Table.{class_id, obis}
 use Rattle.cosem_names.specs.declared.name.Obis.{Obis}
 use Rattle.cosem_names.specs.declared.objects.Which.{Which}
 use Rattle.cosem_names.specs.declared.objects.Which.TheVariants.{Import, Export}
@@ -21,11 +21,11 @@ execute_method = 2
 
 -- a write of an attribute of the disconnect control (class 70, 0.0.96.3.10.255)
 abbrev pub attribute_of : ℤ → Address
-attribute_of index = record { service = write_attribute; class = class 70; name = obis 0 0 96 3 10 255; index = index }
+attribute_of index = record { service = write_attribute; class = class_id 70; name = obis 0 0 96 3 10 255; index = index }
 
 -- an execution of a method of it
 abbrev pub method_of : ℤ → Address
-method_of index = record { service = execute_method; class = class 70; name = obis 0 0 96 3 10 255; index = index }
+method_of index = record { service = execute_method; class = class_id 70; name = obis 0 0 96 3 10 255; index = index }
 
 -- the logical name of a limiter
 abbrev pub limiter_name : Which → Obis
@@ -34,25 +34,25 @@ limiter_name Export = obis 0 1 17 0 0 255
 
 -- a write of an attribute of a limiter (class 71)
 abbrev pub limiter_attribute_of : Which → ℤ → Address
-limiter_attribute_of which index = record { service = write_attribute; class = class 71; name = limiter_name which; index = index }
+limiter_attribute_of which index = record { service = write_attribute; class = class_id 71; name = limiter_name which; index = index }
 
 -- what a step of this action names
 abbrev pub address_of : Action → Address
-address_of Mode = attribute_of (pos 4)                               -- control_mode
-address_of (Normal which) = limiter_attribute_of which (pos 4)       -- threshold_normal
-address_of (Emergency which) = limiter_attribute_of which (pos 5)    -- threshold_emergency
-address_of (MinOver which) = limiter_attribute_of which (pos 6)      -- min_over_threshold_duration
-address_of (MinUnder which) = limiter_attribute_of which (pos 7)     -- min_under_threshold_duration
-address_of (Profile which) = limiter_attribute_of which (pos 8)      -- emergency_profile
-address_of Disconnect = method_of (pos 1)                            -- remote_disconnect
-address_of Reconnect = method_of (pos 2)                             -- remote_reconnect
+address_of Mode = attribute_of (pos 4)  -- control_mode
+address_of (Normal which) = limiter_attribute_of which (pos 4)  -- threshold_normal
+address_of (Emergency which) = limiter_attribute_of which (pos 5)  -- threshold_emergency
+address_of (MinOver which) = limiter_attribute_of which (pos 6)  -- min_over_threshold_duration
+address_of (MinUnder which) = limiter_attribute_of which (pos 7)  -- min_under_threshold_duration
+address_of (Profile which) = limiter_attribute_of which (pos 8)  -- emergency_profile
+address_of Disconnect = method_of (pos 1)  -- remote_disconnect
+address_of Reconnect = method_of (pos 2)  -- remote_reconnect
 
 -- the same service, class, name and index
 abbrev pub is_address : Address → Address → Bool
 is_address one other =
     one.service == other.service && (one.class.0 == other.class.0 && (bytes_eq one.name.0 other.name.0 && int_eq one.index other.index))
 
--- the actions of the listed steps: each action that there is (`listed_steps_are_found`)
+-- the actions of the listed steps: each action that there is (`each_step_is_listed`)
 abbrev pub actions : List Action
 actions =
     Mode
