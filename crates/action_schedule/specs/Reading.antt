@@ -8,18 +8,17 @@ use Rattle.cosem_axdr.specs.declared.value.Data.{Data}
 use Rattle.cosem_axdr.specs.Forms.{array_of, enumerated_of}
 use Rattle.cosem_datetime.specs.Reading.{time_of, date_of}
 use Rattle.cosem_datetime.specs.declared.entry.EntryPattern.{EntryPattern}
-use Rattle.action_schedule.specs.Forms.{script_parts_of, entry_parts_of}
+use Rattle.action_schedule.specs.Forms.{script_table, script_parts_of, entry_parts_of}
 use Rattle.action_schedule.specs.Kinds.{type_of_number}
 use Rattle.action_schedule.specs.declared.fault.ScheduleFault.{ScheduleFault}
 use Rattle.action_schedule.specs.declared.fault.ScheduleFault.TheVariants.{Unmatched, Value, Memory}
 use Rattle.action_schedule.specs.declared.kind.ScheduleType.{ScheduleType}
-use Rattle.action_schedule.specs.declared.names.TheConstants.{SCRIPT_TABLE_NAME}
 
 -- executed_script: a selector in the script table
 unfoldable pub selector_of : Data → Result ℕ ScheduleFault
 selector_of value = do
   parts ← ok_or (script_parts_of value) Unmatched
-  guard (bytes_eq parts.0.0 SCRIPT_TABLE_NAME.0) Value
+  guard (bytes_eq parts.0.0 script_table.0) Value
   Ok parts.1
 
 -- type: 1 to 5

@@ -6,12 +6,12 @@ use Rattle.cosem_axdr.specs.declared.value.Data.{Data}
 use Rattle.cosem_axdr.specs.declared.value.Data.TheVariants.{Array, Structure, OctetString, LongUnsigned, Enum}
 use Rattle.cosem_datetime.specs.Fields.{time_bytes, date_bytes}
 use Rattle.cosem_datetime.specs.declared.entry.EntryPattern.{EntryPattern}
+use Rattle.action_schedule.specs.Forms.{script_table}
 use Rattle.action_schedule.specs.Kinds.{number_of}
 use Rattle.action_schedule.specs.Reading.{selector_of, kind_of, entries_of}
 use Rattle.action_schedule.specs.Schedule.{Schedule}
 use Rattle.action_schedule.specs.declared.attribute.ScheduleAttribute.{ScheduleAttribute}
 use Rattle.action_schedule.specs.declared.attribute.ScheduleAttribute.TheVariants.{ExecutedScript, Kind, ExecutionTime}
-use Rattle.action_schedule.specs.declared.names.TheConstants.{SCRIPT_TABLE_NAME}
 
 abbrev pub array_with : List Data → Data
 array_with items = Array (trees_of (all_trees items))
@@ -20,7 +20,7 @@ abbrev pub structure_with : List Data → Data
 structure_with items = Structure (trees_of (all_trees items))
 
 unfoldable pub script_data : ℕ → Data
-script_data selector = structure_with (OctetString SCRIPT_TABLE_NAME.0 ∷ LongUnsigned selector ∷ [])
+script_data selector = structure_with (OctetString script_table.0 ∷ LongUnsigned selector ∷ [])
 
 unfoldable pub entry_data : EntryPattern → Data
 entry_data entry = structure_with (OctetString (time_bytes entry.time) ∷ OctetString (date_bytes entry.date) ∷ [])

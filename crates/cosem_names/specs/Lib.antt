@@ -1,3 +1,4 @@
 pub mod ObjectList
 pub mod Objects
 pub mod ResultCode
+pub mod Table

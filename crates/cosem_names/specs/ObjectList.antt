@@ -1,4 +1,4 @@
--- The object_list of the association as a client of a level reads it: the tables told as a Data (IEC 62056-6-2, Association LN).
+-- The object_list of the association as a client of a level reads it: the table told as a Data (IEC 62056-6-2, Association LN).
 use Rattle.std.specs.Prelude.{ℕ, Bool, true, false, List, [], ◌∷◌, ◌==◌, filter, map}
 use Rattle.std.specs.Int.{w8, cast_signed}
 use Rattle.cosem_axdr.specs.Tree.{trees_of}
@@ -12,8 +12,8 @@ use Rattle.cosem_names.specs.declared.objects.Access.TheVariants.{NoAccess, Read
 use Rattle.cosem_names.specs.declared.objects.Attribute.{Attribute}
 use Rattle.cosem_names.specs.declared.objects.Method.{Method}
 use Rattle.cosem_names.specs.declared.objects.Object.{Object}
-use Rattle.cosem_names.specs.declared.objects.TheConstants.{OBJECTS, ATTRIBUTES, METHODS}
 use Rattle.cosem_names.specs.Objects.{access_by, execution_by}
+use Rattle.cosem_names.specs.Table as table
 
 -- an array of Datas, and a structure
 abbrev pub array_with : List Data → Data
@@ -67,4 +67,4 @@ object_entries level attributes methods rows = map (object_entry level attribute
 
 -- the list of all objects
 unfoldable pub object_list_of : Level → Data
-object_list_of level = array_with (object_entries level ATTRIBUTES METHODS OBJECTS)
+object_list_of level = array_with (object_entries level table.attributes table.methods table.objects)

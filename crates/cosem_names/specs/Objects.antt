@@ -12,19 +12,19 @@ use Rattle.cosem_names.specs.declared.objects.Access.TheVariants.{NoAccess, Read
 use Rattle.cosem_names.specs.declared.objects.Attribute.{Attribute}
 use Rattle.cosem_names.specs.declared.objects.Method.{Method}
 use Rattle.cosem_names.specs.declared.objects.Object.{Object}
-use Rattle.cosem_names.specs.declared.objects.TheConstants.{OBJECTS, ATTRIBUTES, METHODS}
+use Rattle.cosem_names.specs.Table.{objects, attributes, methods}
 
 -- the row of the table with this logical name
 unfoldable pub object_of : Obis → Option Object
-object_of name = find (λ row. bytes_eq row.name.0 name.0) OBJECTS
+object_of name = find (λ row. bytes_eq row.name.0 name.0) objects
 
 -- the row of an attribute of a class
 unfoldable pub class_attribute_of : ClassId → ℕ → Option Attribute
-class_attribute_of class number = find (λ row. row.class.0 == class.0 && row.number == number) ATTRIBUTES
+class_attribute_of class number = find (λ row. row.class.0 == class.0 && row.number == number) attributes
 
 -- the row of a method of a class
 unfoldable pub class_method_of : ClassId → ℕ → Option Method
-class_method_of class number = find (λ row. row.class.0 == class.0 && row.number == number) METHODS
+class_method_of class number = find (λ row. row.class.0 == class.0 && row.number == number) methods
 
 -- the row of an attribute that a request names: the name's object must have the class that is named
 unfoldable pub attribute_of : AttrRef → Option Attribute

@@ -4,6 +4,7 @@
 #![tactic(auto)]
 
 mod access;
+mod laws;
 mod level;
 mod name;
 mod object_entries;
@@ -14,6 +15,7 @@ mod service;
 mod tests;
 
 pub use access::{attribute, find, may_execute, object, rights};
+pub use laws::tables_are_told;
 pub use level::{Level, Rights};
 pub use name::{AttrRef, ClassId, MethodRef, Obis};
 pub use object_entries::object_list;

@@ -203,24 +203,20 @@ pub const ATTRIBUTES: [Attribute; 28] = [
     attribute!(LIMITER 11: NoAccess, ReadAndWrite),
 ];
 
+macro_rules! method {
+    ($class:ident $number:literal: $public:literal, $management:literal) => {
+        Method {
+            class: $class,
+            number: $number,
+            public: $public,
+            management: $management,
+        }
+    };
+}
+
 /// The methods of the classes: which levels may execute them.
 pub const METHODS: [Method; 3] = [
-    Method {
-        class: SCRIPT_TABLE,
-        number: 1,
-        public: false,
-        management: true,
-    },
-    Method {
-        class: DISCONNECT_CONTROL,
-        number: 1,
-        public: false,
-        management: true,
-    },
-    Method {
-        class: DISCONNECT_CONTROL,
-        number: 2,
-        public: false,
-        management: true,
-    },
+    method!(SCRIPT_TABLE 1: false, true),
+    method!(DISCONNECT_CONTROL 1: false, true),
+    method!(DISCONNECT_CONTROL 2: false, true),
 ];

@@ -1,8 +1,7 @@
--- The attributes of a limiter past its logical name, by their numbers.
-use Rattle.std.specs.Prelude.{ℕ, Bool, true, false, ◌==◌, find, Option}
+-- The attributes of a limiter past its logical name, by their numbers (IEC 62056-6-2, class 71).
+use Rattle.std.specs.Prelude.{ℕ, Bool, true, false, List, [], ◌∷◌, ◌==◌, find, Option}
 use Rattle.limiter_attributes.specs.declared.attribute.LimiterAttribute.{LimiterAttribute}
 use Rattle.limiter_attributes.specs.declared.attribute.LimiterAttribute.TheVariants.{MonitoredValue, ThresholdActive, ThresholdNormal, ThresholdEmergency, MinOverThresholdDuration, MinUnderThresholdDuration, EmergencyProfile, EmergencyProfileGroupIdList, EmergencyProfileActive, Actions}
-use Rattle.limiter_attributes.specs.declared.attribute.TheConstants.{ATTRIBUTES}
 
 abbrev pub number_of : LimiterAttribute → ℕ
 number_of MonitoredValue = 2
@@ -16,9 +15,15 @@ number_of EmergencyProfileGroupIdList = 9
 number_of EmergencyProfileActive = 10
 number_of Actions = 11
 
+-- all of them: `LimiterAttribute::number` says that each is found
+abbrev pub attributes : List LimiterAttribute
+attributes =
+    MonitoredValue ∷ ThresholdActive ∷ ThresholdNormal ∷ ThresholdEmergency ∷ MinOverThresholdDuration ∷ MinUnderThresholdDuration
+    ∷ EmergencyProfile ∷ EmergencyProfileGroupIdList ∷ EmergencyProfileActive ∷ Actions ∷ []
+
 -- the attribute of this number
 unfoldable pub attribute_numbered : ℕ → Option LimiterAttribute
-attribute_numbered number = find (λ attribute. number_of attribute == number) ATTRIBUTES
+attribute_numbered number = find (λ attribute. number_of attribute == number) attributes
 
 -- a number or a boolean, so that reading it takes no memory
 abbrev pub is_plain : LimiterAttribute → Bool

@@ -2,13 +2,14 @@
 use Rattle.std.specs.Prelude.{List, [], ◌∷◌, Option, Some, None}
 use Rattle.cosem_axdr.specs.declared.value.Data.{Data}
 use Rattle.cosem_axdr.specs.Forms.{structure_of, long_unsigned_of}
+use Rattle.cosem_names.specs.Table.{obis}
 use Rattle.cosem_names.specs.declared.name.Obis.{Obis}
 use Rattle.script_steps.specs.Forms.{◌>>=◌, name_of}
 use Rattle.limiter_attributes.specs.declared.forms.NamedScript.{NamedScript}
 
--- the script table 0.0.10.0.106.255
+-- the script table, whose scripts the actions run
 abbrev pub script_table : Obis
-script_table = record { 0 = 0 ∷ 0 ∷ 10 ∷ 0 ∷ 106 ∷ 255 ∷ [] }
+script_table = obis 0 0 10 0 106 255
 
 -- a script: a structure of a script table's name and a selector
 abbrev script_with : List Data → Option NamedScript

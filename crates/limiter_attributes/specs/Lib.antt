@@ -1,6 +1,7 @@
 pub mod Attributes
 pub mod Faults
 pub mod Forms
+pub mod Law
 pub mod Reading
 pub mod Settings
 pub mod Writing

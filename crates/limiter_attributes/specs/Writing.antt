@@ -2,6 +2,7 @@
 use Rattle.std.specs.Prelude.{ℕ, pos, List, [], ◌∷◌, map}
 use Rattle.cosem_axdr.specs.declared.value.Data.{Data}
 use Rattle.cosem_axdr.specs.declared.value.Data.TheVariants.{OctetString, Boolean, DoubleLongUnsigned, LongUnsigned, Integer}
+use Rattle.cosem_names.specs.Table.{obis}
 use Rattle.cosem_names.specs.declared.name.Obis.{Obis}
 use Rattle.cosem_names.specs.declared.objects.Which.{Which}
 use Rattle.cosem_names.specs.declared.objects.Which.TheVariants.{Import, Export}
@@ -13,10 +14,10 @@ use Rattle.limiter_attributes.specs.Forms.{script_table}
 use Rattle.limiter_attributes.specs.declared.attribute.LimiterAttribute.{LimiterAttribute}
 use Rattle.limiter_attributes.specs.declared.attribute.LimiterAttribute.TheVariants as attribute
 
--- the logical name of the register whose value is monitored, 1.0.1.7.0.255 or 1.0.2.7.0.255
+-- the logical name of the register whose value is monitored
 abbrev pub register_name : Which → Obis
-register_name Import = record { 0 = 1 ∷ 0 ∷ 1 ∷ 7 ∷ 0 ∷ 255 ∷ [] }
-register_name Export = record { 0 = 1 ∷ 0 ∷ 2 ∷ 7 ∷ 0 ∷ 255 ∷ [] }
+register_name Import = obis 1 0 1 7 0 255
+register_name Export = obis 1 0 2 7 0 255
 
 -- monitored_value: attribute 2 of that register, whose class is 3
 unfoldable pub monitored_data : Which → Data

@@ -22,6 +22,7 @@ use Rattle.script_steps.specs.Forms.{step_parts_of, script_parts_of, identifier_
 use Rattle.script_steps.specs.Reading.{max_scripts, max_steps, is_unmatched, told, values, profile_of, step_with, step_of, script_of, judged_script, judged_scripts, are_distinct, table_of}
 use Rattle.script_steps.specs.Table.{IsStep, IsScript, IsTable}
 use Rattle.script_steps.specs.Writing.{profile_data, parameter_of, step_data, script_data, data_of}
+use Rattle.script_steps.proofs.Listed.{action_again}
 use Rattle.script_steps.proofs.Profiles.{profile_parts_again}
 use Rattle.script_steps.proofs.Tables.{same_distinct}
 use Rattle.script_steps.specs.declared.action.Address.{Address}
@@ -33,23 +34,6 @@ use Rattle.script_steps.specs.declared.step.Script.{Script}
 use Rattle.script_steps.specs.declared.step.Step.{Step}
 use Rattle.script_steps.specs.declared.step.Step.TheVariants as step
 use Rattle.cosem_names.specs.declared.objects.Which.TheVariants.{Import, Export}
-
--- each action is found by what it names
-action_again : (a : Action) → action_at (address_of a) ≡ Some a
-unfolding action_at
-action_again action.Mode = refl
-action_again (action.Normal Import) = refl
-action_again (action.Normal Export) = refl
-action_again (action.Emergency Import) = refl
-action_again (action.Emergency Export) = refl
-action_again (action.MinOver Import) = refl
-action_again (action.MinOver Export) = refl
-action_again (action.MinUnder Import) = refl
-action_again (action.MinUnder Export) = refl
-action_again (action.Profile Import) = refl
-action_again (action.Profile Export) = refl
-action_again action.Disconnect = refl
-action_again action.Reconnect = refl
 
 -- each mode is found by its number
 mode_again : (mode : ControlMode) → mode_of (mode_number mode) ≡ Some mode

@@ -1,5 +1,6 @@
 pub mod Addresses
 pub mod Forms
+pub mod Law
 pub mod Ranges
 pub mod Reading
 pub mod Table

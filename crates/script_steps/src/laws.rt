@@ -4,6 +4,8 @@ ghost use Rattle.cosem_axdr.specs.View.{tree_of};
 ghost use Rattle.cosem_axdr.specs.declared.value.Data.{Data};
 ghost use Rattle.script_steps.specs.Ranges.{AreScriptsInRange};
 ghost use Rattle.script_steps.specs.declared.step.Script.{Script};
+ghost use Rattle.script_steps.specs.declared.step.Step.{Step};
+ghost use Rattle.script_steps.specs.Law.{IsListed, IsInTable};
 ghost use Rattle.script_steps.specs.Reading.{table_of};
 ghost use Rattle.script_steps.specs.Table.{IsTable};
 ghost use Rattle.script_steps.specs.Writing.{data_of};
@@ -17,4 +19,12 @@ pub fn written_table_is_read()
 /// A table that is read from a value whose numbers are of their types' ranges has durations of 32 bits.
 pub fn read_table_is_in_range()
     ensures { (value : Data) (scripts : List Script) → IsWithin (tree_of value) → table_of value ≡ Ok scripts → AreScriptsInRange scripts }
+{}
+
+/// Each step is listed: it is found by what it names. And that stands in the table of the meter's objects: the switch,
+/// or the limiter of its direction, by that object's class and name, and there an attribute that the management client
+/// may write or a method that it may execute.
+pub fn each_step_is_listed()
+    ensures listed { (step : Step) → IsListed step }
+    ensures in_table { (step : Step) → IsInTable step }
 {}

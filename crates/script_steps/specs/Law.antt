@@ -1,0 +1,51 @@
+-- What a step names stands in the table of the meter's objects, and the management client may do it.
+use Rattle.std.specs.Prelude.{◌≡◌, Bool, true, ◌==◌, ◌&&◌, ◌||◌, Some, option_map}
+use Rattle.std.specs.Int.{w8, cast_unsigned}
+use Rattle.cosem_names.specs.Objects.{object_of, rights_of, may_execute_of}
+use Rattle.cosem_names.specs.declared.level.Level.TheVariants.{Management}
+use Rattle.cosem_names.specs.declared.name.AttrRef.{AttrRef}
+use Rattle.cosem_names.specs.declared.name.MethodRef.{MethodRef}
+use Rattle.cosem_names.specs.declared.objects.Instance.{Instance}
+use Rattle.cosem_names.specs.declared.objects.Instance.TheVariants.{DisconnectControl, Limiter}
+use Rattle.script_steps.specs.Addresses.{write_attribute, execute_method, address_of, action_at, action_of}
+use Rattle.script_steps.specs.declared.action.Address.{Address}
+use Rattle.script_steps.specs.declared.step.Step.{Step}
+use Rattle.script_steps.specs.declared.step.Step.TheVariants.{WriteMode, WriteNormal, WriteEmergency, WriteMinOver, WriteMinUnder, WriteProfile, Disconnect, Reconnect}
+
+-- the object that a step acts on
+abbrev pub instance_of : Step → Instance
+instance_of (WriteMode mode) = DisconnectControl
+instance_of (WriteNormal which watts) = Limiter which
+instance_of (WriteEmergency which watts) = Limiter which
+instance_of (WriteMinOver which seconds) = Limiter which
+instance_of (WriteMinUnder which seconds) = Limiter which
+instance_of (WriteProfile which profile) = Limiter which
+instance_of Disconnect = DisconnectControl
+instance_of Reconnect = DisconnectControl
+
+-- what a step names
+abbrev pub named_by : Step → Address
+named_by step = address_of (action_of step)
+
+-- an address as a SET names the attribute, and as an ACTION names the method
+abbrev pub attribute_at : Address → AttrRef
+attribute_at address = record { class = address.class; name = address.name; number = cast_unsigned w8 address.index }
+
+abbrev pub method_at : Address → MethodRef
+method_at address = record { class = address.class; name = address.name; number = cast_unsigned w8 address.index }
+
+-- the management client may write the attribute, or execute the method
+abbrev pub is_allowed : Address → Bool
+is_allowed address =
+    (address.service == write_attribute && (rights_of Management (attribute_at address)).write)
+    || (address.service == execute_method && may_execute_of Management (method_at address))
+
+-- what a step names stands in the table: its object, by that object's name and class, and something that management may do with it
+pub record IsInTable (step : Step) : Type 0 where
+  pub named : option_map (λ row. row.instance) (object_of (named_by step).name) ≡ Some (instance_of step)
+  pub classed : option_map (λ row. row.class) (object_of (named_by step).name) ≡ Some (named_by step).class
+  pub allowed : is_allowed (named_by step) ≡ true
+
+-- a step is listed: what it names is its action's, and no other action's
+abbrev pub IsListed : Step → Type 0
+IsListed step = action_at (named_by step) ≡ Some (action_of step)
