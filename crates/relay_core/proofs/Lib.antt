@@ -4,6 +4,7 @@ pub mod CopyLemmas
 pub mod InRange
 pub mod OpeningLemmas
 pub mod Replies
+pub mod RequestLemmas
 pub mod RunLemmas
 pub mod SampleLemmas
 pub mod ScheduleLemmas

@@ -7,6 +7,7 @@ pub mod Machine
 pub mod Moving
 pub mod Opening
 pub mod Reading
+pub mod Requests
 pub mod Runs
 pub mod Sampling
 pub mod Schedules

@@ -1,10 +1,16 @@
+ghost use Rattle.std.specs.Prelude.{◌≡◌};
 ghost use Rattle.relay_core.specs.declared.event.Event.{Event};
 ghost use Rattle.cosem_axdr.specs.Spelling.{IsWithin};
 ghost use Rattle.cosem_axdr.specs.View.{tree_of};
 ghost use Rattle.cosem_axdr.specs.declared.value.Data.{Data};
 ghost use Rattle.relay_core.specs.Agreeing.{Agree, IsWorld, IsEvent, IsValue, GoAlike};
 ghost use Rattle.relay_core.specs.Machine.{at_event, Fits};
+ghost use Rattle.relay_core.specs.Requests.{at_request};
+ghost use Rattle.relay_core.specs.Scripts.{at_step};
 ghost use Rattle.relay_core.specs.World.{World};
+ghost use Rattle.relay_core.specs.declared.scripts.Origin.TheVariants.{Remote};
+ghost use Rattle.script_steps.specs.Table.{IsStep};
+ghost use Rattle.script_steps.specs.declared.step.Step.{Step};
 
 /// Worlds that agree give equal replies to every event, and worlds that agree. So what a limiter does hangs on nothing of its
 /// samples but its runs and whether they have fired.
@@ -20,4 +26,10 @@ pub fn values_are_in_range()
 /// In every world each event has a reply of its kind.
 pub fn replies_fit()
     ensures { (event : Event) (w : World) → Fits event (at_event event w).reply }
+{}
+
+/// A step of a script that a client or a schedule runs does what a request of management does that names the same: the SET of that attribute with that
+/// value, or the ACTION of that method (IEC 62056-6-2, class 9).
+pub fn steps_are_requests()
+    ensures { (step : Step) (w : World) → IsStep step → at_step Remote step w ≡ at_request step w }
 {}

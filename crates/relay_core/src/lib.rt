@@ -21,7 +21,7 @@ mod stretches;
 mod writing;
 
 pub use event::{Event, Events, Line, Lines, Reply};
-pub use laws::{replies_fit, values_are_in_range, worlds_agree};
+pub use laws::{replies_fit, steps_are_requests, values_are_in_range, worlds_agree};
 pub use opening::{LimiterOpening, Opening, OpeningFault};
 pub use parts::Parts;
 pub use relay::RelayCore;

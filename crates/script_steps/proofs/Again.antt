@@ -79,7 +79,7 @@ abbrev with_parts : ℕ × List ℕ × ℕ → Result Profile ScriptFault
 with_parts parts = ok_or (result_ok (date_time_of parts.1)) Value >>= λ start. done ScriptFault (record { id = parts.0; start = start; duration = parts.2 })
 
 -- a profile that is written
-profile_again : (profile : Profile) → IsDateTimeFields profile.start → profile_of (profile_data profile) ≡ Ok profile
+pub profile_again : (profile : Profile) → IsDateTimeFields profile.start → profile_of (profile_data profile) ≡ Ok profile
 unfolding profile_of
 profile_again profile fits =
     ap (λ o. ok_or o Unmatched >>= with_parts) (profile_parts_again profile.id profile.duration (date_time_bytes profile.start) (twelve_bytes profile.start))

@@ -34,6 +34,17 @@ attribute_at address = record { class = address.class; name = address.name; numb
 abbrev pub method_at : Address → MethodRef
 method_at address = record { class = address.class; name = address.name; number = cast_unsigned w8 address.index }
 
+-- whether a step writes an attribute; else it executes a method
+abbrev pub is_write : Step → Bool
+is_write step = (named_by step).service == write_attribute
+
+-- the attribute that a step names, and the method
+abbrev pub attribute_named : Step → AttrRef
+attribute_named step = attribute_at (named_by step)
+
+abbrev pub method_named : Step → MethodRef
+method_named step = method_at (named_by step)
+
 -- the management client may write the attribute, or execute the method
 abbrev pub is_allowed : Address → Bool
 is_allowed address =
