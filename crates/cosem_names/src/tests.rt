@@ -46,6 +46,7 @@ fn names_have_their_class(rt: HostRuntime) {
     assert_eq!(rt; find(Obis([0, 4, 15, 0, 1, 255])), None);
     assert_eq!(rt; find(UNKNOWN), None);
     assert!(rt; object(DEVICE_NAME).is_some_and(|row| row.instance == Instance::DeviceName));
+    tables_are_told();
 }
 
 #[test]

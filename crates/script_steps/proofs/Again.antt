@@ -26,8 +26,6 @@ use Rattle.script_steps.proofs.Listed.{action_again}
 use Rattle.script_steps.proofs.Profiles.{profile_parts_again}
 use Rattle.script_steps.proofs.Tables.{same_distinct}
 use Rattle.script_steps.specs.declared.action.Address.{Address}
-use Rattle.script_steps.specs.declared.action.Action.{Action}
-use Rattle.script_steps.specs.declared.action.Action.TheVariants as action
 use Rattle.script_steps.specs.declared.fault.ScriptFault.{ScriptFault}
 use Rattle.script_steps.specs.declared.fault.ScriptFault.TheVariants.{Unmatched, Value}
 use Rattle.script_steps.specs.declared.step.Script.{Script}

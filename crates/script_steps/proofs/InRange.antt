@@ -1,8 +1,8 @@
 -- The durations in the steps of a table that is read are numbers of 32 bits, where the value's numbers are of their types' ranges.
-use Rattle.std.proofs.Common.{◌≡◌, ℕ, ◌^◌, ◌<◌, List, [], ◌∷◌, Option, Some, None, IfSome, IfOk, ok_or, Result, Ok, Err, refl, sym, ap, ◌∙◌, subst, arith}
+use Rattle.std.proofs.Common.{◌≡◌, ℕ, ◌<◌, List, [], ◌∷◌, Option, Some, None, ok_or, Result, Ok, Err, refl, subst}
 use Rattle.std.specs.List.{cons_option}
 use Rattle.std.specs.Result.{result_ok}
-use Rattle.byte_reading.specs.Outcome.{◌>>=◌, ◌>>◌, guard}
+use Rattle.byte_reading.specs.Outcome.{◌>>=◌, ◌>>◌}
 use Rattle.byte_reading.proofs.OutcomeLemmas.{bind_ok, done, ok_is}
 use Rattle.cosem_axdr.specs.Forms.{array_of, double_long_unsigned_of, enumerated_of}
 use Rattle.cosem_axdr.specs.declared.value.Data.{Data}
@@ -12,7 +12,7 @@ use Rattle.script_steps.proofs.Tables.{judged_parts}
 use Rattle.script_steps.proofs.Within.{Within, AllWithin, array_within, number_within, parameter_within, steps_within}
 use Rattle.disconnect_control.specs.Transitions.{mode_of}
 use Rattle.script_steps.specs.Addresses.{action_at}
-use Rattle.script_steps.specs.Reading.{max_scripts, max_steps, number_of, profile_of, method_parameter_of, told, are_distinct, step_with, step_of, values, judged_script, script_of, judged_scripts, table_of}
+use Rattle.script_steps.specs.Reading.{number_of, profile_of, method_parameter_of, step_with, step_of, values, judged_script, script_of, judged_scripts, table_of}
 use Rattle.script_steps.specs.declared.action.Action.{Action}
 use Rattle.script_steps.specs.declared.action.Action.TheVariants as action
 use Rattle.script_steps.specs.declared.fault.ScriptFault.{ScriptFault}

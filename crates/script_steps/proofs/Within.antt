@@ -1,5 +1,5 @@
 -- The parts of values whose numbers are of their types' ranges: theirs are so too.
-use Rattle.std.proofs.Common.{◌≡◌, ℕ, ◌^◌, ◌<◌, List, [], ◌∷◌, Option, Some, None, refl, sym, subst}
+use Rattle.std.proofs.Common.{◌≡◌, ℕ, ◌<◌, List, [], ◌∷◌, Option, Some, None, refl, sym, subst}
 use Rattle.cosem_axdr.specs.Forms.{array_of, structure_of, double_long_unsigned_of, enumerated_of, long_unsigned_of, integer_of}
 use Rattle.cosem_axdr.specs.Spelling.{IsWithin, AreWithin}
 use Rattle.cosem_axdr.specs.Tree.{Trees, no_trees, tree}
