@@ -1,3 +1,4 @@
+pub mod Conformance
 pub mod Fit
 pub mod Reading
 pub mod Spelling

@@ -3,6 +3,7 @@
 --     aarq_body, aare_body            the fields
 --     aarq_text, aare_text            whole APDUs
 --     low_level_aarq                  the AARQ of a client that gives a password
+--     release_request, release_response    the RLRQ and the RLRE that are sent
 use Rattle.std.specs.Prelude.{ℕ, Option, Some, None, List, [], ◌∷◌, ◌++◌}
 use Rattle.std.specs.Int.{w16, to_be_bytes, bytes_high_first}
 use Rattle.cosem_axdr.specs.Spelling.{string_text}
@@ -80,3 +81,14 @@ aare_body aare = context_text ln_context ++ (result_text aare.result ++ (diagnos
 -- the text of an AARE
 unfoldable pub aare_text : Aare → List ℕ
 aare_text aare = tagged_text 0x61 (aare_body aare)
+
+-- the reason of a release: an integer of one byte, of which 0 is normal
+abbrev pub reason_text : ℕ → List ℕ
+reason_text reason = tagged_text 0x80 (reason ∷ [])
+
+-- an RLRQ and an RLRE, each of the reason normal
+abbrev pub release_request : List ℕ
+release_request = tagged_text 0x62 (reason_text 0)
+
+abbrev pub release_response : List ℕ
+release_response = tagged_text 0x63 (reason_text 0)

@@ -2,10 +2,11 @@
 --     level_of                        the level of a client's port
 --     judged                          the checks in their order
 --     verdict_of                      the verdict
-use Rattle.std.specs.Prelude.{ℕ, Bool, true, false, not, ◌&&◌, ◌||◌, ◌==◌, nat_le, if◌then◌else◌, Option, Some, None, List, [], ◌∷◌, bytes_eq, bit_and, Result, Ok, Err}
+use Rattle.std.specs.Prelude.{ℕ, ◌+◌, Bool, true, false, not, ◌&&◌, ◌||◌, ◌==◌, nat_le, if◌then◌else◌, Option, Some, None, List, [], ◌∷◌, bytes_eq, bit_and, Result, Ok, Err}
 use Rattle.byte_reading.specs.Outcome.{◌>>=◌, ◌>>◌, guard}
 use Rattle.cosem_names.specs.declared.level.Level.{Level}
 use Rattle.cosem_names.specs.declared.level.Level.TheVariants.{Public, Management}
+use Rattle.acse_ber.specs.Conformance.{get_in_blocks, set_in_blocks, action_in_blocks, multiple_references, get_service, set_service, action_service}
 use Rattle.acse_ber.specs.Reading.{proposal_of}
 use Rattle.acse_ber.specs.Text.{ln_context, low_level}
 use Rattle.acse_ber.specs.declared.aarq.Aarq.{Aarq}
@@ -43,7 +44,7 @@ proposal_or_refusal (Err fault) = Err (Rejected 1)
 
 -- the services that the meter offers: block transfer with GET, SET and ACTION, multiple references, GET, SET and ACTION
 abbrev pub offered : ℕ
-offered = 0x001E19
+offered = get_in_blocks + set_in_blocks + action_in_blocks + multiple_references + get_service + set_service + action_service
 
 -- the checks of an InitiateRequest
 unfoldable pub agreed : Level → Proposal → Result Verdict Verdict

@@ -4,12 +4,14 @@ ghost use Rattle.cosem_axdr.specs.Spelling.{IsBytes, length_text};
 ghost use Rattle.acse_ber.specs.Fit.{IsFitAarq, IsFitAare};
 ghost use Rattle.acse_ber.specs.Reading.{aarq_of, aare_of};
 ghost use Rattle.acse_ber.specs.Spelling.{IsLength, SpellsAarq, SpellsAare, SpellsRelease};
-ghost use Rattle.acse_ber.specs.Text.{low_level, low_level_aarq, aarq_text, aare_text};
+ghost use Rattle.acse_ber.specs.Text.{low_level, low_level_aarq, aarq_text, aare_text, release_request, release_response};
 ghost use Rattle.acse_ber.specs.Verdict.{offered, verdict_of};
 ghost use Rattle.acse_ber.specs.declared.aarq.Aarq.{Aarq};
 ghost use Rattle.acse_ber.specs.declared.aare.Aare.{Aare};
 ghost use Rattle.acse_ber.specs.declared.verdict.Verdict.TheVariants.{Accepted};
 ghost use Rattle.cosem_names.specs.declared.level.Level.TheVariants.{Public, Management};
+
+use crate::release::{RELEASE_REQUEST, RELEASE_RESPONSE};
 
 /// The written text of an AARQ that fits spells it, and is read back. An AARQ fits if its fields have at most 65,535 bytes.
 pub fn text_of_fit_aarq_spells()
@@ -58,4 +60,11 @@ pub fn management_needs_the_password()
     ensures public { (aarq : Aarq) (sap : ℕ) (password : List ℕ) (bits limit : ℕ) → verdict_of aarq sap password ≡ Accepted Public bits limit → sap ≡ 16 }
     ensures accepted { (password : List ℕ) (bits limit : ℕ) → bits < 2 ^ 24 → limit < 2 ^ 16 → bit_and offered bits ≢ 0 → (limit ≡ 0) ⊎ (64 ≤ limit)
         → verdict_of (low_level_aarq password bits limit) 1 password ≡ Accepted Management (bit_and offered bits) limit }
+{}
+
+/// The RLRQ that a client sends and the RLRE that answers it have the reason normal, and the RLRQ is one.
+pub fn release_is_normal()
+    ensures request { RELEASE_REQUEST ≡ release_request }
+    ensures response { RELEASE_RESPONSE ≡ release_response }
+    ensures spelled { SpellsRelease release_request }
 {}

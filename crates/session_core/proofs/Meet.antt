@@ -12,6 +12,7 @@ use Rattle.session_core.specs.Backwards.{since, unreleased, link_of, heard, goes
 use Rattle.session_core.specs.Incoming.{no_blocks, after_by_fault, block_after, transfer_of, later_after}
 use Rattle.xdlms_apdu.specs.declared.invoke_id.InvokeId.{InvokeId}
 use Rattle.xdlms_blocks.specs.Joining.{after_added}
+use Rattle.xdlms_blocks.specs.Limits.{max_joined}
 use Rattle.xdlms_blocks.specs.declared.fault.BlockFault.TheVariants.{WrongNumber, TooLong}
 use Rattle.session_core.specs.Outcome.{Outcome, asks, says, turn_event}
 use Rattle.session_core.specs.Outgoing.{sent, sending_by_fault, continued}
@@ -33,7 +34,6 @@ use Rattle.xdlms_apdu.specs.declared.response.Exception.{Exception}
 use Rattle.xdlms_apdu.specs.declared.request.Request.{Request}
 use Rattle.xdlms_apdu.specs.declared.request.Request.TheVariants as request
 use Rattle.xdlms_blocks.specs.Transfer.{Sending, Joining}
-use Rattle.xdlms_blocks.specs.declared.blocks.TheConstants.{MAX_JOINED}
 
 -- ---- the association
 
@@ -95,15 +95,15 @@ added_by p block j true false = last_by block.last (Some (record { purpose = p; 
 
 -- the joined bytes with a block, and whether they are too many
 abbrev too_long : List ℕ → Bool
-too_long bytes = nat_lt MAX_JOINED (length bytes)
+too_long bytes = nat_lt max_joined (length bytes)
 
 added : (p : Purpose) (block : Block) (n : ℕ) (bytes : List ℕ)
     → block_after p block (record { number = n; bytes = bytes; is_open = true })
     ≡ (if goes_on (n + 1) (Some block) && not (too_long (bytes ++ block.raw)) then going p (n + 1) (bytes ++ block.raw) else None)
 unfolding block_after
 added p block n bytes =
-    added_by p block (record { number = n; bytes = bytes; is_open = true }) (block.number == n + 1) (nat_lt MAX_JOINED (length bytes + length block.raw))
-    ∙ ap (λ (size : ℕ). if goes_on (n + 1) (Some block) && not (nat_lt MAX_JOINED size) then going p (n + 1) (bytes ++ block.raw) else None) (sym (length-append bytes block.raw))
+    added_by p block (record { number = n; bytes = bytes; is_open = true }) (block.number == n + 1) (nat_lt max_joined (length bytes + length block.raw))
+    ∙ ap (λ (size : ℕ). if goes_on (n + 1) (Some block) && not (nat_lt max_joined size) then going p (n + 1) (bytes ++ block.raw) else None) (sym (length-append bytes block.raw))
 
 -- a first form
 first_block : (p : Purpose) (block : Block) → incoming_by [] (record { purpose = p; block = block }) ≡ block_after p block no_blocks
@@ -113,7 +113,7 @@ first_block p block =
 
 -- bytes that are too many stay too many
 longer : (bytes raw : List ℕ) → too_long bytes ≡ true → too_long (bytes ++ raw) ≡ true
-longer bytes raw e = let h = leb-true (MAX_JOINED + 1) (length bytes) e in le-leb (MAX_JOINED + 1) (length (bytes ++ raw)) (omega (arith, length-append bytes raw))
+longer bytes raw e = let h = leb-true (max_joined + 1) (length bytes) e in le-leb (max_joined + 1) (length (bytes ++ raw)) (omega (arith, length-append bytes raw))
 
 -- one more block of the service
 later_long : (K : Option Incoming → Option Incoming) (p : Purpose) (n : ℕ) (bytes : List ℕ) (block : Block) (long : Bool) → too_long bytes ≡ long

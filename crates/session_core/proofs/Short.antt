@@ -9,8 +9,8 @@ use Rattle.acse_ber.specs.declared.aare.Info.TheVariants as info
 use Rattle.cosem_axdr.specs.Spelling.{length_text}
 use Rattle.cosem_names.specs.declared.service.GetResult.TheVariants.{Value, Code}
 use Rattle.session_core.specs.Answers.{answer_text, IsSmall}
+use Rattle.session_core.specs.Standard.{greatest_pdu, greatest_raw}
 use Rattle.session_core.specs.declared.answer.Answer.TheVariants.{Association, Release, Service}
-use Rattle.session_core.specs.declared.limit.TheConstants.{MAX_PDU, MAX_RAW}
 use Rattle.xdlms_apdu.specs.Text.{response_text}
 use Rattle.xdlms_apdu.specs.declared.response.Exception.TheVariants.{NotAllowed, Unknown, Unreadable}
 use Rattle.xdlms_apdu.specs.declared.response.Response.{Response}
@@ -24,29 +24,29 @@ few_if false false true w x y z e p q r = r
 few_if false false false w x y z e p q r = cc
 
 -- a length that a block has is written in three bytes at most
-length_few : (n : ℕ) → n ≤ MAX_RAW → length (length_text n) ≤ 3
+length_few : (n : ℕ) → n ≤ greatest_raw → length (length_text n) ≤ 3
 length_few n h =
     few_if (nat_lt n 0x80) (nat_lt n (2 ^ 8)) (nat_lt n (2 ^ 16)) (n ∷ []) (0x81 ∷ bytes_high_first 1 n) (0x82 ∷ bytes_high_first 2 n) _
     (le-leb (suc n) (2 ^ 16) (omega arith)) (lit≤ tt) (lit≤ tt) (lit≤ tt)
 
-short_aare : (result diagnostic : ℕ) (i : Info) → length (aare_text (record { result = result; diagnostic = diagnostic; info = i })) ≤ MAX_PDU
+short_aare : (result diagnostic : ℕ) (i : Info) → length (aare_text (record { result = result; diagnostic = diagnostic; info = i })) ≤ greatest_pdu
 unfolding aare_text
 short_aare result diagnostic info.Absent = lit≤ tt
 short_aare result diagnostic (info.Response bits limit) = lit≤ tt
 short_aare result diagnostic (info.InitiateError e) = lit≤ tt
 
 -- an AARE
-pub short_association : (aare : Aare) → length (answer_text (Association aare)) ≤ MAX_PDU
+pub short_association : (aare : Aare) → length (answer_text (Association aare)) ≤ greatest_pdu
 unfolding answer_text
 short_association aare = short_aare aare.result aare.diagnostic aare.info
 
 -- an RLRE
-pub short_release : length (answer_text Release) ≤ MAX_PDU
+pub short_release : length (answer_text Release) ≤ greatest_pdu
 unfolding answer_text
 short_release = lit≤ tt
 
 -- a response without values, or with a block
-short : (r : Response) → IsSmall r → length (response_text r) ≤ MAX_PDU
+short : (r : Response) → IsSmall r → length (response_text r) ≤ greatest_pdu
 unfolding response_text
 short (response.Get id (Value value)) small = absurd small
 short (response.Get id (Code code)) small = lit≤ tt
@@ -62,6 +62,6 @@ short (response.Exception NotAllowed) small = lit≤ tt
 short (response.Exception Unknown) small = lit≤ tt
 short (response.Exception Unreadable) small = lit≤ tt
 
-pub short_response : (r : Response) → IsSmall r → length (answer_text (Service r)) ≤ MAX_PDU
+pub short_response : (r : Response) → IsSmall r → length (answer_text (Service r)) ≤ greatest_pdu
 unfolding answer_text
 short_response r small = short r small

@@ -12,7 +12,7 @@ use Rattle.session_core.specs.Backwards.{to_server, end_by, end_of}
 use Rattle.session_core.specs.Incoming.{fault_of, outcome_by_fault, block_outcome_of, whole_by_data, whole_data, whole_outcome, event_by, form_by, later_outcome, transfer_of, no_blocks}
 use Rattle.session_core.specs.Outcome.{Outcome, asks, says, Turn, settled, continues, event_of, turn_event}
 use Rattle.session_core.specs.Outgoing.{reply_response, answer_cut, value_answer, values_answer, outgoing_by, begun_by}
-use Rattle.session_core.specs.declared.replying.TheConstants.{GET_HEADER, GET_LIST_HEADER}
+use Rattle.session_core.specs.Standard.{management_device}
 use Rattle.cosem_axdr.specs.declared.value.Data.{Data}
 use Rattle.cosem_names.specs.declared.service.GetResult.{GetResult}
 use Rattle.cosem_names.specs.declared.service.GetResult.TheVariants as result
@@ -24,7 +24,6 @@ use Rattle.session_core.specs.Rules.{exception_answer, opens, call_in, call_turn
 use Rattle.session_core.specs.Calls.{is_call}
 use Rattle.session_core.specs.Running.{known_in, asks_on, answers_on, new_state}
 use Rattle.session_core.specs.declared.answer.Answer.TheVariants.{Service}
-use Rattle.session_core.specs.declared.answer.TheConstants.{SERVER_PORT}
 use Rattle.session_core.specs.declared.asked.Asked.{Asked}
 use Rattle.session_core.specs.declared.call.Call.{Call}
 use Rattle.session_core.specs.declared.call.Call.TheVariants as call
@@ -47,14 +46,13 @@ use Rattle.session_core.specs.declared.step.Step.TheVariants as step
 use Rattle.session_core.specs.declared.task.Task.{Task}
 use Rattle.session_core.specs.declared.task.Task.TheVariants.{Listen, Hear, Read, Await, Say, Send, Over}
 use Rattle.wrapper_frame.specs.Text.{frame_text}
-use Rattle.wrapper_frame.specs.Header.{head_of}
+use Rattle.wrapper_frame.specs.Header.{head_of, header_size}
 use Rattle.wrapper_frame.specs.Messages.{frames_of, rest_of, after_first}
 use Rattle.wrapper_frame.specs.Stream.{IsFirst, IsPart, TakesFirst, GoesOn, Stops, StopsBy}
 use Rattle.wrapper_frame.specs.declared.fault.WrapperFault.{WrapperFault}
 use Rattle.wrapper_frame.specs.declared.fault.WrapperFault.TheVariants as fault
 use Rattle.wrapper_frame.specs.declared.header.Head.{Head}
 use Rattle.wrapper_frame.specs.declared.header.Head.TheVariants as head
-use Rattle.wrapper_frame.specs.declared.header.TheConstants.{HEADER_SIZE}
 use Rattle.wrapper_frame.specs.declared.parts.Frame.{Frame}
 use Rattle.xdlms_apdu.specs.declared.block.Block.{Block}
 use Rattle.xdlms_apdu.specs.declared.invoke_id.InvokeId.{InvokeId}
@@ -327,23 +325,23 @@ awaits_reply E password pending finished s asked = (stays (session password pend
 -- ---- frames are taken
 
 -- a whole frame has a header
-long_by : (b : Bool) (bytes : List ℕ) (n : ℕ) (h : Head) → nat_lt (length bytes) HEADER_SIZE ≡ b → (if b then head.Part else h) ≡ head.Whole n → HEADER_SIZE ≤ length bytes
+long_by : (b : Bool) (bytes : List ℕ) (n : ℕ) (h : Head) → nat_lt (length bytes) header_size ≡ b → (if b then head.Part else h) ≡ head.Whole n → header_size ≤ length bytes
 long_by true bytes n h short e = absurd cc
-long_by false bytes n h short e = ltb-false (length bytes) HEADER_SIZE short
+long_by false bytes n h short e = ltb-false (length bytes) header_size short
 
-long : (bytes : List ℕ) (n : ℕ) → head_of bytes ≡ head.Whole n → HEADER_SIZE ≤ length bytes
+long : (bytes : List ℕ) (n : ℕ) → head_of bytes ≡ head.Whole n → header_size ≤ length bytes
 unfolding head_of
-long bytes n e = long_by (nat_lt (length bytes) HEADER_SIZE) bytes n _ refl e
+long bytes n e = long_by (nat_lt (length bytes) header_size) bytes n _ refl e
 
-shorter : (old : List ℕ) (frame : Frame) (new : List ℕ) → IsFirst old frame new → length new + HEADER_SIZE ≤ length old
+shorter : (old : List ℕ) (frame : Frame) (new : List ℕ) → IsFirst old frame new → length new + header_size ≤ length old
 shorter old frame new first =
     let enough = long old (length frame.payload) first.front in
     let after = first.after in
-    let size = length-drop (HEADER_SIZE + length frame.payload) old in
+    let size = length-drop (header_size + length frame.payload) old in
     let same : length new ≡ length (after_first (length frame.payload) old) = ap length after in
     omega (arith, enough, size, same)
 
-to_server_by : (b : Bool) (frame : Frame) (fs : List Frame) → (frame.dst == SERVER_PORT) ≡ b → to_server (frame ∷ fs) ≡ cond b (frame ∷ to_server fs) (to_server fs)
+to_server_by : (b : Bool) (frame : Frame) (fs : List Frame) → (frame.dst == management_device) ≡ b → to_server (frame ∷ fs) ≡ cond b (frame ∷ to_server fs) (to_server fs)
 to_server_by b frame fs e = ap (λ (c : Bool). cond c (frame ∷ to_server fs) (to_server fs)) e
 
 -- the end of a stream, by what comes after its frames
@@ -367,7 +365,7 @@ takes_steps password old new finished s frame task goes_on events texts ends = r
 
 -- a frame for the server
 pub takes_frame : (E : Type 0) (password old new : List ℕ) (finished : Bool) (s : State) (frame : Frame)
-    → IsFirst old frame new → GoesOn old (Some frame) new → (frame.dst == SERVER_PORT) ≡ true
+    → IsFirst old frame new → GoesOn old (Some frame) new → (frame.dst == management_device) ≡ true
     → WorksBy {E = E} (session password old finished s Listen) (Ok None) (session password new finished s (Hear frame))
 unfolding load is_asking
 takes_frame E password old new finished s frame first goes_on here = (
@@ -380,7 +378,7 @@ takes_frame E password old new finished s frame first goes_on here = (
 
 -- a frame for another port
 pub passes_frame : (E : Type 0) (password old new : List ℕ) (finished : Bool) (s : State) (frame : Frame)
-    → IsFirst old frame new → GoesOn old (Some frame) new → (frame.dst == SERVER_PORT) ≡ false
+    → IsFirst old frame new → GoesOn old (Some frame) new → (frame.dst == management_device) ≡ false
     → WorksBy {E = E} (session password old finished s Listen) (Ok None) (session password new finished s Listen)
 unfolding load is_asking
 passes_frame E password old new finished s frame first goes_on elsewhere = (
@@ -545,11 +543,11 @@ takes_reply password pending finished s asked reply text outgoing t o = record {
 -- ---- values in answers
 
 -- the bytes of a long answer that go in blocks
-pub value_cut : (id : InvokeId) (value : Data) → answer_cut id (response.Get id (result.Value value)) GET_HEADER ≡ value_answer id value
+pub value_cut : (id : InvokeId) (value : Data) → answer_cut id (response.Get id (result.Value value)) 4 ≡ value_answer id value
 unfolding response_text
 value_cut id value = refl
 
-pub values_cut : (id : InvokeId) (results : List GetResult) → answer_cut id (response.GetList id results) GET_LIST_HEADER ≡ values_answer id results
+pub values_cut : (id : InvokeId) (results : List GetResult) → answer_cut id (response.GetList id results) 3 ≡ values_answer id results
 unfolding response_text
 values_cut id results = refl
 
@@ -561,14 +559,14 @@ by_parts P s finished task f t p =
     subst (λ (b : Bool). P (session s.password s.deframer b s.state s.task)) (sym f) (subst (λ (u : Task). P (session s.password s.deframer finished s.state u)) (sym t) p)
 
 pub listens_to_frame : (E : Type 0) (s t : Session) (pending : List ℕ) (frame : Frame) → s.task ≡ Listen → IsFirst s.deframer frame pending → GoesOn s.deframer (Some frame) pending
-    → (frame.dst == SERVER_PORT) ≡ true → t ≡ session s.password pending s.is_finished s.state (Hear frame) → WorksBy {E = E} s (Ok None) t
+    → (frame.dst == management_device) ≡ true → t ≡ session s.password pending s.is_finished s.state (Hear frame) → WorksBy {E = E} s (Ok None) t
 listens_to_frame E s t pending frame listens first goes_on here after =
     subst (λ (u : Session). WorksBy {E = E} s (Ok None) u) (sym after)
     (by_parts (λ (u : Session). WorksBy {E = E} u (Ok None) (session s.password pending s.is_finished s.state (Hear frame))) s s.is_finished Listen refl listens
     (takes_frame E s.password s.deframer pending s.is_finished s.state frame first goes_on here))
 
 pub listens_past_frame : (E : Type 0) (s : Session) (pending : List ℕ) (frame : Frame) → s.task ≡ Listen → IsFirst s.deframer frame pending → GoesOn s.deframer (Some frame) pending
-    → (frame.dst == SERVER_PORT) ≡ false → WorksBy {E = E} s (Ok None) (session s.password pending s.is_finished s.state s.task)
+    → (frame.dst == management_device) ≡ false → WorksBy {E = E} s (Ok None) (session s.password pending s.is_finished s.state s.task)
 listens_past_frame E s pending frame listens first goes_on elsewhere =
     subst (λ (u : Task). WorksBy {E = E} (session s.password s.deframer s.is_finished s.state u) (Ok None) (session s.password pending s.is_finished s.state u)) (sym listens)
     (passes_frame E s.password s.deframer pending s.is_finished s.state frame first goes_on elsewhere)
@@ -739,17 +737,17 @@ asks_or_ends s end asking e = let over : awaits (Over end) ≡ true = subst (λ 
 
 -- ---- the payload of a frame
 
-framed_long : (to : ℕ) (payload : List ℕ) → HEADER_SIZE ≤ length (due_text to payload)
+framed_long : (to : ℕ) (payload : List ℕ) → header_size ≤ length (due_text to payload)
 unfolding due_text frame_text
 framed_long to payload = omega arith
 
-framed_payload : (to : ℕ) (payload : List ℕ) → drop HEADER_SIZE (due_text to payload) ≡ payload
+framed_payload : (to : ℕ) (payload : List ℕ) → drop header_size (due_text to payload) ≡ payload
 unfolding due_text frame_text
 framed_payload to payload = refl
 
-pub long_frame : (bytes : List ℕ) (asked : Asked) (reply : Reply) → bytes ≡ reply_text asked reply → HEADER_SIZE ≤ length bytes
+pub long_frame : (bytes : List ℕ) (asked : Asked) (reply : Reply) → bytes ≡ reply_text asked reply → header_size ≤ length bytes
 long_frame bytes asked reply e =
-    subst (λ (b : List ℕ). HEADER_SIZE ≤ length b) (sym e) (framed_long asked.link.source (answer_text (Service (reply_response asked reply))))
+    subst (λ (b : List ℕ). header_size ≤ length b) (sym e) (framed_long asked.link.source (answer_text (Service (reply_response asked reply))))
 
-pub payload_of : (bytes : List ℕ) (asked : Asked) (reply : Reply) → bytes ≡ reply_text asked reply → drop HEADER_SIZE bytes ≡ answer_text (Service (reply_response asked reply))
-payload_of bytes asked reply e = ap (drop HEADER_SIZE) e ∙ framed_payload asked.link.source (answer_text (Service (reply_response asked reply)))
+pub payload_of : (bytes : List ℕ) (asked : Asked) (reply : Reply) → bytes ≡ reply_text asked reply → drop header_size bytes ≡ answer_text (Service (reply_response asked reply))
+payload_of bytes asked reply e = ap (drop header_size) e ∙ framed_payload asked.link.source (answer_text (Service (reply_response asked reply)))

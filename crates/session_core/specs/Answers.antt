@@ -1,11 +1,9 @@
 -- The texts of answers.
 use Rattle.std.specs.Prelude.{ℕ, ◌≤◌, ⊤, List, length}
-use Rattle.acse_ber.specs.Text.{aare_text}
-use Rattle.acse_ber.specs.declared.release.TheConstants.{RELEASE_RESPONSE}
+use Rattle.acse_ber.specs.Text.{aare_text, release_response}
+use Rattle.session_core.specs.Standard.{management_device, greatest_raw}
 use Rattle.session_core.specs.declared.answer.Answer.{Answer}
 use Rattle.session_core.specs.declared.answer.Answer.TheVariants.{Association, Release, Service}
-use Rattle.session_core.specs.declared.answer.TheConstants.{SERVER_PORT}
-use Rattle.session_core.specs.declared.limit.TheConstants.{MAX_RAW}
 use Rattle.cosem_names.specs.declared.service.GetResult.TheVariants.{Value, Code}
 use Rattle.wrapper_frame.specs.Text.{frame_text}
 use Rattle.xdlms_apdu.specs.Text.{response_text}
@@ -15,18 +13,18 @@ use Rattle.xdlms_apdu.specs.declared.response.Response.TheVariants as response
 -- the payload of an answer
 unfoldable pub answer_text : Answer → List ℕ
 answer_text (Association aare) = aare_text aare
-answer_text Release = RELEASE_RESPONSE
+answer_text Release = release_response
 answer_text (Service response) = response_text response
 
 -- the frame in which a payload goes to a port
 unfoldable pub due_text : ℕ → List ℕ → List ℕ
-due_text to payload = frame_text (record { src = SERVER_PORT; dst = to; payload = payload })
+due_text to payload = frame_text (record { src = management_device; dst = to; payload = payload })
 
 -- a response without values, or with a block that has room in a PDU
 abbrev pub IsSmall : Response → Type 0
 IsSmall (response.Get id (Value value)) = ⊥
 IsSmall (response.Get id (Code code)) = ⊤
-IsSmall (response.GetBlock id block) = length block.raw ≤ MAX_RAW
+IsSmall (response.GetBlock id block) = length block.raw ≤ greatest_raw
 IsSmall (response.GetBlockRefused id last number code) = ⊤
 IsSmall (response.GetList id results) = ⊥
 IsSmall (response.Set id code) = ⊤

@@ -9,14 +9,13 @@ use Rattle.acse_ber.specs.declared.aare.Info.TheVariants.{Absent, Response}
 use Rattle.acse_ber.specs.declared.aare.Info.TheVariants as info
 use Rattle.acse_ber.specs.declared.verdict.Verdict.{Verdict}
 use Rattle.acse_ber.specs.declared.verdict.Verdict.TheVariants.{Accepted, Rejected, InitiateError}
-use Rattle.session_core.specs.declared.limit.TheConstants.{MIN_PDU, MAX_PDU}
+use Rattle.session_core.specs.Standard.{least_pdu, greatest_pdu, accepted, rejected, null_diagnostic, no_reason_given}
 use Rattle.session_core.specs.declared.link.Link.{Link}
-use Rattle.session_core.specs.declared.link.TheConstants.{ACCEPTED, REJECTED, NULL_DIAGNOSTIC, NO_REASON_GIVEN}
 use Rattle.wrapper_frame.specs.declared.parts.Frame.{Frame}
 
 -- the longest PDU that a client takes: what it proposed, where 0 is no limit, held between 64 and 1,024 bytes
 abbrev pub limit_of : ℕ → ℕ
-limit_of proposed = if proposed == 0 then MAX_PDU else max MIN_PDU (min proposed MAX_PDU)
+limit_of proposed = if proposed == 0 then greatest_pdu else max least_pdu (min proposed greatest_pdu)
 
 -- the association of a client that is accepted
 abbrev pub link_by : ℕ → Verdict → Option Link
@@ -26,9 +25,9 @@ link_by source (InitiateError error) = None
 
 -- the answer to an AARQ that was judged; the server takes PDUs of 1,024 bytes
 abbrev pub aare_by : Verdict → Aare
-aare_by (Accepted level bits limit) = record { result = ACCEPTED; diagnostic = NULL_DIAGNOSTIC; info = Response bits MAX_PDU }
-aare_by (Rejected diagnostic) = record { result = REJECTED; diagnostic = diagnostic; info = Absent }
-aare_by (InitiateError error) = record { result = REJECTED; diagnostic = NO_REASON_GIVEN; info = info.InitiateError error }
+aare_by (Accepted level bits limit) = record { result = accepted; diagnostic = null_diagnostic; info = Response bits greatest_pdu }
+aare_by (Rejected diagnostic) = record { result = rejected; diagnostic = diagnostic; info = Absent }
+aare_by (InitiateError error) = record { result = rejected; diagnostic = no_reason_given; info = info.InitiateError error }
 
 -- the association that an AARQ from a port opens, if it was read and is accepted
 abbrev pub link_from : List ℕ → ℕ → Result Aarq AcseFault → Option Link

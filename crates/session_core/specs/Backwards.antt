@@ -13,8 +13,8 @@ use Rattle.session_core.specs.Association.{opened_by}
 use Rattle.session_core.specs.Outcome.{turn_event}
 use Rattle.session_core.specs.Outgoing.{sent, begun_by}
 use Rattle.session_core.specs.Rules.{opens, is_heard, is_closing, call_in, turn_of, resolved}
+use Rattle.session_core.specs.Standard.{management_device}
 use Rattle.session_core.specs.Walks.{asks_along, answers_along}
-use Rattle.session_core.specs.declared.answer.TheConstants.{SERVER_PORT}
 use Rattle.session_core.specs.declared.asked.ReplyForm.TheVariants as form
 use Rattle.session_core.specs.declared.call.Call.{Call}
 use Rattle.session_core.specs.declared.call.Call.TheVariants as call
@@ -35,8 +35,8 @@ use Rattle.wrapper_frame.specs.declared.parts.Frame.{Frame}
 use Rattle.xdlms_apdu.specs.declared.block.Block.{Block}
 use Rattle.xdlms_apdu.specs.declared.request.Request.{Request}
 use Rattle.xdlms_apdu.specs.declared.request.Request.TheVariants as request
+use Rattle.xdlms_blocks.specs.Limits.{max_joined}
 use Rattle.xdlms_blocks.specs.Transfer.{Sending}
-use Rattle.xdlms_blocks.specs.declared.blocks.TheConstants.{MAX_JOINED}
 
 -- what came after the last that passes
 abbrev pub since : {X : Type 0} → (X → Bool) → List X → List X
@@ -152,7 +152,7 @@ joined_so_far service first (c ∷ later) = joined_so_far service first later ++
 -- the transfer of a first form and the later forms
 abbrev pub incoming_by : List Call → First → Option Incoming
 incoming_by later first =
-    if goes_on 1 (Some first.block) && in_order (service_of first.purpose) later && not (nat_lt MAX_JOINED (length (joined_so_far (service_of first.purpose) first.block.raw later)))
+    if goes_on 1 (Some first.block) && in_order (service_of first.purpose) later && not (nat_lt max_joined (length (joined_so_far (service_of first.purpose) first.block.raw later)))
     then Some (record { purpose = first.purpose; blocks = record { number = blocks_so_far later; bytes = joined_so_far (service_of first.purpose) first.block.raw later; is_open = true } })
     else None
 
@@ -253,7 +253,7 @@ outgoing_of password past = option_and_then (λ link. outgoing_among link (heard
 
 -- the frames for the server
 abbrev pub to_server : List Frame → List Frame
-to_server frames = filter (λ f. f.dst == SERVER_PORT) frames
+to_server frames = filter (λ f. f.dst == management_device) frames
 
 -- the events of frames after these, in order
 abbrev pub asks_after : List ℕ → List Frame → List Frame → List Event

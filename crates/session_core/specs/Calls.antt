@@ -4,11 +4,10 @@
 --     call_of                         by all of it
 use Rattle.std.specs.Prelude.{ℕ, Bool, false, ◌||◌, ◌&&◌, ◌==◌, bit_and, find, Option, Some, None, if◌then◌else◌, List, [], ◌∷◌, Result, Ok, Err}
 use Rattle.acse_ber.specs.Reading.{is_release_text}
+use Rattle.session_core.specs.Standard.{aarq_tag, rlrq_tag, request_forms, get_tag, set_tag, action_tag}
 use Rattle.session_core.specs.declared.call.Call.{Call}
 use Rattle.session_core.specs.declared.call.Call.TheVariants.{Release, Service, Refused}
-use Rattle.session_core.specs.declared.call.TheConstants.{AARQ, RLRQ}
 use Rattle.session_core.specs.declared.conformance.RequestForm.{RequestForm}
-use Rattle.session_core.specs.declared.conformance.TheConstants.{REQUEST_FORMS, GET_REQUEST, SET_REQUEST, ACTION_REQUEST}
 use Rattle.xdlms_apdu.specs.Reading.{request_of}
 use Rattle.xdlms_apdu.specs.declared.fault.ApduFault.{ApduFault}
 use Rattle.xdlms_apdu.specs.declared.request.Request.{Request}
@@ -21,15 +20,15 @@ tag_is tag (first ∷ rest) = first == tag
 
 -- an AARQ, readable or not
 abbrev pub is_opening : List ℕ → Bool
-is_opening payload = tag_is AARQ payload
+is_opening payload = tag_is aarq_tag payload
 
 -- a release or a service, readable or not
 abbrev pub is_call : List ℕ → Bool
-is_call payload = tag_is RLRQ payload || tag_is GET_REQUEST payload || tag_is SET_REQUEST payload || tag_is ACTION_REQUEST payload
+is_call payload = tag_is rlrq_tag payload || tag_is get_tag payload || tag_is set_tag payload || tag_is action_tag payload
 
 -- the form of a tag and a number
 unfoldable pub request_form : ℕ → ℕ → Option RequestForm
-request_form tag number = find (λ form. form.tag == tag && form.number == number) REQUEST_FORMS
+request_form tag number = find (λ form. form.tag == tag && form.number == number) request_forms
 
 -- the bits that a form needs were negotiated
 abbrev pub has_bits : ℕ → Option RequestForm → Bool
@@ -54,4 +53,4 @@ request_call conformance (tag ∷ form ∷ body) = if is_negotiated conformance 
 -- what a payload asks for where these bits were negotiated
 unfoldable pub call_of : ℕ → List ℕ → Call
 call_of conformance payload =
-    if tag_is RLRQ payload then (if is_release_text payload then Release else Refused Unreadable) else request_call conformance payload
+    if tag_is rlrq_tag payload then (if is_release_text payload then Release else Refused Unreadable) else request_call conformance payload

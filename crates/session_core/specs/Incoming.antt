@@ -30,8 +30,8 @@ use Rattle.xdlms_apdu.specs.declared.invoke_id.InvokeId.{InvokeId}
 use Rattle.xdlms_apdu.specs.declared.response.Response.{Response}
 use Rattle.xdlms_apdu.specs.declared.response.Response.TheVariants as response
 use Rattle.xdlms_blocks.specs.Joining.{after_added}
+use Rattle.xdlms_blocks.specs.Limits.{max_joined}
 use Rattle.xdlms_blocks.specs.Transfer.{Joining}
-use Rattle.xdlms_blocks.specs.declared.blocks.TheConstants.{MAX_JOINED}
 use Rattle.xdlms_blocks.specs.declared.fault.BlockFault.{BlockFault}
 use Rattle.xdlms_blocks.specs.declared.fault.BlockFault.TheVariants.{NoTransfer, WrongNumber, TooLong, Memory}
 
@@ -98,7 +98,7 @@ abbrev pub fault_of : Block → Joining → Option BlockFault
 fault_of block j =
     if not j.is_open then Some NoTransfer
     else if not (block.number == j.number + 1) then Some WrongNumber
-    else if nat_lt MAX_JOINED (length j.bytes + length block.raw) then Some TooLong
+    else if nat_lt max_joined (length j.bytes + length block.raw) then Some TooLong
     else None
 
 -- a transfer of which no block has come

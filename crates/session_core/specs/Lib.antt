@@ -1,3 +1,4 @@
+pub mod Standard
 pub mod Association
 pub mod Calls
 pub mod Outcome

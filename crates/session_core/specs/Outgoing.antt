@@ -4,6 +4,7 @@
 --     LongAnswer .. reply_response        the answer to the reply of an event
 --     begun_by, outgoing_by               the transfer that this answer begins
 use Rattle.std.specs.Prelude.{ℕ, ◌+◌, ◌-◌, ◌*◌, ◌==◌, ◌&&◌, nat_le, bit_and, not, true, if◌then◌else◌, Bool, Option, Some, None, option_and_then, List, length, drop}
+use Rattle.acse_ber.specs.Conformance.{get_in_blocks}
 use Rattle.cosem_axdr.specs.declared.value.Data.{Data}
 use Rattle.cosem_names.specs.declared.result_code.ResultCode.{ResultCode}
 use Rattle.cosem_names.specs.declared.result_code.ResultCode.TheVariants.{NoLongGetInProgress, DataBlockNumberInvalid, OtherReason}
@@ -11,21 +12,20 @@ use Rattle.cosem_names.specs.declared.service.GetResult.{GetResult}
 use Rattle.cosem_names.specs.declared.service.GetResult.TheVariants as result
 use Rattle.relay_core.specs.declared.event.Reply.{Reply}
 use Rattle.relay_core.specs.declared.event.Reply.TheVariants.{Value, Values, Code, Sampled, SampledBoth, Ran, Stale}
+use Rattle.session_core.specs.Standard.{block_header}
 use Rattle.session_core.specs.declared.asked.Asked.{Asked}
 use Rattle.session_core.specs.declared.asked.ReplyForm.{ReplyForm}
 use Rattle.session_core.specs.declared.asked.ReplyForm.TheVariants as form
-use Rattle.session_core.specs.declared.conformance.TheConstants.{GET_IN_BLOCKS}
-use Rattle.session_core.specs.declared.limit.TheConstants.{BLOCK_HEADER}
 use Rattle.session_core.specs.declared.link.Link.{Link}
 use Rattle.xdlms_apdu.specs.Text.{data_text, list_text, result_text, response_text}
 use Rattle.xdlms_apdu.specs.declared.invoke_id.InvokeId.{InvokeId}
 use Rattle.xdlms_apdu.specs.declared.response.Response.{Response}
 use Rattle.xdlms_apdu.specs.declared.response.Response.TheVariants as response
 use Rattle.xdlms_blocks.specs.Blocks.{unsent}
+use Rattle.xdlms_blocks.specs.Limits.{max_blocks}
 use Rattle.xdlms_blocks.specs.Sending.{next_piece}
 use Rattle.xdlms_blocks.specs.Transfer.{Sending}
 use Rattle.xdlms_blocks.specs.declared.blocks.Piece.{Piece}
-use Rattle.xdlms_blocks.specs.declared.blocks.TheConstants.{MAX_BLOCKS}
 use Rattle.xdlms_blocks.specs.declared.fault.BlockFault.{BlockFault}
 use Rattle.xdlms_blocks.specs.declared.fault.BlockFault.TheVariants.{NoTransfer, WrongNumber, TooLong, Memory}
 
@@ -72,7 +72,7 @@ continued number (Some s) = sending_by_fault s (next_fault number s)
 
 -- a text of which no block is given, for a client of this limit
 abbrev pub unsent_by : ℕ → List ℕ → Sending
-unsent_by limit raw = unsent raw (limit - BLOCK_HEADER)
+unsent_by limit raw = unsent raw (limit - block_header)
 
 -- a normal answer that may be too long, and the bytes that would go in blocks
 pub record LongAnswer : Type 0 where
@@ -130,7 +130,7 @@ has_room link normal = nat_le (length (response_text normal)) link.limit
 
 -- bytes may go to the client in blocks: this was negotiated, and there are numbers for all blocks
 abbrev pub can_go_in_blocks : Link → List ℕ → Bool
-can_go_in_blocks link raw = bit_and link.conformance GET_IN_BLOCKS == GET_IN_BLOCKS && nat_le (length raw) (MAX_BLOCKS * (link.limit - BLOCK_HEADER))
+can_go_in_blocks link raw = bit_and link.conformance get_in_blocks == get_in_blocks && nat_le (length raw) (max_blocks * (link.limit - block_header))
 
 -- the answer with values: as it is where it has room, else its first block, else other-reason
 abbrev pub long_response : Link → LongAnswer → Response

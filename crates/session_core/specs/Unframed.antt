@@ -1,35 +1,33 @@
 -- Requests that come without a frame and without an association.
 use Rattle.std.specs.Prelude.{ℕ, Bool, false, ◌==◌, ◌&&◌, ◌||◌, if◌then◌else◌, None, List, [], ◌∷◌}
-use Rattle.acse_ber.specs.declared.judging.TheConstants.{OFFERED_CONFORMANCE}
+use Rattle.acse_ber.specs.Verdict.{offered}
 use Rattle.cosem_names.specs.declared.level.Level.TheVariants.{Management}
 use Rattle.session_core.specs.Answers.{answer_text}
 use Rattle.session_core.specs.Association.{limit_of}
 use Rattle.session_core.specs.Calls.{call_of}
 use Rattle.session_core.specs.Outcome.{Outcome, asks, says}
 use Rattle.session_core.specs.Rules.{exception_answer, call_turn, resolved}
-use Rattle.session_core.specs.declared.conformance.TheConstants.{GET_REQUEST, SET_REQUEST, ACTION_REQUEST}
-use Rattle.session_core.specs.declared.limit.TheConstants.{MAX_PDU}
+use Rattle.session_core.specs.Standard.{get_tag, set_tag, action_tag, greatest_pdu, management_client}
 use Rattle.session_core.specs.declared.link.Link.{Link}
-use Rattle.session_core.specs.declared.unframed.TheConstants.{MANAGEMENT_PORT}
 use Rattle.session_core.specs.declared.unframed.Unframed.{Unframed}
 use Rattle.session_core.specs.declared.unframed.Unframed.TheVariants.{Ask, Say}
 use Rattle.xdlms_apdu.specs.declared.response.Exception.TheVariants.{Unknown}
 
 -- the association that such a request is taken to have: management, all services that the meter offers, and PDUs of 1,024 bytes
 abbrev pub unframed_link : Link
-unframed_link = record { source = MANAGEMENT_PORT; level = Management; conformance = OFFERED_CONFORMANCE; limit = limit_of MAX_PDU }
+unframed_link = record { source = management_client; level = Management; conformance = offered; limit = limit_of greatest_pdu }
 
 -- a service's tag alone, or a form of a service that needs no session
 abbrev pub is_unframed : List ℕ → Bool
 is_unframed [] = false
-is_unframed (tag ∷ []) = tag == GET_REQUEST || tag == SET_REQUEST || tag == ACTION_REQUEST
-is_unframed (tag ∷ form ∷ rest) = (tag == GET_REQUEST && (form == 1 || form == 3)) || (tag == SET_REQUEST && form == 1) || (tag == ACTION_REQUEST && form == 1)
+is_unframed (tag ∷ []) = tag == get_tag || tag == set_tag || tag == action_tag
+is_unframed (tag ∷ form ∷ rest) = (tag == get_tag && (form == 1 || form == 3)) || (tag == set_tag && form == 1) || (tag == action_tag && form == 1)
 
 -- what comes of such a request
 unfoldable pub unframed_outcome : List ℕ → Outcome
 unframed_outcome payload =
-    if is_unframed payload then resolved None (call_turn unframed_link None (call_of OFFERED_CONFORMANCE payload))
-    else says MANAGEMENT_PORT (exception_answer Unknown)
+    if is_unframed payload then resolved None (call_turn unframed_link None (call_of offered payload))
+    else says management_client (exception_answer Unknown)
 
 -- as the code tells it
 abbrev pub unframed_of : Outcome → Unframed

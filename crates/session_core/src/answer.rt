@@ -1,7 +1,7 @@
 ghost use Rattle.std.specs.Prelude.{◌≡◌, ◌≤◌, length, IfOk};
 ghost use Rattle.session_core.specs.Answers.{answer_text, due_text};
+ghost use Rattle.session_core.specs.Standard.{greatest_pdu};
 
-use crate::limit::MAX_PDU;
 use acse_ber::{Aare, RELEASE_RESPONSE, write_aare};
 use cosem_axdr::Octets;
 use std::alloc::{AllocError, Global};
@@ -39,7 +39,7 @@ impl Answer {
 /// A frame of the server.
 #[tactic(auto, unfolding(crate::specs::Answers::due_text))]
 pub(crate) fn framed(alloc: Global, to: u16, payload: &Octets) -> Result<Octets, AllocError>
-    requires { length payload.now ≤ MAX_PDU }
+    requires { length payload.now ≤ greatest_pdu }
     ensures { IfOk result (λ text. text ≡ due_text to payload.now) }
 {
     match frame(alloc, SERVER_PORT, to, payload.as_slice()) {

@@ -1,7 +1,7 @@
 ghost use Rattle.std.specs.Prelude.{◌≡◌, ◌≤◌, length, IfOk};
 ghost use Rattle.session_core.specs.Answers.{answer_text, due_text, IsSmall};
+ghost use Rattle.session_core.specs.Standard.{greatest_pdu};
 ghost use Rattle.session_core.specs.declared.answer.Answer.TheVariants as answer;
-ghost use Rattle.session_core.specs.declared.limit.TheConstants.{MAX_PDU};
 
 use crate::answer::{Answer, framed};
 use acse_ber::Aare;
@@ -14,7 +14,7 @@ use xdlms_apdu::{Exception, Response};
 pub(crate) struct Due {
     pub(crate) to: u16,
     pub(crate) answer: Answer,
-    ghost short: { length (answer_text answer) ≤ MAX_PDU },
+    ghost short: { length (answer_text answer) ≤ greatest_pdu },
 }
 
 impl Due {

@@ -1,5 +1,7 @@
 ghost use Rattle.std.specs.Prelude.{◌≡◌, ◌≤◌, ◌-◌};
 ghost use Rattle.session_core.specs.Association.{limit_of};
+ghost use Rattle.session_core.specs.Standard.{block_header, greatest_raw};
+ghost use Rattle.xdlms_blocks.specs.Limits.{min_block_size};
 
 use std::marker::Model;
 
@@ -9,8 +11,6 @@ pub(crate) const MAX_PDU: u16 = 1024;
 pub(crate) const MIN_PDU: u16 = 64;
 /// The bytes of an answer with a block that are not the block's.
 pub(crate) const BLOCK_HEADER: u16 = 12;
-/// The most raw bytes of a block.
-pub(crate) const MAX_RAW: usize = 1012;
 
 /// The longest PDU that a client takes, in bytes: 64 to 1,024. Contracts see the number.
 #[derive(Clone, Copy, Debug)]
@@ -20,13 +20,13 @@ pub(crate) struct Limit {
 
 impl Model for Limit {
     ghost use Rattle.std.specs.Prelude.{ℕ, ◌≤◌};
-    ghost use Rattle.session_core.specs.declared.limit.TheConstants.{MIN_PDU, MAX_PDU};
+    ghost use Rattle.session_core.specs.Standard.{least_pdu, greatest_pdu};
 
     ghost Value = { ℕ };
 
     ghost view = { λ limit. limit.bytes };
 
-    ghost invariant = { λ limit. (MIN_PDU ≤ limit.bytes) × (limit.bytes ≤ MAX_PDU) };
+    ghost invariant = { λ limit. (least_pdu ≤ limit.bytes) × (limit.bytes ≤ greatest_pdu) };
 
     ghost inverse = { λ bytes. record { bytes = bytes } };
 }
@@ -55,8 +55,8 @@ impl Limit {
 
     /// The raw bytes of a block in an answer of this size.
     pub(crate) fn raw(self) -> u16
-        ensures raw { result ≡ self - BLOCK_HEADER }
-        ensures room { (52 ≤ result) × (result ≤ MAX_RAW) }
+        ensures raw { result ≡ self - block_header }
+        ensures room { (min_block_size ≤ result) × (result ≤ greatest_raw) }
     {
         self.bytes - BLOCK_HEADER
     }

@@ -1,11 +1,12 @@
 ghost use Rattle.std.specs.Prelude.{◌≡◌, ◌≢◌, ◌*◌, ◌-◌, ◌<◌, ◌≤◌, ◌↔◌, length, true, false, IsErrOf, IfOk, IfErr, OnOk, OnErr, Err};
 ghost use Rattle.session_core.specs.Outgoing.{unsent_by, get_code, block_response, continued_response, continued};
+ghost use Rattle.session_core.specs.Standard.{block_header, greatest_raw};
 ghost use Rattle.session_core.specs.declared.answer.Answer.TheVariants.{Service};
+ghost use Rattle.xdlms_blocks.specs.Limits.{max_blocks};
 ghost use Rattle.xdlms_blocks.specs.Sending.{next_piece, after_next, sending_by};
-ghost use Rattle.xdlms_blocks.specs.declared.blocks.TheConstants.{MAX_BLOCKS};
 
 use crate::due::Due;
-use crate::limit::{BLOCK_HEADER, Limit, MAX_RAW};
+use crate::limit::Limit;
 use cosem_axdr::Octets;
 use cosem_names::ResultCode;
 use std::alloc::{AllocError, Global};
@@ -21,21 +22,21 @@ pub(crate) struct Outgoing {
 
 impl Model for Outgoing {
     ghost use Rattle.std.specs.Prelude.{◌≤◌};
-    ghost use Rattle.session_core.specs.declared.limit.TheConstants.{MAX_RAW};
+    ghost use Rattle.session_core.specs.Standard.{greatest_raw};
     ghost use Rattle.xdlms_blocks.specs.Transfer.{Sending};
 
     ghost Value = { Sending };
 
     ghost view = { λ outgoing. outgoing.blocks };
 
-    ghost invariant = { λ outgoing. outgoing.blocks.size ≤ MAX_RAW };
+    ghost invariant = { λ outgoing. outgoing.blocks.size ≤ greatest_raw };
 }
 
 impl Outgoing {
     /// A transfer of which no block is given.
     pub(crate) fn new(raw: Octets, limit: Limit) -> Outgoing
         requires some { 0 < length raw }
-        requires numbered { length raw ≤ MAX_BLOCKS * (limit - BLOCK_HEADER) }
+        requires numbered { length raw ≤ max_blocks * (limit - block_header) }
         ensures { result ≡ unsent_by limit raw }
     {
         Outgoing {
@@ -49,7 +50,7 @@ impl Outgoing {
         ensures wrong_number { IsErrOf result BlockFault.WrongNumber ↔ ((self.old.is_open ≡ true) × (after ≢ self.old.number)) }
         ensures never { result ≢ Err BlockFault.TooLong }
         ensures piece { IfOk result (λ piece. piece ≡ next_piece self.old) }
-        ensures room { IfOk result (λ piece. length piece.raw ≤ MAX_RAW) }
+        ensures room { IfOk result (λ piece. length piece.raw ≤ greatest_raw) }
         ensures ok { OnOk result (self.new ≡ after_next self.old) }
         ensures err { IfErr result (λ fault. self.new ≡ sending_by fault self.old) }
     {
@@ -102,7 +103,7 @@ pub(crate) fn continue_by(
 
 /// The answer with a block.
 pub(crate) fn block_given(to: u16, id: InvokeId, piece: Piece) -> Due
-    requires { length piece.raw ≤ MAX_RAW }
+    requires { length piece.raw ≤ greatest_raw }
     ensures to { result.to ≡ to }
     ensures answer { result.answer ≡ Service (block_response id piece) }
 {

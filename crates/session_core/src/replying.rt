@@ -2,15 +2,15 @@ ghost use Rattle.std.specs.Prelude.{◌≡◌, ◌≤◌, ◌<◌, ◌*◌, ◌-
 ghost use Rattle.session_core.specs.Answers.{answer_text, due_text};
 ghost use Rattle.session_core.specs.Outgoing.{sent, unsent_by, can_go_in_blocks, long_response, long_text, block_response, code_response, reply_code, answer_cut, reply_in, outgoing_by};
 ghost use Rattle.session_core.specs.Rules.{reply_text};
+ghost use Rattle.session_core.specs.Standard.{block_header};
 ghost use Rattle.session_core.specs.declared.answer.Answer.TheVariants.{Service};
+ghost use Rattle.xdlms_blocks.specs.Limits.{max_blocks};
 ghost use Rattle.xdlms_blocks.specs.Sending.{next_piece};
-ghost use Rattle.xdlms_blocks.specs.declared.blocks.TheConstants.{MAX_BLOCKS};
 
 use crate::answer::framed;
 use crate::asked::{Asked, ReplyForm};
 use crate::conformance::GET_IN_BLOCKS;
 use crate::due::Due;
-use crate::limit::BLOCK_HEADER;
 use crate::link::Link;
 use crate::outgoing::{Outgoing, block_given};
 use cosem_axdr::Octets;
@@ -18,7 +18,7 @@ use cosem_names::{GetResult, ResultCode};
 use relay_core::Reply;
 use std::alloc::{AllocError, Global};
 use xdlms_apdu::{InvokeId, Response, write_response};
-use xdlms_blocks::{BlockFault, MAX_BLOCKS};
+use xdlms_blocks::{BlockFault, GetBlocks};
 
 /// The bytes of a Get-Response-Normal before its value's.
 const GET_HEADER: usize = 4;
@@ -79,7 +79,7 @@ fn answer_values(
     normal: Response,
     header: usize,
 ) -> Result<Answered, (AllocError, Reply)>
-    requires { header ≤ GET_HEADER }
+    requires { header ≤ 4 }
     ensures text { IfOk result (λ answered. answered.text ≡ due_text link.source (answer_text (Service (long_response link (answer_cut id normal header))))) }
     ensures outgoing { IfOk result (λ answered. answered.outgoing ≡ option_and_then (sent 1) (long_text link (answer_cut id normal header))) }
     ensures err { IfErr result (λ failed. failed.1 ≡ reply_in normal) }
@@ -162,7 +162,7 @@ fn answer_long(
     normal: &Response,
     header: usize,
 ) -> Result<Answered, AllocError>
-    requires { header ≤ GET_HEADER }
+    requires { header ≤ 4 }
     ensures text { IfOk result (λ answered. answered.text ≡ due_text link.source (answer_text (Service (long_response link (answer_cut id normal.now header))))) }
     ensures outgoing { IfOk result (λ answered. answered.outgoing ≡ option_and_then (sent 1) (long_text link (answer_cut id normal.now header))) }
 {
@@ -192,13 +192,13 @@ fn can_go_in_blocks(link: Link, raw: &[u8]) -> bool
     ensures { result ≡ can_go_in_blocks link raw.now }
 {
     link.conformance & GET_IN_BLOCKS == GET_IN_BLOCKS
-        && raw.len() <= MAX_BLOCKS * usize::from(link.limit.raw())
+        && GetBlocks::has_numbers_for(raw, link.limit.raw())
 }
 
 // Begins to send bytes in blocks: the answer has the first.
 fn begin(alloc: Global, link: Link, id: InvokeId, raw: Octets) -> Result<Answered, AllocError>
     requires some { 0 < length raw }
-    requires numbered { length raw ≤ MAX_BLOCKS * (link.limit - BLOCK_HEADER) }
+    requires numbered { length raw ≤ max_blocks * (link.limit - block_header) }
     ensures text { IfOk result (λ answered. answered.text ≡ due_text link.source (answer_text (Service (block_response id (next_piece (unsent_by link.limit raw)))))) }
     ensures outgoing { IfOk result (λ answered. answered.outgoing ≡ sent 1 (unsent_by link.limit raw)) }
 {

@@ -5,6 +5,7 @@ ghost use Rattle.session_core.specs.Outgoing.{reply_response};
 ghost use Rattle.session_core.specs.Rules.{is_settled, step_outcome};
 ghost use Rattle.session_core.specs.Unframed.{unframed_of, unframed_outcome, is_unframed};
 ghost use Rattle.session_core.specs.declared.answer.Answer.TheVariants.{Service};
+ghost use Rattle.wrapper_frame.specs.Header.{header_size};
 
 use crate::answer::Answer;
 use crate::asked::Asked;
@@ -96,8 +97,8 @@ pub fn answer_unframed(alloc: Global, asked: Asked, reply: Reply) -> Result<Octe
 
 // The payload of a frame.
 fn payload(alloc: Global, frame: &[u8]) -> Result<Octets, AllocError>
-    requires { HEADER_SIZE ≤ length frame.now }
-    ensures { IfOk result (λ payload. payload ≡ drop HEADER_SIZE frame.now) }
+    requires { header_size ≤ length frame.now }
+    ensures { IfOk result (λ payload. payload ≡ drop header_size frame.now) }
 {
     Octets::from_slice(alloc, &frame[HEADER_SIZE..])
 }

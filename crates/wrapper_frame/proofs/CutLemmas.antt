@@ -4,8 +4,7 @@ use Rattle.std.proofs.lemmas.List.{drop-append-le, take-append-le, length-take-l
 use Rattle.wrapper_frame.specs.declared.parts.Frame.{Frame}
 use Rattle.wrapper_frame.specs.declared.header.Head.{Head}
 use Rattle.wrapper_frame.specs.declared.header.Head.TheVariants.{Part, BadVersion, TooLong, Whole}
-use Rattle.wrapper_frame.specs.declared.header.TheConstants.{HEADER_SIZE, SRC_AT, DST_AT}
-use Rattle.wrapper_frame.specs.Header.{head_of}
+use Rattle.wrapper_frame.specs.Header.{header_size, head_of}
 use Rattle.wrapper_frame.specs.Messages.{Cut, first_frame, after_first, cut_after, cut_by, cut_in, frames_of, rest_of}
 use Rattle.wrapper_frame.specs.Stream.{IsFirst, IsPart, GoesOn, Stops}
 use Rattle.wrapper_frame.proofs.FrontLemmas.{whole_parts, field_more, whole_more, version_more, long_more, part_few}
@@ -30,7 +29,7 @@ cut_none TooLong bytes f unlike = refl
 
 -- what comes after a frame is shorter
 pub after_shorter : (bytes : List ℕ) (n : ℕ) → head_of bytes ≡ Whole n → length (after_first n bytes) < length bytes
-after_shorter bytes n h = let w = whole_parts bytes n h in omega (arith, w.there, length-drop (HEADER_SIZE + n) bytes)
+after_shorter bytes n h = let w = whole_parts bytes n h in omega (arith, w.there, length-drop (header_size + n) bytes)
 
 -- where there are no bytes no frame stands
 pub short_whole : (bytes : List ℕ) → length bytes ≤ 0 → (n : ℕ) → head_of bytes ≢ Whole n
@@ -70,14 +69,14 @@ pub cut_first : (bytes : List ℕ) (n : ℕ) → head_of bytes ≡ Whole n → c
 cut_first bytes n h = cut_step bytes ∙ ap (λ (head : Head). cut_by head bytes cut_of) h
 
 -- the frame at the front does not change by what comes after it
-frame_more : (bytes more : List ℕ) (n : ℕ) → HEADER_SIZE + n ≤ length bytes → first_frame n (bytes ++ more) ≡ first_frame n bytes
+frame_more : (bytes more : List ℕ) (n : ℕ) → header_size + n ≤ length bytes → first_frame n (bytes ++ more) ≡ first_frame n bytes
 frame_more bytes more n h =
-    let headed : HEADER_SIZE ≤ length bytes = omega arith in
-    let there : n ≤ length (drop HEADER_SIZE bytes) = omega (arith, length-drop HEADER_SIZE bytes) in
-    let src = field_more SRC_AT bytes more (omega arith) in
-    let dst = field_more DST_AT bytes more (omega arith) in
-    let payload : take n (drop HEADER_SIZE (bytes ++ more)) ≡ take n (drop HEADER_SIZE bytes) =
-    ap (take n) (drop-append-le HEADER_SIZE bytes more headed) ∙ take-append-le n (drop HEADER_SIZE bytes) more there in
+    let headed : header_size ≤ length bytes = omega arith in
+    let there : n ≤ length (drop header_size bytes) = omega (arith, length-drop header_size bytes) in
+    let src = field_more 2 bytes more (omega arith) in
+    let dst = field_more 4 bytes more (omega arith) in
+    let payload : take n (drop header_size (bytes ++ more)) ≡ take n (drop header_size bytes) =
+    ap (take n) (drop-append-le header_size bytes more headed) ∙ take-append-le n (drop header_size bytes) more there in
     cc
 
 -- a first frame and what comes after it, however the bytes go on
@@ -85,14 +84,14 @@ cut_first_more : (bytes more : List ℕ) (n : ℕ) → head_of bytes ≡ Whole n
     → cut_of (bytes ++ more) ≡ cut_after (first_frame n bytes) (cut_of (after_first n bytes ++ more))
 cut_first_more bytes more n h =
     let w = whole_parts bytes n h in
-    let after : after_first n (bytes ++ more) ≡ after_first n bytes ++ more = drop-append-le (HEADER_SIZE + n) bytes more w.there in
+    let after : after_first n (bytes ++ more) ≡ after_first n bytes ++ more = drop-append-le (header_size + n) bytes more w.there in
     cut_first (bytes ++ more) n (whole_more bytes more n h)
     ∙ ap (λ (frame : Frame). cut_after frame (cut_of (after_first n (bytes ++ more)))) (frame_more bytes more n w.there)
     ∙ ap (λ (rest : List ℕ). cut_after (first_frame n bytes) (cut_of rest)) after
 
 -- a payload has as many bytes as its header tells
-pub payload_length : (bytes : List ℕ) (n : ℕ) → HEADER_SIZE + n ≤ length bytes → length (first_frame n bytes).payload ≡ n
-payload_length bytes n h = length-take-le n (drop HEADER_SIZE bytes) (omega (arith, length-drop HEADER_SIZE bytes))
+pub payload_length : (bytes : List ℕ) (n : ℕ) → header_size + n ≤ length bytes → length (first_frame n bytes).payload ≡ n
+payload_length bytes n h = length-take-le n (drop header_size bytes) (omega (arith, length-drop header_size bytes))
 
 -- what is taken where a whole frame stands at the front
 pub goes_on : (bytes : List ℕ) (n : ℕ) → head_of bytes ≡ Whole n → GoesOn bytes (Some (first_frame n bytes)) (after_first n bytes)

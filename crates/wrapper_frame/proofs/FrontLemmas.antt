@@ -7,8 +7,7 @@ use Rattle.byteorder.specs.Endian.{big_number}
 use Rattle.byteorder.specs.Numbers.{big_from-append}
 use Rattle.wrapper_frame.specs.declared.header.Head.{Head}
 use Rattle.wrapper_frame.specs.declared.header.Head.TheVariants.{Part, BadVersion, TooLong, Whole}
-use Rattle.wrapper_frame.specs.declared.header.TheConstants.{VERSION, HEADER_SIZE, LENGTH_AT, MAX_PAYLOAD}
-use Rattle.wrapper_frame.specs.Header.{version_of, length_of, head_of}
+use Rattle.wrapper_frame.specs.Header.{wrapper_version, header_size, max_payload, version_of, length_of, head_of}
 
 -- what stands at the front, by the outcome of each test: no whole header, this version, too long, no whole payload
 abbrev by_tests : (headless versioned long partial : Bool) → ℕ → Head
@@ -16,7 +15,7 @@ by_tests headless versioned long partial n = cond headless Part (cond versioned 
 
 -- the same of a number of bytes, a version and a length
 abbrev pub told_by : (size version n : ℕ) → Head
-told_by size version n = by_tests (nat_lt size HEADER_SIZE) (version == VERSION) (nat_lt MAX_PAYLOAD n) (nat_lt size (HEADER_SIZE + n)) n
+told_by size version n = by_tests (nat_lt size header_size) (version == wrapper_version) (nat_lt max_payload n) (nat_lt size (header_size + n)) n
 
 -- what stands at the front is told by how many bytes there are and two fields of the header
 pub head_is : (bytes : List ℕ) → head_of bytes ≡ told_by (length bytes) (version_of bytes) (length_of bytes)
@@ -61,9 +60,9 @@ field_more at bytes more h =
 
 -- a whole frame's parts
 pub record WholeParts (bytes : List ℕ) (n : ℕ) : Type 0 where
-  pub there : HEADER_SIZE + n ≤ length bytes
-  pub small : n ≤ MAX_PAYLOAD
-  pub version : version_of bytes ≡ VERSION
+  pub there : header_size + n ≤ length bytes
+  pub small : n ≤ max_payload
+  pub version : version_of bytes ≡ wrapper_version
   pub told : length_of bytes ≡ n
 
 -- what a whole frame at the front has
@@ -71,14 +70,14 @@ pub whole_parts : (bytes : List ℕ) (n : ℕ) → head_of bytes ≡ Whole n →
 whole_parts bytes n h =
     let tests = whole_tests _ _ _ _ _ n (sym (head_is bytes) ∙ h) in
     let told : length_of bytes ≡ n = tests.4 in
-    let there : HEADER_SIZE + length_of bytes ≤ length bytes = ltb-false _ _ tests.3 in
-    let small : length_of bytes ≤ MAX_PAYLOAD = ltb-false _ _ tests.2 in
+    let there : header_size + length_of bytes ≤ length bytes = ltb-false _ _ tests.3 in
+    let small : length_of bytes ≤ max_payload = ltb-false _ _ tests.2 in
     record { there = rw told at there; small = rw told at small; version = eqb-true _ _ tests.1; told = told }
 
 -- a front told by three numbers of which two agree
-told_with : (size version n : ℕ) → version ≡ VERSION → n ≤ MAX_PAYLOAD → HEADER_SIZE + n ≤ size → told_by size version n ≡ Whole n
+told_with : (size version n : ℕ) → version ≡ wrapper_version → n ≤ max_payload → header_size + n ≤ size → told_by size version n ≡ Whole n
 told_with size version n v small there =
-    rw (le-ltb size HEADER_SIZE (omega arith), v, le-ltb MAX_PAYLOAD n small, le-ltb size (HEADER_SIZE + n) there) refl
+    rw (le-ltb size header_size (omega arith), v, le-ltb max_payload n small, le-ltb size (header_size + n) there) refl
 
 -- bytes with these parts begin with a whole frame
 pub parts_whole : (bytes : List ℕ) (n : ℕ) → WholeParts bytes n → head_of bytes ≡ Whole n
@@ -93,47 +92,47 @@ whole_more bytes more n h =
       there = omega (arith, w.there, length-append bytes more);
       small = w.small;
       version = big_from-append 2 bytes more (omega (arith, w.there)) ∙ w.version;
-      told = field_more LENGTH_AT bytes more (omega (arith, w.there)) ∙ w.told;
+      told = field_more 6 bytes more (omega (arith, w.there)) ∙ w.told;
     })
 
 -- another version at the front
-told_version : (size version n : ℕ) → HEADER_SIZE ≤ size → version ≢ VERSION → told_by size version n ≡ BadVersion
-told_version size version n headed v = rw (le-ltb size HEADER_SIZE headed, ne_eqb version VERSION v) refl
+told_version : (size version n : ℕ) → header_size ≤ size → version ≢ wrapper_version → told_by size version n ≡ BadVersion
+told_version size version n headed v = rw (le-ltb size header_size headed, ne_eqb version wrapper_version v) refl
 
 -- another version stays at the front
 pub version_more : (bytes more : List ℕ) → head_of bytes ≡ BadVersion → head_of (bytes ++ more) ≡ BadVersion
 version_more bytes more h =
     let tests = version_tests _ _ _ _ _ (sym (head_is bytes) ∙ h) in
-    let headed : HEADER_SIZE ≤ length bytes = ltb-false _ _ tests.0 in
-    let other : version_of bytes ≢ VERSION = eqb-false _ _ tests.1 in
+    let headed : header_size ≤ length bytes = ltb-false _ _ tests.0 in
+    let other : version_of bytes ≢ wrapper_version = eqb-false _ _ tests.1 in
     let same : version_of (bytes ++ more) ≡ version_of bytes = big_from-append 2 bytes more (omega arith) in
     head_is (bytes ++ more) ∙ told_version _ _ _ (omega (arith, length-append bytes more)) (λ e. other (sym same ∙ e))
 
 -- too long a payload at the front
-told_long : (size version n : ℕ) → HEADER_SIZE ≤ size → version ≡ VERSION → MAX_PAYLOAD < n → told_by size version n ≡ TooLong
-told_long size version n headed v long = rw (le-ltb size HEADER_SIZE headed, v, lt-ltb MAX_PAYLOAD n long) refl
+told_long : (size version n : ℕ) → header_size ≤ size → version ≡ wrapper_version → max_payload < n → told_by size version n ≡ TooLong
+told_long size version n headed v long = rw (le-ltb size header_size headed, v, lt-ltb max_payload n long) refl
 
 -- too long a payload stays at the front
 pub long_more : (bytes more : List ℕ) → head_of bytes ≡ TooLong → head_of (bytes ++ more) ≡ TooLong
 long_more bytes more h =
     let tests = long_tests _ _ _ _ _ (sym (head_is bytes) ∙ h) in
-    let headed : HEADER_SIZE ≤ length bytes = ltb-false _ _ tests.0 in
-    let version : version_of bytes ≡ VERSION = eqb-true _ _ tests.1 in
-    let long : MAX_PAYLOAD < length_of bytes = ltb-true _ _ tests.2 in
+    let headed : header_size ≤ length bytes = ltb-false _ _ tests.0 in
+    let version : version_of bytes ≡ wrapper_version = eqb-true _ _ tests.1 in
+    let long : max_payload < length_of bytes = ltb-true _ _ tests.2 in
     let same_version : version_of (bytes ++ more) ≡ version_of bytes = big_from-append 2 bytes more (omega arith) in
-    let same_length : length_of (bytes ++ more) ≡ length_of bytes = field_more LENGTH_AT bytes more (omega arith) in
+    let same_length : length_of (bytes ++ more) ≡ length_of bytes = field_more 6 bytes more (omega arith) in
     head_is (bytes ++ more) ∙ told_long _ _ _ (omega (arith, length-append bytes more)) (same_version ∙ version) (omega arith)
 
 -- part of a frame is shorter than the longest frame
-few_by : (b c d e : Bool) (size n : ℕ) → b ≡ nat_lt size HEADER_SIZE → d ≡ nat_lt MAX_PAYLOAD n → e ≡ nat_lt size (HEADER_SIZE + n) → by_tests b c d e n ≡ Part
-    → size < HEADER_SIZE + MAX_PAYLOAD
+few_by : (b c d e : Bool) (size n : ℕ) → b ≡ nat_lt size header_size → d ≡ nat_lt max_payload n → e ≡ nat_lt size (header_size + n) → by_tests b c d e n ≡ Part
+    → size < header_size + max_payload
 few_by true c d e size n b_is d_is e_is h =
-    let headless : size < HEADER_SIZE = ltb-true _ _ (sym b_is) in omega arith
+    let headless : size < header_size = ltb-true _ _ (sym b_is) in omega arith
 few_by false c d e size n b_is d_is e_is h =
     let tests = part_tests false c d e n h refl in
-    let short : n ≤ MAX_PAYLOAD = ltb-false _ _ (sym d_is ∙ tests.0) in
-    let partial : size < HEADER_SIZE + n = ltb-true _ _ (sym e_is ∙ tests.1) in
+    let short : n ≤ max_payload = ltb-false _ _ (sym d_is ∙ tests.0) in
+    let partial : size < header_size + n = ltb-true _ _ (sym e_is ∙ tests.1) in
     omega arith
 
-pub part_few : (bytes : List ℕ) → head_of bytes ≡ Part → length bytes < HEADER_SIZE + MAX_PAYLOAD
+pub part_few : (bytes : List ℕ) → head_of bytes ≡ Part → length bytes < header_size + max_payload
 part_few bytes h = few_by _ _ _ _ (length bytes) (length_of bytes) refl refl refl (sym (head_is bytes) ∙ h)

@@ -8,8 +8,7 @@ use Rattle.byteorder.specs.Numbers.{big_number-reads_back, big_from-lt}
 use Rattle.wrapper_frame.specs.declared.parts.Frame.{Frame}
 use Rattle.wrapper_frame.specs.declared.header.Head.{Head}
 use Rattle.wrapper_frame.specs.declared.header.Head.TheVariants.{Part, BadVersion, TooLong, Whole}
-use Rattle.wrapper_frame.specs.declared.header.TheConstants.{HEADER_SIZE, VERSION, SRC_AT, DST_AT, LENGTH_AT}
-use Rattle.wrapper_frame.specs.Header.{version_of, src_of, dst_of, length_of, head_of}
+use Rattle.wrapper_frame.specs.Header.{header_size, wrapper_version, version_of, src_of, dst_of, length_of, head_of}
 use Rattle.wrapper_frame.specs.Text.{header_text, frame_text, IsFrame}
 use Rattle.wrapper_frame.specs.Messages.{Cut, first_frame, after_first, cut_after, frames_of, rest_of, AreBytes, AreFrames, BeginsWithNone, Messages, IsEnd}
 use Rattle.wrapper_frame.proofs.FrontLemmas.{whole_parts, parts_whole}
@@ -17,12 +16,12 @@ use Rattle.wrapper_frame.proofs.CutLemmas.{cut_of, cut_first, cut_stays, payload
 
 -- the fields of a header, and what comes after it
 pub record Fields (bytes : List ℕ) (src dst size : ℕ) (after : List ℕ) : Type 0 where
-  pub headed : HEADER_SIZE ≤ length bytes
-  pub version : version_of bytes ≡ VERSION
+  pub headed : header_size ≤ length bytes
+  pub version : version_of bytes ≡ wrapper_version
   pub src_is : src_of bytes ≡ src
   pub dst_is : dst_of bytes ≡ dst
   pub size_is : length_of bytes ≡ size
-  pub after_is : drop HEADER_SIZE bytes ≡ after
+  pub after_is : drop header_size bytes ≡ after
 
 -- a header's text has its fields
 header_fields : (src dst size : ℕ) (after : List ℕ) → src < 2 ^ 16 → dst < 2 ^ 16 → size < 2 ^ 16 → Fields (header_text src dst size ++ after) src dst size after
@@ -44,8 +43,8 @@ text_fields frame more is = header_fields frame.src frame.dst (length frame.payl
 text_whole : (frame : Frame) (more : List ℕ) → IsFrame frame → head_of (frame_text frame ++ more) ≡ Whole (length frame.payload)
 text_whole frame more is =
     let fields = text_fields frame more is in
-    let after : length (frame_text frame ++ more) - HEADER_SIZE ≡ length frame.payload + length more =
-    sym (length-drop HEADER_SIZE (frame_text frame ++ more)) ∙ ap length fields.after_is ∙ length-append frame.payload more in
+    let after : length (frame_text frame ++ more) - header_size ≡ length frame.payload + length more =
+    sym (length-drop header_size (frame_text frame ++ more)) ∙ ap length fields.after_is ∙ length-append frame.payload more in
     parts_whole (frame_text frame ++ more) (length frame.payload) (record {
       there = omega (arith, fields.headed);
       small = is.payload;
@@ -62,7 +61,7 @@ same_frame src dst src' dst' payload payload' s d p = cc
 text_first : (frame : Frame) (more : List ℕ) → IsFrame frame → first_frame (length frame.payload) (frame_text frame ++ more) ≡ frame
 text_first frame more is =
     let fields = text_fields frame more is in
-    let payload : take (length frame.payload) (drop HEADER_SIZE (frame_text frame ++ more)) ≡ frame.payload =
+    let payload : take (length frame.payload) (drop header_size (frame_text frame ++ more)) ≡ frame.payload =
     ap (take (length frame.payload)) fields.after_is ∙ take-append_seam frame.payload more in
     same_frame _ _ frame.src frame.dst _ frame.payload fields.src_is fields.dst_is payload
 
@@ -70,7 +69,7 @@ text_first frame more is =
 text_after : (frame : Frame) (more : List ℕ) → IsFrame frame → after_first (length frame.payload) (frame_text frame ++ more) ≡ more
 text_after frame more is =
     let fields = text_fields frame more is in
-    sym (drop-drop (length frame.payload) HEADER_SIZE (frame_text frame ++ more))
+    sym (drop-drop (length frame.payload) header_size (frame_text frame ++ more))
     ∙ ap (drop (length frame.payload)) fields.after_is ∙ drop-append_seam frame.payload more
 
 -- a text that begins with a frame's is cut into that frame and what the others are
@@ -110,19 +109,19 @@ two_spelled (a ∷ b ∷ xs) h all =
     ap (λ (n : ℕ). big_bytes 2 n ++ xs) number ∙ ap (λ (bs : List ℕ). bs ++ xs) (two_bytes a b (all 0) (all 1))
 
 -- the header's four numbers spell its bytes
-header_spelled : (bytes : List ℕ) → HEADER_SIZE ≤ length bytes → AreBytes bytes
-    → (big_bytes 2 (version_of bytes) ++ big_bytes 2 (src_of bytes) ++ big_bytes 2 (dst_of bytes) ++ big_bytes 2 (length_of bytes)) ++ drop HEADER_SIZE bytes ≡ bytes
+header_spelled : (bytes : List ℕ) → header_size ≤ length bytes → AreBytes bytes
+    → (big_bytes 2 (version_of bytes) ++ big_bytes 2 (src_of bytes) ++ big_bytes 2 (dst_of bytes) ++ big_bytes 2 (length_of bytes)) ++ drop header_size bytes ≡ bytes
 header_spelled bytes h all =
-    let fourth : big_bytes 2 (length_of bytes) ++ drop HEADER_SIZE bytes ≡ drop LENGTH_AT bytes =
-    ap (λ (xs : List ℕ). big_bytes 2 (length_of bytes) ++ xs) (sym (drop-drop 2 LENGTH_AT bytes))
-    ∙ two_spelled (drop LENGTH_AT bytes) (omega (arith, length-drop LENGTH_AT bytes)) (bytes_drop LENGTH_AT bytes all) in
-    let third : big_bytes 2 (dst_of bytes) ++ drop LENGTH_AT bytes ≡ drop DST_AT bytes =
-    ap (λ (xs : List ℕ). big_bytes 2 (dst_of bytes) ++ xs) (sym (drop-drop 2 DST_AT bytes))
-    ∙ two_spelled (drop DST_AT bytes) (omega (arith, length-drop DST_AT bytes)) (bytes_drop DST_AT bytes all) in
-    let second : big_bytes 2 (src_of bytes) ++ drop DST_AT bytes ≡ drop SRC_AT bytes =
-    ap (λ (xs : List ℕ). big_bytes 2 (src_of bytes) ++ xs) (sym (drop-drop 2 SRC_AT bytes))
-    ∙ two_spelled (drop SRC_AT bytes) (omega (arith, length-drop SRC_AT bytes)) (bytes_drop SRC_AT bytes all) in
-    let first : big_bytes 2 (version_of bytes) ++ drop SRC_AT bytes ≡ bytes = two_spelled bytes (omega arith) all in
+    let fourth : big_bytes 2 (length_of bytes) ++ drop header_size bytes ≡ drop 6 bytes =
+    ap (λ (xs : List ℕ). big_bytes 2 (length_of bytes) ++ xs) (sym (drop-drop 2 6 bytes))
+    ∙ two_spelled (drop 6 bytes) (omega (arith, length-drop 6 bytes)) (bytes_drop 6 bytes all) in
+    let third : big_bytes 2 (dst_of bytes) ++ drop 6 bytes ≡ drop 4 bytes =
+    ap (λ (xs : List ℕ). big_bytes 2 (dst_of bytes) ++ xs) (sym (drop-drop 2 4 bytes))
+    ∙ two_spelled (drop 4 bytes) (omega (arith, length-drop 4 bytes)) (bytes_drop 4 bytes all) in
+    let second : big_bytes 2 (src_of bytes) ++ drop 4 bytes ≡ drop 2 bytes =
+    ap (λ (xs : List ℕ). big_bytes 2 (src_of bytes) ++ xs) (sym (drop-drop 2 2 bytes))
+    ∙ two_spelled (drop 2 bytes) (omega (arith, length-drop 2 bytes)) (bytes_drop 2 bytes all) in
+    let first : big_bytes 2 (version_of bytes) ++ drop 2 bytes ≡ bytes = two_spelled bytes (omega arith) all in
     ap (λ (xs : List ℕ). big_bytes 2 (version_of bytes) ++ big_bytes 2 (src_of bytes) ++ big_bytes 2 (dst_of bytes) ++ xs) fourth
     ∙ ap (λ (xs : List ℕ). big_bytes 2 (version_of bytes) ++ big_bytes 2 (src_of bytes) ++ xs) third
     ∙ ap (λ (xs : List ℕ). big_bytes 2 (version_of bytes) ++ xs) second
@@ -134,8 +133,8 @@ unfolding frame_text
 front_spelled bytes n h all =
     let w = whole_parts bytes n h in
     let size : length (first_frame n bytes).payload ≡ length_of bytes = payload_length bytes n w.there ∙ sym w.told in
-    let body : take n (drop HEADER_SIZE bytes) ++ after_first n bytes ≡ drop HEADER_SIZE bytes =
-    ap (λ (xs : List ℕ). take n (drop HEADER_SIZE bytes) ++ xs) (sym (drop-drop n HEADER_SIZE bytes)) ∙ take-append-drop n (drop HEADER_SIZE bytes) in
+    let body : take n (drop header_size bytes) ++ after_first n bytes ≡ drop header_size bytes =
+    ap (λ (xs : List ℕ). take n (drop header_size bytes) ++ xs) (sym (drop-drop n header_size bytes)) ∙ take-append-drop n (drop header_size bytes) in
     let header : (xs : List ℕ) → header_text (src_of bytes) (dst_of bytes) (length (first_frame n bytes).payload) ++ xs
     ≡ (big_bytes 2 (version_of bytes) ++ big_bytes 2 (src_of bytes) ++ big_bytes 2 (dst_of bytes) ++ big_bytes 2 (length_of bytes)) ++ xs =
     λ xs. ap (λ (k : ℕ). header_text (src_of bytes) (dst_of bytes) k ++ xs) size
@@ -150,8 +149,8 @@ front_fits : (bytes : List ℕ) (n : ℕ) → head_of bytes ≡ Whole n → AreB
 front_fits bytes n h all =
     let w = whole_parts bytes n h in
     record {
-      src = big_from-lt 0 2 (drop SRC_AT bytes) (bytes_drop SRC_AT bytes all);
-      dst = big_from-lt 0 2 (drop DST_AT bytes) (bytes_drop DST_AT bytes all);
+      src = big_from-lt 0 2 (drop 2 bytes) (bytes_drop 2 bytes all);
+      dst = big_from-lt 0 2 (drop 4 bytes) (bytes_drop 4 bytes all);
       payload = omega (arith, w.small, payload_length bytes n w.there);
     }
 
@@ -199,7 +198,7 @@ found_in : (most : ℕ) (bytes : List ℕ) → length bytes ≤ most → AreByte
 found_in zero bytes short all = found_by bytes all (inr (short_whole bytes short)) (λ n h. absurd (short_whole bytes short n h))
 found_in (suc most) bytes short all =
     found_by bytes all (front_cases (head_of bytes))
-    (λ n h. let shorter = after_shorter bytes n h in found_in most (after_first n bytes) (omega arith) (bytes_drop (HEADER_SIZE + n) bytes all))
+    (λ n h. let shorter = after_shorter bytes n h in found_in most (after_first n bytes) (omega arith) (bytes_drop (header_size + n) bytes all))
 
 -- bytes are the texts of their frames and then their rest
 pub is_found : (bytes : List ℕ) → AreBytes bytes → Messages bytes (frames_of bytes) (rest_of bytes)

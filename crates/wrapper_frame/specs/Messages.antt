@@ -6,8 +6,7 @@ use Rattle.std.specs.List.{flat_map}
 use Rattle.wrapper_frame.specs.declared.parts.Frame.{Frame}
 use Rattle.wrapper_frame.specs.declared.header.Head.{Head}
 use Rattle.wrapper_frame.specs.declared.header.Head.TheVariants.{Part, BadVersion, TooLong, Whole}
-use Rattle.wrapper_frame.specs.declared.header.TheConstants.{HEADER_SIZE}
-use Rattle.wrapper_frame.specs.Header.{src_of, dst_of, head_of}
+use Rattle.wrapper_frame.specs.Header.{header_size, src_of, dst_of, head_of}
 use Rattle.wrapper_frame.specs.Text.{frame_text, IsFrame}
 
 -- bytes, cut into the frames at their front and what comes after those
@@ -17,11 +16,11 @@ pub record Cut : Type 0 where
 
 -- the frame at the front, whose payload has n bytes
 abbrev pub first_frame : ℕ → List ℕ → Frame
-first_frame n bytes = record { src = src_of bytes; dst = dst_of bytes; payload = take n (drop HEADER_SIZE bytes) }
+first_frame n bytes = record { src = src_of bytes; dst = dst_of bytes; payload = take n (drop header_size bytes) }
 
 -- what comes after it
 abbrev pub after_first : ℕ → List ℕ → List ℕ
-after_first n bytes = drop (HEADER_SIZE + n) bytes
+after_first n bytes = drop (header_size + n) bytes
 
 -- one more frame before the others
 abbrev pub cut_after : Frame → Cut → Cut

@@ -5,8 +5,7 @@ use Rattle.wrapper_frame.specs.declared.fault.WrapperFault.{WrapperFault}
 use Rattle.wrapper_frame.specs.declared.fault.WrapperFault.TheVariants as fault
 use Rattle.wrapper_frame.specs.declared.header.Head.{Head}
 use Rattle.wrapper_frame.specs.declared.header.Head.TheVariants.{Part, BadVersion, TooLong, Whole}
-use Rattle.wrapper_frame.specs.declared.header.TheConstants.{HEADER_SIZE, MAX_PAYLOAD}
-use Rattle.wrapper_frame.specs.Header.{head_of}
+use Rattle.wrapper_frame.specs.Header.{header_size, max_payload, head_of}
 use Rattle.wrapper_frame.specs.Messages.{first_frame, after_first, frames_of, rest_of}
 
 -- the frame at the front of the old bytes, and the bytes after it
@@ -18,7 +17,7 @@ pub record IsFirst (old : List ℕ) (frame : Frame) (new : List ℕ) : Type 0 wh
 -- part of a frame: no frame, nothing that is wrong, and no more bytes than the longest frame has
 pub record IsPart (bytes : List ℕ) : Type 0 where
   pub front : head_of bytes ≡ Part
-  pub few : length bytes < HEADER_SIZE + MAX_PAYLOAD
+  pub few : length bytes < header_size + max_payload
   pub frames : frames_of bytes ≡ []
   pub rest : rest_of bytes ≡ bytes
 

@@ -2,11 +2,11 @@
 use Rattle.std.specs.Prelude.{ℕ, ◌<◌, ◌≤◌, ◌^◌, List, ◌++◌, length}
 use Rattle.byteorder.specs.Endian.{big_bytes}
 use Rattle.wrapper_frame.specs.declared.parts.Frame.{Frame}
-use Rattle.wrapper_frame.specs.declared.header.TheConstants.{VERSION, MAX_PAYLOAD}
+use Rattle.wrapper_frame.specs.Header.{wrapper_version, max_payload}
 
 -- a header: version, source port, destination port and length of the payload
 abbrev pub header_text : ℕ → ℕ → ℕ → List ℕ
-header_text src dst size = big_bytes 2 VERSION ++ big_bytes 2 src ++ big_bytes 2 dst ++ big_bytes 2 size
+header_text src dst size = big_bytes 2 wrapper_version ++ big_bytes 2 src ++ big_bytes 2 dst ++ big_bytes 2 size
 
 -- a frame's bytes: its header, then its payload
 unfoldable pub frame_text : Frame → List ℕ
@@ -16,4 +16,4 @@ frame_text frame = header_text frame.src frame.dst (length frame.payload) ++ fra
 pub record IsFrame (frame : Frame) : Type 0 where
   pub src : frame.src < 2 ^ 16
   pub dst : frame.dst < 2 ^ 16
-  pub payload : length frame.payload ≤ MAX_PAYLOAD
+  pub payload : length frame.payload ≤ max_payload

@@ -1,4 +1,5 @@
 ghost use Rattle.std.specs.Prelude.{◌≡◌, ◌<◌, ◌↔◌, ◌≢◌, length, IfOk, IsErrOf, Err};
+ghost use Rattle.wrapper_frame.specs.Header.{max_payload};
 ghost use Rattle.wrapper_frame.specs.Text.{frame_text};
 
 use crate::fault::WrapperFault;
@@ -10,7 +11,7 @@ use std::alloc::Global;
 #[tactic(auto, unfolding(crate::specs::Text::frame_text))]
 pub fn frame(alloc: Global, src: u16, dst: u16, payload: &[u8]) -> Result<Octets, WrapperFault>
     ensures text { IfOk result (λ text. text ≡ frame_text (record { src = src; dst = dst; payload = payload.now })) }
-    ensures too_long { IsErrOf result WrapperFault.TooLong ↔ (MAX_PAYLOAD < length payload.now) }
+    ensures too_long { IsErrOf result WrapperFault.TooLong ↔ (max_payload < length payload.now) }
     ensures never { result ≢ Err WrapperFault.Version }
 {
     if payload.len() > MAX_PAYLOAD {

@@ -5,7 +5,7 @@ use Rattle.std.proofs.Math.Seq.{take-append_seam, drop-append_seam}
 use Rattle.std.proofs.lemmas.Bool.{leb-true, leb-false, le-leb, lt-leb}
 use Rattle.std.proofs.lemmas.List.{length-take-le, append-nil, take-append-drop, drop-drop}
 use Rattle.xdlms_blocks.specs.declared.blocks.Piece.{Piece}
-use Rattle.xdlms_blocks.specs.declared.blocks.TheConstants.{MAX_JOINED}
+use Rattle.xdlms_blocks.specs.Limits.{max_joined}
 use Rattle.xdlms_blocks.specs.Transfer.{Sending}
 use Rattle.xdlms_blocks.specs.Sending.{block_after, is_last, after_next}
 use Rattle.xdlms_blocks.specs.Blocks.{AreBlocks, last_block, full_block, joined, unsent, pieces_in, pieces_of, unjoined, Joins, at_last, goes_on}
@@ -66,7 +66,7 @@ pub is_whole : (text : List ℕ) (size : ℕ) → 0 < length text → 0 < size �
 is_whole text size some fits = (rest_of_all text size some fits).whole
 
 -- blocks that come in order are joined
-joins_from : (size number : ℕ) (pieces : List Piece) → AreBlocks size number pieces → (bytes : List ℕ) → length bytes + length (joined pieces) ≤ MAX_JOINED
+joins_from : (size number : ℕ) (pieces : List Piece) → AreBlocks size number pieces → (bytes : List ℕ) → length bytes + length (joined pieces) ≤ max_joined
     → Joins (record { number = number; bytes = bytes; is_open = true }) pieces (bytes ++ joined pieces)
 joins_from size _ _ (last_block number raw some fits) bytes short =
     let same : raw ++ [] ≡ raw = append-nil raw in
@@ -79,7 +79,7 @@ joins_from size _ _ (full_block number raw pieces full later) bytes short =
     (subst (Joins (record { number = number + 1; bytes = bytes ++ raw; is_open = true }) pieces) same
     (joins_from size (number + 1) pieces later (bytes ++ raw) (omega (arith, length-append bytes raw))))
 
-pub is_joined : (size : ℕ) (pieces : List Piece) → AreBlocks size 0 pieces → length (joined pieces) ≤ MAX_JOINED → Joins unjoined pieces (joined pieces)
+pub is_joined : (size : ℕ) (pieces : List Piece) → AreBlocks size 0 pieces → length (joined pieces) ≤ max_joined → Joins unjoined pieces (joined pieces)
 is_joined size pieces blocks short = joins_from size 0 pieces blocks [] (omega arith)
 
 -- one piece, whose mark and part are known

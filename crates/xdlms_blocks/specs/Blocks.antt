@@ -6,7 +6,7 @@
 use Rattle.std.specs.Prelude.{◌≡◌, ℕ, zero, suc, ◌+◌, ◌<◌, ◌≤◌, true, false, List, [], ◌∷◌, length, Some, None, if◌then◌else◌}
 use Rattle.std.specs.List.{flat_map}
 use Rattle.xdlms_blocks.specs.declared.blocks.Piece.{Piece}
-use Rattle.xdlms_blocks.specs.declared.blocks.TheConstants.{MAX_JOINED}
+use Rattle.xdlms_blocks.specs.Limits.{max_joined}
 use Rattle.xdlms_blocks.specs.Transfer.{Sending, Joining}
 use Rattle.xdlms_blocks.specs.Sending.{is_last, next_piece, after_next}
 use Rattle.xdlms_blocks.specs.Joining.{added_text, after_added}
@@ -41,7 +41,7 @@ unjoined = record { number = 0; bytes = []; is_open = true }
 pub record IsDue (j : Joining) (piece : Piece) : Type 0 where
   pub going : j.is_open ≡ true
   pub next : piece.number ≡ j.number + 1
-  pub short : length j.bytes + length piece.raw ≤ MAX_JOINED
+  pub short : length j.bytes + length piece.raw ≤ max_joined
 
 -- adding pieces in order, from this state on, gives no text before the last and this text at the last
 pub data Joins : Joining → List Piece → List ℕ → Type 0 where

@@ -1,7 +1,7 @@
 -- Laws of the blocks of a text.
 use Rattle.std.specs.Prelude.{◌≡◌, ℕ, ◌<◌, ◌≤◌, List, length}
 use Rattle.xdlms_blocks.specs.declared.blocks.Piece.{Piece}
-use Rattle.xdlms_blocks.specs.declared.blocks.TheConstants.{MAX_JOINED}
+use Rattle.xdlms_blocks.specs.Limits.{max_joined}
 use Rattle.xdlms_blocks.specs.Blocks.{AreBlocks, joined, pieces_of, unjoined, Joins}
 
 -- the pieces that are given are the blocks of the text
@@ -18,4 +18,4 @@ IsOnly = (size : ℕ) (pieces : List Piece) → 0 < size → AreBlocks size 0 pi
 
 -- blocks that come in order give the text that was cut
 abbrev pub IsJoined : Type 0
-IsJoined = (size : ℕ) (pieces : List Piece) → AreBlocks size 0 pieces → length (joined pieces) ≤ MAX_JOINED → Joins unjoined pieces (joined pieces)
+IsJoined = (size : ℕ) (pieces : List Piece) → AreBlocks size 0 pieces → length (joined pieces) ≤ max_joined → Joins unjoined pieces (joined pieces)

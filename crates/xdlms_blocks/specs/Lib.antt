@@ -1,3 +1,4 @@
+pub mod Limits
 pub mod Transfer
 pub mod Sending
 pub mod Joining

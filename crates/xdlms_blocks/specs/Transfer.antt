@@ -1,6 +1,6 @@
 -- The state of a transfer in blocks (IEC 62056-5-3), as contracts see it.
 use Rattle.std.specs.Prelude.{◌≡◌, ℕ, ◌*◌, ◌<◌, ◌≤◌, Bool, true, List, length}
-use Rattle.xdlms_blocks.specs.declared.blocks.TheConstants.{MAX_BLOCKS}
+use Rattle.xdlms_blocks.specs.Limits.{max_blocks}
 
 -- a text that is sent: the number of the block last given, 0 before the first, the raw bytes of a block, and whether the transfer goes on
 pub record Sending : Type 0 where
@@ -17,5 +17,5 @@ pub record Joining : Type 0 where
 
 -- the text has blocks that a number can be given to, and while the transfer goes on there is one more
 pub record CanGoOn (sending : Sending) : Type 0 where
-  pub numbered : length sending.text ≤ MAX_BLOCKS * sending.size
+  pub numbered : length sending.text ≤ max_blocks * sending.size
   pub more : sending.is_open ≡ true → sending.number * sending.size < length sending.text

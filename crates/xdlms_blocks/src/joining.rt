@@ -1,5 +1,6 @@
 ghost use Rattle.std.specs.Prelude.{◌≡◌, ◌≢◌, ◌+◌, ◌<◌, ◌≤◌, ◌↔◌, [], length, true, false, IsErrOf, IfOk, IfErr, OnOk};
 ghost use Rattle.xdlms_blocks.specs.Joining.{added_text, after_added, joining_by};
+ghost use Rattle.xdlms_blocks.specs.Limits.{max_joined};
 
 use crate::blocks::MAX_JOINED;
 use crate::fault::BlockFault;
@@ -17,14 +18,14 @@ pub struct JoinBlocks {
 
 impl Model for JoinBlocks {
     ghost use Rattle.std.specs.Prelude.{[], ◌≤◌, length, unwrap_or, is_some};
-    ghost use Rattle.xdlms_blocks.specs.declared.blocks.TheConstants.{MAX_JOINED};
+    ghost use Rattle.xdlms_blocks.specs.Limits.{max_joined};
     ghost use Rattle.xdlms_blocks.specs.Transfer.{Joining};
 
     ghost Value = { Joining };
 
     ghost view = { λ j. record { number = j.number; bytes = unwrap_or j.bytes []; is_open = is_some j.bytes } };
 
-    ghost invariant = { λ j. length (unwrap_or j.bytes []) ≤ MAX_JOINED };
+    ghost invariant = { λ j. length (unwrap_or j.bytes []) ≤ max_joined };
 }
 
 impl JoinBlocks {
@@ -43,7 +44,7 @@ impl JoinBlocks {
         ensures no_transfer { IsErrOf result BlockFault.NoTransfer ↔ (self.old.is_open ≡ false) }
         ensures wrong_number { IsErrOf result BlockFault.WrongNumber ↔ ((self.old.is_open ≡ true) × (number ≢ self.old.number + 1)) }
         ensures too_long { IsErrOf result BlockFault.TooLong
-            ↔ ((self.old.is_open ≡ true) × (number ≡ self.old.number + 1) × (MAX_JOINED < length self.old.bytes + length raw.now)) }
+            ↔ ((self.old.is_open ≡ true) × (number ≡ self.old.number + 1) × (max_joined < length self.old.bytes + length raw.now)) }
         ensures text { IfOk result (λ text. text ≡ added_text last raw.now self.old) }
         ensures ok { OnOk result (self.new ≡ after_added last raw.now self.old) }
 

@@ -11,7 +11,7 @@ mod sending;
 #[cfg(test)]
 mod tests;
 
-pub use blocks::{MAX_BLOCKS, MAX_JOINED, MIN_BLOCK_SIZE, Piece};
+pub use blocks::Piece;
 pub use fault::BlockFault;
 pub use joining::JoinBlocks;
 pub use law::one_text;

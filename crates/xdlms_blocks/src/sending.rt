@@ -1,7 +1,8 @@
-ghost use Rattle.std.specs.Prelude.{◌≡◌, ◌≢◌, ◌*◌, ◌<◌, ◌≤◌, ◌↔◌, length, true, false, IsErrOf, IfOk, IfErr, OnOk, Err};
+ghost use Rattle.std.specs.Prelude.{◌≡◌, ◌≢◌, ◌*◌, ◌<◌, ◌≤◌, ◌↔◌, nat_le, length, true, false, IsErrOf, IfOk, IfErr, OnOk, Err};
+ghost use Rattle.xdlms_blocks.specs.Limits.{min_block_size, max_blocks};
 ghost use Rattle.xdlms_blocks.specs.Sending.{next_piece, after_next, sending_by};
 
-use crate::blocks::{MAX_BLOCKS, MIN_BLOCK_SIZE, Piece};
+use crate::blocks::{MAX_BLOCKS, Piece};
 use crate::fault::BlockFault;
 use cosem_axdr::Octets;
 use std::alloc::Global;
@@ -28,11 +29,18 @@ impl Model for GetBlocks {
 }
 
 impl GetBlocks {
-    /// A transfer of `raw` in blocks of `size` bytes, of which none is given. It takes no memory.
+    /// Whether there are numbers for all blocks of `size` bytes that `raw` has.
+    pub fn has_numbers_for(raw: &[u8], size: u16) -> bool
+        ensures { result ≡ nat_le (length raw.now) (max_blocks * size) }
+    {
+        raw.len() <= MAX_BLOCKS * usize::from(size)
+    }
+
+    /// A transfer of `raw` in blocks of `size` bytes, 52 at least, of which none is given. It takes no memory.
     pub fn new(raw: Octets, size: u16) -> Self
-        requires size { MIN_BLOCK_SIZE ≤ size }
+        requires size { min_block_size ≤ size }
         requires some { 0 < length raw }
-        requires numbered { length raw ≤ MAX_BLOCKS * size }
+        requires numbered { length raw ≤ max_blocks * size }
         ensures { result ≡ record { text = raw; number = 0; size = size; is_open = true } }
     {
         GetBlocks {

@@ -1,0 +1,34 @@
+-- The conformance block (IEC 62056-5-3): 24 bits, each of a service. Bit 0 is the highest.
+use Rattle.std.specs.Prelude.{ℕ, ◌-◌, ◌^◌}
+
+-- the block with this bit alone
+abbrev pub conformance_bit : ℕ → ℕ
+conformance_bit n = 2 ^ (23 - n)
+
+-- block-transfer-with-get-or-read
+abbrev pub get_in_blocks : ℕ
+get_in_blocks = conformance_bit 11
+
+-- block-transfer-with-set-or-write
+abbrev pub set_in_blocks : ℕ
+set_in_blocks = conformance_bit 12
+
+-- block-transfer-with-action
+abbrev pub action_in_blocks : ℕ
+action_in_blocks = conformance_bit 13
+
+-- multiple-references
+abbrev pub multiple_references : ℕ
+multiple_references = conformance_bit 14
+
+-- get
+abbrev pub get_service : ℕ
+get_service = conformance_bit 19
+
+-- set
+abbrev pub set_service : ℕ
+set_service = conformance_bit 20
+
+-- action
+abbrev pub action_service : ℕ
+action_service = conformance_bit 23

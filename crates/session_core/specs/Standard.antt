@@ -1,0 +1,91 @@
+-- The values that the standards fix for a session.
+--     aarq_tag .. action_tag                    the tags of what a client asks for (IEC 62056-5-3)
+--     request_forms                             the forms of requests, and the services that each needs (IEC 62056-5-3, conformance block)
+--     accepted .. no_reason_given               the results and diagnostics of an association (IEC 62056-5-3, AARE)
+--     management_client, management_device      the ports of the wrapper (IEC 62056-4-7)
+--     least_pdu, greatest_pdu, block_header     the sizes of PDUs
+use Rattle.std.specs.Prelude.{ℕ, ◌+◌, List, [], ◌∷◌}
+use Rattle.acse_ber.specs.Conformance.{get_in_blocks, set_in_blocks, action_in_blocks, multiple_references, get_service, set_service, action_service}
+use Rattle.session_core.specs.declared.conformance.RequestForm.{RequestForm}
+
+-- ---- tags
+
+-- an AARQ and an RLRQ
+abbrev pub aarq_tag : ℕ
+aarq_tag = 0x60
+
+abbrev pub rlrq_tag : ℕ
+rlrq_tag = 0x62
+
+-- a Get-Request, a Set-Request and an Action-Request
+abbrev pub get_tag : ℕ
+get_tag = 0xC0
+
+abbrev pub set_tag : ℕ
+set_tag = 0xC1
+
+abbrev pub action_tag : ℕ
+action_tag = 0xC3
+
+-- ---- the forms of requests
+
+-- a form: the tag of its service, the number of its choice, and the services that have to be negotiated
+abbrev form : ℕ → ℕ → ℕ → RequestForm
+form tag number needs = record { tag = tag; number = number; needs = needs }
+
+-- normal, next and with-list of a GET; normal, with-first-datablock and with-datablock of a SET; normal, with-first-pblock and with-pblock of an ACTION
+abbrev pub request_forms : List RequestForm
+request_forms =
+    form get_tag 1 get_service
+    ∷ form get_tag 2 (get_service + get_in_blocks)
+    ∷ form get_tag 3 (get_service + multiple_references)
+    ∷ form set_tag 1 set_service
+    ∷ form set_tag 2 (set_service + set_in_blocks)
+    ∷ form set_tag 3 (set_service + set_in_blocks)
+    ∷ form action_tag 1 action_service
+    ∷ form action_tag 4 (action_service + action_in_blocks)
+    ∷ form action_tag 6 (action_service + action_in_blocks)
+    ∷ []
+
+-- ---- an AARE
+
+-- the association results accepted and rejected-permanent
+abbrev pub accepted : ℕ
+accepted = 0
+
+abbrev pub rejected : ℕ
+rejected = 1
+
+-- the diagnostics null and no-reason-given of the service user
+abbrev pub null_diagnostic : ℕ
+null_diagnostic = 0
+
+abbrev pub no_reason_given : ℕ
+no_reason_given = 1
+
+-- ---- ports
+
+-- the port of the meter's management logical device, from which it answers
+abbrev pub management_device : ℕ
+management_device = 1
+
+-- the port of the management client
+abbrev pub management_client : ℕ
+management_client = 1
+
+-- ---- sizes, in bytes
+
+-- the smallest size that a client may propose, and the longest PDU that the meter sends and takes
+abbrev pub least_pdu : ℕ
+least_pdu = 64
+
+abbrev pub greatest_pdu : ℕ
+greatest_pdu = 1024
+
+-- a Get-Response-With-Datablock before its raw bytes: tag, choice, invoke-id-and-priority, last-block, block-number (4), the choice raw-data, and a length of 3 bytes at most
+abbrev pub block_header : ℕ
+block_header = 3 + 1 + 4 + 1 + 3
+
+-- the most raw bytes of a block
+abbrev pub greatest_raw : ℕ
+greatest_raw = 1012
