@@ -132,7 +132,12 @@ impl Block {
     pub fn scan(&mut self, import_threshold: u32, export_threshold: u32)
         ensures { self.new ≡ self.old }
     {
-        let scans = scans_of(self.values(), import_threshold, self.export(), export_threshold);
+        let scans = scans_of(
+            self.values(),
+            import_threshold,
+            self.export(),
+            export_threshold,
+        );
         self.scans = Some(scans);
     }
 
