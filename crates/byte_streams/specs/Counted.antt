@@ -6,6 +6,10 @@ use Rattle.byte_streams.specs.declared.counted.Counted.{Counted}
 abbrev pub stream_of : {T : Type 0} → Counted T → T
 stream_of c = c.stream
 
+-- how many reads have succeeded
+abbrev pub reads_of : {T : Type 0} → Counted T → ℕ
+reads_of c = c.reads
+
 -- it has failed
 abbrev pub has_failed : {T : Type 0} → Counted T → Bool
 has_failed c = c.has_failed

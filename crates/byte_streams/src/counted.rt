@@ -1,5 +1,5 @@
 ghost use Rattle.std.specs.Prelude.{◌≡◌};
-ghost use Rattle.byte_streams.specs.Counted.{stream_of, has_failed, failures_of, IsWhole};
+ghost use Rattle.byte_streams.specs.Counted.{stream_of, reads_of, has_failed, failures_of, IsWhole};
 
 use crate::fault::StreamFault;
 use crate::streams::{Reader, Writer};
@@ -8,10 +8,11 @@ use std::io::{ErrorKind, Read, Write};
 /// How often a read that a signal interrupts is tried.
 const MOST_TRIES: u32 = 1_000;
 
-/// A stream of std as a [`Reader`] or a [`Writer`]. It is used up at its first failure.
+/// A stream of std as a [`Reader`] or a [`Writer`]. It is used up at its first failure, and a read past the 18,446,744,073,709,551,615th fails.
 #[derive(Debug, Drop)]
 pub struct Counted<T> {
     stream: T,
+    reads: u64,
     has_failed: bool,
 }
 
@@ -20,9 +21,11 @@ impl<T> Counted<T> {
     pub fn new(stream: T) -> Counted<T>
         ensures stream { stream_of result ≡ stream }
         ensures whole { IsWhole result }
+        ensures unread { reads_of result ≡ 0 }
     {
         Counted {
             stream,
+            reads: 0,
             has_failed: false,
         }
     }
@@ -33,6 +36,13 @@ impl<T> Counted<T> {
     {
         let Counted { stream, .. } = self;
         stream
+    }
+
+    /// How many reads have succeeded.
+    pub fn reads(&self) -> u64
+        ensures { result ≡ reads_of self.now }
+    {
+        self.reads
     }
 
     /// Whether a read or a write has failed.
@@ -46,14 +56,23 @@ impl<T> Counted<T> {
 impl<T: Read> Reader for Counted<T> {
     ghost remaining = { λ c. T.remaining (stream_of c) };
 
+    ghost reads = { reads_of };
+
     ghost failures = { failures_of };
 
     ghost can_read = { IsWhole };
 
     fn read(&mut self, buffer: &mut [u8]) -> Result<usize, StreamFault> {
+        let Some(reads) = self.reads.checked_add(1) else {
+            self.has_failed = true;
+            return Err(StreamFault);
+        };
         'tries: for _ in 0..MOST_TRIES {
             match self.stream.read(buffer) {
-                Ok(count) => return Ok(count),
+                Ok(count) => {
+                    self.reads = reads;
+                    return Ok(count);
+                }
                 Err(error) => {
                     if error.kind() != ErrorKind::Interrupted {
                         break;

@@ -1,4 +1,4 @@
-ghost use Rattle.std.specs.Prelude.{◌≡◌, ◌<◌, ℕ, List, Option, None, ⊤, OnOk, OnErr};
+ghost use Rattle.std.specs.Prelude.{◌≡◌, ◌<◌, ◌+◌, ℕ, List, Option, None, ⊤, OnOk, OnErr};
 ghost use Rattle.std.specs.Io.{ReadsAtMost};
 ghost use Rattle.std.specs.Io.KnownBytes.{ReadConsumes, Appends};
 
@@ -8,6 +8,9 @@ use crate::fault::StreamFault;
 pub trait Reader {
     // The bytes that reads will give from here on, where they are known.
     ghost remaining: { Self → Option (List ℕ) } = { λ _. None };
+
+    // How many reads have succeeded.
+    ghost reads: { Self → ℕ };
 
     // How many reads have failed.
     ghost failures: { Self → ℕ };
@@ -21,6 +24,7 @@ pub trait Reader {
         ensures bound { ReadsAtMost result buffer.new }
         ensures bytes { ReadConsumes (remaining self.old) (remaining self.new) result buffer.new }
         ensures ready { OnOk result (can_read self.new) }
+        ensures counted { OnOk result (reads self.new ≡ reads self.old + 1) }
         ensures even { OnOk result (failures self.new ≡ failures self.old) }
         ensures cause { OnErr result (failures self.old < failures self.new) };
 }

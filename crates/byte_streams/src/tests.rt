@@ -67,6 +67,7 @@ fn a_slice_is_read_to_its_end(rt: HostRuntime) -> Result<(), Fail> {
     assert_eq!(rt; buffer, [4, 5, 3]);
     assert_eq!(rt; reader.read(&mut buffer)?, 0);
     assert!(rt; !reader.has_failed());
+    assert_eq!(rt; reader.reads(), 3);
     assert!(rt; reader.into_inner().is_empty());
     Ok(())
 }
@@ -89,6 +90,7 @@ fn a_read_that_fails_is_told(rt: HostRuntime) -> Result<(), Fail> {
     assert_eq!(rt; reader.read(&mut buffer)?, 1);
     assert_eq!(rt; reader.read(&mut buffer), Err(StreamFault));
     assert!(rt; reader.has_failed());
+    assert_eq!(rt; reader.reads(), 1);
     assert_eq!(rt; reader.into_inner().calls, 2);
     Ok(())
 }
@@ -99,6 +101,7 @@ fn a_read_that_is_interrupted_is_tried_again(rt: HostRuntime) -> Result<(), Fail
     let mut buffer = [0; 4];
     assert_eq!(rt; reader.read(&mut buffer)?, 1);
     assert!(rt; !reader.has_failed());
+    assert_eq!(rt; reader.reads(), 1);
     assert_eq!(rt; reader.into_inner().calls, 2);
     Ok(())
 }

@@ -2,15 +2,15 @@
 use Rattle.std.specs.Prelude.{◌≤◌, length, IfSome}
 use Rattle.std.specs.Option.{option_map}
 use Rattle.lane_sampler.specs.declared.samples.Block.TheInside.{Inside}
-use Rattle.lane_sampler.specs.Samples.{Samples, AreEven}
+use Rattle.lane_sampler.specs.Samples.{Samples, AreEven, most_values}
 use Rattle.lane_sampler.specs.Scans.{AreRightScans}
 
 -- the samples of a block
 abbrev pub samples_of : Inside → Samples
 samples_of block = record { import = block.import.items; export = option_map (λ v. v.items) block.export }
 
--- at most 256 values or pairs, and no scan that is wrong for them
+-- at most so many values or pairs, and no scan that is wrong for them
 pub record IsBlock (block : Inside) : Type 0 where
-  pub few : length block.import.items ≤ 256
+  pub few : length block.import.items ≤ most_values
   pub even : AreEven (samples_of block)
   pub right : IfSome block.scans (AreRightScans (samples_of block))

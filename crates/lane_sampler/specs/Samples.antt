@@ -1,6 +1,10 @@
 -- What a block of samples is to its callers.
 use Rattle.std.specs.Prelude.{◌≡◌, ℕ, List, length, Option, Some, None, IfSome}
 
+-- a block has at most so many values, or pairs of them
+abbrev pub most_values : ℕ
+most_values = 256
+
 -- the import values, and in a block of pairs the export values
 pub record Samples : Type 0 where
   pub import : List ℕ

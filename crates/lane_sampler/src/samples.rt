@@ -2,8 +2,7 @@
 
 ghost use Rattle.std.specs.Prelude.{◌≡◌, ◌≢◌, ◌<◌, ◌≤◌, ◌↔◌, length, IfOk, IfSome, IsErrOf};
 ghost use Rattle.std.specs.Option.{option_copied};
-ghost use Rattle.lane_sampler.specs.declared.samples.TheConstants.{MAX_VALUES};
-ghost use Rattle.lane_sampler.specs.Samples.{AreEven, pairs_of, values_alone};
+ghost use Rattle.lane_sampler.specs.Samples.{AreEven, most_values, pairs_of, values_alone};
 ghost use Rattle.lane_sampler.specs.Scans.{AreRightScans, IsRightScan};
 
 use crate::lanes::{Masks, classify};
@@ -71,7 +70,7 @@ impl Block {
     /// A block of import values alone. Errors: `TooLong` over 256 values, else `Memory`.
     pub fn from_slice(alloc: Global, values: &[u32]) -> Result<Block, BlockMade>
         ensures made { IfOk result (λ block. block ≡ values_alone values.now) }
-        ensures too_long { IsErrOf result BlockMade.TooLong ↔ (MAX_VALUES < length values.now) }
+        ensures too_long { IsErrOf result BlockMade.TooLong ↔ (most_values < length values.now) }
         ensures never_uneven { ¬ (IsErrOf result BlockMade.Uneven) }
     {
         if values.len() > MAX_VALUES {
@@ -91,7 +90,7 @@ impl Block {
         ensures made { IfOk result (λ block. block ≡ pairs_of import.now export.now) }
         ensures uneven { IsErrOf result BlockMade.Uneven ↔ (length import.now ≢ length export.now) }
         ensures too_long { IsErrOf result BlockMade.TooLong
-            ↔ ((length import.now ≡ length export.now) × (MAX_VALUES < length import.now)) }
+            ↔ ((length import.now ≡ length export.now) × (most_values < length import.now)) }
     {
         if import.len() != export.len() {
             return Err(BlockMade::Uneven);
@@ -111,7 +110,7 @@ impl Block {
     /// The import values, at most 256.
     pub fn values(&self) -> &[u32]
         ensures values { result.now ≡ self.now.import }
-        ensures few { length self.now.import ≤ MAX_VALUES }
+        ensures few { length self.now.import ≤ most_values }
     {
         &self.import
     }
@@ -120,7 +119,7 @@ impl Block {
     pub fn export(&self) -> Option<&[u32]>
         ensures values { option_copied result ≡ self.now.export }
         ensures even { IfSome result (λ values. length values.now ≡ length self.now.import) }
-        ensures few { IfSome result (λ values. length values.now ≤ MAX_VALUES) }
+        ensures few { IfSome result (λ values. length values.now ≤ most_values) }
     {
         match &self.export {
             Some(values) => Some(values.as_slice()),
@@ -133,19 +132,20 @@ impl Block {
     pub fn scan(&mut self, import_threshold: u32, export_threshold: u32)
         ensures { self.new ≡ self.old }
     {
-        let import = scan_of(self.import.as_slice(), import_threshold);
-        let export = match &self.export {
-            Some(values) => Some(scan_of(values.as_slice(), export_threshold)),
-            None => None,
-        };
-        self.scans = Some(Scans { import, export });
+        let scans = scans_of(
+            self.values(),
+            import_threshold,
+            self.export(),
+            export_threshold,
+        );
+        self.scans = Some(scans);
     }
 
     /// The scans last made, right for the values at the thresholds that they name. `None` before the first
     /// `scan`.
     pub fn scanned(&self) -> Option<&Scans>
         ensures right { IfSome result (λ scans. AreRightScans self.now scans.now) }
-        ensures few { length self.now.import ≤ MAX_VALUES }
+        ensures few { length self.now.import ≤ most_values }
         ensures even { AreEven self.now }
     {
         self.scans.as_ref()
@@ -168,8 +168,30 @@ impl Block {
     }
 }
 
+// The scans of import values and, in a block of pairs, of export values.
+fn scans_of(
+    import: &[u32],
+    import_threshold: u32,
+    export: Option<&[u32]>,
+    export_threshold: u32,
+) -> Scans
+    requires few { length import.now ≤ most_values }
+    requires even { IfSome export (λ values. length values.now ≡ length import.now) }
+    ensures right { AreRightScans (record { import = import.now; export = option_copied export.entry }) result }
+    ensures import { result.import.threshold ≡ import_threshold }
+    ensures export { IfSome result.export (λ scan. scan.threshold ≡ export_threshold) }
+{
+    Scans {
+        import: scan_of(import, import_threshold),
+        export: match export {
+            Some(values) => Some(scan_of(values, export_threshold)),
+            None => None,
+        },
+    }
+}
+
 fn scan_of(values: &[u32], threshold: u32) -> Scan
-    requires { length values.now ≤ MAX_VALUES }
+    requires { length values.now ≤ most_values }
     ensures right { IsRightScan values.now result }
     ensures threshold { result.threshold ≡ threshold }
 {

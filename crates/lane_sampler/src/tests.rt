@@ -96,6 +96,13 @@ fn pairs_are_scanned_at_a_threshold_each(rt: HostRuntime) -> Result<(), Fail> {
     assert_eq!(rt; same.values(), block.values());
     assert_eq!(rt; same.export().ok_or("pairs")?, [30, 20, 10].as_slice());
     assert_eq!(rt; same.scanned().copied(), Some(scans));
+    block.scan(4, 2);
+    let scans = block.scanned().copied().ok_or("scanned")?;
+    let export = scans.export.ok_or("an export scan")?;
+    assert_eq!(rt; scans.import.threshold, 4);
+    assert_eq!(rt; scans.import.masks, three(0, 7));
+    assert_eq!(rt; export.threshold, 2);
+    assert_eq!(rt; export.masks, three(7, 0));
     Ok(())
 }
 

@@ -55,9 +55,9 @@ module _ {M : Type 0} (steps : M → Event → Result Reply CallFault → M → 
   refused_on m events replies fault n refused =
       on m refused.before n (replied_on m refused.taken replies refused.before refused.replied) (by refused.before refused.event (Err fault) n refused.refused)
 
-  module _ {R W : Type 0} (remaining : R → Option (List ℕ)) (read_failures : R → ℕ) (contents : W → Option (List ℕ)) (write_failures : W → ℕ) (password seen : List ℕ) where
+  module _ {R W : Type 0} (remaining : R → Option (List ℕ)) (reads read_failures : R → ℕ) (contents : W → Option (List ℕ)) (write_failures : W → ℕ) (password seen : List ℕ) where
     did_on : (r : R) (w : W) (m : M) (result : Result SessionEnd ServeFault) (r' : R) (w' : W) (m' : M)
-        → Did remaining read_failures contents write_failures steps password seen r w m result r' w' m' → P m m'
+        → Did remaining reads read_failures contents write_failures steps password seen r w m result r' w' m' → P m m'
     did_on r w m (Ok end) r' w' m' did = replied_on m _ did.0.replies m' did.0.replied
     did_on r w m (Err fault.Read) r' w' m' did = replied_on m _ did.0.replies m' did.0.replied
     did_on r w m (Err fault.Write) r' w' m' did = replied_on m did.0.asked did.0.replies m' did.0.replied
@@ -84,11 +84,11 @@ step_same p event (Err fault) q step =
     record { lock = step.lock; bound = step.bound; origin = step.calls.0.sees.origin; number = step.calls.0.sees.number; joined = step.calls.0.joined }
 
 -- a port that served a session is the same port
-pub served_same : {R W : Type 0} (remaining : R → Option (List ℕ)) (read_failures : R → ℕ) (contents : W → Option (List ℕ)) (write_failures : W → ℕ) (password : List ℕ)
+pub served_same : {R W : Type 0} (remaining : R → Option (List ℕ)) (reads read_failures : R → ℕ) (contents : W → Option (List ℕ)) (write_failures : W → ℕ) (password : List ℕ)
     (r : R) (w : W) (p : MeterPort) (result : Result SessionEnd ServeFault) (r' : R) (w' : W) (q : MeterPort)
-    → Served remaining read_failures contents write_failures PortSteps password r w p result r' w' q → IsSame p q
-served_same remaining read_failures contents write_failures password r w p result r' w' q served =
-    did_on PortSteps IsSame is_same same_on step_same remaining read_failures contents write_failures password served.seen r w p result r' w' q served.did
+    → Served remaining reads read_failures contents write_failures PortSteps password r w p result r' w' q → IsSame p q
+served_same remaining reads read_failures contents write_failures password r w p result r' w' q served =
+    did_on PortSteps IsSame is_same same_on step_same remaining reads read_failures contents write_failures password served.seen r w p result r' w' q served.did
 
 -- a port's calls go on with the events that it took
 pub entered : (p : MeterPort) (events : List Event) (replies : List Reply) (q : MeterPort) → Replied PortSteps p events replies q → Enters p events replies q

@@ -48,38 +48,36 @@ module _ {M : Type 0} (steps : M → Event → Result Reply CallFault → M → 
   owed password seen old s m m' written written' owes r = reached_on [] seen old s m m' written written' (reached_new password old m written owes) r
 
   pub stands_new : (s : Session) (m : M) (written left : Option (List ℕ)) → IsSettled s → is_asking s ≡ false
-      → Stands steps written_as s m written left 0 s m written left
+      → Stands steps written_as s m written left s m written left
   stands_new s m written left settled silent = record {
     seen = [];
     read = Consumes-nil left;
-    enough = omega arith;
     reached = reached_none s m written;
     settled = settled;
     silent = silent;
   }
 
   -- one read more
-  pub stands_on : (old s new : Session) (m m' m'' : M) (written written' written'' left left' left'' : Option (List ℕ)) (reads : ℕ) (bytes : List ℕ) (end : Option SessionEnd)
-      → Stands steps written_as old m written left reads s m' written' left'
-      → Consumes left' left'' bytes → 0 < length bytes
+  pub stands_on : (old s new : Session) (m m' m'' : M) (written written' written'' left left' left'' : Option (List ℕ)) (bytes : List ℕ) (end : Option SessionEnd)
+      → Stands steps written_as old m written left s m' written' left'
+      → Consumes left' left'' bytes
       → Settled steps written_as s m' written' bytes end new m'' written''
-      → Stands steps written_as old m written left (reads + 1) new m'' written'' left''
-  stands_on old s new m m' m'' written written' written'' left left' left'' reads bytes end st consumed some settled = record {
+      → Stands steps written_as old m written left new m'' written'' left''
+  stands_on old s new m m' m'' written written' written'' left left' left'' bytes end st consumed settled = record {
     seen = st.seen ++ bytes;
     read = Consumes-trans left left' left'' st.seen bytes st.read consumed;
-    enough = omega (arith, length-append st.seen bytes, st.enough, some);
     reached = reached_on st.seen bytes s new m' m'' written' written'' st.reached settled.reached;
     settled = settled.settled;
     silent = settled.silent;
   }
 
 module _ {R W M : Type 0}
-    (remaining : R → Option (List ℕ)) (read_failures : R → ℕ)
+    (remaining : R → Option (List ℕ)) (reads read_failures : R → ℕ)
     (contents : W → Option (List ℕ)) (write_failures : W → ℕ)
     (steps : M → Event → Result Reply CallFault → M → Type 0) where
   did_stop : (password seen : List ℕ) (r r' : R) (w w' : W) (m m' : M) (f : ServeFault)
       → Stops steps as_bytes (Asks password seen) (Answers password seen) m (contents w) (write_failures w) f m' (contents w') (write_failures w')
-      → Did remaining read_failures contents write_failures steps password seen r w m (Err f) r' w' m'
+      → Did remaining reads read_failures contents write_failures steps password seen r w m (Err f) r' w' m'
   did_stop password seen r r' w w' m m' fault.Read stop = absurd stop
   did_stop password seen r r' w w' m m' fault.Write stop = stop
   did_stop password seen r r' w w' m m' fault.Memory stop = stop
@@ -89,7 +87,7 @@ module _ {R W M : Type 0}
   -- memory ran out before there was a session
   pub served_none : (password : List ℕ) (r : R) (w : W) (m : M) (result : Result SessionEnd ServeFault)
       → IsErrAnd result (λ f. f ≡ fault.Memory)
-      → Served remaining read_failures contents write_failures steps password r w m result r w m
+      → Served remaining reads read_failures contents write_failures steps password r w m result r w m
   served_none password r w m (Ok end) is = absurd is
   served_none password r w m (Err f) is = record {
     seen = [];
@@ -110,12 +108,12 @@ module _ {R W M : Type 0}
   }
 
   -- a stop after these bytes
-  pub served_stop : (password bytes : List ℕ) (old s : Session) (r r1 r' : R) (w w1 w' : W) (m m1 m' : M) (reads : ℕ) (f : ServeFault)
-      → Owes password old → Stands steps as_bytes old m (contents w) (remaining r) reads s m1 (contents w1) (remaining r1)
+  pub served_stop : (password bytes : List ℕ) (old s : Session) (r r1 r' : R) (w w1 w' : W) (m m1 m' : M) (f : ServeFault)
+      → Owes password old → Stands steps as_bytes old m (contents w) (remaining r) s m1 (contents w1) (remaining r1)
       → Consumes (remaining r1) (remaining r') bytes → write_failures w1 ≡ write_failures w
       → Stops steps as_bytes (still_asks s bytes) (still_sends s bytes) m1 (contents w1) (write_failures w1) f m' (contents w') (write_failures w')
-      → Served remaining read_failures contents write_failures steps password r w m (Err f) r' w' m'
-  served_stop password bytes old s r r1 r' w w1 w' m m1 m' reads f owes st consumed even stop = record {
+      → Served remaining reads read_failures contents write_failures steps password r w m (Err f) r' w' m'
+  served_stop password bytes old s r r1 r' w w1 w' m m1 m' f owes st consumed even stop = record {
     seen = st.seen ++ bytes;
     read = Consumes-trans (remaining r) (remaining r1) (remaining r') st.seen bytes st.read consumed;
     did = did_stop password (st.seen ++ bytes) r r' w w' m m' f
@@ -125,43 +123,43 @@ module _ {R W M : Type 0}
   }
 
   -- the same, where the fault is the one of a call
-  pub served_stop_by : (password bytes : List ℕ) (old s : Session) (r r1 r' : R) (w w1 w' : W) (m m1 m' : M) (reads : ℕ) (f : ServeFault) (result : Result SessionEnd ServeFault)
-      → Owes password old → Stands steps as_bytes old m (contents w) (remaining r) reads s m1 (contents w1) (remaining r1)
+  pub served_stop_by : (password bytes : List ℕ) (old s : Session) (r r1 r' : R) (w w1 w' : W) (m m1 m' : M) (f : ServeFault) (result : Result SessionEnd ServeFault)
+      → Owes password old → Stands steps as_bytes old m (contents w) (remaining r) s m1 (contents w1) (remaining r1)
       → Consumes (remaining r1) (remaining r') bytes → write_failures w1 ≡ write_failures w
       → Stops steps as_bytes (still_asks s bytes) (still_sends s bytes) m1 (contents w1) (write_failures w1) f m' (contents w') (write_failures w')
       → IsErrAnd result (λ g. g ≡ f)
-      → Served remaining read_failures contents write_failures steps password r w m result r' w' m'
-  served_stop_by password bytes old s r r1 r' w w1 w' m m1 m' reads f (Ok end) owes st consumed even stop is = absurd is
-  served_stop_by password bytes old s r r1 r' w w1 w' m m1 m' reads f (Err g) owes st consumed even stop is =
-      subst (λ (given : ServeFault). Served remaining read_failures contents write_failures steps password r w m (Err given) r' w' m') (sym is)
-      (served_stop password bytes old s r r1 r' w w1 w' m m1 m' reads f owes st consumed even stop)
+      → Served remaining reads read_failures contents write_failures steps password r w m result r' w' m'
+  served_stop_by password bytes old s r r1 r' w w1 w' m m1 m' f (Ok end) owes st consumed even stop is = absurd is
+  served_stop_by password bytes old s r r1 r' w w1 w' m m1 m' f (Err g) owes st consumed even stop is =
+      subst (λ (given : ServeFault). Served remaining reads read_failures contents write_failures steps password r w m (Err given) r' w' m') (sym is)
+      (served_stop password bytes old s r r1 r' w w1 w' m m1 m' f owes st consumed even stop)
 
   -- no byte was left
-  pub served_end : (password : List ℕ) (old s : Session) (r r1 r' : R) (w w1 w' : W) (m m1 m' : M) (reads : ℕ) (result : Result SessionEnd ServeFault)
-      → Owes password old → Stands steps as_bytes old m (contents w) (remaining r) reads s m1 (contents w1) (remaining r1)
+  pub served_end : (password : List ℕ) (old s : Session) (r r1 r' : R) (w w1 w' : W) (m m1 m' : M) (result : Result SessionEnd ServeFault)
+      → Owes password old → Stands steps as_bytes old m (contents w) (remaining r) s m1 (contents w1) (remaining r1)
       → Consumes (remaining r1) (remaining r') [] → IsAtEnd (remaining r') → write_failures w1 ≡ write_failures w
       → OnOk result (DoesAll steps as_bytes (still_asks s []) (still_sends s []) m1 (contents w1) m' (contents w'))
       → IfOk result (λ end. end ≡ still_ends s [])
       → IfErr result (λ f. Stops steps as_bytes (still_asks s []) (still_sends s []) m1 (contents w1) (write_failures w1) f m' (contents w') (write_failures w'))
-      → Served remaining read_failures contents write_failures steps password r w m result r' w' m'
-  served_end password old s r r1 r' w w1 w' m m1 m' reads (Ok end) owes st consumed at_end even all so stop =
+      → Served remaining reads read_failures contents write_failures steps password r w m result r' w' m'
+  served_end password old s r r1 r' w w1 w' m m1 m' (Ok end) owes st consumed at_end even all so stop =
       let far = owed steps as_bytes password st.seen old s m m1 (contents w) (contents w1) owes st.reached in
       record {
         seen = st.seen ++ [];
         read = Consumes-trans (remaining r) (remaining r1) (remaining r') st.seen [] st.read consumed;
         did = (does_all_on st.seen [] s m1 m' (contents w1) (contents w') far all, so ∙ sym (far.ends_rest []), ends_before end (remaining r') at_end);
       }
-  served_end password old s r r1 r' w w1 w' m m1 m' reads (Err f) owes st consumed at_end even all so stop =
-      served_stop password [] old s r r1 r' w w1 w' m m1 m' reads f owes st consumed even stop
+  served_end password old s r r1 r' w w1 w' m m1 m' (Err f) owes st consumed at_end even all so stop =
+      served_stop password [] old s r r1 r' w w1 w' m m1 m' f owes st consumed even stop
 
   -- a wrong header came
-  pub served_over : (password bytes : List ℕ) (old s new : Session) (r r1 r' : R) (w w1 w' : W) (m m1 m' : M) (reads : ℕ) (end : SessionEnd)
-      → Owes password old → Stands steps as_bytes old m (contents w) (remaining r) reads s m1 (contents w1) (remaining r1)
+  pub served_over : (password bytes : List ℕ) (old s new : Session) (r r1 r' : R) (w w1 w' : W) (m m1 m' : M) (end : SessionEnd)
+      → Owes password old → Stands steps as_bytes old m (contents w) (remaining r) s m1 (contents w1) (remaining r1)
       → Consumes (remaining r1) (remaining r') bytes
       → Settled steps as_bytes s m1 (contents w1) bytes (Some end) new m' (contents w')
       → EndsBefore end (remaining r')
-      → Served remaining read_failures contents write_failures steps password r w m (Ok end) r' w' m'
-  served_over password bytes old s new r r1 r' w w1 w' m m1 m' reads end owes st consumed settled before =
+      → Served remaining reads read_failures contents write_failures steps password r w m (Ok end) r' w' m'
+  served_over password bytes old s new r r1 r' w w1 w' m m1 m' end owes st consumed settled before =
       let far = owed steps as_bytes password (st.seen ++ bytes) old new m m' (contents w) (contents w') owes
       (reached_on st.seen bytes s new m1 m' (contents w1) (contents w') st.reached settled.reached) in
       record {
@@ -176,18 +174,17 @@ module _ {R W M : Type 0}
       }
 
   -- a read failed, or it was the last
-  pub served_unread : (password : List ℕ) (old s : Session) (r r1 r' : R) (w w' : W) (m m' : M) (reads : ℕ)
-      → Owes password old → Stands steps as_bytes old m (contents w) (remaining r) reads s m' (contents w') (remaining r1)
-      → Consumes (remaining r1) (remaining r') [] → (read_failures r < read_failures r') ⊎ (most_reads ≤ reads)
-      → Served remaining read_failures contents write_failures steps password r w m (Err fault.Read) r' w' m'
-  served_unread password old s r r1 r' w w' m m' reads owes st consumed cause =
+  pub served_unread : (password : List ℕ) (old s : Session) (r r1 r' : R) (w w' : W) (m m' : M)
+      → Owes password old → Stands steps as_bytes old m (contents w) (remaining r) s m' (contents w') (remaining r1)
+      → Consumes (remaining r1) (remaining r') [] → (read_failures r < read_failures r') ⊎ (reads r + most_reads ≤ reads r')
+      → Served remaining reads read_failures contents write_failures steps password r w m (Err fault.Read) r' w' m'
+  served_unread password old s r r1 r' w w' m m' owes st consumed cause =
       let far = owed steps as_bytes password st.seen old s m m' (contents w) (contents w') owes st.reached in
       record {
         seen = st.seen ++ [];
         read = Consumes-trans (remaining r) (remaining r1) (remaining r') st.seen [] st.read consumed;
         did = (
           does_all st.seen [] s m' (contents w') far st.settled.asks st.settled.sends,
-          ⊎_elim (λ (failed : read_failures r < read_failures r'). inl failed)
-              (λ (most : most_reads ≤ reads). inr (omega (arith, length-append st.seen [], st.enough, most))) cause,
+          cause,
         );
       }

@@ -5,7 +5,7 @@
 --     IsUnwritten    a write failed
 --     Stops          a session that stopped in its midst
 --     Served         a whole session, by its result
-use Rattle.std.specs.Prelude.{◌≡◌, ◌⊎◌, ◌<◌, ◌≤◌, ℕ, Option, List, ◌++◌, length, ⊤, Result, Ok, Err}
+use Rattle.std.specs.Prelude.{◌≡◌, ◌⊎◌, ◌+◌, ◌<◌, ◌≤◌, ℕ, Option, List, ◌++◌, ⊤, Result, Ok, Err}
 use Rattle.std.specs.List.{flat_map}
 use Rattle.std.specs.Io.KnownBytes.{Appends, Consumes, IsAtEnd}
 use Rattle.meter_server.specs.Meters.{Replied, Refused}
@@ -83,7 +83,7 @@ EndsBefore ending.BadVersion left = ⊤
 EndsBefore ending.TooLong left = ⊤
 
 module _ {R W M : Type 0}
-    (remaining : R → Option (List ℕ)) (read_failures : R → ℕ)
+    (remaining : R → Option (List ℕ)) (reads read_failures : R → ℕ)
     (contents : W → Option (List ℕ)) (write_failures : W → ℕ)
     (steps : M → Event → Result Reply CallFault → M → Type 0) where
   -- what came of the bytes that were read
@@ -93,7 +93,7 @@ module _ {R W M : Type 0}
       × (end ≡ end_of seen) × EndsBefore end (remaining r')
   Did password seen r w m (Err fault.Read) r' w' m' =
       DoesAll steps as_bytes (Asks password seen) (Answers password seen) m (contents w) m' (contents w')
-      × ((read_failures r < read_failures r') ⊎ (most_reads ≤ length seen))
+      × ((read_failures r < read_failures r') ⊎ (reads r + most_reads ≤ reads r'))
   Did password seen r w m (Err fault.Write) r' w' m' =
       IsUnwritten steps as_bytes (Asks password seen) m m' × (write_failures w < write_failures w')
   Did password seen r w m (Err fault.Memory) r' w' m' =

@@ -62,11 +62,10 @@ module _ {M : Type 0} (steps : M → Event → Result Reply CallFault → M → 
     pub silent : is_asking new ≡ false
     pub finished : is_finished new ≡ is_finished old
 
-  -- a session between two reads: of the bytes that were read, at least one by each read, nothing more is due
-  pub record Stands (old : Session) (m : M) (written left : Option (List ℕ)) (reads : ℕ) (s : Session) (m' : M) (written' left' : Option (List ℕ)) : Type 0 where
+  -- a session between two reads: of the bytes that were read nothing more is due
+  pub record Stands (old : Session) (m : M) (written left : Option (List ℕ)) (s : Session) (m' : M) (written' left' : Option (List ℕ)) : Type 0 where
     pub seen : List ℕ
     pub read : Consumes left left' seen
-    pub enough : reads ≤ length seen
     pub reached : Reached (still_asks old) (still_sends old) (still_ends old) m written seen s m' written'
     pub settled : IsSettled s
     pub silent : is_asking s ≡ false

@@ -66,7 +66,7 @@ pub fn serve_port<R: Reader, O: Writer, W: Wait>(
 ) -> (Port<Kept>, Result<SessionEnd, ServeFault>)
     requires readable { R.can_read reader.now }
     requires writable { O.can_write writer.now }
-    ensures served { Served R.remaining R.failures O.contents O.failures PortSteps password.now reader.old writer.old port result.1 reader.new writer.new result.0 }
+    ensures served { Served R.remaining R.reads R.failures O.contents O.failures PortSteps password.now reader.old writer.old port result.1 reader.new writer.new result.0 }
     ensures same { IsSame port result.0 }
 {
     let mut wired = Wired { rt, port };

@@ -99,7 +99,7 @@ fn serve<R: Reader, W: Writer, M: Meter>(
     requires writable { W.can_write writer.now }
     requires settled { IsSettled session.now }
     requires silent { is_asking session.now ≡ false }
-    ensures { (password : List ℕ) → Owes password session.old → Served R.remaining R.failures W.contents W.failures M.steps password reader.old writer.old meter.old result reader.new writer.new meter.new }
+    ensures { (password : List ℕ) → Owes password session.old → Served R.remaining R.reads R.failures W.contents W.failures M.steps password reader.old writer.old meter.old result reader.new writer.new meter.new }
 {
     let mut buffer = [0; MAX_READ];
     'reads: for _ in 0..MOST_READS {
@@ -135,7 +135,7 @@ pub fn serve_session<R: Reader, W: Writer, M: Meter>(
 ) -> Result<SessionEnd, ServeFault>
     requires readable { R.can_read reader.now }
     requires writable { W.can_write writer.now }
-    ensures { Served R.remaining R.failures W.contents W.failures M.steps password.now reader.old writer.old meter.old result reader.new writer.new meter.new }
+    ensures { Served R.remaining R.reads R.failures W.contents W.failures M.steps password.now reader.old writer.old meter.old result reader.new writer.new meter.new }
 {
     let mut session = Session::new(alloc, password)?;
     serve(alloc, &mut session, reader, writer, meter)

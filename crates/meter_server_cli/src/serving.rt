@@ -209,7 +209,7 @@ fn wake(rt: &HostRuntime, address: SocketAddr) {
 fn print_trace(rt: &HostRuntime, shared: Shared<Kept>, port: Port<Kept>) -> Result<(), Fault>
     requires { port.lock ≡ shared }
 {
-    let kept = closed_meter(shared, port)?;
+    let kept = closed_meter(shared, port).map_err(|(fault, _)| fault)?;
     let text = meter_trace(rt.alloc(), &kept).map_err(|_| Fault::Memory)?;
     let mut output = rt.stdout();
     output.write_all(text.as_slice()).map_err(|_| Fault::Write)?;

@@ -1,11 +1,17 @@
--- What a meter writes down when it ends.
-use Rattle.std.specs.Prelude.{◌≡◌, ℕ, List}
+-- How a meter ends: the turn that keeps it from ending, and what it writes down.
+use Rattle.std.specs.Prelude.{◌≡◌, ◌<◌, ◌≤◌, ℕ, List, length}
 use Rattle.meter_serving.specs.Resuming.{IsTraceOf}
 use Rattle.relay_core.specs.Opening.{opened}
 use Rattle.relay_recorder.specs.Recording.{Recording}
 use Rattle.relay_recorder.specs.Replaying.{Replays}
 use Rattle.relay_recorder.specs.declared.trace.Trace.{Trace}
 use Rattle.trace_player.specs.Traces.{trace_text}
+use Rattle.turn_lock.specs.declared.known.Known.{Known}
+
+-- a turn was out: the port read how many had ended, one at least for each call that it had seen before, and then that more were drawn
+pub record IsStillOut {E R O : Type 0} (before after : Known E R O) : Type 0 where
+  pub ended : length before.seen ≤ after.served
+  pub drawn : after.served < after.drawn
 
 -- a text is that of the recorder's trace, and this runs again as it ran
 pub record TellsRun (r : Recording) (text : List ℕ) : Type 0 where

@@ -1,32 +1,45 @@
 //! The lines of the console.
-ghost use Rattle.std.specs.Prelude.{◌≡◌, IfOk};
-ghost use Rattle.meter_serving.specs.Console.{console_event, own_of};
+ghost use Rattle.std.specs.Prelude.{◌≡◌, ◌↔◌, IfOk, IfSome, IfNone, OnErr, IsTrue};
+ghost use Rattle.relay_core.specs.declared.event.Event.{Event};
+ghost use Rattle.meter_serving.specs.Console.{IsOwnWord, IsOwnLine, Brings};
 
 use relay_core::Event;
 use std::alloc::{AllocError, Global};
 use trace_lines::{RowFault, Version, read_event};
+use trace_text::Words;
 
-/// An event of the meter's own, if it is one.
-fn own_of(event: Event) -> Option<Event>
-    ensures { result ≡ own_of event }
+/// Whether a word is the first of an event of the meter's own.
+fn is_own_word(word: &[u8]) -> bool
+    ensures { IsTrue result ↔ IsOwnWord word.now }
 {
-    match event {
-        Event::Get { .. } | Event::GetList { .. } | Event::Set { .. } | Event::Execute { .. } =>
-            None,
-        Event::Button => Some(Event::Button),
-        Event::Samples(block) => Some(Event::Samples(block)),
-        Event::Moment(now) => Some(Event::Moment(now)),
+    word == b"button".as_slice()
+        || word == b"samples".as_slice()
+        || word == b"pairs".as_slice()
+        || word == b"moment".as_slice()
+}
+
+/// Whether a line begins with such a word.
+fn is_own_line(line: &[u8]) -> bool
+    ensures { IsTrue result ↔ IsOwnLine line.now }
+{
+    match Words::new(line).next() {
+        Some(first) => is_own_word(first),
+        None => false,
     }
 }
 
 /// The event of a line, which is passed without the byte 0A that ends it: a press, samples, pairs or a moment, written as in a trace of version 2. Any other line
-/// brings none.
-#[tactic(auto, unfolding(crate::specs::Console::console_event))]
+/// brings none, and one that does not begin as one of these takes no memory.
 pub fn console_event(alloc: Global, line: &[u8]) -> Result<Option<Event>, AllocError>
-    ensures { IfOk result (λ event. event ≡ console_event line.now) }
+    ensures some { IfOk result (λ brought. IfSome brought (λ event. Brings line.now event)) }
+    ensures none { IfOk result (λ brought. IfNone brought ((event : Event) → ¬ (Brings line.now event))) }
+    ensures err { OnErr result (IsOwnLine line.now) }
 {
+    if !is_own_line(line) {
+        return Ok(None);
+    }
     match read_event(alloc, Version::Two, line) {
-        Ok(event) => Ok(own_of(event)),
+        Ok(event) => Ok(Some(event)),
         Err(RowFault::Wrong) => Ok(None),
         Err(RowFault::Memory) => Err(AllocError),
     }

@@ -1,8 +1,8 @@
 //! The end of a meter that served.
 ghost use Rattle.std.specs.Prelude.{◌≡◌, IfOk, IfErr};
 ghost use Rattle.kept_meter.specs.Calls.{IsLegal, Stands};
-ghost use Rattle.meter_serving.specs.Ending.{TellsRun};
-ghost use Rattle.turn_lock.specs.Calls.{Yields};
+ghost use Rattle.meter_serving.specs.Ending.{TellsRun, IsStillOut};
+ghost use Rattle.turn_lock.specs.Calls.{Watches, Yields};
 
 use cosem_axdr::Octets;
 use kept_meter::Kept;
@@ -11,15 +11,17 @@ use std::alloc::{AllocError, Global};
 use trace_player::write_trace;
 use turn_lock::{Port, Shared};
 
-/// Takes the meter out from behind its lock. Errors: `Turns` where a port is still out, whose calls the meter may have taken.
-pub fn closed_meter(shared: Shared<Kept>, port: Port<Kept>) -> Result<Kept, Fault>
+/// Takes the meter out from behind its lock. Errors: `Turns` where a port is still out, whose calls the meter may have taken: the port read how many turns had
+/// ended, and then that more were drawn. It comes back.
+pub fn closed_meter(shared: Shared<Kept>, port: Port<Kept>) -> Result<Kept, (Fault, Port<Kept>)>
     requires { port.lock ≡ shared }
     ensures ok { IfOk result (λ kept. Yields (λ (k : _). k.origin) Stands IsLegal port.known kept) }
-    ensures err { IfErr result (λ fault. fault ≡ Fault.Turns) }
+    ensures err { IfErr result (λ busy. busy.0 ≡ Fault.Turns) }
+    ensures out { IfErr result (λ busy. IsStillOut port.known busy.1.known × Watches IsLegal port.known busy.1.known) }
 {
     match shared.close(port) {
         Ok(kept) => Ok(kept),
-        Err(_) => Err(Fault::Turns),
+        Err((_, _, port)) => Err((Fault::Turns, port)),
     }
 }
 

@@ -2,3 +2,4 @@ pub mod Lists
 pub mod StepsKeep
 pub mod Counting
 pub mod Sent
+pub mod Bounds

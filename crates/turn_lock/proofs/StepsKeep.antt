@@ -17,9 +17,8 @@ use Rattle.turn_lock.specs.declared.known.View.{View}
 use Rattle.turn_lock.specs.declared.known.Stage.{Stage}
 use Rattle.turn_lock.specs.declared.known.Stage.TheVariants.{New, Young, Idle, Waiting, Turn, SawServing, Met}
 use Rattle.turn_lock.specs.declared.board.Slot.{Slot}
-use Rattle.turn_lock.specs.declared.board.TheConstants.{MOST_TURNS}
 use Rattle.turn_lock.specs.History.{StartsWith, calls_by}
-use Rattle.turn_lock.specs.Rule.{newcomer, full, IsOwn, Moment, IsHome, Staged, IsPort, Fits, Facts, Keeps}
+use Rattle.turn_lock.specs.Rule.{most_turns, newcomer, full, IsOwn, Moment, IsHome, Staged, IsPort, Fits, Facts, Keeps}
 use Rattle.turn_lock.specs.Calls.{Watches}
 use Rattle.turn_lock.specs.Plays.{added, posed, spent_view, divided_view, born_view, noted_view, counted_view, met_view, settled, drew, saw, Watched, looked, Ended, ended, Merged, merged, Takes, reached, closed}
 use Rattle.turn_lock.proofs.Lists.{starts_refl, starts_more, starts_length, calls_by-own, calls_by-other, calls_none, has_front, has_front-append, future-not-self, future_sooner, front_is_future, future-not-front, apart-not-front, among-append}
@@ -127,7 +126,7 @@ module _ {T E R O : Type 0} (origin : T → O) (stands : T → List (Entry E R) 
       (λ (t : (j ≢ i) × (get_elem? vs j ≡ some d)). others j d t.0 t.1) (at_set vs i j w d e)
 
   -- a step of the seat i that goes from one moment to another
-  moves : (m m' : Mo) (vs : List V) (i : ℕ) (w : V) → F m vs → m'.serving ≤ m'.ticket → m'.ticket ≤ MOST_TURNS + m'.closed → m'.closed ≤ 1 → legal m'.start m'.whole → length m'.whole ≤ m'.serving
+  moves : (m m' : Mo) (vs : List V) (i : ℕ) (w : V) → F m vs → m'.serving ≤ m'.ticket → m'.ticket ≤ most_turns + m'.closed → m'.closed ≤ 1 → legal m'.start m'.whole → length m'.whole ≤ m'.serving
       → IsHome origin stands m' ⊎ (m'.serving < m'.ticket) → Fit m' i w → ((j : ℕ) (d : V) → j ≢ i → Fit m j d → Fit m' j d) → F m' (set vs i w)
   moves m m' vs i w f range few once lawful counted held mine others = record {
     range = range;
@@ -216,7 +215,7 @@ module _ {T E R O : Type 0} (origin : T → O) (stands : T → List (Entry E R) 
 
   pub sees : (slots id : ℕ) (me : M) → Allows Rule slots id me 1 (λ n. n) (saw (step slots 1 0 0 none) me)
   sees slots id me = loads slots id me 1 (saw (step slots 1 0 0 none) me) (λ m vs f fit.
-      let a : m.serving ≤ m.ticket = f.range in let b : m.ticket ≤ MOST_TURNS + m.closed = f.few in let c : m.closed ≤ 1 = f.once in
+      let a : m.serving ≤ m.ticket = f.range in let b : m.ticket ≤ most_turns + m.closed = f.few in let c : m.closed ≤ 1 = f.once in
       let d : length m.whole ≤ m.serving = f.counted in let e : length me.0.known.seen ≤ length m.whole = starts_length m.whole me.0.known.seen fit.seen in
       (counted_view me.0 m.serving, counts m id me.0 fit, (refl, fit.served, omega arith, omega arith)))
 
@@ -240,13 +239,13 @@ module _ {T E R O : Type 0} (origin : T → O) (stands : T → List (Entry E R) 
   at_home : (m : Mo) → IsHome origin stands m ⊎ (m.serving < m.ticket) → m.ticket ≡ m.serving → IsHome origin stands m
   at_home m held e = ⊎_elim (λ h. h) (λ l. absurd (omega arith)) held
 
-  draws_at : (id : ℕ) (me : M) (old new : ℕ) (m : Mo) (vs : List V) → F m vs → Fit m id me.0 → new ≡ old + 1 → old < MOST_TURNS → m.ticket ≡ old → F (after_draw m id new) (set vs id (posed me.0 (Waiting m.ticket)))
+  draws_at : (id : ℕ) (me : M) (old new : ℕ) (m : Mo) (vs : List V) → F m vs → Fit m id me.0 → new ≡ old + 1 → old < most_turns → m.ticket ≡ old → F (after_draw m id new) (set vs id (posed me.0 (Waiting m.ticket)))
   draws_at id me old new m vs f fit up few hit = let low : m.serving ≤ m.ticket = f.range in let more : new ≡ m.ticket + 1 = omega arith in
       moves m (after_draw m id new) vs id (posed me.0 (Waiting m.ticket)) f (omega arith) (omega arith) f.once f.lawful f.counted (⊎_elim inl (λ (l : m.serving < m.ticket). inr (omega arith)) f.held)
       (at_stage (after_draw m id new) id me.0 (Waiting m.ticket) (draw_fit m id new id me.0 more fit) ((low, omega arith, put_here m.owner m.ticket id), at_home m f.held))
       (λ j d _ x. draw_fit m id new j d more x)
 
-  pub draws : (slots id : ℕ) (me : M) (old new : ℕ) → new ≡ old + 1 → old < MOST_TURNS → Allows Rule slots id me 0 (λ n. either (eqb n old) new n) (drew (step slots 0 old new none) me)
+  pub draws : (slots id : ℕ) (me : M) (old new : ℕ) → new ≡ old + 1 → old < most_turns → Allows Rule slots id me 0 (λ n. either (eqb n old) new n) (drew (step slots 0 old new none) me)
   draws slots id me old new up few = by_moment
       (λ s. length s.homes ≡ slots → get_elem? s.views id ≡ some me.0 → get_or s.words 0 0 < 18446744073709551616
       → (w : V) × (a : Act Sl) × Valid s.homes me.1 a × Rule (stepped s 0 (either (eqb (get_or s.words 0 0) old) new (get_or s.words 0 0)) id me.1 w a) × drew (step slots 0 old new none) me (get_or s.words 0 0) (w, carried_after me.1 a))
@@ -398,7 +397,7 @@ module _ {T E R O : Type 0} (origin : T → O) (stands : T → List (Entry E R) 
         (λ s. length s.homes ≡ slots → get_elem? s.views id ≡ some v → get_or s.words 1 0 < 18446744073709551616
         → (w : V) × (a : Act Sl) × Valid s.homes me.1 a × Rule (stepped s 1 ((get_or s.words 1 0 + 1) % 2 ^ 64) id me.1 w a) × ended legal (step slots 1 1 0 none) me (get_or s.words 1 0) (w, carried_after me.1 a))
         (λ m vs f _ at _. let t = ends_at id n v x l m vs f (f.fits id v at) port is begun stood in let w : V = ended_view v l in
-        let a : m.serving ≤ m.ticket = f.range in let b : m.ticket ≤ MOST_TURNS + m.closed = f.few in let c : m.closed ≤ 1 = f.once in let small : m.serving + 1 < 2 ^ 64 = omega arith in
+        let a : m.serving ≤ m.ticket = f.range in let b : m.ticket ≤ most_turns + m.closed = f.few in let c : m.closed ≤ 1 = f.once in let small : m.serving + 1 < 2 ^ 64 = omega arith in
         (w, gives, tt, subst (λ (z : ℕ). Rule record { words = m.ticket ∷ z ∷ []; homes = some (full x l) ∷ []; views = set vs id w }) (sym (mod-eq_of_lt small)) (kept (after_end m v.known.number x l) (set vs id w) t.0), (refl, t.1)))
 
     pub ends : (slots id n : ℕ) (me : M) (x : T) (l : Option (Snapshot E × Snapshot R)) → me.0.is_port ≡ true → me.0.stage ≡ Turn n → me.1 ≡ (0, full x l) ∷ [] → me.0.known.origin ≡ Some (origin x)
@@ -450,7 +449,7 @@ module _ {T E R O : Type 0} (origin : T → O) (stands : T → List (Entry E R) 
   close_staged m j k ended pair (Met b u) h = h
 
   closes_at : (id : ℕ) (v : V) (m : Mo) (vs : List V) → F m vs → Fit m id v → m.ticket ≡ m.serving → m.closed ≡ 0 → F (after_close m) (set vs id (informed_view m v Idle))
-  closes_at id v m vs f fit ended fresh = let few : m.ticket ≤ MOST_TURNS + m.closed = f.few in let more : m.ticket ≤ m.ticket + 1 = omega arith in let w : V = informed_view m v Idle in
+  closes_at id v m vs f fit ended fresh = let few : m.ticket ≤ most_turns + m.closed = f.few in let more : m.ticket ≤ m.ticket + 1 = omega arith in let w : V = informed_view m v Idle in
       moves m (after_close m) vs id w f (omega arith) (omega arith) (omega arith) f.lawful f.counted (inr (omega arith))
       (restaged m (after_close m) id w refl refl more (le_refl m.serving) (λ e. e) refl (informs m id v Idle fit tt) tt)
       (λ j d other g. restaged m (after_close m) j d refl refl more (le_refl m.serving) (λ e. e) refl g (close_staged m j d.known ended (not_lone m id j v d other fit g) d.stage g.staged))
@@ -553,7 +552,7 @@ module _ {T E R O : Type 0} (origin : T → O) (stands : T → List (Entry E R) 
   comes : (m m' : Mo) (vs : List V) (i : ℕ) (v w : V) → F m vs → m'.serving ≡ m.serving → m'.ticket ≡ m.ticket → m'.closed ≡ m.closed → m'.start ≡ m.start → m'.whole ≡ m.whole → m'.home ≡ m.home
       → Fit m' i v → Fit m' (length (set vs i v)) w → ((j : ℕ) (d : V) → j ≢ i → Fit m j d → Fit m' j d) → F m' (set vs i v ++ w ∷ [])
   comes m m' vs i v w f serving ticket end start whole home mine theirs others =
-      let few : m.ticket ≤ MOST_TURNS + m.closed = f.few in let range : m.serving ≤ m.ticket = f.range in let once : m.closed ≤ 1 = f.once in record {
+      let few : m.ticket ≤ most_turns + m.closed = f.few in let range : m.serving ≤ m.ticket = f.range in let once : m.closed ≤ 1 = f.once in record {
         range = omega arith;
         few = omega arith;
         once = omega arith;

@@ -10,9 +10,8 @@ use Rattle.turn_lock.specs.declared.known.View.{View}
 use Rattle.turn_lock.specs.declared.known.Stage.{Stage}
 use Rattle.turn_lock.specs.declared.known.Stage.TheVariants.{Young, Idle, Waiting, Turn, SawServing, Met}
 use Rattle.turn_lock.specs.declared.board.Slot.{Slot}
-use Rattle.turn_lock.specs.declared.board.TheConstants.{MOST_TURNS}
 use Rattle.turn_lock.specs.History.{StartsWith, IsAmong, entry, calls_by}
-use Rattle.turn_lock.specs.Rule.{full, IsOwn}
+use Rattle.turn_lock.specs.Rule.{most_turns, full, IsOwn}
 use Rattle.turn_lock.specs.Calls.{IsLegal, Sees, Watches, divided, born}
 
 -- two words and one slot
@@ -77,7 +76,7 @@ module _ {T E R O : Type 0} where
   drew st m n m' = (n ≡ st.first → m' ≡ (posed m.0 (Waiting n), m.1)) × (n ≢ st.first → m' ≡ m)
 
   abbrev pub saw : At T E R → Sat T E R O → ℕ → Sat T E R O → Type 0
-  saw st m n m' = (m' ≡ (counted_view m.0 n, m.1)) × (m.0.known.served ≤ n) × (length m.0.known.seen ≤ n) × (n ≤ MOST_TURNS + 1)
+  saw st m n m' = (m' ≡ (counted_view m.0 n, m.1)) × (m.0.known.served ≤ n) × (length m.0.known.seen ≤ n) × (n ≤ most_turns + 1)
 
 module _ {E R O : Type 0} (legal : O → List (Entry E R) → Type 0) where
   -- what the end of a turn did

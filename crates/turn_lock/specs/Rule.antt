@@ -1,5 +1,5 @@
 -- The rule of the table: what holds of its words, its slot and all views between any two steps.
-use Rattle.std.specs.Prelude.{◌≡◌, ◌≢◌, ◌⊎◌, ℕ, ◌+◌, ◌<◌, ◌≤◌, Bool, true, List, [], ◌∷◌, length, Option, Some, None}
+use Rattle.std.specs.Prelude.{◌≡◌, ◌≢◌, ◌⊎◌, ℕ, ◌+◌, ◌^◌, ◌<◌, ◌≤◌, Bool, true, List, [], ◌∷◌, length, Option, Some, None}
 use mathlib.Core.Option.{some, none}
 use mathlib.Core.Option as maybe
 use lib.ListN.{get_elem?}
@@ -11,8 +11,11 @@ use Rattle.turn_lock.specs.declared.known.View.{View}
 use Rattle.turn_lock.specs.declared.known.Stage.{Stage}
 use Rattle.turn_lock.specs.declared.known.Stage.TheVariants.{New, Young, Idle, Waiting, Turn, SawServing, Met}
 use Rattle.turn_lock.specs.declared.board.Slot.{Slot}
-use Rattle.turn_lock.specs.declared.board.TheConstants.{MOST_TURNS}
 use Rattle.turn_lock.specs.History.{StartsWith, IsAmong, IsFuture, calls_by}
+
+-- a lock is made for at most so many turns
+abbrev pub most_turns : ℕ
+most_turns = 2 ^ 62
 
 -- what a port knows when its lock has been made
 abbrev pub opened : {E R O : Type 0} → O → Known E R O
@@ -80,7 +83,7 @@ pub record Fits {T E R O : Type 0} (origin : T → O) (stands : T → List (Entr
 -- The longest history is legal and has one call at most of each turn that has ended, the value is at home or a turn is held, and each view fits
 pub record Facts {T E R O : Type 0} (origin : T → O) (stands : T → List (Entry E R) → Type 0) (legal : O → List (Entry E R) → Type 0) (first : T) (m : Moment T E R O) (views : List (View E R O)) : Type 0 where
   pub range : m.serving ≤ m.ticket
-  pub few : m.ticket ≤ MOST_TURNS + m.closed
+  pub few : m.ticket ≤ most_turns + m.closed
   pub once : m.closed ≤ 1
   pub lawful : legal m.start m.whole
   pub counted : length m.whole ≤ m.serving

@@ -2,11 +2,11 @@
 ghost use Rattle.std.specs.Prelude.{◌≡◌, ◌<◌, ◌≤◌, [], ◌∷◌, Some, None, IfOk, IfErr};
 ghost use Rattle.std.specs.Arc.{arc_value};
 ghost use Rattle.turn_lock.specs.declared.known.Stage.TheVariants.{New};
-ghost use Rattle.turn_lock.specs.Rule.{opened, newcomer};
+ghost use Rattle.turn_lock.specs.Rule.{most_turns, opened, newcomer};
 ghost use Rattle.turn_lock.specs.Calls.{Watches, Yields, IsBusy};
 ghost use Rattle.turn_lock.specs.Plays.{IsSized};
 
-use crate::board::{Board, MOST_TURNS, Place, Slot};
+use crate::board::{Board, Place, Slot};
 use crate::faults::Busy;
 use crate::port::Port;
 use crate::steps::{draw_last, settle};
@@ -75,7 +75,7 @@ impl<T: Turned> Shared<T> {
     /// A lock over the value, for `bound` turns, and its first port. For want of memory the value
     /// comes back.
     pub fn new(alloc: Global, value: T, bound: u64) -> Result<(Shared<T>, Port<T>), (AllocError, T)>
-        requires bound { (0 < bound) × (bound ≤ MOST_TURNS) }
+        requires bound { (0 < bound) × (bound ≤ most_turns) }
         requires empty { T.stands value [] }
         ensures ok { IfOk result (λ r. (r.0 ≡ r.1.lock) × (r.1.bound ≡ bound) × (r.1.known ≡ opened (T.origin value))) }
         ensures err { IfErr result (λ e. e.1 ≡ value) }

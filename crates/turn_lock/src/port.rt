@@ -25,7 +25,7 @@ impl<T: Turned> Model for Port<T> {
     ghost use Rattle.std.specs.Prelude.{◌≡◌, ◌≤◌, [], true};
     ghost use Rattle.std.specs.Arc.{arc_value};
     ghost use Rattle.turn_lock.specs.declared.known.Stage.TheVariants.{Idle};
-    ghost use Rattle.turn_lock.specs.declared.board.TheConstants.{MOST_TURNS};
+    ghost use Rattle.turn_lock.specs.Rule.{most_turns};
     ghost use Rattle.turn_lock.specs.Calls.{IsLegal};
     ghost use Rattle.turn_lock.specs.Plays.{IsSized, IsReady};
     ghost use Rattle.turn_lock.specs.Shown.{ShownPort};
@@ -34,7 +34,7 @@ impl<T: Turned> Model for Port<T> {
 
     ghost view = { λ p. record { lock = p.place.table_id; bound = p.bound; known = p.place.me.0.known } };
 
-    ghost invariant = { λ p. (p.place.table_id ≡ (arc_value p.table).shared.table_id) × IsSized p.place.table_id × IsReady p.place Idle [] × IsLegal T.legal p.place.me.0.known × (p.bound ≤ MOST_TURNS) };
+    ghost invariant = { λ p. (p.place.table_id ≡ (arc_value p.table).shared.table_id) × IsSized p.place.table_id × IsReady p.place Idle [] × IsLegal T.legal p.place.me.0.known × (p.bound ≤ most_turns) };
 }
 
 /// A history that a port had seen, to be shown to another port of the same lock.

@@ -3,11 +3,11 @@ ghost use Rattle.std.specs.Prelude.{◌≡◌, ℕ, ◌+◌, ◌<◌, ◌≤◌,
 ghost use Rattle.std.specs.declared.snapshot.Snapshot.{Snapshot};
 ghost use Rattle.turn_lock.specs.declared.known.Stage.TheVariants.{Young, Idle, Waiting, Turn};
 ghost use Rattle.turn_lock.specs.History.{calls_by};
-ghost use Rattle.turn_lock.specs.Rule.{full};
+ghost use Rattle.turn_lock.specs.Rule.{most_turns, full};
 ghost use Rattle.turn_lock.specs.Calls.{IsLegal, Watches, Called, IsCause, IsBusy};
 ghost use Rattle.turn_lock.specs.Plays.{IsSized, IsReady, hollow, posed, added, divided_view, born_view, noted_view, Ended, Merged, Takes};
 
-use crate::board::{HOME, MOST_TURNS, Place, SERVING, Slot, TICKET, Top};
+use crate::board::{HOME, Place, SERVING, Slot, TICKET, Top};
 use crate::faults::{Busy, CallFault};
 use crate::plays::{Close, Cut, Draw, End, Look, Merge, Reach, SeeServing, Settle, TakeIn, Tell};
 use crate::turned::Turned;
@@ -43,7 +43,7 @@ fn look<T: Turned>(top: &Top<T>, place: &mut Place<T>) -> u64
 /// Draws this turn, unless another was drawn before.
 fn try_draw<T: Turned>(top: &Top<T>, place: &mut Place<T>, turn: u64) -> bool
     requires table { (place.old.table_id ≡ top.now.table_id) × IsSized top.now.table_id }
-    requires bound { turn < MOST_TURNS }
+    requires bound { turn < most_turns }
     ensures seat { place.new.table_id ≡ place.old.table_id }
     ensures yes { IsTrue result → place.new.me ≡ (posed place.old.me.0 (Waiting turn), place.old.me.1) }
     ensures no { IsFalse result → place.new.me ≡ place.old.me }
@@ -77,7 +77,7 @@ pub(crate) fn draw<T: Turned, W: Wait>(
     bound: u64,
 ) -> Option<u64>
     requires table { (place.old.table_id ≡ top.now.table_id) × IsSized top.now.table_id }
-    requires bound { bound ≤ MOST_TURNS }
+    requires bound { bound ≤ most_turns }
     requires ready { IsReady place.old Idle [] × IsLegal T.legal place.old.me.0.known }
     ensures seat { place.new.table_id ≡ place.old.table_id }
     ensures watches { Watches T.legal place.old.me.0.known place.new.me.0.known }
@@ -183,7 +183,7 @@ pub(crate) fn call_at<T: Turned, W: Wait>(
     event: T::Event,
 ) -> Result<T::Reply, CallFault>
     requires table { (place.old.table_id ≡ top.now.table_id) × IsSized top.now.table_id }
-    requires bound { bound ≤ MOST_TURNS }
+    requires bound { bound ≤ most_turns }
     requires ready { IsReady place.old Idle [] × IsLegal T.legal place.old.me.0.known }
     ensures seat { (place.new.table_id ≡ place.old.table_id) × IsReady place.new Idle [] × IsLegal T.legal place.new.me.0.known }
     ensures ok { IfOk result (λ r. Called T.legal place.old.me.0.known event r place.new.me.0.known) }

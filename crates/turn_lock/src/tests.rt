@@ -1,10 +1,11 @@
 //! What no clause says: that calls succeed, and what threads see of one another.
 ghost use Rattle.std.specs.Prelude.{◌≡◌, ◌<◌, ◌≤◌, IfOk, IfSome};
+ghost use Rattle.turn_lock.specs.Rule.{most_turns};
 ghost use Rattle.turn_lock.specs.Trials.{StandsBehind};
 
 mod counter;
 
-use crate::{Busy, CallFault, MOST_TURNS, Port, Shared, Turned};
+use crate::{Busy, CallFault, Port, Shared, Turned};
 use counter::{Bump, Counter, Gate, Gated, Moody, Wish};
 use std::alloc::{AllocError, Global};
 use std::sync::{Arc, Wait};
@@ -16,7 +17,7 @@ type Answer = Result<u64, CallFault>;
 
 // A lock over a new counter.
 fn start(alloc: Global, bound: u64) -> Result<(Shared<Counter>, Port<Counter>), AllocError>
-    requires { (0 < bound) × (bound ≤ MOST_TURNS) }
+    requires { (0 < bound) × (bound ≤ most_turns) }
     ensures { IfOk result (λ r. r.1.lock ≡ r.0) }
 {
     Shared::new(alloc, Counter::new(), bound).map_err(|_| AllocError)
