@@ -1,6 +1,7 @@
 pub mod Blanks
 pub mod EventLaws
 pub mod EventRows
+pub mod EventsBack
 pub mod OpeningDates
 pub mod OpeningFieldLaws
 pub mod OpeningIsRows
@@ -11,3 +12,4 @@ pub mod OpeningText
 pub mod PlaceLemmas
 pub mod Steps
 pub mod TextBytes
+pub mod WordsBack

@@ -26,6 +26,12 @@ pub fn written_event_is_read()
     ensures row { (event : Event) → IsTraced event → IsTrue (is_row (event_row event)) }
 {}
 
+/// The event that is read from a line of version 2 is written as that line: one of other words, or of the same in another spelling, is read from none.
+#[tactic(auto, using(crate::proofs::EventsBack::event_back))]
+pub fn read_event_is_written()
+    ensures { (row : Row) (event : Event) → event_of Two row ≡ Ok event → event_row event ≡ row }
+{}
+
 /// An opening of numbers of their types' ranges that a core can have is read again from the 30 lines that are written for it, whatever stands behind them; and
 /// these are lines of words.
 pub fn written_opening_is_read()
