@@ -1,8 +1,8 @@
 -- The event of a line is written as that line.
-use Rattle.std.proofs.Common.{◌≡◌, ℕ, ◌<◌, ◌^◌, Bool, cond, nat_eq, ◌==◌, List, [], ◌∷◌, length, map, Option, Some, None, Result, Ok, Err, refl, sym, ap, ◌∙◌, arith, inl, inr, decimal, codes}
+use Rattle.std.proofs.Common.{◌≡◌, ℕ, Bool, cond, nat_eq, ◌==◌, List, [], ◌∷◌, length, map, Option, Some, None, Result, Ok, refl, sym, ap, ◌∙◌, arith, inl, inr, decimal, codes}
 use Rattle.std.proofs.lemmas.Bool.{eqb-true}
 use Rattle.std.specs.Cmp.Lexicographic.{pointwise}
-use Rattle.byte_reading.specs.Outcome.{◌>>=◌, ◌>>◌, guard}
+use Rattle.byte_reading.specs.Outcome.{◌>>=◌}
 use Rattle.byte_reading.proofs.OutcomeLemmas.{done, ok_is, bind_ok, guard_ok, chosen}
 use Rattle.hex.specs.Hex.{encode_upper}
 use Rattle.cosem_axdr.specs.declared.value.Data.{Data}
@@ -12,19 +12,20 @@ use Rattle.cosem_names.specs.declared.name.MethodRef.{MethodRef}
 use Rattle.cosem_names.specs.declared.name.Obis.{Obis}
 use Rattle.cosem_names.specs.declared.service.AttributeSelection.{AttributeSelection}
 use Rattle.relay_core.specs.declared.event.Event.{Event}
-use Rattle.relay_core.specs.declared.event.Event.TheVariants.{Get, GetList, Set, Execute, Button, Samples, Moment}
+use Rattle.relay_core.specs.declared.event.Event.TheVariants.{GetList, Button, Samples}
 use Rattle.lane_sampler.specs.Samples.{values_alone, pairs_of}
 use Rattle.trace_lines.proofs.WordsBack.{IsWrittenBack, AreWrittenBack, number_back, flag_back, level_back, name_back, same_is, data_back, next_back, next_number_back, ended_back, all_back}
 use Rattle.trace_lines.specs.Events.{get_from, get_list_from, set_from, execute_from, samples_from, pairs_from, moment_from, event_from, event_of}
 use Rattle.trace_lines.specs.Reading.{number_in, flag_in, level_in, name_in, data_in, parameter_in, attribute_from, method_at, selection_from, selection_at, value_in, value_from, pair_from, next_as}
-use Rattle.trace_lines.specs.Rows.{Word, Row, Read, ended, word_at, all_at}
+use Rattle.trace_lines.specs.Rows.{Word, Row, ended, all_at}
 use Rattle.trace_lines.specs.Verbs.{verb_word, is_word_of, verb_in}
 use Rattle.trace_lines.specs.Writing.{level_number, flag_number, attribute_words, method_words, selection_words, all_words, data_word, parameter_word, value_words, pairs_words, event_words, event_row}
 use Rattle.trace_lines.specs.declared.fault.RowFault.{RowFault}
 use Rattle.trace_lines.specs.declared.fault.RowFault.TheVariants.{Wrong}
 use Rattle.trace_lines.specs.declared.verb.Verb.{Verb}
 use Rattle.trace_lines.specs.declared.verb.Verb.TheVariants.{OfGet, OfGetList, OfSet, OfExecute, OfButton, OfSamples, OfPairs, OfMoment}
-use Rattle.trace_lines.specs.declared.version.Version.TheVariants.{Two}
+use Rattle.trace_lines.specs.declared.version.Version.{Version}
+use Rattle.trace_lines.specs.declared.version.Version.TheVariants.{One, Two}
 
 -- ---- the first word
 
@@ -213,21 +214,22 @@ moment_back words event e =
     ∙ ap (λ (ws : Row). decimal now.0.0 ∷ ws) end.0)
     ∙ ap event_row end.1
 
-words_back : (verb : Verb) → IsLineBack verb (event_from Two verb)
+words_back : (version : Version) (verb : Verb) → IsLineBack verb (event_from version verb)
 unfolding event_from
-words_back OfGet = get_back
-words_back OfGetList = get_list_back
-words_back OfSet = set_back
-words_back OfExecute = execute_back
-words_back OfButton = button_back
-words_back OfSamples = samples_back
-words_back OfPairs = pairs_back
-words_back OfMoment = moment_back
+words_back version OfGet = get_back
+words_back version OfGetList = get_list_back
+words_back version OfSet = set_back
+words_back version OfExecute = execute_back
+words_back version OfButton = button_back
+words_back version OfSamples = samples_back
+words_back One OfPairs = λ words event e. absurd cc
+words_back Two OfPairs = pairs_back
+words_back version OfMoment = moment_back
 
 -- the line that an event was read from is the one that is written for it
-pub event_back : (row : Row) (event : Event) → event_of Two row ≡ Ok event → event_row event ≡ row
+pub event_back : (version : Version) (row : Row) (event : Event) → event_of version row ≡ Ok event → event_row event ≡ row
 unfolding event_of
-event_back [] event e = absurd cc
-event_back (first ∷ words) event e =
+event_back version [] event e = absurd cc
+event_back version (first ∷ words) event e =
     let verb = bind_ok (verb_in first) _ event e in
-    sym (ap (λ (w : Word). w ∷ words) (verb_back first verb.0 verb.1) ∙ words_back verb.0 words event verb.2)
+    sym (ap (λ (w : Word). w ∷ words) (verb_back first verb.0 verb.1) ∙ words_back version verb.0 words event verb.2)

@@ -1,38 +1,20 @@
 -- The lines that a limiter is read from are those that are written for it.
-use Rattle.std.proofs.Common.{◌≡◌, ℕ, suc, ◌+◌, List, [], ◌∷◌, ◌++◌, length, take, Result, Ok, Err, refl, sym, ap, subst, ◌∙◌, arith, length-append, append_assoc, decimal, codes}
-use Rattle.hex.specs.Hex.{encode_upper}
-use Rattle.byte_reading.specs.Outcome.{◌>>=◌}
+use Rattle.std.proofs.Common.{◌≡◌, ℕ, List, [], ◌∷◌, Ok, ap, subst, codes}
 use Rattle.byte_reading.proofs.OutcomeLemmas.{ok_is, bind_ok}
-use Rattle.action_schedule.specs.Reading.{entries_of}
-use Rattle.action_schedule.specs.Schedule.{Schedule}
-use Rattle.cosem_axdr.specs.declared.value.Data.{Data}
 use Rattle.cosem_names.specs.declared.objects.Which.{Which}
-use Rattle.cosem_names.specs.declared.objects.Which.TheVariants.{Import, Export}
-use Rattle.disconnect_control.specs.Transitions.{mode_number, state_number}
+use Rattle.cosem_names.specs.declared.objects.Which.TheVariants.{Export}
 use Rattle.relay_core.specs.declared.opening.LimiterOpening.{LimiterOpening}
-use Rattle.relay_core.specs.declared.opening.Opening.{Opening}
-use Rattle.relay_core.specs.declared.schedules.Schedules.{Schedules}
-use Rattle.script_steps.specs.Reading.{table_of}
-use Rattle.script_steps.specs.declared.step.Script.{Script}
-use Rattle.trace_lines.proofs.OpeningFieldsBack.{IsRowBack, labelled_read, version_back, events_back, device_line_back, state_line_back, mode_line_back, moment_line_back, value_line_back, profile_back, groups_back, actions_row, actions_back, over_back, under_back, schedule_read}
-use Rattle.trace_lines.proofs.OpeningWordsBack.{version_number, table_read}
-use Rattle.trace_lines.specs.OpeningFields.{label, labelled, version_from, device_in, state_in, mode_in, moment_in, table_in, events_from, profile_from, groups_from, actions_from, over_from, under_from, schedule_from}
-use Rattle.trace_lines.specs.OpeningForms.{Forms, AreFormsOf, written_forms, entries_row, rows_with}
-use Rattle.trace_lines.specs.OpeningReading.{value_line, limits_from, emergency_from, runs_from, limiter_from, export_from, switch_from, schedules_from, opening_in, opening_from}
-use Rattle.trace_lines.specs.OpeningRows.{number_row, moment_word, count_row, profile_row, groups_row, value_row, limiter_rows, opening_rows}
-use Rattle.trace_lines.specs.Places.{Place, ReadLines, passed, first_as, line_as}
-use Rattle.trace_lines.specs.Reading.{value_in}
-use Rattle.trace_lines.specs.Rows.{Word, Row}
-use Rattle.trace_lines.specs.Writing.{data_word}
-use Rattle.trace_lines.specs.declared.fault.RowFault.{RowFault}
-use Rattle.trace_lines.specs.declared.fault.TraceFault.{TraceFault}
+use Rattle.trace_lines.proofs.OpeningFieldsBack.{profile_back, groups_back, actions_row, actions_back, over_back, under_back}
+use Rattle.trace_lines.specs.OpeningFields.{label, profile_from, groups_from, actions_from, over_from, under_from}
+use Rattle.trace_lines.specs.OpeningReading.{value_line, limits_from, emergency_from, runs_from, limiter_from, export_from}
+use Rattle.trace_lines.specs.OpeningRows.{number_row, count_row, profile_row, groups_row, value_row, limiter_rows}
+use Rattle.trace_lines.specs.Places.{Place, line_as}
+use Rattle.trace_lines.specs.Rows.{Row}
 use Rattle.trace_lines.specs.declared.limiter_lines.Limits.{Limits}
 use Rattle.trace_lines.specs.declared.limiter_lines.Emergency.{Emergency}
 use Rattle.trace_lines.specs.declared.limiter_lines.Runs.{Runs}
-use Rattle.trace_lines.specs.declared.opening_lines.Switch.{Switch}
-use Rattle.trace_lines.specs.declared.version.Version.{Version}
-use Rattle.trace_lines.specs.declared.version.Version.TheVariants.{One, Two}
-use Rattle.trace_lines.proofs.PlacesBack.{Took, then, LineRead, line_read, line_back, value_back}
+use Rattle.trace_lines.specs.declared.version.Version.TheVariants.{Two}
+use Rattle.trace_lines.proofs.PlacesBack.{Took, then, line_back, value_back}
 
 abbrev limits_rows : Which → Limits → List Row
 limits_rows which limits =

@@ -1,49 +1,36 @@
 -- Each line of an opening that is read is written as that line, but for the Data that it may hold.
-use Rattle.std.proofs.Common.{◌≡◌, ℕ, ◌<◌, ◌≤◌, ◌^◌, Bool, true, false, cond, nat_eq, nat_le, ◌==◌, List, [], ◌∷◌, length, Option, Some, None, Result, Ok, Err, refl, sym, ap, ◌∙◌, arith, inl, inr, decimal, codes}
+use Rattle.std.proofs.Common.{◌≡◌, ℕ, Bool, nat_eq, ◌==◌, List, [], ◌∷◌, Option, Result, Ok, ap, subst, ◌∙◌, arith, decimal, codes}
 use Rattle.std.proofs.lemmas.Bool.{eqb-true}
-use Rattle.std.proofs.lemmas.Bool.Decides.{nat_tests}
 use Rattle.std.specs.Cmp.Lexicographic.{pointwise}
-use Rattle.std.specs.Result.{result_ok}
-use Rattle.byte_reading.specs.Outcome.{◌>>=◌, ◌>>◌, guard}
-use Rattle.byte_reading.proofs.OutcomeLemmas.{done, ok_is, bind_ok, guard_ok, chosen}
+use Rattle.byte_reading.proofs.OutcomeLemmas.{done, ok_is, bind_ok, guard_ok}
 use Rattle.hex.specs.Hex.{encode_upper}
-use Rattle.action_schedule.specs.Kinds.{number_of, type_of_number}
+use Rattle.action_schedule.specs.Kinds.{number_of}
 use Rattle.action_schedule.specs.Reading.{entries_of}
 use Rattle.action_schedule.specs.Schedule.{Schedule}
 use Rattle.action_schedule.specs.declared.kind.ScheduleType.{ScheduleType}
-use Rattle.action_schedule.specs.declared.kind.ScheduleType.TheVariants.{Type1, Type2, Type3, Type4, Type5}
 use Rattle.cosem_axdr.specs.declared.value.Data.{Data}
-use Rattle.cosem_datetime.proofs.Spelled.{date_time_takes}
 use Rattle.cosem_datetime.specs.Fields.{DateTimeFields, date_time_bytes}
-use Rattle.cosem_datetime.specs.Reading.{date_time_of}
 use Rattle.cosem_datetime.specs.declared.entry.EntryPattern.{EntryPattern}
 use Rattle.cosem_names.specs.declared.objects.Which.{Which}
-use Rattle.disconnect_control.specs.Control.{is_mode_fit}
-use Rattle.disconnect_control.specs.Transitions.{mode_of, mode_number, state_number}
+use Rattle.disconnect_control.specs.Transitions.{mode_number, state_number}
 use Rattle.disconnect_control.specs.declared.state.ControlMode.{ControlMode}
-use Rattle.disconnect_control.specs.declared.state.ControlMode.TheVariants.{Mode0, Mode1, Mode2, Mode3, Mode4, Mode5, Mode6}
 use Rattle.disconnect_control.specs.declared.state.ControlState.{ControlState}
-use Rattle.disconnect_control.specs.declared.state.ControlState.TheVariants.{Disconnected, Connected, ReadyForReconnection}
 use Rattle.limiter_core.specs.Counting.{cap, no_run}
 use Rattle.limiter_core.specs.State.{are_fit}
 use Rattle.limiter_core.specs.declared.count.Count.{Count}
 use Rattle.limiter_core.specs.declared.settings.Actions.{Actions}
 use Rattle.limiter_core.specs.declared.settings.Profile.{Profile}
-use Rattle.script_steps.specs.Reading.{table_of}
-use Rattle.script_steps.specs.declared.step.Script.{Script}
-use Rattle.trace_lines.proofs.OpeningLemmas.{wanted_is}
-use Rattle.trace_lines.proofs.WordsBack.{IsWrittenBack, AreWrittenBack, number_back, number_limited, flag_back, bytes_back, bytes_are, same_is, data_back, next_back, next_number_back, ended_back, all_back}
-use Rattle.trace_lines.specs.OpeningFields.{behind, labelled, label, max_events, version_in, device_in, state_in, mode_in, moment_in, start_in, table_in, entries_in, type_in, id_from, events_from, version_from, profile_from, groups_from, actions_from, count_from, over_from, under_from, schedule_from}
+use Rattle.trace_lines.proofs.WordsBack.{IsWrittenBack, number_back, flag_back, same_is, next_back, next_number_back, ended_back, all_back}
+use Rattle.trace_lines.specs.OpeningFields.{behind, labelled, label, max_events, version_in, device_in, state_in, mode_in, moment_in, start_in, entries_in, type_in, id_from, events_from, version_from, profile_from, groups_from, actions_from, count_from, over_from, under_from, schedule_from}
 use Rattle.trace_lines.specs.OpeningForms.{entries_row}
 use Rattle.trace_lines.specs.OpeningRows.{number_row, moment_word, count_row, profile_row, groups_row}
-use Rattle.trace_lines.specs.Reading.{number_in, flag_in, bytes_in, data_in, value_in, next_as}
-use Rattle.trace_lines.specs.Rows.{Word, Row, Read, wanted, ended, word_at, all_at}
-use Rattle.trace_lines.specs.Writing.{all_words, value_words, data_word, flag_number}
+use Rattle.trace_lines.specs.Reading.{number_in, flag_in, value_in, next_as}
+use Rattle.trace_lines.specs.Rows.{Word, Row}
+use Rattle.trace_lines.specs.Writing.{value_words, data_word, flag_number}
 use Rattle.trace_lines.specs.declared.fault.RowFault.{RowFault}
 use Rattle.trace_lines.specs.declared.fault.RowFault.TheVariants.{Wrong}
 use Rattle.trace_lines.specs.declared.version.Version.{Version}
-use Rattle.trace_lines.specs.declared.version.Version.TheVariants.{One, Two}
-use Rattle.trace_lines.proofs.OpeningWordsBack.{version_number, version_word_back, device_back, state_back, mode_back, moment_back, start_back, type_back, id_back, table_read, entries_read}
+use Rattle.trace_lines.proofs.OpeningWordsBack.{version_number, version_word_back, device_back, state_back, mode_back, moment_back, start_back, type_back, id_back, entries_read}
 
 -- the first word is this one
 behind_back : (name : Word) (row : Row) (u : Unit {0}) (words : Row) → behind name row ≡ Ok (u, words) → row ≡ name ∷ words
@@ -181,6 +168,17 @@ under_back which last over row count e =
     let fit = guard_ok (are_fit last over read.0) Wrong _ count read.2 in
     count_back (label which (codes "under")) row read.0 read.1 ∙ ap (count_row (label which (codes "under"))) (ok_is read.0 count fit.1)
 
+-- the words of a schedule's line, one after the other
+schedule_line : (row a b c d e : Row) (found number : ℕ) (word : Word) (selector : ℕ) (kind : ScheduleType) (entries : List EntryPattern) (form : Data)
+    → row ≡ codes "schedule" ∷ a → a ≡ decimal found ∷ b → found ≡ number → b ≡ decimal selector ∷ c → c ≡ decimal (number_of kind) ∷ d → d ≡ word ∷ e → word ≡ data_word form → e ≡ []
+    → row ≡ entries_row number (record { selector = selector; kind = kind; entries = entries }) form
+schedule_line row a b c d e found number word selector kind entries form is_row is_a is_number is_b is_c is_d is_word is_e =
+    is_row ∙ ap (λ (ws : Row). codes "schedule" ∷ ws) (
+    is_a ∙ ap (λ (n : ℕ). decimal n ∷ b) is_number ∙ ap (λ (ws : Row). decimal number ∷ ws) (
+    is_b ∙ ap (λ (ws : Row). decimal selector ∷ ws) (
+    is_c ∙ ap (λ (ws : Row). decimal (number_of kind) ∷ ws) (
+    is_d ∙ ap (λ (w : Word). w ∷ e) is_word ∙ ap (λ (ws : Row). data_word form ∷ ws) is_e))))
+
 -- a schedule, whose entries stand as a Data that is read as these
 pub schedule_read : (number : ℕ) (row : Row) (schedule : Schedule) → schedule_from number row ≡ Ok schedule
     → (form : Data) × (entries_of form ≡ Ok schedule.entries) × (row ≡ entries_row number schedule form)
@@ -196,18 +194,12 @@ schedule_read number row schedule e =
     let end = ended_back Schedule entries.0.1 _ schedule entries.2 in
     let word = next_read (List EntryPattern) entries_in kind.0.1 entries.0.1 entries.0.0 entries.1 in
     let form = entries_read word.0 entries.0.0 word.2 in
-    (
-      form.0,
-      form.1 ∙ ap (λ (s : Schedule). Ok s.entries) end.1,
-      behind_back name row words.0.0 words.0.1 words.1
-      ∙ ap (λ (ws : Row). name ∷ ws) (
-      next_number_back 3 (omega arith) words.0.1 found.0.1 found.0.0 found.1
-      ∙ ap (λ (n : ℕ). decimal n ∷ found.0.1) (eqb-true found.0.0 number same.0)
-      ∙ ap (λ (ws : Row). decimal number ∷ ws) (
-      next_number_back 65535 (omega arith) found.0.1 selector.0.1 selector.0.0 selector.1
-      ∙ ap (λ (ws : Row). decimal selector.0.0 ∷ ws) (
-      next_back ScheduleType type_in (λ k. decimal (number_of k)) type_back selector.0.1 kind.0.1 kind.0.0 kind.1
-      ∙ ap (λ (ws : Row). decimal (number_of kind.0.0) ∷ ws) (
-      word.1 ∙ ap (λ (w : Word). w ∷ entries.0.1) form.2 ∙ ap (λ (ws : Row). data_word form.0 ∷ ws) end.0))))
-      ∙ ap (λ (s : Schedule). entries_row number s form.0) end.1,
-    )
+    let line =
+    schedule_line row words.0.1 found.0.1 selector.0.1 kind.0.1 entries.0.1 found.0.0 number word.0 selector.0.0 kind.0.0 entries.0.0 form.0
+    (behind_back name row words.0.0 words.0.1 words.1)
+    (next_number_back 3 (omega arith) words.0.1 found.0.1 found.0.0 found.1)
+    (eqb-true found.0.0 number same.0)
+    (next_number_back 65535 (omega arith) found.0.1 selector.0.1 selector.0.0 selector.1)
+    (next_back ScheduleType type_in (λ k. decimal (number_of k)) type_back selector.0.1 kind.0.1 kind.0.0 kind.1)
+    word.1 form.2 end.0 in
+    (form.0, subst (λ (s : Schedule). entries_of form.0 ≡ Ok s.entries) end.1 form.1, subst (λ (s : Schedule). row ≡ entries_row number s form.0) end.1 line)

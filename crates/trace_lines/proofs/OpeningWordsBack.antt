@@ -1,15 +1,14 @@
 -- Each word of an opening that is read is written as that word, but for the spelling that a Data has of several.
-use Rattle.std.proofs.Common.{◌≡◌, ℕ, ◌<◌, ◌≤◌, ◌^◌, Bool, true, false, cond, nat_eq, nat_le, ◌==◌, List, [], ◌∷◌, length, Option, Some, None, Result, Ok, Err, refl, sym, ap, ◌∙◌, arith, inl, inr, decimal, codes}
+use Rattle.std.proofs.Common.{◌≡◌, ℕ, ◌≤◌, false, cond, nat_eq, nat_le, ◌==◌, List, ◌∷◌, length, Option, Some, None, Result, Ok, Err, refl, ap, ◌∙◌, arith, inl, inr, decimal, codes}
 use Rattle.std.proofs.lemmas.Bool.{eqb-true}
 use Rattle.std.proofs.lemmas.Bool.Decides.{nat_tests}
 use Rattle.std.specs.Cmp.Lexicographic.{pointwise}
 use Rattle.std.specs.Result.{result_ok}
-use Rattle.byte_reading.specs.Outcome.{◌>>=◌, ◌>>◌, guard}
+use Rattle.byte_reading.specs.Outcome.{◌>>=◌}
 use Rattle.byte_reading.proofs.OutcomeLemmas.{done, ok_is, bind_ok, guard_ok, chosen}
 use Rattle.hex.specs.Hex.{encode_upper}
 use Rattle.action_schedule.specs.Kinds.{number_of, type_of_number}
 use Rattle.action_schedule.specs.Reading.{entries_of}
-use Rattle.action_schedule.specs.Schedule.{Schedule}
 use Rattle.action_schedule.specs.declared.kind.ScheduleType.{ScheduleType}
 use Rattle.action_schedule.specs.declared.kind.ScheduleType.TheVariants.{Type1, Type2, Type3, Type4, Type5}
 use Rattle.cosem_axdr.specs.declared.value.Data.{Data}
@@ -17,28 +16,21 @@ use Rattle.cosem_datetime.proofs.Spelled.{date_time_takes}
 use Rattle.cosem_datetime.specs.Fields.{DateTimeFields, date_time_bytes}
 use Rattle.cosem_datetime.specs.Reading.{date_time_of}
 use Rattle.cosem_datetime.specs.declared.entry.EntryPattern.{EntryPattern}
-use Rattle.cosem_names.specs.declared.objects.Which.{Which}
 use Rattle.disconnect_control.specs.Control.{is_mode_fit}
 use Rattle.disconnect_control.specs.Transitions.{mode_of, mode_number, state_number}
 use Rattle.disconnect_control.specs.declared.state.ControlMode.{ControlMode}
 use Rattle.disconnect_control.specs.declared.state.ControlMode.TheVariants.{Mode0, Mode1, Mode2, Mode3, Mode4, Mode5, Mode6}
 use Rattle.disconnect_control.specs.declared.state.ControlState.{ControlState}
 use Rattle.disconnect_control.specs.declared.state.ControlState.TheVariants.{Disconnected, Connected, ReadyForReconnection}
-use Rattle.limiter_core.specs.Counting.{cap, no_run}
-use Rattle.limiter_core.specs.State.{are_fit}
-use Rattle.limiter_core.specs.declared.count.Count.{Count}
-use Rattle.limiter_core.specs.declared.settings.Actions.{Actions}
-use Rattle.limiter_core.specs.declared.settings.Profile.{Profile}
 use Rattle.script_steps.specs.Reading.{table_of}
 use Rattle.script_steps.specs.declared.step.Script.{Script}
 use Rattle.trace_lines.proofs.OpeningLemmas.{wanted_is}
-use Rattle.trace_lines.proofs.WordsBack.{IsWrittenBack, AreWrittenBack, number_back, number_limited, flag_back, bytes_back, bytes_are, same_is, data_back, next_back, next_number_back, ended_back, all_back}
-use Rattle.trace_lines.specs.OpeningFields.{behind, labelled, label, max_events, version_in, device_in, state_in, mode_in, moment_in, start_in, table_in, entries_in, type_in, id_from, events_from, version_from, profile_from, groups_from, actions_from, count_from, over_from, under_from, schedule_from}
-use Rattle.trace_lines.specs.OpeningForms.{entries_row}
-use Rattle.trace_lines.specs.OpeningRows.{number_row, moment_word, count_row, profile_row, groups_row}
-use Rattle.trace_lines.specs.Reading.{number_in, flag_in, bytes_in, data_in, value_in, next_as}
-use Rattle.trace_lines.specs.Rows.{Word, Row, Read, wanted, ended, word_at, all_at}
-use Rattle.trace_lines.specs.Writing.{all_words, value_words, data_word, flag_number}
+use Rattle.trace_lines.proofs.WordsBack.{IsWrittenBack, AreWrittenBack, number_back, number_limited, bytes_back, bytes_are, same_is, data_back}
+use Rattle.trace_lines.specs.OpeningFields.{version_in, device_in, state_in, mode_in, moment_in, start_in, table_in, entries_in, type_in, id_from}
+use Rattle.trace_lines.specs.OpeningRows.{moment_word}
+use Rattle.trace_lines.specs.Reading.{number_in, bytes_in, data_in, value_in}
+use Rattle.trace_lines.specs.Rows.{Word, Row, wanted}
+use Rattle.trace_lines.specs.Writing.{value_words, data_word}
 use Rattle.trace_lines.specs.declared.fault.RowFault.{RowFault}
 use Rattle.trace_lines.specs.declared.fault.RowFault.TheVariants.{Wrong}
 use Rattle.trace_lines.specs.declared.version.Version.{Version}

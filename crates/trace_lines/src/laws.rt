@@ -15,6 +15,7 @@ ghost use Rattle.trace_lines.specs.Places.{Place, line_as};
 ghost use Rattle.trace_lines.specs.Rows.{Row};
 ghost use Rattle.trace_lines.specs.Traced.{IsTraced};
 ghost use Rattle.trace_lines.specs.Writing.{event_row};
+ghost use Rattle.trace_lines.specs.declared.version.Version.{Version};
 ghost use Rattle.trace_lines.specs.declared.version.Version.TheVariants.{Two};
 
 use limiter_core::fit_runs_mean;
@@ -27,10 +28,10 @@ pub fn written_event_is_read()
     ensures row { (event : Event) → IsTraced event → IsTrue (is_row (event_row event)) }
 {}
 
-/// The event that is read from a line of version 2 is written as that line: one of other words, or of the same in another spelling, is read from none.
+/// An event that is read from a line, of either version, is written as that line: each event is read from one line alone, in one spelling.
 #[tactic(auto, using(crate::proofs::EventsBack::event_back))]
 pub fn read_event_is_written()
-    ensures { (row : Row) (event : Event) → event_of Two row ≡ Ok event → event_row event ≡ row }
+    ensures { (version : Version) (row : Row) (event : Event) → event_of version row ≡ Ok event → event_row event ≡ row }
 {}
 
 /// An opening of numbers of their types' ranges that a core can have is read again from the 30 lines that are written for it, whatever stands behind them; and
