@@ -10,7 +10,7 @@ use Rattle.trace_lines.specs.Rows.{Word, Row, wanted}
 use Rattle.trace_lines.specs.declared.fault.RowFault.{RowFault}
 use Rattle.trace_lines.specs.declared.fault.RowFault.TheVariants.{Memory}
 
-wanted_is : {X : Type 0} (found : Option X) (x : X) → wanted found ≡ Ok x → found ≡ Some x
+pub wanted_is : {X : Type 0} (found : Option X) (x : X) → wanted found ≡ Ok x → found ≡ Some x
 wanted_is (Some y) x e = cc
 wanted_is None x e = absurd cc
 

@@ -1,5 +1,6 @@
 pub mod Events
 pub mod OpeningFields
+pub mod OpeningForms
 pub mod OpeningReading
 pub mod OpeningRows
 pub mod OpeningTraced
