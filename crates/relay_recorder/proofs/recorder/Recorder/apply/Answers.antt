@@ -11,10 +11,12 @@ invariant_of-self-2 c =
     let reply = c.in_ok-reply.reply in
     let told = c.in_ok-reply.ensures in
     let old = recording inside.core inside.opening inside.kept in
-    let new = recording c.step.new.self c.keep.new.opening c.keep.new.ring in
-    (Prim.search (rules, common_steps), goes_on old new c.args.event reply
-    (applied inside.core inside.opening c.step.new.self c.keep.new.opening inside.kept c.keep.new.ring c.args.event _ reply
-    told.world told.reply c.new.ensures c.keep.ensures.ring c.keep.ensures.opening) c.self.invariant.1)
+    let new = recording c.step.new.self c.keep.new.opening c.keep.new.ring in (
+      Prim.search (rules, common_steps),
+      goes_on old new c.args.event reply
+          (applied inside.core inside.opening c.step.new.self c.keep.new.opening inside.kept c.keep.new.ring c.args.event _ reply
+          told.world told.reply c.new.ensures c.keep.ensures.ring c.keep.ensures.opening) c.self.invariant.1,
+    )
 
 pub returns-clause-history : goal.returns-clause-history
 returns-clause-history c =
