@@ -2,3 +2,6 @@ pub mod Alike
 pub mod Heads
 pub mod Ranges
 pub mod Taking
+pub mod Laid
+pub mod FirstLines
+pub mod HeadsFound

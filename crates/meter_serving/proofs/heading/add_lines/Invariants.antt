@@ -1,6 +1,12 @@
--- The text grew by what was read.
-use Rattle.meter_serving.specs.Heads.{Grows}
+-- The text grew by what was read, line by line.
+use Rattle.std.proofs.Common.{◌≡◌, ℕ, List, ◌++◌, length, drop}
+use Rattle.trace_lines.specs.Rows.{Row}
+use Rattle.meter_serving.specs.Heads.{Grows, Ahead}
 use Rattle.meter_serving.proofs.heading.add_lines.Given as goal
 
 abbrev pub invariant-lines : goal.invariant-lines
-invariant-lines g l = Grows l.initial.text.items (g.B.Read.remaining l.initial.input) l.text.items (g.B.Read.remaining l.input)
+invariant-lines g l = record {
+  grows : Grows l.initial.text.items (g.B.Read.remaining l.initial.input) l.text.items (g.B.Read.remaining l.input);
+  ahead : (whole rest : List ℕ) (front rows : List Row) → length front ≡ l.count → Ahead whole rest (front ++ rows) l.initial.text.items (g.B.Read.remaining l.initial.input)
+      → Ahead whole rest (drop l.counter front ++ rows) l.text.items (g.B.Read.remaining l.input);
+}
