@@ -14,6 +14,8 @@ use Rattle.cosem_names.specs.declared.service.AttributeSelection.{AttributeSelec
 use Rattle.relay_core.specs.declared.event.Event.{Event}
 use Rattle.relay_core.specs.declared.event.Event.TheVariants.{GetList, Button, Samples}
 use Rattle.lane_sampler.specs.Samples.{values_alone, pairs_of}
+use Rattle.trace_text.proofs.WordsLemmas.{line_of-words_of}
+use Rattle.trace_text.specs.Words.{words_of, line_of}
 use Rattle.trace_lines.proofs.WordsBack.{IsWrittenBack, AreWrittenBack, number_back, flag_back, level_back, name_back, same_is, data_back, next_back, next_number_back, ended_back, all_back}
 use Rattle.trace_lines.specs.Events.{get_from, get_list_from, set_from, execute_from, samples_from, pairs_from, moment_from, event_from, event_of}
 use Rattle.trace_lines.specs.Reading.{number_in, flag_in, level_in, name_in, data_in, parameter_in, attribute_from, method_at, selection_from, selection_at, value_in, value_from, pair_from, next_as}
@@ -233,3 +235,7 @@ event_back version [] event e = absurd cc
 event_back version (first ∷ words) event e =
     let verb = bind_ok (verb_in first) _ event e in
     sym (ap (λ (w : Word). w ∷ words) (verb_back first verb.0 verb.1) ∙ words_back version verb.0 words event verb.2)
+
+-- the same of the line's bytes
+pub event_line_back : (version : Version) (line : List ℕ) (event : Event) → event_of version (words_of line) ≡ Ok event → line_of (event_row event) ≡ line
+event_line_back version line event e = ap line_of (event_back version (words_of line) event e) ∙ line_of-words_of line

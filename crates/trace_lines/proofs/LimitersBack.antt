@@ -68,12 +68,11 @@ limiter_back which last place o behind e =
     let limits = bind_ok (limits_from which place) _ (o, behind) e in
     let emergency = bind_ok (emergency_from which limits.0.1) _ (o, behind) limits.2 in
     let runs = bind_ok (runs_from which last emergency.0.1) _ (o, behind) emergency.2 in
-    let is = ok_is _ (o, behind) runs.2 in
-    (
+    let is = ok_is _ (o, behind) runs.2 in (
       subst (λ (p : LimiterOpening × Place). Took (limiter_rows which p.0) place p.1) is (
-      then _ _ place limits.0.1 runs.0.1 (limits_back which place limits.0.0 limits.0.1 limits.1) (
-      then _ _ limits.0.1 emergency.0.1 runs.0.1 (emergency_back which limits.0.1 emergency.0.0 emergency.0.1 emergency.1)
-      (runs_back which last emergency.0.1 runs.0.0 runs.0.1 runs.1))),
+          then _ _ place limits.0.1 runs.0.1 (limits_back which place limits.0.0 limits.0.1 limits.1) (
+          then _ _ limits.0.1 emergency.0.1 runs.0.1 (emergency_back which limits.0.1 emergency.0.0 emergency.0.1 emergency.1)
+          (runs_back which last emergency.0.1 runs.0.0 runs.0.1 runs.1))),
       ap (λ (p : LimiterOpening × Place). p.0.value) is,
     )
 

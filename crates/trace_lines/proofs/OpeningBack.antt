@@ -144,13 +144,13 @@ inner_back place o behind e =
       forms = record { table = table.form; first = entries.first; second = entries.second; third = entries.third; fourth = entries.fourth };
       say = record { table = table.says; first = entries.first_says; second = entries.second_says; third = entries.third_says; fourth = entries.fourth_says };
       took =
-        then _ _ place switch.0.1 schedules.0.1 (switch_back place switch.0.0 switch.0.1 switch.1) (
-        then _ _ switch.0.1 last.0.1 schedules.0.1
-        (subst (λ (n : ℕ). Took (number_row (label Import (codes "value")) n ∷ []) switch.0.1 last.0.1) limiter.1 (value_back Import (codes "value") switch.0.1 last.0.0 last.0.1 last.1)) (
-        then _ _ last.0.1 moment.0.1 schedules.0.1 (line_back _ (labelled (codes "now") moment_in) (λ m. codes "now" ∷ moment_word m ∷ []) moment_line_back last.0.1 moment.0.0 moment.0.1 moment.1) (
-        then _ _ moment.0.1 import.0.1 schedules.0.1 limiter.0 (
-        then _ _ import.0.1 export.0.1 schedules.0.1 (export_back import.0.1 export.0.0 export.0.1 export.1) (
-        then _ _ export.0.1 scripts.0.1 schedules.0.1 table.took entries.took)))));
+          then _ _ place switch.0.1 schedules.0.1 (switch_back place switch.0.0 switch.0.1 switch.1) (
+          then _ _ switch.0.1 last.0.1 schedules.0.1
+          (subst (λ (n : ℕ). Took (number_row (label Import (codes "value")) n ∷ []) switch.0.1 last.0.1) limiter.1 (value_back Import (codes "value") switch.0.1 last.0.0 last.0.1 last.1)) (
+          then _ _ last.0.1 moment.0.1 schedules.0.1 (line_back _ (labelled (codes "now") moment_in) (λ m. codes "now" ∷ moment_word m ∷ []) moment_line_back last.0.1 moment.0.0 moment.0.1 moment.1) (
+          then _ _ moment.0.1 import.0.1 schedules.0.1 limiter.0 (
+          then _ _ import.0.1 export.0.1 schedules.0.1 (export_back import.0.1 export.0.0 export.0.1 export.1) (
+          then _ _ export.0.1 scripts.0.1 schedules.0.1 table.took entries.took)))));
     })
 
 -- all lines
@@ -166,14 +166,13 @@ all_back place o behind e =
     let two : version.0.0 ≡ Two = ap (λ (p : (Version × Opening) × Place). p.0.0) is in
     let rest : opening.0 ≡ (o, behind) = ap (λ (p : (Version × Opening) × Place). (p.0.1, p.1)) is in
     let inner = inner_back version.0.1 o behind (
-    ap (λ (v : Version). opening_in v version.0.1) (sym two) ∙ opening.1 ∙ ap (λ (p : Opening × Place). Ok p) rest) in
-    (
+    ap (λ (v : Version). opening_in v version.0.1) (sym two) ∙ opening.1 ∙ ap (λ (p : Opening × Place). Ok p) rest) in (
       inner.forms,
       inner.say,
       then _ _ place version.0.1 behind
-      (subst (λ (v : Version). Took (number_row (codes "RELAYTRACE") (version_number v) ∷ []) place version.0.1) two
-      (line_back Version version_from (λ v. number_row (codes "RELAYTRACE") (version_number v)) version_back place version.0.0 version.0.1 version.1))
-      inner.took,
+          (subst (λ (v : Version). Took (number_row (codes "RELAYTRACE") (version_number v) ∷ []) place version.0.1) two
+          (line_back Version version_from (λ v. number_row (codes "RELAYTRACE") (version_number v)) version_back place version.0.0 version.0.1 version.1))
+          inner.took,
     )
 
 -- the lines of an opening, as they are told in 25 lines and five

@@ -55,8 +55,7 @@ labelled_read X name value_in row x e =
     let words = bind_ok (behind name row) _ x e in
     let value = bind_ok (next_as value_in words.0.1) _ x words.2 in
     let end = ended_back X value.0.1 value.0.0 x value.2 in
-    let read = next_read X value_in words.0.1 value.0.1 value.0.0 value.1 in
-    (
+    let read = next_read X value_in words.0.1 value.0.1 value.0.0 value.1 in (
       read.0,
       behind_back name row words.0.0 words.0.1 words.1 ∙ ap (λ (ws : Row). name ∷ ws) (read.1 ∙ ap (λ (ws : Row). read.0 ∷ ws) end.0),
       read.2 ∙ ap (done RowFault) end.1,
@@ -191,7 +190,8 @@ schedule_read number row schedule e =
     let selector = bind_ok (next_as (number_in 65535) found.0.1) _ schedule same.1 in
     let kind = bind_ok (next_as type_in selector.0.1) _ schedule selector.2 in
     let entries = bind_ok (next_as entries_in kind.0.1) _ schedule kind.2 in
-    let end = ended_back Schedule entries.0.1 _ schedule entries.2 in
+    let made : Schedule = record { selector = selector.0.0; kind = kind.0.0; entries = entries.0.0 } in
+    let end = ended_back Schedule entries.0.1 made schedule entries.2 in
     let word = next_read (List EntryPattern) entries_in kind.0.1 entries.0.1 entries.0.0 entries.1 in
     let form = entries_read word.0 entries.0.0 word.2 in
     let line =

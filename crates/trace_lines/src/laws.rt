@@ -29,9 +29,10 @@ pub fn written_event_is_read()
 {}
 
 /// An event that is read from a line, of either version, is written as that line: each event is read from one line alone, in one spelling.
-#[tactic(auto, using(crate::proofs::EventsBack::event_back))]
+#[tactic(auto, using(crate::proofs::EventsBack::event_back, crate::proofs::EventsBack::event_line_back))]
 pub fn read_event_is_written()
-    ensures { (version : Version) (row : Row) (event : Event) → event_of version row ≡ Ok event → event_row event ≡ row }
+    ensures row { (version : Version) (row : Row) (event : Event) → event_of version row ≡ Ok event → event_row event ≡ row }
+    ensures line { (version : Version) (line : List ℕ) (event : Event) → event_of version (words_of line) ≡ Ok event → line_of (event_row event) ≡ line }
 {}
 
 /// An opening of numbers of their types' ranges that a core can have is read again from the 30 lines that are written for it, whatever stands behind them; and

@@ -37,7 +37,10 @@ pub use event_places::{next_event, read_event_count};
 pub use events::read_event;
 pub use fault::{RowFault, TraceFault};
 pub use items::MAX_ITEMS;
-pub use laws::{read_event_count_is_written, read_event_is_written, read_opening_is_written, written_event_count_is_read, written_event_is_read, written_opening_is_read};
+pub use laws::{
+    read_event_count_is_written, read_event_is_written, read_opening_is_written,
+    written_event_count_is_read, written_event_is_read, written_opening_is_read,
+};
 pub use opening_fields::MAX_EVENTS;
 pub use opening_lines::read_opening;
 pub use opening_writing::{write_event_count, write_opening};

@@ -5,3 +5,4 @@ pub mod EventsRead
 pub mod ExportedRuns
 pub mod Faults
 pub mod TraceAgain
+pub mod TraceBack

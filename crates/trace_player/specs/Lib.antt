@@ -3,4 +3,5 @@ pub mod Faults
 pub mod Playing
 pub mod Plays
 pub mod Traces
+pub mod Versions
 pub mod Written

@@ -1,11 +1,13 @@
 //! What holds of traces and their texts as such: each function is a law, which its contract states and a call of it makes known.
-ghost use Rattle.std.specs.Prelude.{◌≡◌, Ok};
+ghost use Rattle.std.specs.Prelude.{◌≡◌, ℕ, List, Ok};
 ghost use Rattle.relay_core.specs.Opening.{opened};
 ghost use Rattle.relay_recorder.specs.Recording.{Recording};
 ghost use Rattle.relay_recorder.specs.Replaying.{Replays};
 ghost use Rattle.relay_recorder.specs.declared.trace.Trace.{Trace};
+ghost use Rattle.trace_lines.specs.OpeningForms.{Forms, AreFormsOf, written_forms};
 ghost use Rattle.trace_player.specs.Exported.{PrintsTheEnd};
 ghost use Rattle.trace_player.specs.Traces.{trace_of, trace_text};
+ghost use Rattle.trace_player.specs.Versions.{IsOfVersionTwo, text_with};
 ghost use Rattle.trace_player.specs.Written.{IsWritableTrace};
 
 use trace_lines::written_opening_is_read;
@@ -16,6 +18,15 @@ pub fn written_trace_is_read()
 {
     written_opening_is_read();
 }
+
+/// The text of version 2 that a trace is read from is the one that is written for it, but that the script table and the entries of the schedules may stand there as
+/// other Datas that are read as these: where they are those that are written, it is the text that is written.
+#[tactic(auto, using(crate::proofs::TraceBack::trace_back, crate::proofs::TraceBack::written_text))]
+pub fn read_trace_is_written()
+    ensures text { (text : List ℕ) (trace : Trace) → IsOfVersionTwo text → trace_of text ≡ Ok trace
+        → (forms : Forms) × AreFormsOf trace.opening forms × (text ≡ text_with trace forms) }
+    ensures written { (trace : Trace) → text_with trace (written_forms trace.opening) ≡ trace_text trace }
+{}
 
 /// What a recorder exports prints, where it can be written, the lines of the kept events in every history that the recorder stands for: so a trace that was
 /// exported, written and played tells the replies that were given.

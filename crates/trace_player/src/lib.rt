@@ -16,7 +16,7 @@ mod tests;
 mod writing;
 
 pub use fault::PlayFault;
-pub use laws::{exported_run_is_played, written_trace_is_read};
+pub use laws::{exported_run_is_played, read_trace_is_written, written_trace_is_read};
 pub use player::play;
 pub use reading::{MAX_BYTES, read_trace};
 pub use relay_recorder::Trace;

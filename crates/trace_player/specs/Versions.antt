@@ -1,0 +1,16 @@
+-- The texts of version 2, and what they say beside the Datas in the lines of their opening.
+use Rattle.std.specs.Prelude.{◌≡◌, ℕ, codes, List, ◌∷◌, ◌++◌, length, map}
+use Rattle.relay_recorder.specs.declared.trace.Trace.{Trace}
+use Rattle.trace_lines.specs.OpeningForms.{Forms, rows_with}
+use Rattle.trace_lines.specs.OpeningRows.{number_row}
+use Rattle.trace_lines.specs.Rows.{Row}
+use Rattle.trace_lines.specs.Writing.{event_row}
+use Rattle.trace_text.specs.Lines.{rows_of, rows_text}
+
+-- the first line of a text says version 2
+abbrev pub IsOfVersionTwo : List ℕ → Type 0
+IsOfVersionTwo text = (rows : List Row) × (rows_of text ≡ number_row (codes "RELAYTRACE") 2 ∷ rows)
+
+-- the text that is written for a trace, but with these Datas in the lines of its opening
+abbrev pub text_with : Trace → Forms → List ℕ
+text_with trace forms = rows_text (rows_with trace.opening forms ++ number_row (codes "events") (length trace.events) ∷ map event_row trace.events)
