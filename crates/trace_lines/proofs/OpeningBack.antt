@@ -23,7 +23,7 @@ use Rattle.trace_lines.specs.Writing.{data_word}
 use Rattle.trace_lines.specs.declared.opening_lines.Switch.{Switch}
 use Rattle.trace_lines.specs.declared.version.Version.{Version}
 use Rattle.trace_lines.specs.declared.version.Version.TheVariants.{Two}
-use Rattle.trace_lines.proofs.PlacesBack.{Took, then, line_read, line_back, value_back}
+use Rattle.trace_lines.proofs.PlacesBack.{carried, Took, then, line_read, line_back, value_back}
 use Rattle.trace_lines.proofs.LimitersBack.{limiter_back, export_back}
 
 -- ---- the switch, the script table and the schedules
@@ -38,7 +38,8 @@ switch_back place switch behind e =
     let device = bind_ok (line_as (labelled (codes "device") device_in) place) _ (switch, behind) e in
     let state = bind_ok (line_as (labelled (codes "state") state_in) device.0.1) _ (switch, behind) device.2 in
     let mode = bind_ok (line_as (labelled (codes "mode") (mode_in state.0.0)) state.0.1) _ (switch, behind) state.2 in
-    subst (λ (p : Switch × Place). Took (switch_rows p.0) place p.1) (ok_is _ (switch, behind) mode.2) (
+    let made : Switch = record { device = device.0.0; state = state.0.0; mode = mode.0.0 } in
+    carried Switch (λ read at. Took (switch_rows read) place at) made switch mode.0.1 behind mode.2 (
     then _ _ place device.0.1 mode.0.1 (line_back _ (labelled (codes "device") device_in) (λ d. codes "device" ∷ encode_upper d ∷ []) device_line_back place device.0.0 device.0.1 device.1) (
     then _ _ device.0.1 state.0.1 mode.0.1 (line_back _ (labelled (codes "state") state_in) (λ s. number_row (codes "state") (state_number s)) state_line_back device.0.1 state.0.0 state.0.1 state.1)
     (line_back _ (labelled (codes "mode") (mode_in state.0.0)) (λ m. number_row (codes "mode") (mode_number m)) (mode_line_back state.0.0) state.0.1 mode.0.0 mode.0.1 mode.1)))
@@ -95,7 +96,8 @@ schedules_back place schedules behind e =
     let two = schedule_back 1 first.0.1 second.0.0 second.0.1 second.1 in
     let three = schedule_back 2 second.0.1 third.0.0 third.0.1 third.1 in
     let four = schedule_back 3 third.0.1 fourth.0.0 fourth.0.1 fourth.1 in
-    subst (λ (p : Schedules × Place). SchedulesRead p.0 place p.1) (ok_is _ (schedules, behind) fourth.2) (record {
+    let made : Schedules = record { first = first.0.0; second = second.0.0; third = third.0.0; fourth = fourth.0.0 } in
+    carried Schedules (λ read at. SchedulesRead read place at) made schedules fourth.0.1 behind fourth.2 (record {
       first = one.form;
       second = two.form;
       third = three.form;
@@ -140,7 +142,8 @@ inner_back place o behind e =
     let limiter = limiter_back Import last.0.0 moment.0.1 import.0.0 import.0.1 import.1 in
     let table = table_back export.0.1 scripts.0.0 scripts.0.1 scripts.1 in
     let entries = schedules_back scripts.0.1 schedules.0.0 schedules.0.1 schedules.1 in
-    subst (λ (p : Opening × Place). OpeningRead p.0 place p.1) (ok_is _ (o, behind) schedules.2) (record {
+    let made : Opening = record { device = switch.0.0.device; state = switch.0.0.state; mode = switch.0.0.mode; moment = moment.0.0; import = import.0.0; export = export.0.0; scripts = scripts.0.0; schedules = schedules.0.0 } in
+    carried Opening (λ read at. OpeningRead read place at) made o schedules.0.1 behind schedules.2 (record {
       forms = record { table = table.form; first = entries.first; second = entries.second; third = entries.third; fourth = entries.fourth };
       say = record { table = table.says; first = entries.first_says; second = entries.second_says; third = entries.third_says; fourth = entries.fourth_says };
       took =

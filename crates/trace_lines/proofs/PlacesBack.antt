@@ -1,6 +1,6 @@
 -- Lines that were read one after the other are those that stand there.
 use Rattle.std.proofs.Common.{◌≡◌, ℕ, suc, ◌+◌, List, [], ◌∷◌, ◌++◌, length, Result, Ok, Err, sym, ap, subst, ◌∙◌, arith, length-append, append_assoc}
-use Rattle.byte_reading.proofs.OutcomeLemmas.{ok_is}
+use Rattle.byte_reading.proofs.OutcomeLemmas.{done, ok_is}
 use Rattle.cosem_names.specs.declared.objects.Which.{Which}
 use Rattle.trace_lines.proofs.OpeningFieldsBack.{IsRowBack, value_line_back}
 use Rattle.trace_lines.specs.OpeningFields.{label, labelled}
@@ -9,6 +9,7 @@ use Rattle.trace_lines.specs.Places.{Place, passed, first_as, line_as}
 use Rattle.trace_lines.specs.Reading.{value_in}
 use Rattle.trace_lines.specs.Rows.{Word, Row}
 use Rattle.trace_lines.specs.declared.fault.RowFault.{RowFault}
+use Rattle.trace_lines.specs.declared.fault.TraceFault.{TraceFault}
 
 -- these lines stand from a place to another
 pub record Took (rows : List Row) (place behind : Place) : Type 0 where
@@ -22,6 +23,10 @@ then rows others place middle behind first second = record {
   number = let l = length-append rows others in omega (arith, first.number, second.number, l);
   unended = second.unended ∙ first.unended;
 }
+
+-- what is so of a value that was read and of the place behind it
+pub carried : (X : Type 0) (P : X → Place → Type 0) (x y : X) (a b : Place) → done {A = X × Place} TraceFault (x, a) ≡ Ok (y, b) → P x a → P y b
+carried X P x y a b e p = subst (λ (read : X × Place). P read.0 read.1) (ok_is (x, a) (y, b) e) p
 
 -- a line that was read
 pub record LineRead (X : Type 0) (value_in : Row → Result X RowFault) (x : X) (place behind : Place) : Type 0 where

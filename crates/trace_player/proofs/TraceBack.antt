@@ -98,7 +98,7 @@ trace_back text trace two e =
     let o = opening.0.0.1 in
     let end = ended_back events.0.1 (record { opening = o; events = events.0.0 }) trace events.2 in
     let version = version_two (place_of text) two.0 opening.0.0.0 o opening.0.1 two.1 opening.1 in
-    let read = opening.1 ∙ ap (λ (v : Version). Ok ((v, o), opening.0.1)) version in
+    let read = subst (λ (v : Version). opening_from (place_of text) ≡ Ok ((v, o), opening.0.1)) version opening.1 in
     let front = opening_back (place_of text) o opening.0.1 read in
     let kept = opening_lines (place_of text) o opening.0.1 read in
     let line = line_back ℕ events_from (number_row (codes "events")) events_back opening.0.1 count.0.0 count.0.1 count.1 in
