@@ -4,7 +4,8 @@ use acse_ber::{
 };
 use cosem_axdr::Octets;
 use cosem_names::Level;
-use std::alloc::Global;
+use std::alloc::{AllocError, Global};
+use std::process::Abort;
 use std::test::Fail;
 
 const LN_CONTEXT: [u8; 7] = [0x60, 0x85, 0x74, 0x05, 0x08, 0x01, 0x01];
@@ -53,378 +54,469 @@ const PUBLIC_ACCEPTED: Verdict = Verdict::Accepted {
     limit: 1200,
 };
 
-// The verdict on these bytes from a port.
-fn verdict_on(alloc: Global, bytes: &[u8], sap: u16, password: &[u8]) -> Result<Verdict, Fail> {
-    let aarq = read_aarq(alloc, bytes)?;
-    let password = Octets::from_slice(alloc, password)?;
-    Ok(judge(&aarq, sap, &password))
+// The bytes of an example, of which some are others, each at its place.
+fn changed(alloc: Global, example: &[u8], changes: &[(usize, u8)]) -> Result<Vec<u8>, AllocError> {
+    let mut bytes = example.to_vec(alloc)?;
+    for (place, byte) in changes {
+        if let Some(found) = bytes.get_mut(*place) {
+            *found = *byte;
+        }
+    }
+    Ok(bytes)
 }
 
-fn is_unreadable(alloc: Global, bytes: &[u8]) -> bool {
-    matches!(read_aarq(alloc, bytes), Err(AcseFault::Unreadable))
+// Wants that an AARQ is the management client's.
+fn check_parts(rt: &impl Abort, aarq: &Aarq) {
+    assert!(*rt; aarq.context.as_slice() == LN_CONTEXT.as_slice());
+    assert!(*rt; aarq.mechanism.as_slice() == LOW_LEVEL.as_slice());
+    assert!(*rt; matches!(&aarq.password, Some(password) if password.as_slice() == PASSWORD));
+    assert!(*rt; aarq.user.as_slice() == &MANAGEMENT_AARQ[42..]);
 }
 
 #[test]
 fn an_aarq_is_read_into_its_parts(rt: HostRuntime) -> Result<(), Fail> {
     let aarq = read_aarq(rt.alloc(), &MANAGEMENT_AARQ)?;
-    assert_eq!(rt; aarq.context.as_slice(), LN_CONTEXT.as_slice());
-    assert_eq!(rt; aarq.mechanism.as_slice(), LOW_LEVEL.as_slice());
-    let password = aarq.password.ok_or("no password")?;
-    assert_eq!(rt; password.as_slice(), PASSWORD);
-    assert_eq!(rt; aarq.user.as_slice(), &MANAGEMENT_AARQ[42..]);
+    check_parts(&rt, &aarq);
     Ok(())
 }
+
+// A port, the password of its client, an AARQ, as an example and what of its bytes is changed, and the verdict.
+type Judged = (
+    u16,
+    &'static [u8],
+    &'static [u8],
+    &'static [(usize, u8)],
+    Verdict,
+);
+
+fn has_verdict(alloc: Global, row: &Judged) -> Result<bool, Fail> {
+    let (port, password, example, changes, verdict) = row;
+    let bytes = changed(alloc, example, changes)?;
+    let aarq = read_aarq(alloc, bytes.as_slice())?;
+    let password = Octets::from_slice(alloc, password)?;
+    Ok(judge(&aarq, *port, &password) == *verdict)
+}
+
+fn check_verdicts(rt: &impl Abort, alloc: Global, rows: &[Judged]) -> Result<(), Fail> {
+    for (place, row) in rows.iter().enumerate() {
+        assert!(*rt; has_verdict(alloc, row)?, "at {place}");
+    }
+    Ok(())
+}
+
+const OF_THE_PUBLIC_CLIENT: [Judged; 2] = [
+    (16, PASSWORD, &PUBLIC_AARQ, &[], PUBLIC_ACCEPTED),
+    (
+        16,
+        b"87654321",
+        &MANAGEMENT_AARQ,
+        &[],
+        Verdict::Accepted {
+            level: Level::Public,
+            bits: 0x1C19,
+            limit: 1024,
+        },
+    ),
+];
 
 #[test]
 fn the_public_client_needs_no_password(rt: HostRuntime) -> Result<(), Fail> {
-    let alloc = rt.alloc();
-    assert_eq!(rt;
-        verdict_on(alloc, &PUBLIC_AARQ, 16, PASSWORD)?,
-        PUBLIC_ACCEPTED
-    );
-    let with_another = verdict_on(alloc, &MANAGEMENT_AARQ, 16, b"87654321")?;
-    assert!(rt;
-        matches!(
-            with_another,
-            Verdict::Accepted {
-                level: Level::Public,
-                bits: 0x1C19,
-                limit: 1024
-            }
-        )
-    );
-    Ok(())
+    check_verdicts(&rt, rt.alloc(), &OF_THE_PUBLIC_CLIENT)
 }
+
+const OF_THE_MANAGEMENT_CLIENT: [Judged; 5] = [
+    (
+        1,
+        PASSWORD,
+        &MANAGEMENT_AARQ,
+        &[],
+        Verdict::Accepted {
+            level: Level::Management,
+            bits: 0x1C19,
+            limit: 1024,
+        },
+    ),
+    (1, b"12345679", &MANAGEMENT_AARQ, &[], Verdict::Rejected(13)),
+    (1, b"1234567", &MANAGEMENT_AARQ, &[], Verdict::Rejected(13)),
+    (1, PASSWORD, &PUBLIC_AARQ, &[], Verdict::Rejected(14)),
+    // The example of the Green Book proposes 007E1F and 1,200 bytes.
+    (
+        1,
+        PASSWORD,
+        &MANAGEMENT_AARQ,
+        &[(52, 0x7E), (53, 0x1F), (55, 0xB0)],
+        Verdict::Accepted {
+            level: Level::Management,
+            bits: 0x1E19,
+            limit: 1200,
+        },
+    ),
+];
 
 #[test]
 fn the_management_client_needs_its_password(rt: HostRuntime) -> Result<(), Fail> {
-    let alloc = rt.alloc();
-    let accepted = verdict_on(alloc, &MANAGEMENT_AARQ, 1, PASSWORD)?;
-    assert!(rt;
-        matches!(
-            accepted,
-            Verdict::Accepted {
-                level: Level::Management,
-                bits: 0x1C19,
-                limit: 1024
-            }
-        )
-    );
-    assert_eq!(rt;
-        verdict_on(alloc, &MANAGEMENT_AARQ, 1, b"12345679")?,
-        Verdict::Rejected(13)
-    );
-    assert_eq!(rt;
-        verdict_on(alloc, &MANAGEMENT_AARQ, 1, b"1234567")?,
-        Verdict::Rejected(13)
-    );
-    assert_eq!(rt;
-        verdict_on(alloc, &PUBLIC_AARQ, 1, PASSWORD)?,
-        Verdict::Rejected(14)
-    );
-    // The example of the Green Book proposes 007E1F and 1,200 bytes.
-    let mut example = MANAGEMENT_AARQ;
-    example[52] = 0x7E;
-    example[53] = 0x1F;
-    example[55] = 0xB0;
-    let accepted = verdict_on(alloc, &example, 1, PASSWORD)?;
-    assert!(rt;
-        matches!(
-            accepted,
-            Verdict::Accepted {
-                level: Level::Management,
-                bits: 0x1E19,
-                limit: 1200
-            }
-        )
-    );
-    Ok(())
+    check_verdicts(&rt, rt.alloc(), &OF_THE_MANAGEMENT_CLIENT)
 }
+
+// Another port, another context, a higher and the lowest level of security, and no InitiateRequest.
+const OTHER_OPENINGS: [Judged; 5] = [
+    (2, PASSWORD, &PUBLIC_AARQ, &[], Verdict::Rejected(1)),
+    (
+        16,
+        PASSWORD,
+        &PUBLIC_AARQ,
+        &[(12, 0x03)],
+        Verdict::Rejected(2),
+    ),
+    (
+        1,
+        PASSWORD,
+        &MANAGEMENT_AARQ,
+        &[(25, 0x05)],
+        Verdict::Rejected(11),
+    ),
+    (
+        1,
+        PASSWORD,
+        &MANAGEMENT_AARQ,
+        &[(25, 0x00)],
+        Verdict::Rejected(14),
+    ),
+    (
+        16,
+        PASSWORD,
+        &PUBLIC_AARQ,
+        &[(17, 0x08)],
+        Verdict::Rejected(1),
+    ),
+];
 
 #[test]
 fn other_ports_contexts_and_mechanisms_are_rejected(rt: HostRuntime) -> Result<(), Fail> {
-    let alloc = rt.alloc();
-    assert_eq!(rt;
-        verdict_on(alloc, &PUBLIC_AARQ, 2, PASSWORD)?,
-        Verdict::Rejected(1)
-    );
-    let mut ciphered = PUBLIC_AARQ;
-    ciphered[12] = 0x03;
-    assert_eq!(rt;
-        verdict_on(alloc, &ciphered, 16, PASSWORD)?,
-        Verdict::Rejected(2)
-    );
-    let mut high_level = MANAGEMENT_AARQ;
-    high_level[25] = 0x05;
-    assert_eq!(rt;
-        verdict_on(alloc, &high_level, 1, PASSWORD)?,
-        Verdict::Rejected(11)
-    );
-    let mut lowest_level = MANAGEMENT_AARQ;
-    lowest_level[25] = 0x00;
-    assert_eq!(rt;
-        verdict_on(alloc, &lowest_level, 1, PASSWORD)?,
-        Verdict::Rejected(14)
-    );
-    let mut no_request = PUBLIC_AARQ;
-    no_request[17] = 0x08;
-    assert_eq!(rt;
-        verdict_on(alloc, &no_request, 16, PASSWORD)?,
-        Verdict::Rejected(1)
-    );
-    Ok(())
+    check_verdicts(&rt, rt.alloc(), &OTHER_OPENINGS)
 }
+
+// An older version, a PDU size that is too short, none, the shortest with GET alone, and no service that the meter offers.
+const PROPOSALS: [Judged; 5] = [
+    (
+        16,
+        PASSWORD,
+        &PUBLIC_AARQ,
+        &[(21, 5)],
+        Verdict::InitiateError(1),
+    ),
+    (
+        16,
+        PASSWORD,
+        &PUBLIC_AARQ,
+        &[(29, 0x00), (30, 0x3F)],
+        Verdict::InitiateError(3),
+    ),
+    (
+        16,
+        PASSWORD,
+        &PUBLIC_AARQ,
+        &[(29, 0x00), (30, 0x00)],
+        Verdict::Accepted {
+            level: Level::Public,
+            bits: 0x1E19,
+            limit: 0,
+        },
+    ),
+    (
+        16,
+        PASSWORD,
+        &PUBLIC_AARQ,
+        &[(29, 0x00), (30, 0x40), (27, 0x00), (28, 0x10)],
+        Verdict::Accepted {
+            level: Level::Public,
+            bits: 0x10,
+            limit: 64,
+        },
+    ),
+    (
+        16,
+        PASSWORD,
+        &PUBLIC_AARQ,
+        &[(29, 0x00), (30, 0x40), (27, 0x00), (28, 0x06)],
+        Verdict::InitiateError(2),
+    ),
+];
 
 #[test]
 fn a_proposal_is_checked(rt: HostRuntime) -> Result<(), Fail> {
-    let alloc = rt.alloc();
-    let mut old = PUBLIC_AARQ;
-    old[21] = 5;
-    assert_eq!(rt;
-        verdict_on(alloc, &old, 16, PASSWORD)?,
-        Verdict::InitiateError(1)
-    );
-    let mut short = PUBLIC_AARQ;
-    short[29] = 0x00;
-    short[30] = 0x3F;
-    assert_eq!(rt;
-        verdict_on(alloc, &short, 16, PASSWORD)?,
-        Verdict::InitiateError(3)
-    );
-    short[30] = 0x00;
-    let unlimited = verdict_on(alloc, &short, 16, PASSWORD)?;
-    assert!(rt;
-        matches!(
-            unlimited,
-            Verdict::Accepted {
-                level: Level::Public,
-                bits: 0x1E19,
-                limit: 0
-            }
-        )
-    );
-    short[30] = 0x40;
-    short[27] = 0x00;
-    short[28] = 0x10;
-    let get_only = verdict_on(alloc, &short, 16, PASSWORD)?;
-    assert!(rt;
-        matches!(
-            get_only,
-            Verdict::Accepted {
-                level: Level::Public,
-                bits: 0x10,
-                limit: 64
-            }
-        )
-    );
-    short[28] = 0x06;
-    assert_eq!(rt;
-        verdict_on(alloc, &short, 16, PASSWORD)?,
-        Verdict::InitiateError(2)
-    );
-    Ok(())
+    check_verdicts(&rt, rt.alloc(), &PROPOSALS)
+}
+
+// The public client's AARQ with its fields in another order, and an empty one beside them.
+const REORDERED_AARQ: [u8; 34] = [
+    0x60, 0x81, 0x1F, 0xBE, 0x10, 0x04, 0x0E, 0x01, 0x00, 0x00, 0x00, 0x06, 0x5F, 0x1F, 0x04, 0x00,
+    0x00, 0x7E, 0x1F, 0x04, 0xB0, 0x8B, 0x00, 0xA1, 0x09, 0x06, 0x07, 0x60, 0x85, 0x74, 0x05, 0x08,
+    0x01, 0x01,
+];
+
+const EMPTY_CONTEXT: [u8; 10] = [0x60, 0x08, 0xA1, 0x02, 0x06, 0x00, 0xBE, 0x02, 0x04, 0x00];
+
+const IN_OTHER_ORDERS: [Judged; 3] = [
+    (16, PASSWORD, &REORDERED_AARQ, &[], PUBLIC_ACCEPTED),
+    (1, PASSWORD, &REORDERED_AARQ, &[], Verdict::Rejected(14)),
+    (16, PASSWORD, &EMPTY_CONTEXT, &[], Verdict::Rejected(2)),
+];
+
+#[test]
+fn fields_come_in_any_order(rt: HostRuntime) -> Result<(), Fail> {
+    check_verdicts(&rt, rt.alloc(), &IN_OTHER_ORDERS)
+}
+
+// Of the management client's AARQ ever more is wrong, and what is wrong comes ever sooner.
+const FIRST_FAULTS: [Judged; 9] = [
+    (
+        1,
+        PASSWORD,
+        &MANAGEMENT_AARQ,
+        &[(55, 0x3F), (54, 0x00)],
+        Verdict::InitiateError(3),
+    ),
+    (
+        1,
+        PASSWORD,
+        &MANAGEMENT_AARQ,
+        &[(55, 0x3F), (54, 0x00), (52, 0x00), (53, 0x00)],
+        Verdict::InitiateError(2),
+    ),
+    (
+        1,
+        PASSWORD,
+        &MANAGEMENT_AARQ,
+        &[(55, 0x3F), (54, 0x00), (52, 0x00), (53, 0x00), (46, 0x05)],
+        Verdict::InitiateError(1),
+    ),
+    (1, PASSWORD, &MANAGEMENT_AARQ, &WRONG, Verdict::Rejected(1)),
+    (1, b"", &MANAGEMENT_AARQ, &WRONG, Verdict::Rejected(13)),
+    (
+        1,
+        b"",
+        &MANAGEMENT_AARQ,
+        &[
+            (55, 0x3F),
+            (54, 0x00),
+            (52, 0x00),
+            (53, 0x00),
+            (46, 0x05),
+            (42, 0x21),
+            (25, 0x00),
+        ],
+        Verdict::Rejected(14),
+    ),
+    (
+        1,
+        b"",
+        &MANAGEMENT_AARQ,
+        &[
+            (55, 0x3F),
+            (54, 0x00),
+            (52, 0x00),
+            (53, 0x00),
+            (46, 0x05),
+            (42, 0x21),
+            (25, 0x02),
+        ],
+        Verdict::Rejected(11),
+    ),
+    (1, b"", &MANAGEMENT_AARQ, &WORST, Verdict::Rejected(2)),
+    (15, b"", &MANAGEMENT_AARQ, &WORST, Verdict::Rejected(1)),
+];
+
+// All of the user information is wrong.
+const WRONG: [(usize, u8); 6] = [
+    (55, 0x3F),
+    (54, 0x00),
+    (52, 0x00),
+    (53, 0x00),
+    (46, 0x05),
+    (42, 0x21),
+];
+
+// The mechanism and the context are wrong too.
+const WORST: [(usize, u8); 8] = [
+    (55, 0x3F),
+    (54, 0x00),
+    (52, 0x00),
+    (53, 0x00),
+    (46, 0x05),
+    (42, 0x21),
+    (25, 0x02),
+    (12, 0x02),
+];
+
+#[test]
+fn the_first_check_that_fails_decides(rt: HostRuntime) -> Result<(), Fail> {
+    check_verdicts(&rt, rt.alloc(), &FIRST_FAULTS)
+}
+
+// A field twice, no context, a field of a lower tag, and a length that is one too many.
+const UNREADABLE_AARQS: [(&[u8], &[(usize, u8)]); 4] = [
+    (
+        &[
+            0x60, 0x0C, 0xA1, 0x02, 0x06, 0x00, 0xA1, 0x02, 0x06, 0x00, 0xBE, 0x02, 0x04, 0x00,
+        ],
+        &[],
+    ),
+    (&[0x60, 0x04, 0xBE, 0x02, 0x04, 0x00], &[]),
+    (
+        &[
+            0x60, 0x0A, 0xA1, 0x02, 0x06, 0x00, 0xBE, 0x02, 0x04, 0x00, 0x7F, 0x00,
+        ],
+        &[],
+    ),
+    (&PUBLIC_AARQ, &[(1, 0x1E)]),
+];
+
+fn is_unreadable(
+    alloc: Global,
+    example: &[u8],
+    changes: &[(usize, u8)],
+) -> Result<bool, AllocError> {
+    let bytes = changed(alloc, example, changes)?;
+    Ok(matches!(
+        read_aarq(alloc, bytes.as_slice()),
+        Err(AcseFault::Unreadable)
+    ))
 }
 
 #[test]
-fn fields_come_in_any_order_once_each(rt: HostRuntime) -> Result<(), Fail> {
-    let alloc = rt.alloc();
-    let reordered = [
-        0x60, 0x81, 0x1F, 0xBE, 0x10, 0x04, 0x0E, 0x01, 0x00, 0x00, 0x00, 0x06, 0x5F, 0x1F, 0x04,
-        0x00, 0x00, 0x7E, 0x1F, 0x04, 0xB0, 0x8B, 0x00, 0xA1, 0x09, 0x06, 0x07, 0x60, 0x85, 0x74,
-        0x05, 0x08, 0x01, 0x01,
-    ];
-    assert_eq!(rt;
-        verdict_on(alloc, &reordered, 16, PASSWORD)?,
-        PUBLIC_ACCEPTED
-    );
-    assert_eq!(rt;
-        verdict_on(alloc, &reordered, 1, PASSWORD)?,
-        Verdict::Rejected(14)
-    );
-    let empty_context = [0x60, 0x08, 0xA1, 0x02, 0x06, 0x00, 0xBE, 0x02, 0x04, 0x00];
-    assert_eq!(rt;
-        verdict_on(alloc, &empty_context, 16, PASSWORD)?,
-        Verdict::Rejected(2)
-    );
-    let twice = [
-        0x60, 0x0C, 0xA1, 0x02, 0x06, 0x00, 0xA1, 0x02, 0x06, 0x00, 0xBE, 0x02, 0x04, 0x00,
-    ];
-    assert!(rt; is_unreadable(alloc, &twice));
-    let without_context = [0x60, 0x04, 0xBE, 0x02, 0x04, 0x00];
-    assert!(rt; is_unreadable(alloc, &without_context));
-    let low_tag = [
-        0x60, 0x0A, 0xA1, 0x02, 0x06, 0x00, 0xBE, 0x02, 0x04, 0x00, 0x7F, 0x00,
-    ];
-    assert!(rt; is_unreadable(alloc, &low_tag));
-    let mut long = PUBLIC_AARQ;
-    long[1] = 0x1E;
-    assert!(rt; is_unreadable(alloc, &long));
+fn fields_come_once_each(rt: HostRuntime) -> Result<(), Fail> {
+    for (place, (example, changes)) in UNREADABLE_AARQS.iter().enumerate() {
+        assert!(rt; is_unreadable(rt.alloc(), example, changes)?, "at {place}");
+    }
     Ok(())
 }
+
+// Bytes, and whether they are a request for a release. A length may have one or two bytes behind its first, and not none or three.
+const RELEASES: [(&[u8], bool); 13] = [
+    (&[0x62, 0x00], true),
+    (&RELEASE_REQUEST, true),
+    (&[0x62, 0x03, 0x80, 0x01, 0x00], true),
+    (&RELEASE_RESPONSE, false),
+    (&[0x62], false),
+    (&[0x62, 0x03, 0x80, 0x01, 0x00, 0xFF], false),
+    (&[0x62, 0x81, 0x02, 0x80, 0x00], true),
+    (&[0x62, 0x82, 0x00, 0x02, 0x80, 0x00], true),
+    (&[0x62, 0x83, 0x00, 0x00, 0x02, 0x80, 0x00], false),
+    (&[0x62, 0x80, 0x80, 0x00], false),
+    (&[0x62, 0x02, 0xC0, 0x00], false),
+    (&[0x62, 0x02, 0x7F, 0x00], false),
+    (&[0x62, 0x02, 0x80, 0x01], false),
+];
 
 #[test]
 fn releases_are_known(rt: HostRuntime) {
-    assert!(rt; is_release(&[0x62, 0x00]));
-    assert!(rt; is_release(&RELEASE_REQUEST));
-    assert!(rt; is_release(&[0x62, 0x03, 0x80, 0x01, 0x00]));
-    assert!(rt; !is_release(&RELEASE_RESPONSE));
-    assert!(rt; !is_release(&[0x62]));
-    assert!(rt; !is_release(&[0x62, 0x03, 0x80, 0x01, 0x00, 0xFF]));
+    for (bytes, expected) in &RELEASES {
+        assert!(rt; is_release(bytes) == *expected, "{bytes:?}");
+    }
 }
 
-#[test]
-fn an_aarq_is_written(rt: HostRuntime) -> Result<(), Fail> {
-    let alloc = rt.alloc();
-    let management = Aarq {
+// The management client's AARQ, of its parts.
+fn management_aarq(alloc: Global) -> Result<Aarq, AllocError> {
+    Ok(Aarq {
         context: Octets::from_slice(alloc, &LN_CONTEXT)?,
         mechanism: Octets::from_slice(alloc, &LOW_LEVEL)?,
         password: Some(Octets::from_slice(alloc, PASSWORD)?),
         user: Octets::from_slice(alloc, &MANAGEMENT_AARQ[42..])?,
-    };
-    assert_eq!(rt;
-        write_aarq(alloc, &management)?.as_slice(),
-        MANAGEMENT_AARQ.as_slice()
-    );
-    let public = read_aarq(alloc, &PUBLIC_AARQ)?;
-    assert_eq!(rt;
-        write_aarq(alloc, &public)?.as_slice(),
-        PUBLIC_AARQ.as_slice()
-    );
+    })
+}
+
+fn is_written_as(alloc: Global, aarq: &Aarq, bytes: &[u8]) -> Result<bool, AllocError> {
+    Ok(write_aarq(alloc, aarq)?.as_slice() == bytes)
+}
+
+#[test]
+fn an_aarq_is_written(rt: HostRuntime) -> Result<(), Fail> {
+    let aarq = management_aarq(rt.alloc())?;
+    assert!(rt; is_written_as(rt.alloc(), &aarq, &MANAGEMENT_AARQ)?);
+    Ok(())
+}
+
+#[test]
+fn an_aarq_is_written_as_it_was_read(rt: HostRuntime) -> Result<(), Fail> {
+    let aarq = read_aarq(rt.alloc(), &PUBLIC_AARQ)?;
+    assert!(rt; is_written_as(rt.alloc(), &aarq, &PUBLIC_AARQ)?);
     Ok(())
 }
 
 #[test]
 fn a_clients_aarq_is_made(rt: HostRuntime) -> Result<(), Fail> {
-    let alloc = rt.alloc();
-    let aarq = low_level_aarq(alloc, PASSWORD, 0x1C19, 1024)?;
-    assert_eq!(rt;
-        write_aarq(alloc, &aarq)?.as_slice(),
-        MANAGEMENT_AARQ.as_slice()
-    );
+    let aarq = low_level_aarq(rt.alloc(), PASSWORD, 0x1C19, 1024)?;
+    assert!(rt; is_written_as(rt.alloc(), &aarq, &MANAGEMENT_AARQ)?);
     Ok(())
 }
 
-#[test]
-fn the_first_check_that_fails_decides(rt: HostRuntime) -> Result<(), Fail> {
-    let alloc = rt.alloc();
-    let mut aarq = MANAGEMENT_AARQ;
-    aarq[55] = 0x3F;
-    aarq[54] = 0x00;
-    assert_eq!(rt;
-        verdict_on(alloc, &aarq, 1, PASSWORD)?,
-        Verdict::InitiateError(3)
-    );
-    aarq[52] = 0x00;
-    aarq[53] = 0x00;
-    assert_eq!(rt;
-        verdict_on(alloc, &aarq, 1, PASSWORD)?,
-        Verdict::InitiateError(2)
-    );
-    aarq[46] = 0x05;
-    assert_eq!(rt;
-        verdict_on(alloc, &aarq, 1, PASSWORD)?,
-        Verdict::InitiateError(1)
-    );
-    aarq[42] = 0x21;
-    assert_eq!(rt;
-        verdict_on(alloc, &aarq, 1, PASSWORD)?,
-        Verdict::Rejected(1)
-    );
-    assert_eq!(rt; verdict_on(alloc, &aarq, 1, b"")?, Verdict::Rejected(13));
-    aarq[25] = 0x00;
-    assert_eq!(rt; verdict_on(alloc, &aarq, 1, b"")?, Verdict::Rejected(14));
-    aarq[25] = 0x02;
-    assert_eq!(rt; verdict_on(alloc, &aarq, 1, b"")?, Verdict::Rejected(11));
-    aarq[12] = 0x02;
-    assert_eq!(rt; verdict_on(alloc, &aarq, 1, b"")?, Verdict::Rejected(2));
-    assert_eq!(rt; verdict_on(alloc, &aarq, 15, b"")?, Verdict::Rejected(1));
-    Ok(())
+const ACCEPTING: Aare = Aare {
+    result: 0,
+    diagnostic: 0,
+    info: Info::Response {
+        bits: 0x1E19,
+        limit: 1024,
+    },
+};
+
+const REFUSING: Aare = Aare {
+    result: 1,
+    diagnostic: 14,
+    info: Info::Absent,
+};
+
+const INITIATE_ERROR: Aare = Aare {
+    result: 1,
+    diagnostic: 1,
+    info: Info::InitiateError(1),
+};
+
+// An AARE, and its bytes, as an example and what of it is changed.
+type WrittenAare = (Aare, &'static [u8], &'static [(usize, u8)]);
+
+const WRITTEN_AARES: [WrittenAare; 5] = [
+    (ACCEPTING, &ACCEPTING_AARE, &[]),
+    (REFUSING, &REFUSING_AARE, &[]),
+    (INITIATE_ERROR, &INITIATE_ERROR_AARE, &[]),
+    (
+        Aare {
+            info: Info::InitiateError(3),
+            ..INITIATE_ERROR
+        },
+        &INITIATE_ERROR_AARE,
+        &[(32, 0x03)],
+    ),
+    (
+        Aare {
+            diagnostic: 13,
+            ..REFUSING
+        },
+        &REFUSING_AARE,
+        &[(24, 0x0D)],
+    ),
+];
+
+fn is_written(alloc: Global, row: &WrittenAare) -> Result<bool, AllocError> {
+    let (aare, example, changes) = row;
+    let bytes = changed(alloc, example, changes)?;
+    Ok(write_aare(alloc, aare)?.as_slice() == bytes.as_slice())
 }
 
 #[test]
 fn an_aare_is_written(rt: HostRuntime) -> Result<(), Fail> {
-    let alloc = rt.alloc();
-    let accepting = Aare {
-        result: 0,
-        diagnostic: 0,
-        info: Info::Response {
-            bits: 0x1E19,
-            limit: 1024,
-        },
-    };
-    assert_eq!(rt;
-        write_aare(alloc, &accepting)?.as_slice(),
-        ACCEPTING_AARE.as_slice()
-    );
-    let refusing = Aare {
-        result: 1,
-        diagnostic: 14,
-        info: Info::Absent,
-    };
-    assert_eq!(rt;
-        write_aare(alloc, &refusing)?.as_slice(),
-        REFUSING_AARE.as_slice()
-    );
-    let error = Aare {
-        result: 1,
-        diagnostic: 1,
-        info: Info::InitiateError(1),
-    };
-    assert_eq!(rt;
-        write_aare(alloc, &error)?.as_slice(),
-        INITIATE_ERROR_AARE.as_slice()
-    );
-    let size_error = Aare {
-        info: Info::InitiateError(3),
-        ..error
-    };
-    let mut expected = INITIATE_ERROR_AARE;
-    expected[32] = 0x03;
-    assert_eq!(rt;
-        write_aare(alloc, &size_error)?.as_slice(),
-        expected.as_slice()
-    );
-    let wrong_password = Aare {
-        diagnostic: 13,
-        ..refusing
-    };
-    let mut expected = REFUSING_AARE;
-    expected[24] = 0x0D;
-    assert_eq!(rt;
-        write_aare(alloc, &wrong_password)?.as_slice(),
-        expected.as_slice()
-    );
+    for (place, row) in WRITTEN_AARES.iter().enumerate() {
+        assert!(rt; is_written(rt.alloc(), row)?, "at {place}");
+    }
     Ok(())
 }
 
-#[test]
-fn an_aare_is_read(rt: HostRuntime) -> Result<(), Fail> {
-    let alloc = rt.alloc();
-    let accepting = read_aare(alloc, &ACCEPTING_AARE)?;
-    assert!(rt; accepting.result == 0 && accepting.diagnostic == 0);
-    assert!(rt;
-        matches!(
-            accepting.info,
-            Info::Response {
-                bits: 0x1E19,
-                limit: 1024
-            }
-        )
-    );
-    let refusing = read_aare(alloc, &REFUSING_AARE)?;
-    assert!(rt; refusing.result == 1 && refusing.diagnostic == 14);
-    assert_eq!(rt; refusing.info, Info::Absent);
-    let error = read_aare(alloc, &INITIATE_ERROR_AARE)?;
-    assert!(rt; error.result == 1 && error.diagnostic == 1);
-    assert_eq!(rt; error.info, Info::InitiateError(1));
-    let mut no_response = INITIATE_ERROR_AARE;
-    no_response[17] = 0;
-    assert!(rt; matches!(read_aare(alloc, &no_response), Err(AcseFault::Unreadable)));
-    let mut unknown = INITIATE_ERROR_AARE;
-    unknown[31] = 0x07;
-    assert_eq!(rt; read_aare(alloc, &unknown)?.info, Info::Absent);
-    Ok(())
-}
+// Bytes, as an example and what of it is changed, and what they are read as.
+type ReadAare = (
+    &'static [u8],
+    &'static [(usize, u8)],
+    Result<Aare, AcseFault>,
+);
 
 // An AARE whose fields come in another order, the context twice, the result's length in the long form, with another field.
 const REORDERED_AARE: [u8; 36] = [
@@ -433,36 +525,50 @@ const REORDERED_AARE: [u8; 36] = [
     0x02, 0x01, 0x02, 0xFF,
 ];
 
+const READ_AARES: [ReadAare; 7] = [
+    (&ACCEPTING_AARE, &[], Ok(ACCEPTING)),
+    (&REFUSING_AARE, &[], Ok(REFUSING)),
+    (&INITIATE_ERROR_AARE, &[], Ok(INITIATE_ERROR)),
+    // The mark of an answer is another, and what of an error it is isn't known.
+    (&INITIATE_ERROR_AARE, &[(17, 0)], Err(AcseFault::Unreadable)),
+    (
+        &INITIATE_ERROR_AARE,
+        &[(31, 0x07)],
+        Ok(Aare {
+            info: Info::Absent,
+            ..INITIATE_ERROR
+        }),
+    ),
+    // The user information is no octet-string.
+    (
+        &INITIATE_ERROR_AARE,
+        &[(27, 0x09)],
+        Err(AcseFault::Unreadable),
+    ),
+    // A byte is behind the last field.
+    (&REORDERED_AARE, &[], Err(AcseFault::Unreadable)),
+];
+
+fn is_read(alloc: Global, row: &ReadAare) -> Result<bool, AllocError> {
+    let (example, changes, expected) = row;
+    let bytes = changed(alloc, example, changes)?;
+    Ok(read_aare(alloc, bytes.as_slice()) == *expected)
+}
+
 #[test]
-fn an_aares_fields_come_in_any_order(rt: HostRuntime) -> Result<(), Fail> {
-    let alloc = rt.alloc();
-    let aare = read_aare(alloc, &REORDERED_AARE[..35])?;
-    assert!(rt; aare.result == 2 && aare.diagnostic == 2);
-    assert_eq!(rt; aare.info, Info::InitiateError(3));
-    assert!(rt;
-        matches!(
-            read_aare(alloc, &REORDERED_AARE),
-            Err(AcseFault::Unreadable)
-        )
-    );
-    let mut no_octet_string = INITIATE_ERROR_AARE;
-    no_octet_string[27] = 0x09;
-    assert!(rt;
-        matches!(
-            read_aare(alloc, &no_octet_string),
-            Err(AcseFault::Unreadable)
-        )
-    );
+fn an_aare_is_read(rt: HostRuntime) -> Result<(), Fail> {
+    for (place, row) in READ_AARES.iter().enumerate() {
+        assert!(rt; is_read(rt.alloc(), row)?, "at {place}");
+    }
     Ok(())
 }
 
 #[test]
-fn lengths_of_no_or_three_bytes_are_unreadable(rt: HostRuntime) {
-    assert!(rt; is_release(&[0x62, 0x81, 0x02, 0x80, 0x00]));
-    assert!(rt; is_release(&[0x62, 0x82, 0x00, 0x02, 0x80, 0x00]));
-    assert!(rt; !is_release(&[0x62, 0x83, 0x00, 0x00, 0x02, 0x80, 0x00]));
-    assert!(rt; !is_release(&[0x62, 0x80, 0x80, 0x00]));
-    assert!(rt; !is_release(&[0x62, 0x02, 0xC0, 0x00]));
-    assert!(rt; !is_release(&[0x62, 0x02, 0x7F, 0x00]));
-    assert!(rt; !is_release(&[0x62, 0x02, 0x80, 0x01]));
+fn an_aares_fields_come_in_any_order(rt: HostRuntime) {
+    let expected = Aare {
+        result: 2,
+        diagnostic: 2,
+        info: Info::InitiateError(3),
+    };
+    assert!(rt; read_aare(rt.alloc(), &REORDERED_AARE[..35]) == Ok(expected));
 }

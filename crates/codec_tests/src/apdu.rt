@@ -10,14 +10,22 @@ use xdlms_apdu::{
 
 const ID: InvokeId = InvokeId(0xC1);
 
+const GET: [u8; 13] = [
+    0xC0, 0x01, 0xC1, 0x00, 0x46, 0x00, 0x00, 0x60, 0x03, 0x0A, 0xFF, 0x03, 0x00,
+];
+
+const GET_SELECTED: [u8; 15] = [
+    0xC0, 0x01, 0xC1, 0x00, 0x46, 0x00, 0x00, 0x60, 0x03, 0x0A, 0xFF, 0x03, 0x01, 0x00, 0x00,
+];
+
+const SET_LAST_BLOCK: [u8; 11] = [
+    0xC1, 0x03, 0xC1, 0x01, 0x00, 0x00, 0x00, 0x02, 0x02, 0x1B, 0x58,
+];
+
 // A request of each form, and some forms with other contents.
 const REQUESTS: [&[u8]; 13] = [
-    &[
-        0xC0, 0x01, 0xC1, 0x00, 0x46, 0x00, 0x00, 0x60, 0x03, 0x0A, 0xFF, 0x03, 0x00,
-    ],
-    &[
-        0xC0, 0x01, 0xC1, 0x00, 0x46, 0x00, 0x00, 0x60, 0x03, 0x0A, 0xFF, 0x03, 0x01, 0x00, 0x00,
-    ],
+    &GET,
+    &GET_SELECTED,
     &[0xC0, 0x02, 0xC1, 0x00, 0x00, 0x00, 0x01],
     &[
         0xC0, 0x03, 0xC1, 0x02, 0x00, 0x46, 0x00, 0x00, 0x60, 0x03, 0x0A, 0xFF, 0x03, 0x00, 0x00,
@@ -31,9 +39,7 @@ const REQUESTS: [&[u8]; 13] = [
         0xC1, 0x02, 0xC1, 0x00, 0x47, 0x00, 0x00, 0x11, 0x00, 0x00, 0xFF, 0x04, 0x00, 0x00, 0x00,
         0x00, 0x00, 0x01, 0x03, 0x06, 0x00, 0x00,
     ],
-    &[
-        0xC1, 0x03, 0xC1, 0x01, 0x00, 0x00, 0x00, 0x02, 0x02, 0x1B, 0x58,
-    ],
+    &SET_LAST_BLOCK,
     &[
         0xC3, 0x01, 0xC1, 0x00, 0x46, 0x00, 0x00, 0x60, 0x03, 0x0A, 0xFF, 0x02, 0x00,
     ],
@@ -156,9 +162,11 @@ fn request_at(alloc: Global, place: usize) -> Result<Request, AllocError> {
     })
 }
 
+const GOT: [u8; 6] = [0xC4, 0x01, 0xC1, 0x00, 0x16, 0x01];
+
 // A response of each form, and some forms with other contents.
 const RESPONSES: [&[u8]; 18] = [
-    &[0xC4, 0x01, 0xC1, 0x00, 0x16, 0x01],
+    &GOT,
     &[
         0xC4, 0x01, 0xC1, 0x00, 0x09, 0x06, 0x52, 0x45, 0x4C, 0x41, 0x59, 0x31,
     ],
@@ -253,17 +261,34 @@ fn response_at(alloc: Global, place: usize) -> Result<Response, AllocError> {
     })
 }
 
+// The calls under test, without their contracts: a test is run for what no clause says, and its own proof then has little to look at.
+fn request_of(alloc: Global, bytes: &[u8]) -> Result<Request, ApduFault> {
+    read_request(alloc, bytes)
+}
+
+fn response_of(alloc: Global, bytes: &[u8]) -> Result<Response, ApduFault> {
+    read_response(alloc, bytes)
+}
+
+fn text_of_request(alloc: Global, request: &Request) -> Result<Octets, AllocError> {
+    write_request(alloc, request)
+}
+
+fn text_of_response(alloc: Global, response: &Response) -> Result<Octets, AllocError> {
+    write_response(alloc, response)
+}
+
 // Whether the bytes are read as that request, seen by what Debug writes of both, and are what is written of it.
 fn is_request(alloc: Global, bytes: &[u8], expected: &Request) -> Result<bool, Fail> {
-    let read = read_request(alloc, bytes)?;
+    let read = request_of(alloc, bytes)?;
     let same = format!(in alloc; "{read:?}")? == format!(in alloc; "{expected:?}")?;
-    Ok(same && write_request(alloc, expected)?.as_slice() == bytes)
+    Ok(same && text_of_request(alloc, expected)?.as_slice() == bytes)
 }
 
 fn is_response(alloc: Global, bytes: &[u8], expected: &Response) -> Result<bool, Fail> {
-    let read = read_response(alloc, bytes)?;
+    let read = response_of(alloc, bytes)?;
     let same = format!(in alloc; "{read:?}")? == format!(in alloc; "{expected:?}")?;
-    Ok(same && write_response(alloc, expected)?.as_slice() == bytes)
+    Ok(same && text_of_response(alloc, expected)?.as_slice() == bytes)
 }
 
 #[test]
@@ -288,115 +313,152 @@ fn each_response_is_read_and_written(rt: HostRuntime) -> Result<(), Fail> {
 
 // Why bytes are no request, and no response; None where they are one.
 fn request_fault(alloc: Global, bytes: &[u8]) -> Option<ApduFault> {
-    read_request(alloc, bytes).err()
+    request_of(alloc, bytes).err()
 }
 
 fn response_fault(alloc: Global, bytes: &[u8]) -> Option<ApduFault> {
-    read_response(alloc, bytes).err()
+    response_of(alloc, bytes).err()
+}
+
+fn with_a_byte_behind(alloc: Global, text: &[u8]) -> Result<Vec<u8>, AllocError> {
+    let mut longer = text.to_vec(alloc)?;
+    longer.push(0)?;
+    Ok(longer)
 }
 
 #[test]
-fn what_ends_too_early_or_too_late_is_unreadable(rt: HostRuntime) -> Result<(), Fail> {
-    for text in REQUESTS {
+fn a_request_that_ends_too_early_is_unreadable(rt: HostRuntime) {
+    for text in &REQUESTS {
         for end in 1..text.len() {
-            assert_eq!(rt;
-                request_fault(rt.alloc(), &text[..end]),
-                Some(ApduFault::Unreadable)
+            let fault = request_fault(rt.alloc(), &text[..end]);
+            assert!(rt;
+                fault == Some(ApduFault::Unreadable),
+                "{end} bytes of {text:?}"
             );
         }
-        let mut longer = text.to_vec(rt.alloc())?;
-        longer.push(0)?;
-        assert_eq!(rt;
-            request_fault(rt.alloc(), &longer),
-            Some(ApduFault::Unreadable)
-        );
     }
-    for text in RESPONSES {
-        for end in 1..text.len() {
-            assert_eq!(rt;
-                response_fault(rt.alloc(), &text[..end]),
-                Some(ApduFault::Unreadable)
-            );
-        }
-        let mut longer = text.to_vec(rt.alloc())?;
-        longer.push(0)?;
-        assert_eq!(rt;
-            response_fault(rt.alloc(), &longer),
-            Some(ApduFault::Unreadable)
-        );
+}
+
+#[test]
+fn a_request_that_ends_too_late_is_unreadable(rt: HostRuntime) -> Result<(), Fail> {
+    for text in &REQUESTS {
+        let longer = with_a_byte_behind(rt.alloc(), text)?;
+        let fault = request_fault(rt.alloc(), longer.as_slice());
+        assert!(rt; fault == Some(ApduFault::Unreadable), "{longer:?}");
     }
     Ok(())
 }
 
 #[test]
-fn a_fault_says_how_far_the_bytes_are_known(rt: HostRuntime) {
-    let requests: [(&[u8], ApduFault); 9] = [
-        (&[], ApduFault::UnknownTag),
-        (&[0x60, 0x01], ApduFault::UnknownTag),
-        (&[0xC2], ApduFault::UnknownTag),
-        (RESPONSES[0], ApduFault::UnknownTag),
-        (&[0xC0, 0x00], ApduFault::UnknownForm),
-        (&[0xC0, 0x04, 0xC1], ApduFault::UnknownForm),
-        (&[0xC1, 0x04], ApduFault::UnknownForm),
-        (&[0xC3, 0x02], ApduFault::UnknownForm),
-        (&[0xC3, 0x05], ApduFault::UnknownForm),
-    ];
-    for (bytes, fault) in &requests {
-        assert_eq!(rt; request_fault(rt.alloc(), bytes), Some(*fault), "{bytes:?}");
+fn a_response_that_ends_too_early_is_unreadable(rt: HostRuntime) {
+    for text in &RESPONSES {
+        for end in 1..text.len() {
+            let fault = response_fault(rt.alloc(), &text[..end]);
+            assert!(rt;
+                fault == Some(ApduFault::Unreadable),
+                "{end} bytes of {text:?}"
+            );
+        }
     }
-    let responses: [(&[u8], ApduFault); 12] = [
-        (&[], ApduFault::UnknownTag),
-        (&[0x61, 0x01], ApduFault::UnknownTag),
-        (REQUESTS[0], ApduFault::UnknownTag),
-        (&[0xD9, 0x01, 0x01], ApduFault::UnknownTag),
-        (&[0xC4, 0x04], ApduFault::UnknownForm),
-        (&[0xC5, 0x04], ApduFault::UnknownForm),
-        (&[0xC7, 0x02], ApduFault::UnknownForm),
-        (&[0xC7, 0x03, 0xC1], ApduFault::UnknownForm),
-        (&[0xC5, 0x01, 0xC1, 0x05], ApduFault::Unreadable),
-        (&[0xC4, 0x01, 0xC1, 0x02, 0x00], ApduFault::Unreadable),
-        (&[0xC7, 0x01, 0xC1, 0x00, 0x01], ApduFault::Unreadable),
-        (&[0xD8, 0x02, 0x01], ApduFault::Unreadable),
-    ];
-    for (bytes, fault) in &responses {
-        assert_eq!(rt;
-            response_fault(rt.alloc(), bytes),
-            Some(*fault),
+}
+
+#[test]
+fn a_response_that_ends_too_late_is_unreadable(rt: HostRuntime) -> Result<(), Fail> {
+    for text in &RESPONSES {
+        let longer = with_a_byte_behind(rt.alloc(), text)?;
+        let fault = response_fault(rt.alloc(), longer.as_slice());
+        assert!(rt; fault == Some(ApduFault::Unreadable), "{longer:?}");
+    }
+    Ok(())
+}
+
+const REQUEST_FAULTS: [(&[u8], ApduFault); 11] = [
+    (&[], ApduFault::UnknownTag),
+    (&[0x60, 0x01], ApduFault::UnknownTag),
+    (&[0xC2], ApduFault::UnknownTag),
+    (&GOT, ApduFault::UnknownTag),
+    (&[0xC0, 0x00], ApduFault::UnknownForm),
+    (&[0xC0, 0x04, 0xC1], ApduFault::UnknownForm),
+    (&[0xC1, 0x04], ApduFault::UnknownForm),
+    (&[0xC3, 0x02], ApduFault::UnknownForm),
+    (&[0xC3, 0x05], ApduFault::UnknownForm),
+    // Lengths with no byte and with five bytes behind the first.
+    (
+        &[
+            0xC1, 0x03, 0xC1, 0x01, 0x00, 0x00, 0x00, 0x02, 0x80, 0x00, 0x00, 0x00, 0x00, 0x00,
+        ],
+        ApduFault::Unreadable,
+    ),
+    (
+        &[
+            0xC1, 0x03, 0xC1, 0x01, 0x00, 0x00, 0x00, 0x02, 0x85, 0x00, 0x00, 0x00, 0x00, 0x00,
+        ],
+        ApduFault::Unreadable,
+    ),
+];
+
+const RESPONSE_FAULTS: [(&[u8], ApduFault); 12] = [
+    (&[], ApduFault::UnknownTag),
+    (&[0x61, 0x01], ApduFault::UnknownTag),
+    (&GET, ApduFault::UnknownTag),
+    (&[0xD9, 0x01, 0x01], ApduFault::UnknownTag),
+    (&[0xC4, 0x04], ApduFault::UnknownForm),
+    (&[0xC5, 0x04], ApduFault::UnknownForm),
+    (&[0xC7, 0x02], ApduFault::UnknownForm),
+    (&[0xC7, 0x03, 0xC1], ApduFault::UnknownForm),
+    (&[0xC5, 0x01, 0xC1, 0x05], ApduFault::Unreadable),
+    (&[0xC4, 0x01, 0xC1, 0x02, 0x00], ApduFault::Unreadable),
+    (&[0xC7, 0x01, 0xC1, 0x00, 0x01], ApduFault::Unreadable),
+    (&[0xD8, 0x02, 0x01], ApduFault::Unreadable),
+];
+
+#[test]
+fn a_request_fault_says_how_far_the_bytes_are_known(rt: HostRuntime) {
+    for (bytes, fault) in &REQUEST_FAULTS {
+        assert!(rt;
+            request_fault(rt.alloc(), bytes) == Some(*fault),
             "{bytes:?}"
         );
     }
 }
 
-// A length in a longer form, any byte for yes, and any selector with any parameters: other spellings of what is written in one way.
+#[test]
+fn a_response_fault_says_how_far_the_bytes_are_known(rt: HostRuntime) {
+    for (bytes, fault) in &RESPONSE_FAULTS {
+        assert!(rt;
+            response_fault(rt.alloc(), bytes) == Some(*fault),
+            "{bytes:?}"
+        );
+    }
+}
+
+// A length in a longer form and any byte for yes, and any selector with any parameters: other spellings of what is written in one way.
+const OTHER_SPELLINGS: [(&[u8], &[u8]); 2] = [
+    (
+        &[
+            0xC1, 0x03, 0xC1, 0xFF, 0x00, 0x00, 0x00, 0x02, 0x82, 0x00, 0x02, 0x1B, 0x58,
+        ],
+        &SET_LAST_BLOCK,
+    ),
+    (
+        &[
+            0xC0, 0x01, 0xC1, 0x00, 0x46, 0x00, 0x00, 0x60, 0x03, 0x0A, 0xFF, 0x03, 0x05, 0x02,
+            0x02, 0x02, 0x11, 0x01, 0x11, 0x02,
+        ],
+        &GET_SELECTED,
+    ),
+];
+
+// Whether bytes are read as a request that is written as these.
+fn is_written_as(alloc: Global, bytes: &[u8], written: &[u8]) -> Result<bool, Fail> {
+    let request = request_of(alloc, bytes)?;
+    Ok(text_of_request(alloc, &request)?.as_slice() == written)
+}
+
 #[test]
 fn other_spellings_are_read_and_not_written(rt: HostRuntime) -> Result<(), Fail> {
-    let long = [
-        0xC1, 0x03, 0xC1, 0xFF, 0x00, 0x00, 0x00, 0x02, 0x82, 0x00, 0x02, 0x1B, 0x58,
-    ];
-    let request = read_request(rt.alloc(), &long)?;
-    assert_eq!(rt;
-        write_request(rt.alloc(), &request)?.as_slice(),
-        REQUESTS[7]
-    );
-
-    let selected = [
-        0xC0, 0x01, 0xC1, 0x00, 0x46, 0x00, 0x00, 0x60, 0x03, 0x0A, 0xFF, 0x03, 0x05, 0x02, 0x02,
-        0x02, 0x11, 0x01, 0x11, 0x02,
-    ];
-    let request = read_request(rt.alloc(), &selected)?;
-    assert_eq!(rt;
-        write_request(rt.alloc(), &request)?.as_slice(),
-        REQUESTS[1]
-    );
-
-    for form in [0x80, 0x85] {
-        let refused = [
-            0xC1, 0x03, 0xC1, 0x01, 0x00, 0x00, 0x00, 0x02, form, 0x00, 0x00, 0x00, 0x00, 0x00,
-        ];
-        assert_eq!(rt;
-            request_fault(rt.alloc(), &refused),
-            Some(ApduFault::Unreadable)
-        );
+    for (bytes, written) in &OTHER_SPELLINGS {
+        assert!(rt; is_written_as(rt.alloc(), bytes, written)?, "{bytes:?}");
     }
     Ok(())
 }

@@ -114,7 +114,20 @@ fn each_tag_is_read_and_written(rt: HostRuntime) -> Result<(), Fail> {
     for (place, text) in TEXTS.iter().enumerate() {
         let value = value_at(rt.alloc(), place)?;
         assert!(rt; is_text_of(rt.alloc(), text, &value)?, "at {place}");
-        assert!(rt; value.try_clone(rt.alloc())? == value, "at {place}");
+    }
+    Ok(())
+}
+
+// Whether a copy of the value at that place is equal to it.
+fn is_copied(alloc: Global, place: usize) -> Result<bool, AllocError> {
+    let value = value_at(alloc, place)?;
+    Ok(value.try_clone(alloc)? == value)
+}
+
+#[test]
+fn each_value_is_copied(rt: HostRuntime) -> Result<(), Fail> {
+    for place in 0..20 {
+        assert!(rt; is_copied(rt.alloc(), place)?, "at {place}");
     }
     Ok(())
 }
@@ -131,17 +144,21 @@ fn each_part_of_a_text_is_truncated(rt: HostRuntime) {
     }
 }
 
+// A text, and the one form in which its value is written.
+const OTHER_FORMS: [(&[u8], &[u8]); 3] = [
+    (
+        &[0x09, 0x82, 0x00, 0x02, 0xAB, 0xCD],
+        &[0x09, 0x02, 0xAB, 0xCD],
+    ),
+    (&[0x03, 0x05], &[0x03, 0x01]),
+    (&[0x04, 0x81, 0x05, 0xBF], &[0x04, 0x05, 0xB8]),
+];
+
 #[test]
 fn other_forms_are_read(rt: HostRuntime) -> Result<(), Fail> {
-    assert!(rt;
-        is_written_as(
-            rt.alloc(),
-            &[0x09, 0x82, 0x00, 0x02, 0xAB, 0xCD],
-            &[0x09, 0x02, 0xAB, 0xCD]
-        )?
-    );
-    assert!(rt; is_written_as(rt.alloc(), &[0x03, 0x05], &[0x03, 0x01])?);
-    assert!(rt; is_written_as(rt.alloc(), &[0x04, 0x81, 0x05, 0xBF], &[0x04, 0x05, 0xB8])?);
+    for (text, written) in &OTHER_FORMS {
+        assert!(rt; is_written_as(rt.alloc(), text, written)?, "{text:?}");
+    }
     Ok(())
 }
 
@@ -196,12 +213,23 @@ fn depth_is_judged_at_the_ninth_tag(rt: HostRuntime) {
     }
 }
 
+// The value of the eight inner ones.
+fn eight_deep(alloc: Global) -> Result<Data, DataFault> {
+    let (value, _) = read_from(alloc, &NINE_DEEP[2..])?;
+    Ok(value)
+}
+
 #[test]
 fn the_deepest_value_is_read_and_written(rt: HostRuntime) -> Result<(), Fail> {
-    let text = &NINE_DEEP[2..];
-    let (value, _) = read_from(rt.alloc(), text)?;
-    assert!(rt; is_text_of(rt.alloc(), text, &value)?);
-    let deeper = Data::Structure(Items::from_vec(vec![in rt.alloc(); value]?));
+    let value = eight_deep(rt.alloc())?;
+    assert!(rt; is_text_of(rt.alloc(), &NINE_DEEP[2..], &value)?);
+    Ok(())
+}
+
+#[test]
+fn a_value_around_the_deepest_does_not_fit(rt: HostRuntime) -> Result<(), Fail> {
+    let items = vec![in rt.alloc(); eight_deep(rt.alloc())?]?;
+    let deeper = Data::Structure(Items::from_vec(items));
     assert!(rt; !is_fit(&deeper) && len_of(&deeper) == 19);
     Ok(())
 }
@@ -220,23 +248,46 @@ fn nulls(alloc: Global, count: usize) -> Result<Data, AllocError> {
     Ok(Data::Array(Items::from_vec(items)))
 }
 
+// An array of so many null-data, or a string of so many bytes.
+#[derive(Clone, Copy)]
+enum Wide {
+    Nulls(usize),
+    String(usize),
+}
+
+fn make_wide(alloc: Global, form: Wide) -> Result<Data, AllocError> {
+    match form {
+        Wide::Nulls(count) => nulls(alloc, count),
+        Wide::String(len) => string_of(alloc, len),
+    }
+}
+
 // Whether a value has a text of so many bytes and is read from it again.
-fn is_widest(alloc: Global, value: &Data, len: u64) -> Result<bool, DataFault> {
-    Ok(len_of(value) == len && is_text_of(alloc, written(alloc, value)?.as_slice(), value)?)
+fn is_widest(alloc: Global, form: Wide, len: u64) -> Result<bool, DataFault> {
+    let value = make_wide(alloc, form)?;
+    Ok(len_of(&value) == len && is_text_of(alloc, written(alloc, &value)?.as_slice(), &value)?)
 }
 
 // Whether a value has a text of so many bytes, is not fit, and is too long to be read.
-fn is_too_wide(alloc: Global, value: &Data, len: u64) -> Result<bool, AllocError> {
-    let fault = fault_of(alloc, written(alloc, value)?.as_slice());
-    Ok(len_of(value) == len && !is_fit(value) && fault == Some(DataFault::TooLong))
+fn is_too_wide(alloc: Global, form: Wide, len: u64) -> Result<bool, AllocError> {
+    let value = make_wide(alloc, form)?;
+    let fault = fault_of(alloc, written(alloc, &value)?.as_slice());
+    Ok(len_of(&value) == len && !is_fit(&value) && fault == Some(DataFault::TooLong))
 }
 
 #[test]
 fn the_widest_values_are_read_and_written(rt: HostRuntime) -> Result<(), Fail> {
-    assert!(rt; is_widest(rt.alloc(), &nulls(rt.alloc(), 255)?, 258)?);
-    assert!(rt; is_widest(rt.alloc(), &string_of(rt.alloc(), 8188)?, 8192)?);
-    assert!(rt; is_too_wide(rt.alloc(), &nulls(rt.alloc(), 256)?, 260)?);
-    assert!(rt; is_too_wide(rt.alloc(), &string_of(rt.alloc(), 8189)?, 8193)?);
+    for (form, len) in [(Wide::Nulls(255), 258), (Wide::String(8188), 8192)] {
+        assert!(rt; is_widest(rt.alloc(), form, len)?, "{len} bytes");
+    }
+    Ok(())
+}
+
+#[test]
+fn wider_values_are_too_long(rt: HostRuntime) -> Result<(), Fail> {
+    for (form, len) in [(Wide::Nulls(256), 260), (Wide::String(8189), 8193)] {
+        assert!(rt; is_too_wide(rt.alloc(), form, len)?, "{len} bytes");
+    }
     Ok(())
 }
 
@@ -248,42 +299,70 @@ fn bits_fit(alloc: Global, bits: usize, byte: u8) -> Result<bool, AllocError> {
 
 #[test]
 fn bit_strings_that_are_not_whole_do_not_fit(rt: HostRuntime) -> Result<(), Fail> {
-    assert!(rt; bits_fit(rt.alloc(), 5, 0xB8)? && bits_fit(rt.alloc(), 8, 0xFF)?);
-    assert!(rt; !bits_fit(rt.alloc(), 9, 0xB8)? && !bits_fit(rt.alloc(), 0, 0x00)?);
-    assert!(rt; !bits_fit(rt.alloc(), 5, 0xB9)?);
+    for (bits, byte, fits) in [
+        (5, 0xB8, true),
+        (8, 0xFF, true),
+        (9, 0xB8, false),
+        (0, 0x00, false),
+        (5, 0xB9, false),
+    ] {
+        assert!(rt;
+            bits_fit(rt.alloc(), bits, byte)? == fits,
+            "{bits} of {byte}"
+        );
+    }
     Ok(())
 }
 
 #[test]
 fn accessors_give_numbers(rt: HostRuntime) {
-    assert_eq!(rt; Data::Boolean(true).boolean(), Some(true));
-    assert_eq!(rt;
-        Data::DoubleLongUnsigned(7000).double_long_unsigned(),
-        Some(7000)
-    );
-    assert_eq!(rt; Data::LongUnsigned(7000).long_unsigned(), Some(7000));
-    assert_eq!(rt; Data::Unsigned(7).unsigned(), Some(7));
-    assert_eq!(rt; Data::Enum(3).enumerated(), Some(3));
-    assert_eq!(rt; Data::Integer(-2).integer(), Some(-2));
+    let found = [
+        Data::Boolean(true).boolean() == Some(true),
+        Data::DoubleLongUnsigned(7000).double_long_unsigned() == Some(7000),
+        Data::LongUnsigned(7000).long_unsigned() == Some(7000),
+        Data::Unsigned(7).unsigned() == Some(7),
+        Data::Enum(3).enumerated() == Some(3),
+        Data::Integer(-2).integer() == Some(-2),
+    ];
+    assert_eq!(rt; found, [true; 6]);
+}
+
+// Whether the accessors give the bytes of a string, a date-time, a date and a time.
+fn bytes_given(string: &Data) -> [bool; 4] {
+    [
+        string.octets() == Some([0xAB, 0xCD].as_slice()),
+        Data::DateTime(DATE_TIME).date_time() == Some(DATE_TIME.as_slice()),
+        Data::Date(DATE).date() == Some(DATE.as_slice()),
+        Data::Time(TIME).time() == Some(TIME.as_slice()),
+    ]
 }
 
 #[test]
 fn accessors_give_bytes(rt: HostRuntime) -> Result<(), Fail> {
-    assert!(rt; value_at(rt.alloc(), 7)?.octets() == Some([0xAB, 0xCD].as_slice()));
-    assert!(rt; Data::DateTime(DATE_TIME).date_time() == Some(DATE_TIME.as_slice()));
-    assert!(rt; Data::Date(DATE).date() == Some(DATE.as_slice()));
-    assert!(rt; Data::Time(TIME).time() == Some(TIME.as_slice()));
+    let string = value_at(rt.alloc(), 7)?;
+    assert_eq!(rt; bytes_given(&string), [true; 4]);
     Ok(())
+}
+
+// How many items a value has as an array, and how many as a structure.
+fn items_given(value: &Data) -> (Option<usize>, Option<usize>) {
+    let array = match value.array() {
+        Some(items) => Some(items.len()),
+        None => None,
+    };
+    let structure = match value.structure() {
+        Some(items) => Some(items.len()),
+        None => None,
+    };
+    (array, structure)
 }
 
 #[test]
 fn accessors_give_items(rt: HostRuntime) -> Result<(), Fail> {
-    let array = value_at(rt.alloc(), 1)?;
-    assert!(rt; array.array().is_some_and(|items| items.len() == 2) && array.structure().is_none());
-    let structure = value_at(rt.alloc(), 2)?;
-    assert!(rt;
-        structure.structure().is_some_and(|items| items.len() == 2) && structure.array().is_none()
-    );
+    for (place, given) in [(1, (Some(2), None)), (2, (None, Some(2)))] {
+        let value = value_at(rt.alloc(), place)?;
+        assert!(rt; items_given(&value) == given, "at {place}");
+    }
     Ok(())
 }
 
@@ -301,20 +380,37 @@ fn values_are_equal_to_themselves_alone(rt: HostRuntime) -> Result<(), Fail> {
 #[test]
 fn items_keep_what_is_put_in(rt: HostRuntime) -> Result<(), Fail> {
     let items = Items::from_vec(vec![in rt.alloc(); Data::Null, Data::Unsigned(7)]?);
-    assert!(rt; !items.is_empty() && items.len() == 2 && items.as_slice().len() == 2);
-    assert_eq!(rt; items.into_vec().len(), 2);
+    let found = !items.is_empty() && items.len() == 2 && items.as_slice().len() == 2;
+    assert!(rt; found && items.into_vec().len() == 2);
     Ok(())
+}
+
+// Three bytes, put in by one and by two.
+fn three_octets(alloc: Global) -> Result<Octets, AllocError> {
+    let mut octets = Octets::new(alloc);
+    octets.push(0xAB)?;
+    octets.extend_from_slice(&[0xCD, 0xEF])?;
+    Ok(octets)
+}
+
+// The bytes of a copy, where it is equal to what it was made of.
+fn copied(alloc: Global, octets: &Octets) -> Result<Option<Vec<u8>>, AllocError> {
+    let copy = octets.try_clone(alloc)?;
+    if copy == *octets {
+        Ok(Some(copy.into_vec()))
+    } else {
+        Ok(None)
+    }
 }
 
 #[test]
 fn octets_keep_what_is_put_in(rt: HostRuntime) -> Result<(), Fail> {
-    let mut octets = Octets::new(rt.alloc());
-    octets.push(0xAB)?;
-    octets.extend_from_slice(&[0xCD, 0xEF])?;
-    assert!(rt; !octets.is_empty() && octets.len() == 3);
-    let copy = octets.try_clone(rt.alloc())?;
-    assert!(rt; copy == octets);
-    assert!(rt; copy.into_vec().as_slice() == [0xAB, 0xCD, 0xEF].as_slice());
+    let octets = three_octets(rt.alloc())?;
+    let counted = !octets.is_empty() && octets.len() == 3;
+    let copy = copied(rt.alloc(), &octets)?;
+    assert!(rt;
+        counted && copy.is_some_and(|bytes| bytes.as_slice() == [0xAB, 0xCD, 0xEF].as_slice())
+    );
     Ok(())
 }
 
