@@ -9,3 +9,5 @@ mod limiters;
 mod schedules;
 #[cfg(test)]
 mod scripts;
+#[cfg(test)]
+mod texts;

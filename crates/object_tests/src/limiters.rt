@@ -1,8 +1,9 @@
 //! Attributes of limiters as they are read and written.
-use cosem_axdr::{Data, Octets};
+use crate::texts::{data, is_text};
+use cosem_axdr::Data;
 use cosem_names::Which;
 use limiter_attributes::{
-    LimiterAttribute, SettingFault, read_attribute, read_groups, read_setting,
+    LimiterAttribute, Setting, SettingFault, read_attribute, read_groups, read_setting,
 };
 use limiter_core::{Actions, Fire, Limiter};
 use std::alloc::{AllocError, Global};
@@ -17,11 +18,30 @@ const ACTIONS: &str = "020202020906\
     00000A006AFF12000102020906\
     00000A006AFF120102";
 
-/// The Data of a hexadecimal text.
-fn data(alloc: Global, text: &str) -> Result<Data, Fail> {
-    let bytes = hex::decode(alloc, text)?;
-    let (value, _) = cosem_axdr::read(alloc, bytes.as_slice())?;
-    Ok(value)
+// The calls under test, without their contracts: a test is run for what no clause says, and its own proof then has little to look at.
+fn shown(
+    alloc: Global,
+    which: Which,
+    limiter: &Limiter,
+    attribute: LimiterAttribute,
+) -> Result<Data, AllocError> {
+    read_attribute(alloc, which, limiter, attribute)
+}
+
+fn setting_of(attribute: LimiterAttribute, value: &Data) -> Result<Option<Setting>, SettingFault> {
+    read_setting(attribute, value)
+}
+
+fn groups_of(alloc: Global, value: &Data) -> Result<Limiter, SettingFault> {
+    read_groups(alloc, value)
+}
+
+fn apply(setting: Setting, limiter: &mut Limiter) {
+    setting.apply(limiter);
+}
+
+fn swap_groups(one: &mut Limiter, other: &mut Limiter) {
+    one.swap_groups(other);
 }
 
 /// Whether an attribute is read as the bytes of this text.
@@ -32,26 +52,8 @@ fn is_read(
     attribute: LimiterAttribute,
     text: &str,
 ) -> Result<bool, Fail> {
-    let mut bytes = Octets::new(alloc);
-    let value = read_attribute(alloc, which, limiter, attribute)?;
-    cosem_axdr::write(alloc, &value, &mut bytes)?;
-    Ok(bytes.as_slice() == hex::decode(alloc, text)?.as_slice())
-}
-
-/// Wants that attributes of an import limiter are read as these texts.
-fn check_reads(
-    rt: &impl Abort,
-    alloc: Global,
-    limiter: &Limiter,
-    reads: &[(LimiterAttribute, &str)],
-) -> Result<(), Fail> {
-    for (attribute, text) in reads {
-        assert!(rt;
-            is_read(alloc, Which::Import, limiter, *attribute, text)?,
-            "{text}"
-        );
-    }
-    Ok(())
+    let value = shown(alloc, which, limiter, attribute)?;
+    is_text(alloc, &value, text)
 }
 
 /// Writes an attribute with the Data of this text, and says whether it is taken.
@@ -61,17 +63,20 @@ fn write(
     attribute: LimiterAttribute,
     text: &str,
 ) -> Result<bool, Fail> {
-    let Ok(Some(setting)) = read_setting(attribute, &data(alloc, text)?) else {
-        return Ok(false);
-    };
-    setting.apply(limiter);
-    Ok(true)
+    let value = data(alloc, text)?;
+    match setting_of(attribute, &value) {
+        Ok(Some(setting)) => {
+            apply(setting, limiter);
+            Ok(true)
+        }
+        _ => Ok(false),
+    }
 }
 
 /// Writes the group ids with the Data of this text.
 fn write_ids(alloc: Global, limiter: &mut Limiter, text: &str) -> Result<(), Fail> {
-    let mut with_ids = read_groups(alloc, &data(alloc, text)?)?;
-    limiter.swap_groups(&mut with_ids);
+    let mut with_ids = groups_of(alloc, &data(alloc, text)?)?;
+    swap_groups(limiter, &mut with_ids);
     Ok(())
 }
 
@@ -81,39 +86,12 @@ fn fault(
     attribute: LimiterAttribute,
     text: &str,
 ) -> Result<Option<SettingFault>, Fail> {
-    Ok(read_setting(attribute, &data(alloc, text)?).err())
+    Ok(setting_of(attribute, &data(alloc, text)?).err())
 }
 
 /// The fault of a write of group ids with the Data of this text.
 fn ids_fault(alloc: Global, text: &str) -> Result<Option<SettingFault>, Fail> {
-    Ok(read_groups(alloc, &data(alloc, text)?).err())
-}
-
-/// Wants this fault of a write of an attribute with each text.
-fn check_faults(
-    rt: &impl Abort,
-    alloc: Global,
-    attribute: LimiterAttribute,
-    texts: &[&str],
-    expected: SettingFault,
-) -> Result<(), Fail> {
-    for text in texts {
-        assert!(rt; fault(alloc, attribute, text)? == Some(expected), "{text}");
-    }
-    Ok(())
-}
-
-/// Wants this fault of a write of group ids with each text.
-fn check_ids_faults(
-    rt: &impl Abort,
-    alloc: Global,
-    texts: &[&str],
-    expected: SettingFault,
-) -> Result<(), Fail> {
-    for text in texts {
-        assert!(rt; ids_fault(alloc, text)? == Some(expected), "{text}");
-    }
-    Ok(())
+    Ok(groups_of(alloc, &data(alloc, text)?).err())
 }
 
 /// An array of so many items, all of them long-unsigned 5 but the last one.
@@ -126,25 +104,70 @@ fn ids_text(alloc: Global, count: u8, last: &str) -> Result<String, AllocError> 
     Ok(text)
 }
 
+/// What is done with an import limiter, and what it then is to show.
+enum Step {
+    /// An attribute is written, and takes it.
+    Write(LimiterAttribute, &'static str),
+    /// The group ids are written.
+    WriteIds(&'static str),
+    /// The clock shows another moment.
+    At(u32),
+    /// A sample comes, and a script runs over the threshold, or doesn't.
+    Sample(u32, bool),
+    /// An attribute is read.
+    Read(LimiterAttribute, &'static str),
+}
+
+/// Takes a step, and says whether it went as it is to go.
+fn take(alloc: Global, limiter: &mut Limiter, step: &Step) -> Result<bool, Fail> {
+    match step {
+        Step::Write(attribute, text) => write(alloc, limiter, *attribute, text),
+        Step::WriteIds(text) => {
+            write_ids(alloc, limiter, text)?;
+            Ok(true)
+        }
+        Step::At(moment) => {
+            limiter.at(*moment);
+            Ok(true)
+        }
+        Step::Sample(sample, is_over) => Ok((limiter.sample(*sample) == Fire::Over) == *is_over),
+        Step::Read(attribute, text) => is_read(alloc, Which::Import, limiter, *attribute, text),
+    }
+}
+
+/// Takes these steps with a new limiter.
+fn play(rt: &impl Abort, alloc: Global, steps: &[Step]) -> Result<(), Fail> {
+    let mut limiter = Limiter::new(alloc);
+    for (place, step) in steps.iter().enumerate() {
+        assert!(*rt; take(alloc, &mut limiter, step)?, "at step {place}");
+    }
+    Ok(())
+}
+
+const NUMBERS: [(u8, LimiterAttribute); 10] = [
+    (2, LimiterAttribute::MonitoredValue),
+    (3, LimiterAttribute::ThresholdActive),
+    (4, LimiterAttribute::ThresholdNormal),
+    (5, LimiterAttribute::ThresholdEmergency),
+    (6, LimiterAttribute::MinOverThresholdDuration),
+    (7, LimiterAttribute::MinUnderThresholdDuration),
+    (8, LimiterAttribute::EmergencyProfile),
+    (9, LimiterAttribute::EmergencyProfileGroupIdList),
+    (10, LimiterAttribute::EmergencyProfileActive),
+    (11, LimiterAttribute::Actions),
+];
+
 #[test]
 fn attributes_have_the_numbers_2_to_11(rt: HostRuntime) {
-    for (number, attribute) in [
-        (2, LimiterAttribute::MonitoredValue),
-        (3, LimiterAttribute::ThresholdActive),
-        (4, LimiterAttribute::ThresholdNormal),
-        (5, LimiterAttribute::ThresholdEmergency),
-        (6, LimiterAttribute::MinOverThresholdDuration),
-        (7, LimiterAttribute::MinUnderThresholdDuration),
-        (8, LimiterAttribute::EmergencyProfile),
-        (9, LimiterAttribute::EmergencyProfileGroupIdList),
-        (10, LimiterAttribute::EmergencyProfileActive),
-        (11, LimiterAttribute::Actions),
-    ] {
-        assert!(rt; LimiterAttribute::of_number(number) == Some(attribute));
-        assert!(rt; attribute.number() == number);
+    for (number, attribute) in &NUMBERS {
+        let found = LimiterAttribute::of_number(*number);
+        assert!(rt;
+            found == Some(*attribute) && attribute.number() == *number,
+            "{number}"
+        );
     }
     for number in [0, 1, 12, 255] {
-        assert!(rt; LimiterAttribute::of_number(number).is_none());
+        assert!(rt; LimiterAttribute::of_number(number).is_none(), "{number}");
     }
 }
 
@@ -162,183 +185,151 @@ fn each_limiter_monitors_its_register(rt: HostRuntime) -> Result<(), Fail> {
     Ok(())
 }
 
+const OF_A_NEW_LIMITER: [Step; 9] = [
+    Step::Read(LimiterAttribute::ThresholdActive, "06FFFFFFFF"),
+    Step::Read(LimiterAttribute::ThresholdNormal, "06FFFFFFFF"),
+    Step::Read(LimiterAttribute::ThresholdEmergency, "06FFFFFFFF"),
+    Step::Read(LimiterAttribute::MinOverThresholdDuration, "0600000000"),
+    Step::Read(LimiterAttribute::MinUnderThresholdDuration, "0600000000"),
+    Step::Read(
+        LimiterAttribute::EmergencyProfile,
+        "0203120000090CFFFFFFFFFFFFFFFFFF8000FF0600000000",
+    ),
+    Step::Read(LimiterAttribute::EmergencyProfileGroupIdList, "0100"),
+    Step::Read(LimiterAttribute::EmergencyProfileActive, "0300"),
+    Step::Read(
+        LimiterAttribute::Actions,
+        "02020202090600000A006AFF1200000202090600000A006AFF120000",
+    ),
+];
+
 #[test]
 fn a_new_limiter(rt: HostRuntime) -> Result<(), Fail> {
-    let alloc = rt.alloc();
-    let limiter = Limiter::new(alloc);
-    check_reads(
-        &rt,
-        alloc,
-        &limiter,
-        &[
-            (LimiterAttribute::ThresholdActive, "06FFFFFFFF"),
-            (LimiterAttribute::ThresholdNormal, "06FFFFFFFF"),
-            (LimiterAttribute::ThresholdEmergency, "06FFFFFFFF"),
-            (LimiterAttribute::MinOverThresholdDuration, "0600000000"),
-            (LimiterAttribute::MinUnderThresholdDuration, "0600000000"),
-            (
-                LimiterAttribute::EmergencyProfile,
-                "0203120000090CFFFFFFFFFFFFFFFFFF8000FF0600000000",
-            ),
-            (LimiterAttribute::EmergencyProfileGroupIdList, "0100"),
-            (LimiterAttribute::EmergencyProfileActive, "0300"),
-            (
-                LimiterAttribute::Actions,
-                "02020202090600000A006AFF1200000202090600000A006AFF120000",
-            ),
-        ],
-    )
+    play(&rt, rt.alloc(), &OF_A_NEW_LIMITER)
 }
+
+const THRESHOLDS_AND_DURATIONS: [Step; 21] = [
+    Step::Write(LimiterAttribute::ThresholdNormal, "0600000BB8"),
+    Step::Write(LimiterAttribute::ThresholdEmergency, "06000001F4"),
+    Step::Write(LimiterAttribute::MinOverThresholdDuration, "0600000001"),
+    Step::Write(LimiterAttribute::MinUnderThresholdDuration, "06FFFFFFFE"),
+    Step::Read(LimiterAttribute::ThresholdNormal, "0600000BB8"),
+    Step::Read(LimiterAttribute::ThresholdEmergency, "06000001F4"),
+    Step::Read(LimiterAttribute::MinOverThresholdDuration, "0600000001"),
+    Step::Read(LimiterAttribute::MinUnderThresholdDuration, "06FFFFFFFE"),
+    Step::Read(LimiterAttribute::ThresholdActive, "0600000BB8"),
+    Step::Read(LimiterAttribute::EmergencyProfileGroupIdList, "0100"),
+    Step::Read(LimiterAttribute::EmergencyProfileActive, "0300"),
+    Step::Sample(3001, false),
+    Step::Sample(3001, false),
+    Step::Sample(3001, false),
+    Step::Sample(3001, false),
+    Step::Sample(3001, false),
+    Step::Sample(3001, false),
+    Step::Sample(3001, false),
+    Step::Sample(3001, false),
+    Step::Sample(3001, false),
+    // The tenth sample ends the first second.
+    Step::Sample(3001, true),
+];
 
 #[test]
 fn thresholds_and_durations_are_read_back(rt: HostRuntime) -> Result<(), Fail> {
-    let alloc = rt.alloc();
-    let mut limiter = Limiter::new(alloc);
-    let writes = [
-        (LimiterAttribute::ThresholdNormal, "0600000BB8"),
-        (LimiterAttribute::ThresholdEmergency, "06000001F4"),
-        (LimiterAttribute::MinOverThresholdDuration, "0600000001"),
-        (LimiterAttribute::MinUnderThresholdDuration, "06FFFFFFFE"),
-    ];
-    for (attribute, text) in writes {
-        assert!(rt; write(alloc, &mut limiter, attribute, text)?, "{text}");
-    }
-    check_reads(&rt, alloc, &limiter, writes.as_slice())?;
-    check_reads(
-        &rt,
-        alloc,
-        &limiter,
-        &[
-            (LimiterAttribute::ThresholdActive, "0600000BB8"),
-            (LimiterAttribute::EmergencyProfileGroupIdList, "0100"),
-            (LimiterAttribute::EmergencyProfileActive, "0300"),
-        ],
-    )?;
-    for sample in 1..11 {
-        let fire = limiter.sample(3001);
-        assert!(rt; (fire == Fire::Over) == (sample == 10), "sample {sample}");
-    }
-    Ok(())
+    play(&rt, rt.alloc(), &THRESHOLDS_AND_DURATIONS)
 }
+
+const EMERGENCY: [Step; 17] = [
+    Step::Write(LimiterAttribute::ThresholdEmergency, "06000003E8"),
+    Step::WriteIds("0101120007"),
+    Step::Write(LimiterAttribute::EmergencyProfile, PROFILE),
+    Step::At(99),
+    Step::Read(LimiterAttribute::ThresholdActive, "06FFFFFFFF"),
+    Step::Read(LimiterAttribute::EmergencyProfileActive, "0300"),
+    Step::At(100),
+    Step::Read(LimiterAttribute::ThresholdActive, "06000003E8"),
+    Step::Read(LimiterAttribute::EmergencyProfileActive, "0301"),
+    Step::At(109),
+    Step::Read(LimiterAttribute::ThresholdActive, "06000003E8"),
+    Step::Read(LimiterAttribute::EmergencyProfileActive, "0301"),
+    Step::At(110),
+    Step::Read(LimiterAttribute::ThresholdActive, "06FFFFFFFF"),
+    Step::Read(LimiterAttribute::EmergencyProfileActive, "0300"),
+    Step::Read(LimiterAttribute::EmergencyProfile, PROFILE),
+    Step::Read(LimiterAttribute::EmergencyProfileGroupIdList, "0101120007"),
+];
 
 #[test]
 fn an_emergency_profile_is_active_in_its_time(rt: HostRuntime) -> Result<(), Fail> {
-    let alloc = rt.alloc();
-    let mut limiter = Limiter::new(alloc);
-    assert!(rt;
-        write(
-            alloc,
-            &mut limiter,
-            LimiterAttribute::ThresholdEmergency,
-            "06000003E8"
-        )?
-    );
-    write_ids(alloc, &mut limiter, "0101120007")?;
-    assert!(rt;
-        write(
-            alloc,
-            &mut limiter,
-            LimiterAttribute::EmergencyProfile,
-            PROFILE
-        )?
-    );
-    for (moment, threshold, active) in [
-        (99, "06FFFFFFFF", "0300"),
-        (100, "06000003E8", "0301"),
-        (109, "06000003E8", "0301"),
-        (110, "06FFFFFFFF", "0300"),
-    ] {
-        limiter.at(moment);
-        check_reads(
-            &rt,
-            alloc,
-            &limiter,
-            &[
-                (LimiterAttribute::ThresholdActive, threshold),
-                (LimiterAttribute::EmergencyProfileActive, active),
-            ],
-        )?;
-    }
-    check_reads(
-        &rt,
-        alloc,
-        &limiter,
-        &[
-            (LimiterAttribute::EmergencyProfile, PROFILE),
-            (LimiterAttribute::EmergencyProfileGroupIdList, "0101120007"),
-        ],
-    )
+    play(&rt, rt.alloc(), &EMERGENCY)
 }
+
+const START_AS_A_DATE_TIME: [Step; 2] = [
+    Step::Write(
+        LimiterAttribute::EmergencyProfile,
+        "02031200071907D00101FF00012800800000060000000A",
+    ),
+    Step::Read(LimiterAttribute::EmergencyProfile, PROFILE),
+];
 
 #[test]
 fn a_start_may_be_a_date_time(rt: HostRuntime) -> Result<(), Fail> {
-    let alloc = rt.alloc();
-    let mut limiter = Limiter::new(alloc);
-    let as_date_time = "02031200071907D00101FF00012800800000060000000A";
-    assert!(rt;
-        write(
-            alloc,
-            &mut limiter,
-            LimiterAttribute::EmergencyProfile,
-            as_date_time
-        )?
-    );
-    check_reads(
-        &rt,
-        alloc,
-        &limiter,
-        &[(LimiterAttribute::EmergencyProfile, PROFILE)],
-    )
+    play(&rt, rt.alloc(), &START_AS_A_DATE_TIME)
 }
 
 #[test]
 fn actions_are_read_back(rt: HostRuntime) -> Result<(), Fail> {
     let alloc = rt.alloc();
     let mut limiter = Limiter::new(alloc);
-    assert!(rt; write(alloc, &mut limiter, LimiterAttribute::Actions, ACTIONS)?);
-    assert!(rt;
-        limiter.actions()
-            == Actions {
-                over: 1,
-                under: 258,
-            }
-    );
-    check_reads(
-        &rt,
-        alloc,
-        &limiter,
-        &[(LimiterAttribute::Actions, ACTIONS)],
-    )
+    let is_taken = write(alloc, &mut limiter, LimiterAttribute::Actions, ACTIONS)?;
+    let actions = Actions {
+        over: 1,
+        under: 258,
+    };
+    assert!(rt; is_taken && limiter.actions() == actions);
+    let attribute = LimiterAttribute::Actions;
+    assert!(rt; is_read(alloc, Which::Import, &limiter, attribute, ACTIONS)?);
+    Ok(())
+}
+
+/// Trades group ids of a text for those of a limiter, and says what both then have.
+fn is_traded(alloc: Global, limiter: &mut Limiter) -> Result<[bool; 4], Fail> {
+    let mut other = groups_of(alloc, &data(alloc, "0103120007120001120007")?)?;
+    swap_groups(limiter, &mut other);
+    Ok([
+        limiter.groups() == [7, 1, 7].as_slice(),
+        limiter.normal_threshold() == 3000,
+        other.groups().is_empty(),
+        other.normal_threshold() == u32::MAX,
+    ])
+}
+
+/// Writes as many group ids as a limiter has at most, and says whether it has them.
+fn is_filled(alloc: Global, limiter: &mut Limiter) -> Result<[bool; 3], Fail> {
+    let full = ids_text(alloc, 32, "12FFFF")?;
+    write_ids(alloc, limiter, full.as_str())?;
+    let attribute = LimiterAttribute::EmergencyProfileGroupIdList;
+    Ok([
+        limiter.groups().len() == 32,
+        limiter.groups().get(31) == Some(&65_535),
+        is_read(alloc, Which::Import, limiter, attribute, full.as_str())?,
+    ])
+}
+
+/// Trades a limiter's group ids, of which there are none at first, and writes others.
+fn trade(rt: &impl Abort, alloc: Global, limiter: &mut Limiter) -> Result<(), Fail> {
+    let attribute = LimiterAttribute::ThresholdNormal;
+    assert!(*rt; write(alloc, limiter, attribute, "0600000BB8")?);
+    assert_eq!(*rt; is_traded(alloc, limiter)?, [true; 4]);
+    write_ids(alloc, limiter, "0100")?;
+    assert!(*rt; limiter.groups().is_empty());
+    assert_eq!(*rt; is_filled(alloc, limiter)?, [true; 3]);
+    Ok(())
 }
 
 #[test]
 fn group_ids_are_traded(rt: HostRuntime) -> Result<(), Fail> {
-    let alloc = rt.alloc();
-    let mut limiter = Limiter::new(alloc);
-    assert!(rt;
-        write(
-            alloc,
-            &mut limiter,
-            LimiterAttribute::ThresholdNormal,
-            "0600000BB8"
-        )?
-    );
-    let mut other = read_groups(alloc, &data(alloc, "0103120007120001120007")?)?;
-    limiter.swap_groups(&mut other);
-    assert!(rt; limiter.groups() == [7, 1, 7].as_slice());
-    assert!(rt; limiter.normal_threshold() == 3000);
-    assert!(rt; other.groups().is_empty() && other.normal_threshold() == u32::MAX);
-    write_ids(alloc, &mut limiter, "0100")?;
-    assert!(rt; limiter.groups().is_empty());
-    let full = ids_text(alloc, 32, "12FFFF")?;
-    write_ids(alloc, &mut limiter, full.as_str())?;
-    assert!(rt; limiter.groups().len() == 32 && limiter.groups()[31] == 65_535);
-    check_reads(
-        &rt,
-        alloc,
-        &limiter,
-        &[(LimiterAttribute::EmergencyProfileGroupIdList, full.as_str())],
-    )
+    let mut limiter = Limiter::new(rt.alloc());
+    trade(&rt, rt.alloc(), &mut limiter)
 }
 
 #[test]
@@ -350,152 +341,166 @@ fn other_attributes_set_nothing(rt: HostRuntime) -> Result<(), Fail> {
         LimiterAttribute::EmergencyProfileGroupIdList,
         LimiterAttribute::EmergencyProfileActive,
     ] {
-        assert!(rt; fault(alloc, attribute, "0600000001")?.is_none());
-        assert!(rt; !write(alloc, &mut Limiter::new(alloc), attribute, "0600000001")?);
+        let is_refused = fault(alloc, attribute, "0600000001")?.is_some();
+        let is_taken = write(alloc, &mut Limiter::new(alloc), attribute, "0600000001")?;
+        assert!(rt; !is_refused && !is_taken, "{attribute:?}");
     }
     Ok(())
 }
 
-#[test]
-fn numbers_of_other_types_are_refused(rt: HostRuntime) -> Result<(), Fail> {
-    for attribute in [
+/// No double-long-unsigned.
+const NUMBERS_OF_OTHER_TYPES: [&str; 7] = [
+    "00",
+    "0500000001",
+    "110A",
+    "12000A",
+    "150000000000000001",
+    "09040000000A",
+    "02010600000001",
+];
+
+/// No emergency profile.
+const PROFILES_OF_OTHER_TYPES: [&str; 11] = [
+    "00",
+    "0103120007090C07D00101FF00012800800000060000000A",
+    "0202120007090C07D00101FF00012800800000",
+    "0204120007090C07D00101FF00012800800000060000000A00",
+    "02031107090C07D00101FF00012800800000060000000A",
+    "0203120007090B07D00101FF000128008000060000000A",
+    "0203120007090D07D00101FF0001280080000000060000000A",
+    "02031200070A0C07D00101FF00012800800000060000000A",
+    "02031200071A07D00101FF060000000A",
+    "0203120007090C07D00101FF0001280080000012000A",
+    // Types come before the thirteenth month.
+    "0203120007090C07D00D01FF0001280080000012000A",
+];
+
+/// A start with a month, a day or a time that there isn't.
+const STARTS_OUT_OF_RANGE: [&str; 7] = [
+    "0203120007090C07D00D01FF00012800800000060000000A",
+    "0203120007090C07D0FD01FF00012800800000060000000A",
+    "0203120007090C07D00100FF00012800800000060000000A",
+    "0203120007090C07D00101FF18012800800000060000000A",
+    "0203120007090C07D00101FF00013C00800000060000000A",
+    "0203120007090C07D00101FF00012800034900060000000A",
+    "02031200071907D00D01FF00012800800000060000000A",
+];
+
+/// No two scripts.
+const ACTIONS_OF_OTHER_TYPES: [&str; 14] = [
+    "00",
+    "01020202090600000A006AFF1200010202090600000A006AFF120002",
+    "02010202090600000A006AFF120001",
+    "02030202090600000A006AFF1200010202090600000A006AFF12000200",
+    "02020102090600000A006AFF1200010202090600000A006AFF120002",
+    "02020201090600000A006AFF0202090600000A006AFF120002",
+    "02020203090600000A006AFF120001000202090600000A006AFF120002",
+    "02020202090500000A006A1200010202090600000A006AFF120002",
+    "02020202090700000A006AFFFF1200010202090600000A006AFF120002",
+    "020202020A0600000A006AFF1200010202090600000A006AFF120002",
+    "02020202090600000A006AFF11010202090600000A006AFF120002",
+    "02020202090600000A006AFF1200010202090600000A006AFF1102",
+    "02020202090600000A006AFF1200010202090500000A006A120002",
+    // Types come before the name of another table.
+    "020202020906000060030AFF1200010202090600000A006AFF1102",
+];
+
+/// Scripts of a table that isn't the meter's.
+const ACTIONS_OF_OTHER_TABLES: [&str; 4] = [
+    "020202020906000060030AFF1200010202090600000A006AFF120002",
+    "02020202090600000A006AFF12000102020906000060030AFF120002",
+    "020202020906000060030AFF12000102020906000060030AFF120002",
+    "02020202090600000A006BFF1200010202090600000A006AFF120002",
+];
+
+const REFUSED: [(LimiterAttribute, &[&str], SettingFault); 8] = [
+    (
         LimiterAttribute::ThresholdNormal,
+        &NUMBERS_OF_OTHER_TYPES,
+        SettingFault::Unmatched,
+    ),
+    (
         LimiterAttribute::ThresholdEmergency,
+        &NUMBERS_OF_OTHER_TYPES,
+        SettingFault::Unmatched,
+    ),
+    (
         LimiterAttribute::MinOverThresholdDuration,
+        &NUMBERS_OF_OTHER_TYPES,
+        SettingFault::Unmatched,
+    ),
+    (
         LimiterAttribute::MinUnderThresholdDuration,
-    ] {
-        check_faults(
-            &rt,
-            rt.alloc(),
-            attribute,
-            &[
-                "00",
-                "0500000001",
-                "110A",
-                "12000A",
-                "150000000000000001",
-                "09040000000A",
-                "02010600000001",
-            ],
-            SettingFault::Unmatched,
-        )?;
+        &NUMBERS_OF_OTHER_TYPES,
+        SettingFault::Unmatched,
+    ),
+    (
+        LimiterAttribute::EmergencyProfile,
+        &PROFILES_OF_OTHER_TYPES,
+        SettingFault::Unmatched,
+    ),
+    (
+        LimiterAttribute::EmergencyProfile,
+        &STARTS_OUT_OF_RANGE,
+        SettingFault::Value,
+    ),
+    (
+        LimiterAttribute::Actions,
+        &ACTIONS_OF_OTHER_TYPES,
+        SettingFault::Unmatched,
+    ),
+    (
+        LimiterAttribute::Actions,
+        &ACTIONS_OF_OTHER_TABLES,
+        SettingFault::Value,
+    ),
+];
+
+#[test]
+fn what_an_attribute_does_not_take_is_refused(rt: HostRuntime) -> Result<(), Fail> {
+    for (attribute, texts, expected) in &REFUSED {
+        for text in *texts {
+            let found = fault(rt.alloc(), *attribute, text)?;
+            assert!(rt; found == Some(*expected), "{attribute:?} of {text}");
+        }
     }
     Ok(())
 }
 
-#[test]
-fn profiles_of_other_types_are_refused(rt: HostRuntime) -> Result<(), Fail> {
-    check_faults(
-        &rt,
-        rt.alloc(),
-        LimiterAttribute::EmergencyProfile,
-        &[
-            "00",
-            "0103120007090C07D00101FF00012800800000060000000A",
-            "0202120007090C07D00101FF00012800800000",
-            "0204120007090C07D00101FF00012800800000060000000A00",
-            "02031107090C07D00101FF00012800800000060000000A",
-            "0203120007090B07D00101FF000128008000060000000A",
-            "0203120007090D07D00101FF0001280080000000060000000A",
-            "02031200070A0C07D00101FF00012800800000060000000A",
-            "02031200071A07D00101FF060000000A",
-            "0203120007090C07D00101FF0001280080000012000A",
-            // Types come before the thirteenth month.
-            "0203120007090C07D00D01FF0001280080000012000A",
-        ],
-        SettingFault::Unmatched,
-    )
-}
-
-#[test]
-fn starts_out_of_range_are_refused(rt: HostRuntime) -> Result<(), Fail> {
-    check_faults(
-        &rt,
-        rt.alloc(),
-        LimiterAttribute::EmergencyProfile,
-        &[
-            "0203120007090C07D00D01FF00012800800000060000000A",
-            "0203120007090C07D0FD01FF00012800800000060000000A",
-            "0203120007090C07D00100FF00012800800000060000000A",
-            "0203120007090C07D00101FF18012800800000060000000A",
-            "0203120007090C07D00101FF00013C00800000060000000A",
-            "0203120007090C07D00101FF00012800034900060000000A",
-            "02031200071907D00D01FF00012800800000060000000A",
-        ],
-        SettingFault::Value,
-    )
-}
+/// No group ids.
+const IDS_OF_OTHER_TYPES: [&str; 7] = [
+    "00",
+    "120007",
+    "0201120007",
+    "01010600000007",
+    "01011107",
+    "01021200071107",
+    "0101100007",
+];
 
 #[test]
 fn group_ids_of_other_types_are_refused(rt: HostRuntime) -> Result<(), Fail> {
-    let alloc = rt.alloc();
-    let long = ids_text(alloc, 33, "1105")?;
-    check_ids_faults(
-        &rt,
-        alloc,
-        &[
-            "00",
-            "120007",
-            "0201120007",
-            "01010600000007",
-            "01011107",
-            "01021200071107",
-            "0101100007",
-            // Types come before the number of ids.
-            long.as_str(),
-        ],
-        SettingFault::Unmatched,
-    )
+    for text in &IDS_OF_OTHER_TYPES {
+        let found = ids_fault(rt.alloc(), text)?;
+        assert!(rt; found == Some(SettingFault::Unmatched), "{text}");
+    }
+    Ok(())
 }
+
+/// How many ids, the text of the last one, and the fault.
+const MANY_IDS: [(u8, &str, Option<SettingFault>); 3] = [
+    (32, "120005", None),
+    (33, "120005", Some(SettingFault::Value)),
+    // Types come before the number of ids.
+    (33, "1105", Some(SettingFault::Unmatched)),
+];
 
 #[test]
 fn a_limiter_has_32_groups_at_most(rt: HostRuntime) -> Result<(), Fail> {
-    let alloc = rt.alloc();
-    let full = ids_text(alloc, 32, "120005")?;
-    assert!(rt; ids_fault(alloc, full.as_str())?.is_none());
-    let long = ids_text(alloc, 33, "120005")?;
-    check_ids_faults(&rt, alloc, &[long.as_str()], SettingFault::Value)
-}
-
-#[test]
-fn actions_of_other_types_are_refused(rt: HostRuntime) -> Result<(), Fail> {
-    check_faults(
-        &rt,
-        rt.alloc(),
-        LimiterAttribute::Actions,
-        &[
-            "00",
-            "01020202090600000A006AFF1200010202090600000A006AFF120002",
-            "02010202090600000A006AFF120001",
-            "02030202090600000A006AFF1200010202090600000A006AFF12000200",
-            "02020102090600000A006AFF1200010202090600000A006AFF120002",
-            "02020201090600000A006AFF0202090600000A006AFF120002",
-            "02020203090600000A006AFF120001000202090600000A006AFF120002",
-            "02020202090500000A006A1200010202090600000A006AFF120002",
-            "02020202090700000A006AFFFF1200010202090600000A006AFF120002",
-            "020202020A0600000A006AFF1200010202090600000A006AFF120002",
-            "02020202090600000A006AFF11010202090600000A006AFF120002",
-            "02020202090600000A006AFF1200010202090600000A006AFF1102",
-            "02020202090600000A006AFF1200010202090500000A006A120002",
-            // Types come before the name of another table.
-            "020202020906000060030AFF1200010202090600000A006AFF1102",
-        ],
-        SettingFault::Unmatched,
-    )
-}
-
-#[test]
-fn actions_of_other_tables_are_refused(rt: HostRuntime) -> Result<(), Fail> {
-    check_faults(
-        &rt,
-        rt.alloc(),
-        LimiterAttribute::Actions,
-        &[
-            "020202020906000060030AFF1200010202090600000A006AFF120002",
-            "02020202090600000A006AFF12000102020906000060030AFF120002",
-            "020202020906000060030AFF12000102020906000060030AFF120002",
-            "02020202090600000A006BFF1200010202090600000A006AFF120002",
-        ],
-        SettingFault::Value,
-    )
+    for (count, last, expected) in &MANY_IDS {
+        let text = ids_text(rt.alloc(), *count, last)?;
+        let found = ids_fault(rt.alloc(), text.as_str())?;
+        assert!(rt; found == *expected, "{count}, {last}");
+    }
+    Ok(())
 }

@@ -1,5 +1,6 @@
 //! Texts of script tables, and what they are read as and written back as.
-use cosem_axdr::{Data, Octets};
+use crate::texts::{data, is_text};
+use cosem_axdr::Data;
 use disconnect_control::ControlMode;
 use script_steps::{
     NULL_SCRIPT, ScriptFault, ScriptTable, Step, Which, read_profile, write_profile,
@@ -17,28 +18,28 @@ const TABLE: &str = "010102021200030102\
 /// A table of one script with one step.
 const ONE_STEP: &str = "010102021200010101";
 
-/// The Data of a hexadecimal text.
-fn data(alloc: Global, text: &str) -> Result<Data, Fail> {
-    let bytes = hex::decode(alloc, text)?;
-    let (value, _) = cosem_axdr::read(alloc, bytes.as_slice())?;
-    Ok(value)
+// The calls under test, without their contracts: a test is run for what no clause says, and its own proof then has little to look at.
+fn read(alloc: Global, value: &Data) -> Result<ScriptTable, ScriptFault> {
+    ScriptTable::from_data(alloc, value)
+}
+
+fn written(alloc: Global, table: &ScriptTable) -> Result<Data, AllocError> {
+    table.to_data(alloc)
 }
 
 /// The table of a hexadecimal text.
 fn table(alloc: Global, text: &str) -> Result<ScriptTable, Fail> {
-    Ok(ScriptTable::from_data(alloc, &data(alloc, text)?)?)
+    Ok(read(alloc, &data(alloc, text)?)?)
 }
 
 /// The fault of a hexadecimal text.
 fn fault(alloc: Global, text: &str) -> Result<Option<ScriptFault>, Fail> {
-    Ok(ScriptTable::from_data(alloc, &data(alloc, text)?).err())
+    Ok(read(alloc, &data(alloc, text)?).err())
 }
 
 /// Whether a table is written as the bytes of this text.
 fn is_written(alloc: Global, table: &ScriptTable, text: &str) -> Result<bool, Fail> {
-    let mut bytes = Octets::new(alloc);
-    cosem_axdr::write(alloc, &table.to_data(alloc)?, &mut bytes)?;
-    Ok(bytes.as_slice() == hex::decode(alloc, text)?.as_slice())
+    is_text(alloc, &written(alloc, table)?, text)
 }
 
 /// Step `i` of a script, if it has one.
@@ -55,32 +56,6 @@ fn step_of(table: &ScriptTable, selector: u16, i: u8) -> Option<Step> {
 fn step_fault(alloc: Global, step: &str) -> Result<Option<ScriptFault>, Fail> {
     let text = format!(in alloc; "{ONE_STEP}{step}")?;
     fault(alloc, text.as_str())
-}
-
-/// Wants this fault, or none, of each table with one step of such a text.
-fn check_steps(
-    rt: &impl Abort,
-    alloc: Global,
-    steps: &[&str],
-    expected: Option<ScriptFault>,
-) -> Result<(), Fail> {
-    for step in steps {
-        assert!(rt; step_fault(alloc, step)? == expected, "{step}");
-    }
-    Ok(())
-}
-
-/// Wants this fault of each text.
-fn check_tables(
-    rt: &impl Abort,
-    alloc: Global,
-    texts: &[&str],
-    expected: ScriptFault,
-) -> Result<(), Fail> {
-    for text in texts {
-        assert!(rt; fault(alloc, text)? == Some(expected), "{text}");
-    }
-    Ok(())
 }
 
 /// A table of so many scripts of so many steps, each of them `step`, but the last step of the last script, which is `last`.
@@ -105,177 +80,247 @@ const DISCONNECT: &str = "020516021200460906000060030AFF0F010F00";
 
 const EXPORT_DURATION: &str = "0205160112004709060001110000FF0F07060000000F";
 
+/// Whether a step, or none, is the one that is expected, seen by what Debug writes of both.
+fn is_step(alloc: Global, found: Option<Step>, expected: Option<Step>) -> Result<bool, AllocError> {
+    Ok(format!(in alloc; "{found:?}")? == format!(in alloc; "{expected:?}")?)
+}
+
+/// Wants that scripts have so many steps, or aren't there.
+fn check_counts(rt: &impl Abort, table: &ScriptTable, counts: &[(u16, Option<u8>)]) {
+    for (selector, count) in counts {
+        assert!(*rt; table.step_count(*selector) == *count, "script {selector}");
+    }
+}
+
+/// Wants that scripts have these steps at these places, or none.
+fn check_steps(
+    rt: &impl Abort,
+    alloc: Global,
+    table: &ScriptTable,
+    steps: &[(u16, u8, Option<Step>)],
+) -> Result<(), AllocError> {
+    for (selector, i, expected) in steps {
+        let found = step_of(table, *selector, *i);
+        assert!(*rt;
+            is_step(alloc, found, *expected)?,
+            "step {i} of script {selector}"
+        );
+    }
+    Ok(())
+}
+
 #[test]
 fn a_table_is_read_and_written_back(rt: HostRuntime) -> Result<(), Fail> {
-    let alloc = rt.alloc();
-    let table = table(alloc, TABLE)?.try_clone(alloc)?;
-    assert!(rt; table.step_count(3) == Some(2));
-    assert!(rt;
-        matches!(
-            step_of(&table, 3, 0),
-            Some(Step::WriteMode(ControlMode::Mode0))
-        )
+    let table = table(rt.alloc(), TABLE)?.try_clone(rt.alloc())?;
+    check_counts(
+        &rt,
+        &table,
+        &[(3, Some(2)), (NULL_SCRIPT, Some(0)), (9, None)],
     );
-    assert!(rt; matches!(step_of(&table, 3, 1), Some(Step::Disconnect)));
-    assert!(rt; step_of(&table, 3, 2).is_none());
-    assert!(rt; table.step_count(NULL_SCRIPT) == Some(0));
-    assert!(rt; table.step_count(9).is_none());
-    assert!(rt; is_written(alloc, &table, TABLE)?);
-    assert!(rt; is_written(alloc, &ScriptTable::new(alloc), "0100")?);
+    assert!(rt; is_written(rt.alloc(), &table, TABLE)?);
     written_table_is_read();
     Ok(())
 }
 
+const STEPS_OF_THE_TABLE: [(u16, u8, Option<Step>); 3] = [
+    (3, 0, Some(Step::WriteMode(ControlMode::Mode0))),
+    (3, 1, Some(Step::Disconnect)),
+    (3, 2, None),
+];
+
 #[test]
-fn a_full_table_is_read_and_written_back(rt: HostRuntime) -> Result<(), Fail> {
-    let alloc = rt.alloc();
-    let text = long_text(alloc, 16, 8, (DISCONNECT, EXPORT_DURATION))?;
-    let table = table(alloc, text.as_str())?;
-    for selector in 1..17u16 {
-        assert!(rt; table.step_count(selector) == Some(8));
-    }
-    assert!(rt; matches!(step_of(&table, 16, 6), Some(Step::Disconnect)));
-    assert!(rt;
-        matches!(
-            step_of(&table, 16, 7),
-            Some(Step::WriteMinUnder(Which::Export, 15))
-        )
-    );
-    assert!(rt; is_written(alloc, &table, text.as_str())?);
+fn a_table_has_its_steps(rt: HostRuntime) -> Result<(), Fail> {
+    let table = table(rt.alloc(), TABLE)?.try_clone(rt.alloc())?;
+    check_steps(&rt, rt.alloc(), &table, &STEPS_OF_THE_TABLE)?;
     Ok(())
 }
+
+#[test]
+fn a_new_table_has_no_script(rt: HostRuntime) -> Result<(), Fail> {
+    assert!(rt; is_written(rt.alloc(), &ScriptTable::new(rt.alloc()), "0100")?);
+    Ok(())
+}
+
+const STEPS_OF_A_FULL_TABLE: [(u16, u8, Option<Step>); 2] = [
+    (16, 6, Some(Step::Disconnect)),
+    (16, 7, Some(Step::WriteMinUnder(Which::Export, 15))),
+];
+
+/// Wants sixteen scripts of eight steps.
+fn check_full_table(rt: &impl Abort, alloc: Global, table: &ScriptTable) -> Result<(), AllocError> {
+    for selector in 1..17u16 {
+        assert!(*rt; table.step_count(selector) == Some(8), "script {selector}");
+    }
+    check_steps(rt, alloc, table, &STEPS_OF_A_FULL_TABLE)
+}
+
+#[test]
+fn a_full_table_is_read_and_written_back(rt: HostRuntime) -> Result<(), Fail> {
+    let text = long_text(rt.alloc(), 16, 8, (DISCONNECT, EXPORT_DURATION))?;
+    let table = table(rt.alloc(), text.as_str())?;
+    check_full_table(&rt, rt.alloc(), &table)?;
+    assert!(rt; is_written(rt.alloc(), &table, text.as_str())?);
+    Ok(())
+}
+
+/// How many scripts of how many steps, the last of which is another, and the fault.
+const TOO_LONG: [(u8, u8, &str, ScriptFault); 3] = [
+    (17, 1, DISCONNECT, ScriptFault::Value),
+    (1, 9, DISCONNECT, ScriptFault::Value),
+    // Another type is told before any value: the last step has a boolean as parameter.
+    (
+        17,
+        9,
+        "020516021200460906000060030AFF0F010301",
+        ScriptFault::Unmatched,
+    ),
+];
 
 #[test]
 fn a_table_has_limits(rt: HostRuntime) -> Result<(), Fail> {
-    let alloc = rt.alloc();
-    let seventeen = long_text(alloc, 17, 1, (DISCONNECT, DISCONNECT))?;
-    assert!(rt; fault(alloc, seventeen.as_str())? == Some(ScriptFault::Value));
-    let nine = long_text(alloc, 1, 9, (DISCONNECT, DISCONNECT))?;
-    assert!(rt; fault(alloc, nine.as_str())? == Some(ScriptFault::Value));
+    for (scripts, steps, last, expected) in &TOO_LONG {
+        let text = long_text(rt.alloc(), *scripts, *steps, (DISCONNECT, last))?;
+        let found = fault(rt.alloc(), text.as_str())?;
+        assert!(rt; found == Some(*expected), "{scripts} of {steps}");
+    }
     Ok(())
 }
 
-#[test]
-fn another_type_is_told_before_any_value(rt: HostRuntime) -> Result<(), Fail> {
-    let alloc = rt.alloc();
-    // Seventeen scripts of nine steps, the last of which has a boolean as parameter.
-    let other = "020516021200460906000060030AFF0F010301";
-    let text = long_text(alloc, 17, 9, (DISCONNECT, other))?;
-    assert!(rt; fault(alloc, text.as_str())? == Some(ScriptFault::Unmatched));
+const REFUSED_TABLES: [(&str, ScriptFault); 11] = [
     // Identifier 0 with a step that isn't listed, and then a Data that is no script.
-    check_tables(
-        &rt,
-        alloc,
-        &["010202021200000101020516031200460906000060030AFF0F040000"],
+    (
+        "010202021200000101020516031200460906000060030AFF0F040000",
         ScriptFault::Unmatched,
-    )
-}
-
-#[test]
-fn scripts_of_another_type(rt: HostRuntime) -> Result<(), Fail> {
-    check_tables(
-        &rt,
-        rt.alloc(),
-        &[
-            "0200",
-            "120000",
-            "01010100",
-            "01010201120001",
-            "0101020312000101000100",
-            "0101020211010100",
-            "010102021200010200",
-        ],
-        ScriptFault::Unmatched,
-    )
-}
-
-#[test]
-fn identifiers_are_not_0_and_stand_once(rt: HostRuntime) -> Result<(), Fail> {
-    check_tables(
-        &rt,
-        rt.alloc(),
-        &[
-            "010102021200000100",
-            "0103020212000101000202120002010002021200010100",
-            "01020202120007010002021200070100",
-        ],
+    ),
+    // Scripts of another type.
+    ("0200", ScriptFault::Unmatched),
+    ("120000", ScriptFault::Unmatched),
+    ("01010100", ScriptFault::Unmatched),
+    ("01010201120001", ScriptFault::Unmatched),
+    ("0101020312000101000100", ScriptFault::Unmatched),
+    ("0101020211010100", ScriptFault::Unmatched),
+    ("010102021200010200", ScriptFault::Unmatched),
+    // Identifiers are not 0 and stand once.
+    ("010102021200000100", ScriptFault::Value),
+    (
+        "0103020212000101000202120002010002021200010100",
         ScriptFault::Value,
-    )
-}
+    ),
+    ("01020202120007010002021200070100", ScriptFault::Value),
+];
 
 #[test]
-fn steps_of_another_type(rt: HostRuntime) -> Result<(), Fail> {
-    check_steps(
-        &rt,
-        rt.alloc(),
-        &[
-            "010516011200460906000060030AFF0F041600",
-            "020416011200460906000060030AFF0F04",
-            "020511011200460906000060030AFF0F041600",
-            "0205160111460906000060030AFF0F041600",
-            "020516011200460A06000060030AFF0F041600",
-            "020516011200460905000060030A0F041600",
-            "020516011200460907000060030AFF000F041600",
-            "020516011200460906000060030AFF11041600",
-            "020516011200460906000060030AFF0F041100",
-            "0205160112004709060000110000FF0F04121388",
-            "020516021200460906000060030AFF0F010301",
-            "020516021200460906000060030AFF0F021100",
-        ],
-        Some(ScriptFault::Unmatched),
-    )
+fn tables_that_are_refused(rt: HostRuntime) -> Result<(), Fail> {
+    for (text, expected) in &REFUSED_TABLES {
+        assert!(rt; fault(rt.alloc(), text)? == Some(*expected), "{text}");
+    }
+    Ok(())
 }
 
-#[test]
-fn profiles_of_another_type(rt: HostRuntime) -> Result<(), Fail> {
-    check_steps(
-        &rt,
-        rt.alloc(),
-        &[
-            "0205160112004709060000110000FF0F080202120007090C07D00101FF00012800800000",
-            "0205160112004709060000110000FF0F0802031107090C07D00101FF00012800800000060000000A",
-            "0205160112004709060000110000FF0F080203120007090B07D00101FF000128008000060000000A",
-            "0205160112004709060000110000FF0F0802031200071A07D00101FF060000000A",
-            "0205160112004709060000110000FF0F080203120007090C07D0FD01FF0001280080000012000A",
-        ],
-        Some(ScriptFault::Unmatched),
-    )
-}
+const REFUSED_STEPS: [(&str, ScriptFault); 31] = [
+    // Steps of another type.
+    (
+        "010516011200460906000060030AFF0F041600",
+        ScriptFault::Unmatched,
+    ),
+    ("020416011200460906000060030AFF0F04", ScriptFault::Unmatched),
+    (
+        "020511011200460906000060030AFF0F041600",
+        ScriptFault::Unmatched,
+    ),
+    (
+        "0205160111460906000060030AFF0F041600",
+        ScriptFault::Unmatched,
+    ),
+    (
+        "020516011200460A06000060030AFF0F041600",
+        ScriptFault::Unmatched,
+    ),
+    (
+        "020516011200460905000060030A0F041600",
+        ScriptFault::Unmatched,
+    ),
+    (
+        "020516011200460907000060030AFF000F041600",
+        ScriptFault::Unmatched,
+    ),
+    (
+        "020516011200460906000060030AFF11041600",
+        ScriptFault::Unmatched,
+    ),
+    (
+        "020516011200460906000060030AFF0F041100",
+        ScriptFault::Unmatched,
+    ),
+    (
+        "0205160112004709060000110000FF0F04121388",
+        ScriptFault::Unmatched,
+    ),
+    (
+        "020516021200460906000060030AFF0F010301",
+        ScriptFault::Unmatched,
+    ),
+    (
+        "020516021200460906000060030AFF0F021100",
+        ScriptFault::Unmatched,
+    ),
+    // Profiles of another type.
+    (
+        "0205160112004709060000110000FF0F080202120007090C07D00101FF00012800800000",
+        ScriptFault::Unmatched,
+    ),
+    (
+        "0205160112004709060000110000FF0F0802031107090C07D00101FF00012800800000060000000A",
+        ScriptFault::Unmatched,
+    ),
+    (
+        "0205160112004709060000110000FF0F080203120007090B07D00101FF000128008000060000000A",
+        ScriptFault::Unmatched,
+    ),
+    (
+        "0205160112004709060000110000FF0F0802031200071A07D00101FF060000000A",
+        ScriptFault::Unmatched,
+    ),
+    (
+        "0205160112004709060000110000FF0F080203120007090C07D0FD01FF0001280080000012000A",
+        ScriptFault::Unmatched,
+    ),
+    // Values that are not taken.
+    ("020516011200460906000060030AFF0F041607", ScriptFault::Value),
+    (
+        "0205160112004709060000110000FF0F080203120007090C07D0FD01FF00012800800000060000000A",
+        ScriptFault::Value,
+    ),
+    (
+        "0205160112004709060000110000FF0F0802031200071907D00101FF18012800800000060000000A",
+        ScriptFault::Value,
+    ),
+    // Steps that are not listed.
+    ("020516031200460906000060030AFF0F041600", ScriptFault::Value),
+    ("020516001200460906000060030AFF0F041600", ScriptFault::Value),
+    ("020516011200470906000060030AFF0F041600", ScriptFault::Value),
+    ("020516011200460906000060030BFF0F041600", ScriptFault::Value),
+    ("020516011200460906000060030AFF0F050100", ScriptFault::Value),
+    ("020516011200460906000060030AFF0FFC00", ScriptFault::Value),
+    ("020516021200460906000060030AFF0F030F00", ScriptFault::Value),
+    ("0205160212004709060000110000FF0F010F00", ScriptFault::Value),
+    (
+        "0205160112004709060002110000FF0F040600001388",
+        ScriptFault::Value,
+    ),
+    ("0205160112004709060000110000FF0F090100", ScriptFault::Value),
+    (
+        "02051602120009090600000A006AFF0F01120001",
+        ScriptFault::Value,
+    ),
+];
 
 #[test]
-fn values_that_are_not_taken(rt: HostRuntime) -> Result<(), Fail> {
-    check_steps(
-        &rt,
-        rt.alloc(),
-        &[
-            "020516011200460906000060030AFF0F041607",
-            "0205160112004709060000110000FF0F080203120007090C07D0FD01FF00012800800000060000000A",
-            "0205160112004709060000110000FF0F0802031200071907D00101FF18012800800000060000000A",
-        ],
-        Some(ScriptFault::Value),
-    )
-}
-
-#[test]
-fn steps_that_are_not_listed(rt: HostRuntime) -> Result<(), Fail> {
-    check_steps(
-        &rt,
-        rt.alloc(),
-        &[
-            "020516031200460906000060030AFF0F041600",
-            "020516001200460906000060030AFF0F041600",
-            "020516011200470906000060030AFF0F041600",
-            "020516011200460906000060030BFF0F041600",
-            "020516011200460906000060030AFF0F050100",
-            "020516011200460906000060030AFF0FFC00",
-            "020516021200460906000060030AFF0F030F00",
-            "0205160212004709060000110000FF0F010F00",
-            "0205160112004709060002110000FF0F040600001388",
-            "0205160112004709060000110000FF0F090100",
-            "02051602120009090600000A006AFF0F01120001",
-        ],
-        Some(ScriptFault::Value),
-    )
+fn steps_that_are_refused(rt: HostRuntime) -> Result<(), Fail> {
+    for (step, expected) in &REFUSED_STEPS {
+        assert!(rt; step_fault(rt.alloc(), step)? == Some(*expected), "{step}");
+    }
+    Ok(())
 }
 
 /// The step of a text.
@@ -285,31 +330,43 @@ fn one_step(alloc: Global, step: &str) -> Result<Option<Step>, Fail> {
     Ok(step_of(&table, 1, 0))
 }
 
-#[test]
-fn thresholds_and_durations(rt: HostRuntime) -> Result<(), Fail> {
-    let alloc = rt.alloc();
-    let step = one_step(alloc, "0205160112004709060000110000FF0F040600001388")?;
-    assert!(rt; matches!(step, Some(Step::WriteNormal(Which::Import, 5000))));
-    let step = one_step(alloc, "0205160112004709060001110000FF0F040600001388")?;
-    assert!(rt; matches!(step, Some(Step::WriteNormal(Which::Export, 5000))));
-    let step = one_step(alloc, "0205160112004709060000110000FF0F0506FFFFFFFF")?;
-    assert!(rt; matches!(step, Some(Step::WriteEmergency(Which::Import, u32::MAX))));
-    let step = one_step(alloc, "0205160112004709060001110000FF0F060600000001")?;
-    assert!(rt; matches!(step, Some(Step::WriteMinOver(Which::Export, 1))));
-    let step = one_step(alloc, "0205160112004709060000110000FF0F070600000002")?;
-    assert!(rt; matches!(step, Some(Step::WriteMinUnder(Which::Import, 2))));
-    Ok(())
-}
+const READ_STEPS: [(&str, Step); 8] = [
+    // Thresholds and durations.
+    (
+        "0205160112004709060000110000FF0F040600001388",
+        Step::WriteNormal(Which::Import, 5000),
+    ),
+    (
+        "0205160112004709060001110000FF0F040600001388",
+        Step::WriteNormal(Which::Export, 5000),
+    ),
+    (
+        "0205160112004709060000110000FF0F0506FFFFFFFF",
+        Step::WriteEmergency(Which::Import, 4_294_967_295),
+    ),
+    (
+        "0205160112004709060001110000FF0F060600000001",
+        Step::WriteMinOver(Which::Export, 1),
+    ),
+    (
+        "0205160112004709060000110000FF0F070600000002",
+        Step::WriteMinUnder(Which::Import, 2),
+    ),
+    // Modes and methods.
+    (
+        "020516011200460906000060030AFF0F041606",
+        Step::WriteMode(ControlMode::Mode6),
+    ),
+    ("020516021200460906000060030AFF0F0100", Step::Disconnect),
+    ("020516021200460906000060030AFF0F020F7F", Step::Reconnect),
+];
 
 #[test]
-fn modes_and_methods(rt: HostRuntime) -> Result<(), Fail> {
-    let alloc = rt.alloc();
-    let step = one_step(alloc, "020516011200460906000060030AFF0F041606")?;
-    assert!(rt; matches!(step, Some(Step::WriteMode(ControlMode::Mode6))));
-    let step = one_step(alloc, "020516021200460906000060030AFF0F0100")?;
-    assert!(rt; matches!(step, Some(Step::Disconnect)));
-    let step = one_step(alloc, "020516021200460906000060030AFF0F020F7F")?;
-    assert!(rt; matches!(step, Some(Step::Reconnect)));
+fn steps_are_read(rt: HostRuntime) -> Result<(), Fail> {
+    for (text, step) in &READ_STEPS {
+        let found = one_step(rt.alloc(), text)?;
+        assert!(rt; is_step(rt.alloc(), found, Some(*step))?, "{text}");
+    }
     Ok(())
 }
 
@@ -347,7 +404,7 @@ fn a_profile_is_read_and_written(rt: HostRuntime) -> Result<(), Fail> {
     let alloc = rt.alloc();
     let value = data(alloc, "0203120007090C07D00101FF00012800800000060000000A")?;
     let profile = read_profile(&value)?;
-    assert!(rt; profile.id == 7 && profile.duration == 10);
-    assert!(rt; write_profile(alloc, &profile)? == value);
+    let is_same = write_profile(alloc, &profile)? == value;
+    assert!(rt; profile.id == 7 && profile.duration == 10 && is_same);
     Ok(())
 }

@@ -1,11 +1,13 @@
+//! Sessions over texts in hexadecimal.
+ghost use Rattle.std.specs.Prelude.{◌≤◌, length};
+
 use crate::sessions::{Input, Output, PUBLIC_AARE, PUBLIC_AARQ, PUBLIC_GET, PUBLIC_STATE};
 use byte_streams::Counted;
 use cosem_axdr::Octets;
 use meter_server::{HexFault, run_hex};
-use std::alloc::Global;
+use std::alloc::{AllocError, Global};
 use std::io;
 use std::io::Read;
-use std::process::Abort;
 use std::test::Fail;
 
 /// What came of a text.
@@ -15,90 +17,96 @@ struct Ran {
     result: Result<(), HexFault>,
 }
 
-/// Plays a text. One of its reads and one of its writes may fail.
-fn run(alloc: Global, text: &str, failing_read: u32, failing_write: u32) -> Result<Ran, Fail> {
-    let device = Octets::from_slice(alloc, b"RELAY1")?;
-    let password = Octets::from_slice(alloc, b"12345678")?;
+/// Plays a text as a meter with this name and password. One of its reads and one of its writes may fail.
+fn play(alloc: Global, text: &str, failing: (u32, u32), device: &Octets, password: &Octets) -> Ran
+    requires { (1 ≤ length device.now) × (length device.now ≤ 16) }
+{
     let mut reader = Counted::new(Input {
         rest: text.as_bytes(),
         piece: 1_024,
         reads: 0,
-        failing: failing_read,
+        failing: failing.0,
     });
     let mut writer = Counted::new(Output {
         bytes: Vec::new(alloc),
         writes: 0,
-        failing: failing_write,
+        failing: failing.1,
     });
-    let result = run_hex(alloc, &mut reader, &mut writer, &device, &password);
-    Ok(Ran {
+    let result = run_hex(alloc, &mut reader, &mut writer, device, password);
+    Ran {
         lines: writer.into_inner().bytes,
         result,
-    })
+    }
 }
 
-/// Plays a text with nothing that fails, and wants these lines.
-fn expect(rt: &impl Abort, alloc: Global, text: &str, lines: &str) -> Result<(), Fail> {
-    let ran = run(alloc, text, 0, 0)?;
-    assert!(rt; ran.result == Ok(()), "to {text}");
-    assert!(rt; ran.lines.as_slice() == lines.as_bytes(), "to {text}");
+/// The same as the meter RELAY1, whose management client has the password 12345678.
+fn run(alloc: Global, text: &str, failing: (u32, u32)) -> Result<Ran, AllocError> {
+    let device = Octets::from_slice(alloc, b"RELAY1")?;
+    let password = Octets::from_slice(alloc, b"12345678")?;
+    Ok(play(alloc, text, failing, &device, &password))
+}
+
+/// Whether a text gives these lines and this result.
+fn gives(
+    alloc: Global,
+    text: &str,
+    lines: &str,
+    expected: Result<(), HexFault>,
+) -> Result<bool, AllocError> {
+    let ran = run(alloc, text, (0, 0))?;
+    Ok(ran.result == expected && ran.lines.as_slice() == lines.as_bytes())
+}
+
+/// A text, the lines that are written to it, and what comes of it.
+type Played = (&'static str, &'static str, Result<(), HexFault>);
+
+const TEXTS: [Played; 10] = [
+    // Digits have either case and blanks between.
+    (
+        " 0001 0010 0001\r\n000 1cA\n\n",
+        "0001000100100003D80202\n",
+        Ok(()),
+    ),
+    ("", "", Ok(())),
+    (" \r\n", "", Ok(())),
+    // A session that is cut is no fault.
+    (
+        "0001001000010001CA00010010",
+        "0001000100100003D80202\n",
+        Ok(()),
+    ),
+    (
+        "0001001000010001CA0002001000010000",
+        "0001000100100003D80202\n",
+        Ok(()),
+    ),
+    ("0001001000010401", "", Ok(())),
+    // Other characters are no digits.
+    ("0", "", Err(HexFault::Digits)),
+    ("0001001000010001CA0", "", Err(HexFault::Digits)),
+    ("0001001000010001CA0G", "", Err(HexFault::Digits)),
+    ("0001001000010001CA\t", "", Err(HexFault::Digits)),
+];
+
+#[test]
+fn texts_are_played(rt: HostRuntime) -> Result<(), Fail> {
+    for (text, lines, expected) in &TEXTS {
+        assert!(rt; gives(rt.alloc(), text, lines, *expected)?, "to {text}");
+    }
     Ok(())
 }
 
-/// Plays a text, and wants this fault, and nothing written.
-fn expect_fault(rt: &impl Abort, alloc: Global, text: &str, fault: HexFault) -> Result<(), Fail> {
-    let ran = run(alloc, text, 0, 0)?;
-    assert!(rt; ran.result == Err(fault), "to {text}");
-    assert!(rt; ran.lines.is_empty(), "to {text}");
-    Ok(())
+/// The opening of the public client and its GET.
+fn opened(alloc: Global) -> Result<String, AllocError> {
+    format!(in alloc; "{PUBLIC_AARQ}{PUBLIC_GET}")
 }
 
 #[test]
 fn each_frame_is_a_line(rt: HostRuntime) -> Result<(), Fail> {
-    let alloc = rt.alloc();
-    let text = format!(in alloc; "{PUBLIC_AARQ}{PUBLIC_GET}")?;
-    let lines = format!(in alloc; "{PUBLIC_AARE}\n{PUBLIC_STATE}\n")?;
-    expect(&rt, alloc, text.as_str(), lines.as_str())
-}
-
-#[test]
-fn digits_have_either_case_and_blanks_between(rt: HostRuntime) -> Result<(), Fail> {
-    let alloc = rt.alloc();
-    expect(
-        &rt,
-        alloc,
-        " 0001 0010 0001\r\n000 1cA\n\n",
-        "0001000100100003D80202\n",
-    )?;
-    expect(&rt, alloc, "", "")?;
-    expect(&rt, alloc, " \r\n", "")
-}
-
-#[test]
-fn a_session_that_is_cut_is_no_fault(rt: HostRuntime) -> Result<(), Fail> {
-    let alloc = rt.alloc();
-    expect(
-        &rt,
-        alloc,
-        "0001001000010001CA00010010",
-        "0001000100100003D80202\n",
-    )?;
-    expect(
-        &rt,
-        alloc,
-        "0001001000010001CA0002001000010000",
-        "0001000100100003D80202\n",
-    )?;
-    expect(&rt, alloc, "0001001000010401", "")
-}
-
-#[test]
-fn other_characters_are_no_digits(rt: HostRuntime) -> Result<(), Fail> {
-    let alloc = rt.alloc();
-    expect_fault(&rt, alloc, "0", HexFault::Digits)?;
-    expect_fault(&rt, alloc, "0001001000010001CA0", HexFault::Digits)?;
-    expect_fault(&rt, alloc, "0001001000010001CA0G", HexFault::Digits)?;
-    expect_fault(&rt, alloc, "0001001000010001CA\t", HexFault::Digits)
+    let text = opened(rt.alloc())?;
+    let lines = format!(in rt.alloc(); "{PUBLIC_AARE}\n{PUBLIC_STATE}\n")?;
+    assert!(rt; gives(rt.alloc(), text.as_str(), lines.as_str(), Ok(()))?);
+    Ok(())
 }
 
 /// What so many blanks give.
@@ -118,20 +126,32 @@ fn a_text_has_1048576_characters(rt: HostRuntime) -> Result<(), Fail> {
     Ok(())
 }
 
+/// Which read or write fails, the fault, and how many bytes are written.
+const FAILING: [((u32, u32), HexFault, usize); 4] = [
+    ((1, 0), HexFault::Read, 0),
+    ((2, 0), HexFault::Read, 0),
+    ((0, 1), HexFault::Write, 0),
+    ((0, 2), HexFault::Write, PUBLIC_AARE.len() + 1),
+];
+
+/// Whether a text fails so after it has written so many bytes.
+fn fails(
+    alloc: Global,
+    text: &str,
+    failing: (u32, u32),
+    fault: HexFault,
+    size: usize,
+) -> Result<bool, AllocError> {
+    let ran = run(alloc, text, failing)?;
+    Ok(ran.result == Err(fault) && ran.lines.len() == size)
+}
+
 #[test]
 fn a_read_or_a_write_fails(rt: HostRuntime) -> Result<(), Fail> {
-    let alloc = rt.alloc();
-    let text = format!(in alloc; "{PUBLIC_AARQ}{PUBLIC_GET}")?;
-    for failing in 1..3 {
-        let ran = run(alloc, text.as_str(), failing, 0)?;
-        assert!(rt; ran.result == Err(HexFault::Read), "at read {failing}");
-        assert!(rt; ran.lines.is_empty(), "at read {failing}");
+    let text = opened(rt.alloc())?;
+    for (failing, fault, size) in &FAILING {
+        let is_so = fails(rt.alloc(), text.as_str(), *failing, *fault, *size)?;
+        assert!(rt; is_so, "at {failing:?}");
     }
-    let none = run(alloc, text.as_str(), 0, 1)?;
-    assert!(rt; none.result == Err(HexFault::Write));
-    assert!(rt; none.lines.is_empty());
-    let one = run(alloc, text.as_str(), 0, 2)?;
-    assert!(rt; one.result == Err(HexFault::Write));
-    assert_eq!(rt; one.lines.len(), PUBLIC_AARE.len() + 1);
     Ok(())
 }

@@ -3,10 +3,9 @@ use cosem_axdr::Octets;
 use meter_server::{Meter, ServeFault, serve_session};
 use relay_core::{Event, RelayCore, Reply};
 use session_core::SessionEnd;
-use std::alloc::Global;
+use std::alloc::{AllocError, Global};
 use std::io;
 use std::io::{ErrorKind, Read, Write};
-use std::process::Abort;
 use std::test::Fail;
 use turn_lock::CallFault;
 
@@ -126,13 +125,8 @@ pub(crate) struct Ran {
     pub(crate) result: Result<SessionEnd, ServeFault>,
 }
 
-pub(crate) fn run(alloc: Global, plan: &Plan, input: &[u8]) -> Result<Ran, Fail> {
-    let device = Octets::from_slice(alloc, b"RELAY1")?;
-    let password = Octets::from_slice(alloc, plan.password.as_bytes())?;
-    let mut meter = Limited {
-        core: RelayCore::new(alloc, &device)?,
-        left: plan.events,
-    };
+/// A session of a meter.
+fn serve(alloc: Global, plan: &Plan, input: &[u8], meter: &mut Limited, password: &Octets) -> Ran {
     let mut reader = Counted::new(Input {
         rest: input,
         piece: plan.piece,
@@ -144,38 +138,58 @@ pub(crate) fn run(alloc: Global, plan: &Plan, input: &[u8]) -> Result<Ran, Fail>
         writes: 0,
         failing: plan.failing_write,
     });
-    let result = serve_session(alloc, &mut reader, &mut writer, &mut meter, &password);
-    Ok(Ran {
+    let result = serve_session(alloc, &mut reader, &mut writer, meter, password);
+    Ran {
         bytes: writer.into_inner().bytes,
         result,
+    }
+}
+
+/// A new meter that takes so many events.
+fn new_meter(alloc: Global, events: u32) -> Result<Limited, AllocError> {
+    let device = Octets::from_slice(alloc, b"RELAY1")?;
+    Ok(Limited {
+        core: RelayCore::new(alloc, &device)?,
+        left: events,
     })
 }
 
-/// Runs a session on the input, and wants the output and the end. Both texts are hexadecimal.
-fn expect(
-    rt: &impl Abort,
-    alloc: Global,
-    plan: &Plan,
-    pair: (&str, &str),
-    end: SessionEnd,
-) -> Result<(), Fail> {
-    let input = hex::decode(alloc, pair.0)?;
-    let output = hex::decode(alloc, pair.1)?;
-    let ran = run(alloc, plan, input.as_slice())?;
-    assert!(rt; ran.result == Ok(end), "to {}", pair.0);
-    assert!(rt; ran.bytes.as_slice() == output.as_slice(), "to {}", pair.0);
-    Ok(())
+/// A session of a new meter.
+pub(crate) fn run(alloc: Global, plan: &Plan, input: &[u8]) -> Result<Ran, AllocError> {
+    let password = Octets::from_slice(alloc, plan.password.as_bytes())?;
+    let mut meter = new_meter(alloc, plan.events)?;
+    Ok(serve(alloc, plan, input, &mut meter, &password))
 }
 
-/// The same with the input whole and byte by byte.
-fn expect_both(
-    rt: &impl Abort,
+/// Whether a session on the input gives this output and this end.
+pub(crate) fn gives(
     alloc: Global,
-    pair: (&str, &str),
+    plan: &Plan,
+    input: &[u8],
+    output: &[u8],
+    end: Result<SessionEnd, ServeFault>,
+) -> Result<bool, AllocError> {
+    let ran = run(alloc, plan, input)?;
+    Ok(ran.result == end && ran.bytes.as_slice() == output)
+}
+
+/// The same with the input whole and byte by byte, and an end that is no fault.
+pub(crate) fn gives_both(
+    alloc: Global,
+    password: &'static str,
+    input: &[u8],
+    output: &[u8],
     end: SessionEnd,
-) -> Result<(), Fail> {
-    expect(rt, alloc, &AMPLE, pair, end)?;
-    expect(rt, alloc, &BY_BYTES, pair, end)
+) -> Result<bool, AllocError> {
+    let whole = Plan { password, ..AMPLE };
+    let by_bytes = Plan {
+        password,
+        ..BY_BYTES
+    };
+    Ok(
+        gives(alloc, &whole, input, output, Ok(end))?
+            && gives(alloc, &by_bytes, input, output, Ok(end))?,
+    )
 }
 
 /// Puts a frame from one port to another at the end of a text.
@@ -217,169 +231,199 @@ pub(crate) fn talk(
     Ok((input, output))
 }
 
-/// Runs a talk whole and byte by byte.
-pub(crate) fn expect_talk(
-    rt: &impl Abort,
-    alloc: Global,
-    opening: (&str, &str),
-    port: u8,
-    pairs: &[(&str, &str)],
-) -> Result<(), Fail> {
-    let (input, output) = talk(alloc, opening, port, pairs)?;
-    for plan in &[AMPLE, BY_BYTES] {
-        let ran = run(alloc, plan, input.as_slice())?;
-        assert!(rt; ran.result == Ok(SessionEnd::Closed));
-        assert!(rt; ran.bytes.as_slice() == output.as_slice());
-    }
-    Ok(())
-}
-
 pub(crate) const PUBLIC: (&str, &str) = (PUBLIC_AARQ, PUBLIC_AARE);
 
 pub(crate) const MANAGEMENT: (&str, &str) = (MANAGEMENT_AARQ, MANAGEMENT_AARE);
 
-#[test]
-fn a_public_client_associates_and_reads(rt: HostRuntime) -> Result<(), Fail> {
-    let alloc = rt.alloc();
-    expect_both(&rt, alloc, PUBLIC, SessionEnd::Closed)?;
-    expect_talk(
-        &rt,
-        alloc,
-        PUBLIC,
-        16,
-        &[("C001C10046000060030AFF0300", "C401C1001601")],
-    )
-}
+/// What a session shows, the password of the management client, what is sent and answered, in hexadecimal, and the end.
+type Session = (
+    &'static str,
+    &'static str,
+    (&'static str, &'static str),
+    SessionEnd,
+);
 
-#[test]
-fn a_request_before_an_association_is_refused(rt: HostRuntime) -> Result<(), Fail> {
-    expect_both(
-        &rt,
-        rt.alloc(),
+const SESSIONS: [Session; 14] = [
+    (
+        "a public client associates",
+        "12345678",
+        PUBLIC,
+        SessionEnd::Closed,
+    ),
+    (
+        "a request before an association is refused",
+        "12345678",
         (PUBLIC_GET, "0001000100100003D80101"),
         SessionEnd::Closed,
-    )
-}
-
-#[test]
-fn only_the_management_client_writes_the_mode(rt: HostRuntime) -> Result<(), Fail> {
-    let alloc = rt.alloc();
-    let set = "C101C10046000060030AFF04001602";
-    expect_talk(&rt, alloc, PUBLIC, 16, &[(set, "C501C103")])?;
-    expect_talk(&rt, alloc, MANAGEMENT, 1, &[(set, "C501C100")])
-}
-
-#[test]
-fn a_wrong_password_is_refused(rt: HostRuntime) -> Result<(), Fail> {
-    let plan = Plan {
-        password: "12345679",
-        ..AMPLE
-    };
-    let refused = "00010001000100196117A109060760857405080101A203020101A305A10302010D";
-    expect(
-        &rt,
-        rt.alloc(),
-        &plan,
-        (MANAGEMENT_AARQ, refused),
+    ),
+    (
+        "a wrong password is refused",
+        "12345679",
+        (
+            MANAGEMENT_AARQ,
+            "00010001000100196117A109060760857405080101A203020101A305A10302010D",
+        ),
         SessionEnd::Closed,
-    )
+    ),
+    (
+        "a header of another version ends the session",
+        "12345678",
+        ("0002001000010000", ""),
+        SessionEnd::BadVersion,
+    ),
+    (
+        "a header that tells 1,025 bytes ends it",
+        "12345678",
+        ("0001001000010401", ""),
+        SessionEnd::TooLong,
+    ),
+    (
+        "a header that tells 65,535 bytes ends it",
+        "12345678",
+        ("000100100001FFFF", ""),
+        SessionEnd::TooLong,
+    ),
+    (
+        "after a header of another version nothing is answered",
+        "12345678",
+        (
+            "0001001000010001CA0002001000010000000100100001000DC001C10046000060030AFF0300",
+            "0001000100100003D80202",
+        ),
+        SessionEnd::BadVersion,
+    ),
+    (
+        "an opening is refused by its port",
+        "12345678",
+        (
+            "000100010001001F601DA109060760857405080101BE10040E01000000065F1F0400007E1F04B0",
+            "00010001000100196117A109060760857405080101A203020101A305A10302010E",
+        ),
+        SessionEnd::Closed,
+    ),
+    (
+        "an opening is refused by its version",
+        "12345678",
+        (
+            "000100100001001F601DA109060760857405080101BE10040E01000000055F1F0400007E1F04B0",
+            "0001000100100021611FA109060760857405080101A203020101A305A103020101BE0604040E010601",
+        ),
+        SessionEnd::Closed,
+    ),
+    (
+        "an opening is refused by its PDU size",
+        "12345678",
+        (
+            "000100100001001F601DA109060760857405080101BE10040E01000000065F1F0400007E1F003F",
+            "0001000100100021611FA109060760857405080101A203020101A305A103020101BE0604040E010603",
+        ),
+        SessionEnd::Closed,
+    ),
+    (
+        "a frame to another port is not answered",
+        "12345678",
+        ("0001001000020001C0", ""),
+        SessionEnd::Closed,
+    ),
+    (
+        "an unknown tag has an exception",
+        "12345678",
+        ("0001001000010001CA", "0001000100100003D80202"),
+        SessionEnd::Closed,
+    ),
+    (
+        "no byte at all has an exception",
+        "12345678",
+        ("0001001000010000", "0001000100100003D80202"),
+        SessionEnd::Closed,
+    ),
+    // After the opening of the public client come a request from port 1 and one from port 16.
+    (
+        "another port has no association",
+        "12345678",
+        (
+            "000100100001001F601DA109060760857405080101BE10040E01000000065F1F0400007E1F04B0\
+            000100010001000DC001C10046000060030AFF0300\
+            000100100001000DC001C10046000060030AFF0300",
+            "000100010010002B6129A109060760857405080101A203020100A305A103020100BE10040E0800065F1F0400001E1904000007\
+            0001000100010003D80101\
+            0001000100100006C401C1001601",
+        ),
+        SessionEnd::Closed,
+    ),
+];
+
+/// Whether a session is answered as it is to be, whole and byte by byte.
+fn is_answered(alloc: Global, session: &Session) -> Result<bool, Fail> {
+    let (_, password, pair, end) = session;
+    let input = hex::decode(alloc, pair.0)?;
+    let output = hex::decode(alloc, pair.1)?;
+    Ok(gives_both(alloc, password, input.as_slice(), output.as_slice(), *end)?)
 }
 
 #[test]
-fn a_cut_opening_is_not_answered(rt: HostRuntime) -> Result<(), Fail> {
-    let alloc = rt.alloc();
-    let opening = hex::decode(alloc, PUBLIC_AARQ)?;
-    assert_eq!(rt; opening.len(), 39);
-    for size in 0..39 {
-        let ran = run(alloc, &AMPLE, &opening[..size])?;
-        let end = if size == 0 {
-            SessionEnd::Closed
-        } else {
-            SessionEnd::Cut
-        };
-        assert!(rt; ran.result == Ok(end), "after {size} bytes");
-        assert!(rt; ran.bytes.is_empty(), "after {size} bytes");
+fn sessions_are_answered_to_their_end(rt: HostRuntime) -> Result<(), Fail> {
+    for session in &SESSIONS {
+        assert!(rt; is_answered(rt.alloc(), session)?, "{}", session.0);
     }
     Ok(())
 }
 
-#[test]
-fn a_wrong_header_ends_the_session(rt: HostRuntime) -> Result<(), Fail> {
-    let alloc = rt.alloc();
-    expect_both(&rt, alloc, ("0002001000010000", ""), SessionEnd::BadVersion)?;
-    expect_both(&rt, alloc, ("0001001000010401", ""), SessionEnd::TooLong)?;
-    expect_both(&rt, alloc, ("000100100001FFFF", ""), SessionEnd::TooLong)?;
-    let after = "0001001000010001CA0002001000010000000100100001000DC001C10046000060030AFF0300";
-    expect_both(
-        &rt,
-        alloc,
-        (after, "0001000100100003D80202"),
-        SessionEnd::BadVersion,
-    )
-}
+/// The opening of a public client whose PDU size is 64, and its answer.
+pub(crate) const SMALL: (&str, &str) = (
+    "000100100001001F601DA109060760857405080101BE10040E01000000065F1F0400007E1F0040",
+    PUBLIC_AARE,
+);
 
-#[test]
-fn a_body_that_nests_too_deep_is_unreadable(rt: HostRuntime) -> Result<(), Fail> {
-    let deep = "C101C10046000060030AFF040002010201020102010201020102010201020100";
-    expect_talk(&rt, rt.alloc(), PUBLIC, 16, &[(deep, "D80103")])
-}
+/// What a talk shows, its opening, the client's port, and the requests and their answers.
+type Talked = (
+    &'static str,
+    (&'static str, &'static str),
+    u8,
+    &'static [(&'static str, &'static str)],
+);
 
-#[test]
-fn an_opening_is_refused_by_what_is_wrong_with_it(rt: HostRuntime) -> Result<(), Fail> {
-    let alloc = rt.alloc();
-    let port = "000100010001001F601DA109060760857405080101BE10040E01000000065F1F0400007E1F04B0";
-    let by_port = "00010001000100196117A109060760857405080101A203020101A305A10302010E";
-    expect_both(&rt, alloc, (port, by_port), SessionEnd::Closed)?;
-    let version = "000100100001001F601DA109060760857405080101BE10040E01000000055F1F0400007E1F04B0";
-    let by_version =
-        "0001000100100021611FA109060760857405080101A203020101A305A103020101BE0604040E010601";
-    expect_both(&rt, alloc, (version, by_version), SessionEnd::Closed)?;
-    let size = "000100100001001F601DA109060760857405080101BE10040E01000000065F1F0400007E1F003F";
-    let by_size =
-        "0001000100100021611FA109060760857405080101A203020101A305A103020101BE0604040E010603";
-    expect_both(&rt, alloc, (size, by_size), SessionEnd::Closed)
-}
+/// Ten times the logical name of the switch is asked for: 91 bytes are to be answered.
+const TEN_NAMES: &str =
+    "C003C10A0046000060030AFF01000046000060030AFF01000046000060030AFF01000046000060030AFF01000046000060030AFF01000046000060030AFF01000046000060030AFF01000046000060030AFF01000046000060030AFF01000046000060030AFF0100";
 
-#[test]
-fn frames_that_are_no_requests(rt: HostRuntime) -> Result<(), Fail> {
-    let alloc = rt.alloc();
-    expect_both(&rt, alloc, ("0001001000020001C0", ""), SessionEnd::Closed)?;
-    expect_both(
-        &rt,
-        alloc,
-        ("0001001000010001CA", "0001000100100003D80202"),
-        SessionEnd::Closed,
-    )?;
-    expect_both(
-        &rt,
-        alloc,
-        ("0001001000010000", "0001000100100003D80202"),
-        SessionEnd::Closed,
-    )
-}
+/// The two blocks in which they are answered.
+const FIRST_BLOCK: &str =
+    "C402C1000000000100340A000906000060030AFF000906000060030AFF000906000060030AFF000906000060030AFF000906000060030AFF000906000060";
 
-#[test]
-fn another_port_has_no_association(rt: HostRuntime) -> Result<(), Fail> {
-    let alloc = rt.alloc();
-    let (mut input, mut output) = talk(
-        alloc,
+const SECOND_BLOCK: &str =
+    "C402C101000000020027030AFF000906000060030AFF000906000060030AFF000906000060030AFF000906000060030AFF";
+
+const TALKS: [Talked; 8] = [
+    (
+        "a public client reads",
         PUBLIC,
+        16,
+        &[("C001C10046000060030AFF0300", "C401C1001601")],
+    ),
+    (
+        "the public client does not write the mode",
+        PUBLIC,
+        16,
+        &[("C101C10046000060030AFF04001602", "C501C103")],
+    ),
+    (
+        "the management client writes the mode",
+        MANAGEMENT,
         1,
-        &[("C001C10046000060030AFF0300", "D80101")],
-    )?;
-    input.extend_from_slice(hex::decode(alloc, PUBLIC_GET)?.as_slice())?;
-    output.extend_from_slice(hex::decode(alloc, PUBLIC_STATE)?.as_slice())?;
-    let ran = run(alloc, &AMPLE, input.as_slice())?;
-    assert!(rt; ran.result == Ok(SessionEnd::Closed));
-    assert!(rt; ran.bytes.as_slice() == output.as_slice());
-    Ok(())
-}
-
-#[test]
-fn an_action_comes_in_blocks(rt: HostRuntime) -> Result<(), Fail> {
-    expect_talk(
-        &rt,
-        rt.alloc(),
+        &[("C101C10046000060030AFF04001602", "C501C100")],
+    ),
+    (
+        "a body that nests too deep is unreadable",
+        PUBLIC,
+        16,
+        &[(
+            "C101C10046000060030AFF040002010201020102010201020102010201020100",
+            "D80103",
+        )],
+    ),
+    (
+        "an action comes in blocks",
         MANAGEMENT,
         1,
         &[
@@ -389,15 +433,9 @@ fn an_action_comes_in_blocks(rt: HostRuntime) -> Result<(), Fail> {
             ("C001C10046000060030AFF0300", "C401C1001600"),
             ("C306C101000000020100", "C701C11000"),
         ],
-    )
-}
-
-#[test]
-fn several_attributes_are_read_at_once(rt: HostRuntime) -> Result<(), Fail> {
-    let alloc = rt.alloc();
-    expect_talk(
-        &rt,
-        alloc,
+    ),
+    (
+        "several attributes are read at once",
         PUBLIC,
         16,
         &[
@@ -407,47 +445,78 @@ fn several_attributes_are_read_at_once(rt: HostRuntime) -> Result<(), Fail> {
             ),
             ("C003C100", "C403C100"),
         ],
-    )?;
-    expect_talk(&rt, alloc, MANAGEMENT, 1, &[("C003C100", "D80202")])
-}
-
-/// The opening of a public client whose PDU size is 64, and its answer.
-pub(crate) const SMALL: (&str, &str) = (
-    "000100100001001F601DA109060760857405080101BE10040E01000000065F1F0400007E1F0040",
-    PUBLIC_AARE,
-);
-
-#[test]
-fn a_long_answer_goes_in_blocks(rt: HostRuntime) -> Result<(), Fail> {
-    // Ten times the logical name of the switch: 91 bytes.
-    let name = "0046000060030AFF0100";
-    let request =
-        "C003C10A0046000060030AFF01000046000060030AFF01000046000060030AFF01000046000060030AFF01000046000060030AFF01000046000060030AFF01000046000060030AFF01000046000060030AFF01000046000060030AFF01000046000060030AFF0100";
-    assert_eq!(rt; request.len(), 8 + 10 * name.len());
-    let first =
-        "C402C1000000000100340A000906000060030AFF000906000060030AFF000906000060030AFF000906000060030AFF000906000060030AFF000906000060";
-    let second =
-        "C402C101000000020027030AFF000906000060030AFF000906000060030AFF000906000060030AFF000906000060030AFF";
-    expect_talk(
-        &rt,
-        rt.alloc(),
+    ),
+    (
+        "the management client reads no list",
+        MANAGEMENT,
+        1,
+        &[("C003C100", "D80202")],
+    ),
+    (
+        "a long answer goes in blocks",
         SMALL,
         16,
         &[
-            (request, first),
-            ("C002C100000001", second),
+            (TEN_NAMES, FIRST_BLOCK),
+            ("C002C100000001", SECOND_BLOCK),
             ("C002C100000002", "C402C101000000020110"),
-            (request, first),
+            (TEN_NAMES, FIRST_BLOCK),
             ("C002C100000007", "C402C101000000070113"),
             ("C002C100000001", "C402C101000000010110"),
             ("C001C10046000060030AFF0300", "C401C1001601"),
         ],
+    ),
+];
+
+/// Whether a talk goes as it is to go, whole and byte by byte.
+fn is_talked(alloc: Global, talked: &Talked) -> Result<bool, Fail> {
+    let (_, opening, port, pairs) = talked;
+    let (input, output) = talk(alloc, *opening, *port, pairs)?;
+    let end = SessionEnd::Closed;
+    Ok(gives_both(alloc, "12345678", input.as_slice(), output.as_slice(), end)?)
+}
+
+#[test]
+fn talks_go_on_until_the_input_ends(rt: HostRuntime) -> Result<(), Fail> {
+    assert_eq!(rt; TEN_NAMES.len(), 8 + 10 * "0046000060030AFF0100".len());
+    for talked in &TALKS {
+        assert!(rt; is_talked(rt.alloc(), talked)?, "{}", talked.0);
+    }
+    Ok(())
+}
+
+/// Whether the first bytes of an opening, so many, end a session that answers nothing.
+fn is_cut(alloc: Global, opening: &[u8], size: usize) -> Result<bool, AllocError> {
+    let end = if size == 0 {
+        SessionEnd::Closed
+    } else {
+        SessionEnd::Cut
+    };
+    gives(
+        alloc,
+        &AMPLE,
+        &opening[..size.min(opening.len())],
+        &[],
+        Ok(end),
     )
 }
 
-/// Whether these are the first bytes of a text, so many.
-fn is_front(text: &[u8], size: usize, bytes: &[u8]) -> bool {
-    size <= text.len() && &text[..size] == bytes
+#[test]
+fn a_cut_opening_is_not_answered(rt: HostRuntime) -> Result<(), Fail> {
+    let opening = hex::decode(rt.alloc(), PUBLIC_AARQ)?;
+    assert_eq!(rt; opening.len(), 39);
+    for size in 0..39 {
+        assert!(rt;
+            is_cut(rt.alloc(), opening.as_slice(), size)?,
+            "after {size} bytes"
+        );
+    }
+    Ok(())
+}
+
+/// The first bytes of a text, so many.
+pub(crate) fn front(text: &[u8], size: usize) -> &[u8] {
+    &text[..size.min(text.len())]
 }
 
 /// The opening of the public client, a GET, and their answers.
@@ -460,62 +529,60 @@ fn short_talk(alloc: Global) -> Result<(Vec<u8>, Vec<u8>), Fail> {
     )
 }
 
+/// Whether a session of a short talk fails so after it has written so many bytes.
+fn fails_after(
+    alloc: Global,
+    plan: &Plan,
+    texts: &(Vec<u8>, Vec<u8>),
+    size: usize,
+    fault: ServeFault,
+) -> Result<bool, AllocError> {
+    let written = front(texts.1.as_slice(), size);
+    gives(alloc, plan, texts.0.as_slice(), written, Err(fault))
+}
+
 #[test]
 fn a_read_fails(rt: HostRuntime) -> Result<(), Fail> {
-    let alloc = rt.alloc();
-    let (input, output) = short_talk(alloc)?;
-    assert_eq!(rt; (input.len(), output.len()), (60, 65));
+    let texts = short_talk(rt.alloc())?;
+    assert_eq!(rt; (texts.0.len(), texts.1.len()), (60, 65));
     for failing in 1..62 {
         let plan = Plan {
             failing_read: failing,
             ..BY_BYTES
         };
-        let ran = run(alloc, &plan, input.as_slice())?;
         let size = match failing {
             0..40 => 0,
             40..61 => 51,
             _ => 65,
         };
-        assert!(rt; ran.result == Err(ServeFault::Read), "at read {failing}");
-        assert!(rt;
-            is_front(output.as_slice(), size, ran.bytes.as_slice()),
-            "at read {failing}"
-        );
+        let is_so = fails_after(rt.alloc(), &plan, &texts, size, ServeFault::Read)?;
+        assert!(rt; is_so, "at read {failing}");
     }
     Ok(())
 }
 
 #[test]
 fn a_write_fails(rt: HostRuntime) -> Result<(), Fail> {
-    let alloc = rt.alloc();
-    let (input, output) = short_talk(alloc)?;
-    for (failing, size) in [(1, 0), (2, 51)] {
-        for piece in [1, 1_024] {
-            let plan = Plan {
-                failing_write: failing,
-                piece,
-                ..AMPLE
-            };
-            let ran = run(alloc, &plan, input.as_slice())?;
-            assert!(rt; ran.result == Err(ServeFault::Write), "at write {failing}");
-            assert!(rt;
-                is_front(output.as_slice(), size, ran.bytes.as_slice()),
-                "at write {failing}"
-            );
-        }
+    let texts = short_talk(rt.alloc())?;
+    for (failing, piece, size) in [(1, 1, 0), (1, 1_024, 0), (2, 1, 51), (2, 1_024, 51)] {
+        let plan = Plan {
+            failing_write: failing,
+            piece,
+            ..AMPLE
+        };
+        let is_so = fails_after(rt.alloc(), &plan, &texts, size, ServeFault::Write)?;
+        assert!(rt; is_so, "at write {failing}");
     }
     Ok(())
 }
 
 #[test]
 fn the_meter_takes_two_events(rt: HostRuntime) -> Result<(), Fail> {
-    let alloc = rt.alloc();
     let get = ("C001C10046000060030AFF0300", "C401C1001601");
-    let (input, output) = talk(alloc, PUBLIC, 16, &[get, get, get, get])?;
-    assert_eq!(rt; output.len(), 51 + 4 * 14);
+    let texts = talk(rt.alloc(), PUBLIC, 16, &[get, get, get, get])?;
+    assert_eq!(rt; texts.1.len(), 51 + 4 * 14);
     let plan = Plan { events: 2, ..AMPLE };
-    let ran = run(alloc, &plan, input.as_slice())?;
-    assert!(rt; ran.result == Err(ServeFault::Exhausted));
-    assert!(rt; is_front(output.as_slice(), 51 + 2 * 14, ran.bytes.as_slice()));
+    let size = 51 + 2 * 14;
+    assert!(rt; fails_after(rt.alloc(), &plan, &texts, size, ServeFault::Exhausted)?);
     Ok(())
 }

@@ -1,7 +1,8 @@
-use crate::sessions::{AMPLE, BY_BYTES, MANAGEMENT, PUBLIC_AARQ, SMALL, push_payload, run};
+use crate::sessions::{
+    AMPLE, BY_BYTES, MANAGEMENT, PUBLIC_AARQ, SMALL, front, gives_both, push_payload, run,
+};
 use session_core::SessionEnd;
-use std::alloc::Global;
-use std::process::Abort;
+use std::alloc::{AllocError, Global};
 use std::test::Fail;
 
 /// What the object list of a public client tells of each object: class, version, name, attributes and methods, with the rights to them.
@@ -84,20 +85,32 @@ impl Talk {
         if size == 0 {
             return Err(Fail::from("no size"));
         }
-        let mut request = hex::decode(alloc, request)?;
         let mut count: usize = 0;
         for piece in raw.chunks(size) {
+            let is_last = count.saturating_add(1).saturating_mul(size) >= raw.len();
+            self.read_block(alloc, request, count, is_last, piece)?;
             count = count.saturating_add(1);
-            let is_last = count.saturating_mul(size) >= raw.len();
-            let mut answer = hex::decode(alloc, "C402C1")?;
-            push_number(&mut answer, is_last, count)?;
-            answer.push(0x00)?;
-            push_raw(&mut answer, piece)?;
-            self.push(request.as_slice(), answer.as_slice())?;
-            request = hex::decode(alloc, "C002C1")?;
-            request.extend_from_slice(&u32::try_from(count)?.to_be_bytes())?;
         }
         Ok(())
+    }
+
+    /// The request of the block after so many, and that block.
+    fn read_block(
+        &mut self,
+        alloc: Global,
+        request: &str,
+        before: usize,
+        is_last: bool,
+        piece: &[u8],
+    ) -> Result<(), Fail> {
+        let asked = if before == 0 {
+            hex::decode(alloc, request)?
+        } else {
+            numbered(alloc, "C002C1", before)?
+        };
+        let head = if is_last { "C402C101" } else { "C402C100" };
+        let answer = block(alloc, head, before.saturating_add(1), &[0x00], piece)?;
+        self.push(asked.as_slice(), answer.as_slice())
     }
 
     /// A SET of the script table in blocks of so many bytes.
@@ -109,48 +122,64 @@ impl Talk {
         for piece in raw.chunks(size) {
             count = count.saturating_add(1);
             let is_last = count.saturating_mul(size) >= raw.len();
-            let head = if count == 1 {
-                "C102C1000900000A006AFF0200"
-            } else {
-                "C103C1"
-            };
-            let mut request = hex::decode(alloc, head)?;
-            push_number(&mut request, is_last, count)?;
-            push_raw(&mut request, piece)?;
-            let mut answer = hex::decode(alloc, if is_last { "C503C100" } else { "C502C1" })?;
-            answer.extend_from_slice(&u32::try_from(count)?.to_be_bytes())?;
-            self.push(request.as_slice(), answer.as_slice())?;
+            self.write_block(alloc, count, is_last, piece)?;
         }
         Ok(())
     }
 
-    /// Runs it whole and byte by byte.
-    fn expect(&self, rt: &impl Abort, alloc: Global) -> Result<(), Fail> {
-        for plan in &[AMPLE, BY_BYTES] {
-            let ran = run(alloc, plan, self.input.as_slice())?;
-            assert!(rt; ran.result == Ok(SessionEnd::Closed));
-            assert!(rt; ran.bytes.as_slice() == self.output.as_slice());
+    /// The block of a number, and its answer.
+    fn write_block(
+        &mut self,
+        alloc: Global,
+        number: usize,
+        is_last: bool,
+        piece: &[u8],
+    ) -> Result<(), Fail> {
+        let (head, answered) = match (number, is_last) {
+            (1, true) => ("C102C1000900000A006AFF020001", "C503C100"),
+            (1, false) => ("C102C1000900000A006AFF020000", "C502C1"),
+            (_, true) => ("C103C101", "C503C100"),
+            (_, false) => ("C103C100", "C502C1"),
+        };
+        let request = block(alloc, head, number, &[], piece)?;
+        let answer = numbered(alloc, answered, number)?;
+        self.push(request.as_slice(), answer.as_slice())
+    }
+
+    /// The same of several.
+    fn ask_all(&mut self, alloc: Global, pairs: &[(&str, &str)]) -> Result<(), Fail> {
+        for pair in pairs {
+            self.ask(alloc, *pair)?;
         }
         Ok(())
     }
 
-    /// Runs its first bytes, so many, whole and byte by byte: they are answered as far as the requests are whole.
-    fn expect_front(&self, rt: &impl Abort, alloc: Global, size: usize) -> Result<(), Fail> {
+    /// Whether it goes so, whole and byte by byte.
+    fn goes(&self, alloc: Global) -> Result<bool, AllocError> {
+        self.goes_so_far(alloc, self.input.len())
+    }
+
+    /// Whether its first bytes, so many, are answered as far as the requests are whole, whole and byte by byte.
+    fn goes_so_far(&self, alloc: Global, size: usize) -> Result<bool, AllocError> {
         let (sent, answered) = last_end(self.ends.as_slice(), size);
         let end = if sent == size {
             SessionEnd::Closed
         } else {
             SessionEnd::Cut
         };
-        for plan in &[AMPLE, BY_BYTES] {
-            let ran = run(alloc, plan, front(self.input.as_slice(), size))?;
-            assert!(rt; ran.result == Ok(end), "after {size} bytes");
-            assert!(rt;
-                ran.bytes.as_slice() == front(self.output.as_slice(), answered),
-                "after {size} bytes"
-            );
-        }
-        Ok(())
+        gives_both(
+            alloc,
+            "12345678",
+            front(self.input.as_slice(), size),
+            front(self.output.as_slice(), answered),
+            end,
+        )
+    }
+
+    /// Whether its answers end in the bytes of this text.
+    fn ends_in(&self, alloc: Global, text: &str) -> Result<bool, Fail> {
+        let last = hex::decode(alloc, text)?;
+        Ok(self.output.as_slice().ends_with(last.as_slice()))
     }
 }
 
@@ -165,16 +194,25 @@ fn last_end(ends: &[(usize, usize)], size: usize) -> (usize, usize) {
     last
 }
 
-/// The first bytes of a text, so many.
-fn front(text: &[u8], size: usize) -> &[u8] {
-    &text[..size.min(text.len())]
+/// A payload's head in hexadecimal, and a number behind it.
+fn numbered(alloc: Global, head: &str, number: usize) -> Result<Vec<u8>, Fail> {
+    let mut payload = hex::decode(alloc, head)?;
+    payload.extend_from_slice(&u32::try_from(number)?.to_be_bytes())?;
+    Ok(payload)
 }
 
-/// Puts whether a block is the last, and its number, at the end of a payload.
-fn push_number(payload: &mut Vec<u8>, is_last: bool, number: usize) -> Result<(), Fail> {
-    payload.push(u8::from(is_last))?;
-    payload.extend_from_slice(&u32::try_from(number)?.to_be_bytes())?;
-    Ok(())
+/// The same, with a mark behind it, and bytes with their length.
+fn block(
+    alloc: Global,
+    head: &str,
+    number: usize,
+    mark: &[u8],
+    raw: &[u8],
+) -> Result<Vec<u8>, Fail> {
+    let mut payload = numbered(alloc, head, number)?;
+    payload.extend_from_slice(mark)?;
+    push_raw(&mut payload, raw)?;
+    Ok(payload)
 }
 
 /// Puts bytes and their length at the end of a payload.
@@ -192,52 +230,77 @@ fn push_raw(payload: &mut Vec<u8>, raw: &[u8]) -> Result<(), Fail> {
     Ok(())
 }
 
+/// Reads the object list in blocks of 52 bytes.
+fn read_list(alloc: Global, talk: &mut Talk) -> Result<(), Fail> {
+    let list = object_list(alloc)?;
+    talk.read(alloc, GET_LIST, list.as_slice(), 52)
+}
+
 #[test]
 fn the_object_list_goes_in_13_blocks(rt: HostRuntime) -> Result<(), Fail> {
     let alloc = rt.alloc();
-    let list = object_list(alloc)?;
-    assert_eq!(rt; list.len(), 650);
+    assert_eq!(rt; object_list(alloc)?.len(), 650);
     let mut talk = Talk::new(alloc, SMALL, 16)?;
-    talk.read(alloc, GET_LIST, list.as_slice(), 52)?;
+    read_list(alloc, &mut talk)?;
     assert_eq!(rt; talk.ends.len(), 1 + 13);
-    let last = hex::decode(
-        alloc,
-        "0001000100100024C402C1010000000D001A16000002030F0916000002030F0A16000002030F0B1600000100",
-    )?;
-    assert!(rt; talk.output.as_slice().ends_with(last.as_slice()));
-    talk.expect(&rt, alloc)
+    let last =
+        "0001000100100024C402C1010000000D001A16000002030F0916000002030F0A16000002030F0B1600000100";
+    assert!(rt; talk.ends_in(alloc, last)? && talk.goes(alloc)?);
+    Ok(())
 }
+
+/// Reads the first block of the object list, and then goes on with a block that isn't the next.
+fn read_wrong_block(alloc: Global, talk: &mut Talk) -> Result<(), Fail> {
+    let list = object_list(alloc)?;
+    let request = hex::decode(alloc, GET_LIST)?;
+    let mut first = hex::decode(alloc, "C402C100000000010034")?;
+    first.extend_from_slice(front(list.as_slice(), 52))?;
+    talk.push(request.as_slice(), first.as_slice())
+}
+
+const AFTER_A_WRONG_BLOCK: [(&str, &str); 3] = [
+    ("C002C100000007", "C402C101000000070113"),
+    ("C002C100000001", "C402C101000000010110"),
+    GET_STATE,
+];
 
 #[test]
 fn a_wrong_block_number_ends_a_long_get(rt: HostRuntime) -> Result<(), Fail> {
     let alloc = rt.alloc();
-    let list = object_list(alloc)?;
-    let mut first = hex::decode(alloc, "C402C100000000010034")?;
-    first.extend_from_slice(front(list.as_slice(), 52))?;
     let mut talk = Talk::new(alloc, SMALL, 16)?;
-    talk.push(hex::decode(alloc, GET_LIST)?.as_slice(), first.as_slice())?;
-    talk.ask(alloc, ("C002C100000007", "C402C101000000070113"))?;
-    talk.ask(alloc, ("C002C100000001", "C402C101000000010110"))?;
-    talk.ask(alloc, GET_STATE)?;
-    talk.expect(&rt, alloc)
+    read_wrong_block(alloc, &mut talk)?;
+    talk.ask_all(alloc, &AFTER_A_WRONG_BLOCK)?;
+    assert!(rt; talk.goes(alloc)?);
+    Ok(())
 }
 
-#[test]
-fn two_object_lists_go_in_26_blocks(rt: HostRuntime) -> Result<(), Fail> {
-    let alloc = rt.alloc();
+/// The text of two object lists.
+fn two_lists(alloc: Global) -> Result<Vec<u8>, Fail> {
     let list = object_list(alloc)?;
     let mut lists = Vec::from_slice(alloc, &[0x02, 0x00])?;
     lists.extend_from_slice(list.as_slice())?;
     lists.push(0x00)?;
     lists.extend_from_slice(list.as_slice())?;
-    assert_eq!(rt; lists.len(), 1_303);
-    let mut talk = Talk::new(alloc, SMALL, 16)?;
+    Ok(lists)
+}
+
+/// Reads two object lists in blocks of 52 bytes.
+fn read_two_lists(alloc: Global, talk: &mut Talk) -> Result<(), Fail> {
+    let lists = two_lists(alloc)?;
     let request = "C003C102000F0000280000FF0200000F0000280000FF0200";
-    talk.read(alloc, request, lists.as_slice(), 52)?;
+    talk.read(alloc, request, lists.as_slice(), 52)
+}
+
+#[test]
+fn two_object_lists_go_in_26_blocks(rt: HostRuntime) -> Result<(), Fail> {
+    let alloc = rt.alloc();
+    assert_eq!(rt; two_lists(alloc)?.len(), 1_303);
+    let mut talk = Talk::new(alloc, SMALL, 16)?;
+    read_two_lists(alloc, &mut talk)?;
     assert_eq!(rt; talk.ends.len(), 1 + 26);
-    let last = hex::decode(alloc, "000100010010000DC402C1010000001A0003000100")?;
-    assert!(rt; talk.output.as_slice().ends_with(last.as_slice()));
-    talk.expect(&rt, alloc)
+    let last = "000100010010000DC402C1010000001A0003000100";
+    assert!(rt; talk.ends_in(alloc, last)? && talk.goes(alloc)?);
+    Ok(())
 }
 
 /// An opening of the public client that proposes only GET, in PDUs of 64 bytes, and its answer.
@@ -246,15 +309,20 @@ const ONLY_GET: (&str, &str) = (
     "000100010010002B6129A109060760857405080101A203020100A305A103020100BE10040E0800065F1F040000001004000007",
 );
 
+/// The object list and a list of attributes are refused, and the state is read.
+const WITHOUT_BLOCKS: [(&str, &str); 4] = [
+    (GET_LIST, "C401C101FA"),
+    ("C002C100000001", "D80202"),
+    ("C003C100", "D80202"),
+    GET_STATE,
+];
+
 #[test]
 fn a_client_without_block_transfer_reads_no_long_list(rt: HostRuntime) -> Result<(), Fail> {
-    let alloc = rt.alloc();
-    let mut talk = Talk::new(alloc, ONLY_GET, 16)?;
-    talk.ask(alloc, (GET_LIST, "C401C101FA"))?;
-    talk.ask(alloc, ("C002C100000001", "D80202"))?;
-    talk.ask(alloc, ("C003C100", "D80202"))?;
-    talk.ask(alloc, GET_STATE)?;
-    talk.expect(&rt, alloc)
+    let mut talk = Talk::new(rt.alloc(), ONLY_GET, 16)?;
+    talk.ask_all(rt.alloc(), &WITHOUT_BLOCKS)?;
+    assert!(rt; talk.goes(rt.alloc())?);
+    Ok(())
 }
 
 /// The management client writes a threshold and disconnects, both in blocks, and reads after each.
@@ -275,71 +343,64 @@ const IN_BLOCKS: [(&str, &str); 9] = [
 
 #[test]
 fn a_cut_talk_is_answered_so_far(rt: HostRuntime) -> Result<(), Fail> {
-    let alloc = rt.alloc();
-    let mut talk = Talk::new(alloc, MANAGEMENT, 1)?;
-    for pair in IN_BLOCKS {
-        talk.ask(alloc, pair)?;
-    }
+    let mut talk = Talk::new(rt.alloc(), MANAGEMENT, 1)?;
+    talk.ask_all(rt.alloc(), &IN_BLOCKS)?;
     assert_eq!(rt; talk.ends.len(), 1 + 9);
     for size in 0..=talk.input.len() {
-        talk.expect_front(&rt, alloc, size)?;
+        assert!(rt; talk.goes_so_far(rt.alloc(), size)?, "after {size} bytes");
     }
     Ok(())
 }
 
+const NO_VALUES: [(&str, &str); 4] = [
+    // Nine structures in one another.
+    (
+        "C102C10046000060030AFF040001000000011302010201020102010201020102010201020100",
+        "C503C1FA00000001",
+    ),
+    // A byte behind the value.
+    (
+        "C102C10046000060030AFF0400010000000103160200",
+        "C503C1FA00000001",
+    ),
+    // Each has ended its transfer.
+    ("C103C101000000020116", "C503C11200000002"),
+    // A value that isn't whole.
+    ("C304C10046000060030AFF010100000001020600", "C701C1FA00"),
+];
+
 #[test]
 fn joined_bytes_that_are_no_value_are_refused(rt: HostRuntime) -> Result<(), Fail> {
-    let alloc = rt.alloc();
-    let mut talk = Talk::new(alloc, MANAGEMENT, 1)?;
-    // Nine structures in one another.
-    let deep = "C102C10046000060030AFF040001000000011302010201020102010201020102010201020100";
-    talk.ask(alloc, (deep, "C503C1FA00000001"))?;
-    // A byte behind the value.
-    let long = "C102C10046000060030AFF0400010000000103160200";
-    talk.ask(alloc, (long, "C503C1FA00000001"))?;
-    // Each has ended its transfer.
-    talk.ask(alloc, ("C103C101000000020116", "C503C11200000002"))?;
-    // A value that isn't whole.
-    let short = "C304C10046000060030AFF010100000001020600";
-    talk.ask(alloc, (short, "C701C1FA00"))?;
-    talk.expect(&rt, alloc)
+    let mut talk = Talk::new(rt.alloc(), MANAGEMENT, 1)?;
+    talk.ask_all(rt.alloc(), &NO_VALUES)?;
+    assert!(rt; talk.goes(rt.alloc())?);
+    Ok(())
 }
 
-/// Runs an opening whose byte is changed so, whole and byte by byte, which must be alike: some answer to the client, and no end before the input's.
-fn expect_alike(
-    rt: &impl Abort,
-    alloc: Global,
-    opening: &[u8],
-    at: usize,
-    change: u8,
-) -> Result<(), Fail> {
+/// Whether a text whose byte is changed so is answered alike whole and byte by byte: somehow, and with no end before the input's.
+fn is_alike(alloc: Global, opening: &[u8], at: usize, change: u8) -> Result<bool, AllocError> {
     let mut changed = Vec::from_slice(alloc, opening)?;
     if let Some(byte) = changed.get_mut(at) {
         *byte ^= change;
     }
     let whole = run(alloc, &AMPLE, changed.as_slice())?;
     let cut = run(alloc, &BY_BYTES, changed.as_slice())?;
-    assert!(rt;
-        whole.result == Ok(SessionEnd::Closed),
-        "at {at} by {change}"
-    );
-    assert!(rt; cut.result == Ok(SessionEnd::Closed), "at {at} by {change}");
-    assert!(rt; !whole.bytes.is_empty(), "at {at} by {change}");
-    assert!(rt;
-        whole.bytes.as_slice() == cut.bytes.as_slice(),
-        "at {at} by {change}"
-    );
-    Ok(())
+    Ok(
+        whole.result == Ok(SessionEnd::Closed)
+            && cut.result == Ok(SessionEnd::Closed)
+            && !whole.bytes.is_empty()
+            && whole.bytes.as_slice() == cut.bytes.as_slice(),
+    )
 }
 
 #[test]
 fn an_opening_with_a_changed_byte(rt: HostRuntime) -> Result<(), Fail> {
-    let alloc = rt.alloc();
-    let opening = hex::decode(alloc, PUBLIC_AARQ)?;
+    let opening = hex::decode(rt.alloc(), PUBLIC_AARQ)?;
     assert_eq!(rt; opening.len(), 39);
     for at in 8..39 {
         for change in 1..=255u8 {
-            expect_alike(&rt, alloc, opening.as_slice(), at, change)?;
+            let alike = is_alike(rt.alloc(), opening.as_slice(), at, change)?;
+            assert!(rt; alike, "at {at} by {change}");
         }
     }
     Ok(())
@@ -371,20 +432,25 @@ fn full_table(alloc: Global) -> Result<Vec<u8>, Fail> {
     Ok(table)
 }
 
+/// Writes the full table in blocks of so many bytes, and reads it: the answer's PDUs have 1,024 bytes, of which 12 are the header's.
+fn write_and_read_table(alloc: Global, talk: &mut Talk, size: usize) -> Result<(), Fail> {
+    let table = full_table(alloc)?;
+    talk.write_scripts(alloc, table.as_slice(), size)?;
+    talk.read(alloc, "C001C1000900000A006AFF0200", table.as_slice(), 1_012)
+}
+
 #[test]
 fn a_full_table_is_written_and_read_in_blocks(rt: HostRuntime) -> Result<(), Fail> {
     let alloc = rt.alloc();
-    let table = full_table(alloc)?;
-    assert_eq!(rt; table.len(), 2 + 16 * (7 + 186));
-    let mut talk = Talk::new(alloc, MANAGEMENT, 1)?;
-    talk.write_scripts(alloc, table.as_slice(), 1_000)?;
-    // The answer's PDUs have 1,024 bytes, of which 12 are the header's.
-    talk.read(alloc, "C001C1000900000A006AFF0200", table.as_slice(), 1_012)?;
-    assert_eq!(rt; talk.ends.len(), 1 + 4 + 4);
-    // Small blocks give the same.
-    let mut small = Talk::new(alloc, MANAGEMENT, 1)?;
-    small.write_scripts(alloc, table.as_slice(), 100)?;
-    small.read(alloc, "C001C1000900000A006AFF0200", table.as_slice(), 1_012)?;
-    talk.expect(&rt, alloc)?;
-    small.expect(&rt, alloc)
+    assert_eq!(rt; full_table(alloc)?.len(), 2 + 16 * (7 + 186));
+    // Small blocks give the same: 31 of 100 bytes in place of 4.
+    for (size, blocks) in [(1_000, 4), (100, 31)] {
+        let mut talk = Talk::new(alloc, MANAGEMENT, 1)?;
+        write_and_read_table(alloc, &mut talk, size)?;
+        assert!(rt;
+            talk.ends.len() == 1 + blocks + 4 && talk.goes(alloc)?,
+            "{size} bytes"
+        );
+    }
+    Ok(())
 }
