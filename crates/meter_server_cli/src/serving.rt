@@ -205,15 +205,37 @@ fn wake(rt: &HostRuntime, address: SocketAddr) {
     }
 }
 
+/// The meter, taken out from behind its lock.
+fn taken_out(shared: Shared<Kept>, port: Port<Kept>) -> Result<Kept, Fault>
+    requires { port.lock ≡ shared }
+{
+    match closed_meter(shared, port) {
+        Ok(kept) => Ok(kept),
+        Err((fault, _)) => Err(fault),
+    }
+}
+
+/// Prints a text.
+fn print_text(rt: &HostRuntime, text: &[u8]) -> Result<(), Fault> {
+    let mut output = rt.stdout();
+    output.write_all(text).map_err(|_| Fault::Write)?;
+    output.flush().map_err(|_| Fault::Write)
+}
+
+/// Prints the trace of a meter's recorder.
+fn print_kept(rt: &HostRuntime, kept: &Kept) -> Result<(), Fault> {
+    match meter_trace(rt.alloc(), kept) {
+        Ok(text) => print_text(rt, text.as_slice()),
+        Err(_) => Err(Fault::Memory),
+    }
+}
+
 /// Prints the trace of what came to the meter.
 fn print_trace(rt: &HostRuntime, shared: Shared<Kept>, port: Port<Kept>) -> Result<(), Fault>
     requires { port.lock ≡ shared }
 {
-    let kept = closed_meter(shared, port).map_err(|(fault, _)| fault)?;
-    let text = meter_trace(rt.alloc(), &kept).map_err(|_| Fault::Memory)?;
-    let mut output = rt.stdout();
-    output.write_all(text.as_slice()).map_err(|_| Fault::Write)?;
-    output.flush().map_err(|_| Fault::Write)
+    let kept = taken_out(shared, port)?;
+    print_kept(rt, &kept)
 }
 
 /// How long a read or a write of a client may take.
