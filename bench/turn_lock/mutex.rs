@@ -21,7 +21,7 @@ impl Tally {
 }
 
 fn main() {
-    for threads in [1, 2, 4] {
+    for threads in [1, 2, 4, 11] {
         let tally = Mutex::new(Tally { count: 0 });
         let start = Instant::now();
         thread::scope(|scope| {

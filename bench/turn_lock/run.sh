@@ -1,5 +1,5 @@
 #!/bin/sh
-# Times calls through the turn lock beside the same calls through a Mutex, for 1, 2 and 4 threads, and
+# Times calls through the turn lock beside the same calls through a Mutex, for 1, 2, 4 and 11 threads, and
 # prints nanoseconds a call and ratios. It wants `rt` and `rustc` on the path, and proves the bench first.
 set -e
 here=$(cd "$(dirname "$0")" && pwd)
@@ -19,6 +19,9 @@ awk '
     NF == 3 { key = $1; if (!(key in rust) || $3 / $2 < rust[key]) rust[key] = $3 / $2 }
     END {
         print "threads  turn_lock  Rattle Mutex  Rust Mutex   (ns a call, best of 3)   to Rattle Mutex  to Rust Mutex"
-        for (i = 1; i <= 4; i *= 2)
+        split("1 2 4 11", counts)
+        for (k = 1; k <= 4; k++) {
+            i = counts[k]
             printf "%7d  %9.1f  %12.1f  %10.1f %43.2f  %13.2f\n", i, lock[i], own[i], rust[i], lock[i] / own[i], lock[i] / rust[i]
+        }
     }' "$work/lock" "$work/mutex.all"
