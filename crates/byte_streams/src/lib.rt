@@ -8,8 +8,6 @@ mod counted;
 mod fault;
 mod input;
 mod streams;
-#[cfg(test)]
-mod tests;
 
 pub use counted::Counted;
 pub use fault::{InputFault, StreamFault};

@@ -1,9 +1,6 @@
 //! A `Vec` that contracts see as a list: equality of values that hold one is equality of what they hold.
 #![tactic(auto)]
 
-#[cfg(test)]
-mod tests;
-
 ghost use Rattle.std.specs.Prelude.{◌≡◌, ◌↔◌, [], ◌∷◌, ◌++◌, length, IsTrue, OnOk, OnErr, IfErr};
 
 use std::alloc::{AllocError, AllocFailed, Global};

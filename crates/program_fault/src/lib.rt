@@ -6,9 +6,6 @@ ghost use Rattle.program_fault.specs.Statuses.{status_of};
 
 use thiserror::Error;
 
-#[cfg(test)]
-mod tests;
-
 /// Why a program could not do its work. It is shown as its word.
 #[derive(Clone, Copy, Debug, PartialEq, Eq, Error)]
 pub enum Fault {

@@ -22,6 +22,3 @@ pub use lines::{Lines, split_line};
 pub use numbers::{read_number, write_number};
 pub use words::Words;
 pub use writing::{add_hex, add_number, add_word, end_line};
-
-#[cfg(test)]
-mod tests;

@@ -9,8 +9,6 @@ mod fault;
 mod header;
 mod law;
 mod parts;
-#[cfg(test)]
-mod tests;
 mod text;
 
 pub use deframer::Deframer;

@@ -8,8 +8,6 @@ mod fault;
 mod joining;
 mod law;
 mod sending;
-#[cfg(test)]
-mod tests;
 
 pub use blocks::Piece;
 pub use fault::BlockFault;

@@ -1,4 +1,4 @@
-use super::*;
+use listed::Listed;
 use std::test::Fail;
 
 #[test]

@@ -1,4 +1,4 @@
-use super::*;
+use byte_streams::{Counted, InputFault, Reader, StreamFault, Writer, read_to_end_within};
 use std::alloc::Global;
 use std::io;
 use std::io::{ErrorKind, Read, Write};

@@ -1,6 +1,6 @@
-use crate::*;
 use cosem_axdr::Octets;
 use std::test::Fail;
+use xdlms_blocks::{BlockFault, GetBlocks, JoinBlocks};
 
 /// The bytes 0, 1, 2 and so on, from 0 again after 250.
 fn counted<const N: usize>() -> [u8; N] {

@@ -1,4 +1,4 @@
-use super::*;
+use program_fault::Fault;
 use std::test::Fail;
 
 #[test]

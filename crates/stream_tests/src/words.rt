@@ -1,7 +1,10 @@
 //! Words, lines and texts with the values that they stand for.
-use super::*;
 use std::alloc::{AllocError, Global};
 use std::test::Fail;
+use trace_text::{
+    Lines, Words, add_hex, add_number, add_word, end_line, read_hex, read_number, split_line,
+    write_hex, write_number,
+};
 
 // The bytes of a word, as a copy, or none.
 fn hex_of(alloc: Global, word: &[u8]) -> Result<Option<Vec<u8>>, AllocError> {

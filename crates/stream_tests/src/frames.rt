@@ -1,7 +1,7 @@
-use crate::*;
 use std::alloc::Global;
 use std::process::Abort;
 use std::test::Fail;
+use wrapper_frame::{Deframer, Frame, WrapperFault, frame};
 
 /// An association request, 31 bytes from port 16 to port 1, and a GET request, 13 bytes.
 const STREAM: [u8; 60] = [
