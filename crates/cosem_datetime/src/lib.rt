@@ -11,10 +11,6 @@ mod entry;
 mod fault;
 mod field;
 mod moment;
-#[cfg(test)]
-mod reading_tests;
-#[cfg(test)]
-mod tests;
 mod time;
 
 pub use calendar::calendar_laws;

@@ -11,8 +11,6 @@ mod object_entries;
 mod objects;
 mod result_code;
 mod service;
-#[cfg(test)]
-mod tests;
 
 pub use access::{attribute, find, may_execute, object, rights};
 pub use laws::tables_are_told;

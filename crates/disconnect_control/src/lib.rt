@@ -3,8 +3,6 @@
 
 mod control;
 mod state;
-#[cfg(test)]
-mod tests;
 
 pub use control::DisconnectControl;
 pub use state::{ControlMode, ControlState, Trigger};

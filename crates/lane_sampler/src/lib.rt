@@ -10,6 +10,3 @@ mod samples;
 pub use lanes::{Masks, classify, classify_plain};
 pub use runs::run_from;
 pub use samples::{Block, BlockMade, MAX_VALUES, Scan, Scans};
-
-#[cfg(test)]
-mod tests;

@@ -10,8 +10,6 @@ mod kinds;
 mod laws;
 mod limiter;
 mod settings;
-#[cfg(test)]
-mod tests;
 
 pub use count::{Count, RUN_LIMIT, are_fit};
 pub use kinds::{Fire, Kind};

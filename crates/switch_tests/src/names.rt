@@ -1,5 +1,8 @@
-use super::*;
 use cosem_axdr::{Octets, write};
+use cosem_names::{
+    AttrRef, ClassId, Instance, Level, MethodRef, Obis, ResultCode, Rights, attribute, find,
+    may_execute, object, object_list, rights, tables_are_told,
+};
 use std::alloc::{AllocError, Global};
 use std::test::Fail;
 

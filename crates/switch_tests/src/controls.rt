@@ -1,5 +1,5 @@
-use super::*;
 use cosem_names::ResultCode;
+use disconnect_control::{ControlMode, ControlState, DisconnectControl, Trigger};
 
 fn in_mode(rt: &impl std::process::Abort, mode: ControlMode) -> DisconnectControl {
     let mut control = DisconnectControl::new();

@@ -1,5 +1,5 @@
 //! Every value of each field of a date, a time and a date-time.
-use super::*;
+use cosem_datetime::{PatternFault, read_date, read_date_time, read_time};
 use std::test::Fail;
 
 const DATE: [u8; 5] = [0x07, 0xEC, 3, 26, 7];

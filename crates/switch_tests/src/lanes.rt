@@ -1,4 +1,4 @@
-use crate::{Block, BlockMade, Masks, Scan, Scans, classify, classify_plain, run_from};
+use lane_sampler::{Block, BlockMade, Masks, Scan, Scans, classify, classify_plain, run_from};
 use std::test::Fail;
 
 const NONE: [u64; 4] = [0; 4];

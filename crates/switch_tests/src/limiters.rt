@@ -1,6 +1,6 @@
 //! The worked values: 5000 W held for a second is ten samples.
-use super::*;
 use cosem_datetime::read_date_time;
+use limiter_core::{Actions, Count, Fire, Kind, Limiter, Profile, RUN_LIMIT, are_fit};
 use std::test::Fail;
 
 /// A limiter of 5000 W that acts after that many seconds over the threshold.

@@ -1,5 +1,8 @@
 //! The worked values, which come from the meter's standard and a calendar.
-use super::*;
+use cosem_datetime::{
+    DateTimeField, EntryPattern, PatternFault, calendar_laws, moment_of, read_date, read_date_time,
+    read_time,
+};
 use std::test::Fail;
 
 /// Midnight of 26 March 2028, a Sunday: 10,312 days after 1 January 2000.
