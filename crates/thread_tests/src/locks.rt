@@ -1,7 +1,7 @@
 //! What no clause says: that calls succeed, and what threads see of one another.
 ghost use Rattle.std.specs.Prelude.{◌≡◌, ◌<◌, ◌≤◌, IfOk, IfSome};
 ghost use Rattle.turn_lock.specs.Rule.{most_turns};
-ghost use Rattle.thread_tests.specs.Trials.{StandsBehind};
+ghost use Rattle.turn_lock.specs.Trials.{StandsBehind};
 
 mod counter;
 

@@ -1,5 +1,5 @@
 use Rattle.std.proofs.Common.{refl}
-use Rattle.thread_tests.proofs.Counting.{counts_on}
+use Rattle.turn_lock.proofs.Counting.{counts_on}
 use Rattle.thread_tests.proofs.locks.counter.MoodyTurned.turn.Goals as goal
 
 pub returns-in-Bump-clause-ok : goal.returns-in-Bump-clause-ok
