@@ -11,8 +11,6 @@ mod listening;
 mod progress;
 mod replying;
 mod sending;
-#[cfg(test)]
-mod tests;
 
 pub use client::Client;
 pub use job::{Job, Outcome, Verb};

@@ -14,8 +14,6 @@ mod reporting;
 mod row;
 mod running;
 mod tcp;
-#[cfg(test)]
-mod tests;
 mod watching;
 
 pub use campaign::{run_campaign, run_watched_campaign};

@@ -6,8 +6,6 @@ mod console;
 mod ending;
 mod heading;
 mod resuming;
-#[cfg(test)]
-mod tests;
 
 pub use console::console_event;
 pub use ending::{closed_meter, meter_trace};

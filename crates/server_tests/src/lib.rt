@@ -1,4 +1,4 @@
-//! Tests of `meter_server`: requests, sessions, and all threads over one meter.
+//! Tests of `meter_server`: requests and sessions.
 //!
 //! They stand apart from what they test, since a check of tests proves anew all that stands in their crate.
 #![tactic(auto)]
@@ -6,13 +6,7 @@
 #[cfg(test)]
 mod hexadecimal;
 #[cfg(test)]
-mod kept;
-#[cfg(test)]
-mod ports;
-#[cfg(test)]
 mod requests;
-#[cfg(test)]
-mod serving;
 #[cfg(test)]
 mod sessions;
 #[cfg(test)]

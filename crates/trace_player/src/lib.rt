@@ -4,15 +4,11 @@
 //! for each.
 #![tactic(auto)]
 
-#[cfg(test)]
-mod export_tests;
 mod fault;
 mod laws;
 mod player;
 mod playing;
 mod reading;
-#[cfg(test)]
-mod tests;
 mod writing;
 
 pub use fault::PlayFault;

@@ -16,6 +16,3 @@ pub use known::Known;
 pub use lock::Shared;
 pub use port::{Note, Port};
 pub use turned::{Entry, Turned};
-
-#[cfg(test)]
-mod tests;

@@ -1,0 +1,19 @@
+//! Tests of `client_core` and `head_end`: one client's side of a connection, jobs, and campaigns over scripted connections and over loopback.
+//!
+//! They stand apart from what they test, since a check of tests proves anew all that stands in their crate.
+#![tactic(auto)]
+
+#[cfg(test)]
+mod campaigns;
+#[cfg(test)]
+mod clients;
+#[cfg(test)]
+mod jobs_texts;
+#[cfg(test)]
+mod loopback;
+#[cfg(test)]
+mod meters;
+#[cfg(test)]
+mod scripts;
+#[cfg(test)]
+mod side_by_side;

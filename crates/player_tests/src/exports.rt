@@ -1,0 +1,222 @@
+//! What a recorder exports, written as text and played.
+use byte_streams::Counted;
+use cosem_axdr::Octets;
+use relay_core::{Event, RelayCore, Reply};
+use relay_recorder::Recorder;
+use std::alloc::{AllocError, Global};
+use std::process::Abort;
+use std::test::Fail;
+use trace_lines::{Version, read_event, write_event, write_opening};
+use trace_player::{play, write_trace};
+use trace_text::Lines;
+
+// Script 1 writes a threshold of 9,000 watts; over the threshold of 5,000 it runs after 4 seconds, under it the null script after 5. Then three samples.
+const LIMITED: &[u8] =
+    b"set 1 9 00000A006AFF 2 0 0101020212000101010205160112004709060000110000FF0F040600002328
+set 1 71 0000110000FF 11 0 02020202090600000A006AFF1200010202090600000A006AFF120000
+set 1 71 0000110000FF 4 0 0600001388
+set 1 71 0000110000FF 6 0 0600000004
+set 1 71 0000110000FF 7 0 0600000005
+samples 6000 6000 6000
+";
+
+// A threshold is written and read.
+const THRESHOLD: &[u8] = b"set 1 71 0000110000FF 4 0 0600001B58
+get 1 71 0000110000FF 4 0
+";
+
+// Mode 1 is written, the supply is cut remotely, and the button is pressed in vain.
+const CUT: &[u8] = b"set 1 70 000060030AFF 4 0 1601
+execute 1 70 000060030AFF 1 0F00
+button
+";
+
+fn new_recorder(rt: &impl Abort, alloc: Global, capacity: u16) -> Result<Recorder, AllocError> {
+    let device = Octets::from_slice(alloc, b"RELAY1")?;
+    assert!(rt; device.len() == 6);
+    assert!(rt; capacity >= 1 && capacity <= 1024);
+    Recorder::new(alloc, &device, capacity)
+}
+
+// The event of a line.
+fn event(alloc: Global, line: &[u8]) -> Result<Event, AllocError> {
+    read_event(alloc, Version::Two, line).map_err(|_| AllocError)
+}
+
+// Lets a recorder take the event of each line of a text.
+fn take(recorder: &mut Recorder, alloc: Global, text: &[u8]) -> Result<(), AllocError> {
+    for line in Lines::new(text) {
+        let _reply = recorder.apply(alloc, event(alloc, line)?)?;
+    }
+    Ok(())
+}
+
+// Samples of 6,000 watts, as many as a block holds.
+fn full_block(alloc: Global) -> Result<Vec<u8>, AllocError> {
+    let mut line = Vec::from_slice(alloc, b"samples")?;
+    for _ in 0..256 {
+        line.extend_from_slice(b" 6000")?;
+    }
+    Ok(line)
+}
+
+// How often both sides fire in a full block, or a hundred of each.
+fn fired(recorder: &mut Recorder, alloc: Global) -> Result<(u16, u16), AllocError> {
+    let line = full_block(alloc)?;
+    let block = event(alloc, line.as_slice())?;
+    match recorder.apply(alloc, block)? {
+        Reply::Sampled { over, under } => Ok((over, under)),
+        _ => Ok((100, 100)),
+    }
+}
+
+// The text of a recorder's export.
+fn exported(alloc: Global, recorder: &Recorder) -> Result<Octets, AllocError> {
+    let trace = recorder.export(alloc)?;
+    write_trace(alloc, &trace)
+}
+
+// Whether a text has this line at a number, counted from 1.
+fn has_line(text: &[u8], number: usize, wanted: &[u8]) -> bool {
+    let mut at = 0usize;
+    for line in Lines::new(text) {
+        at = at.saturating_add(1);
+        if at == number {
+            return line == wanted;
+        }
+    }
+    false
+}
+
+// What a text plays to.
+fn played(alloc: Global, text: &[u8]) -> Result<Vec<u8>, AllocError> {
+    let mut reader = Counted::new(text);
+    let mut writer = Counted::new(Vec::new(alloc));
+    let _events = play(alloc, &mut reader, &mut writer).map_err(|_| AllocError)?;
+    Ok(writer.into_inner())
+}
+
+// Whether a recorder's export plays to these lines.
+fn plays_to(alloc: Global, recorder: &Recorder, lines: &[u8]) -> Result<bool, AllocError> {
+    let text = exported(alloc, recorder)?;
+    Ok(played(alloc, text.as_slice())?.as_slice() == lines)
+}
+
+// Wants the limiter's lines of an export whose only event is a press.
+fn has_a_fired_run(rt: &impl Abort, text: &[u8]) {
+    assert!(rt; has_line(text, 5, b"value 6000") && has_line(text, 7, b"normal 9000"));
+    assert!(rt; has_line(text, 14, b"over 0 0") && has_line(text, 15, b"under 219 1"));
+    assert!(rt; has_line(text, 31, b"events 1") && has_line(text, 32, b"button"));
+}
+
+// Wants what a press after a run that has fired is exported as.
+fn exports_a_press(rt: &impl Abort, alloc: Global, recorder: &Recorder) -> Result<(), AllocError> {
+    let text = exported(alloc, recorder)?;
+    has_a_fired_run(rt, text.as_slice());
+    assert!(rt; plays_to(alloc, recorder, b"1: code 2; state 1; supply on\n")?);
+    Ok(())
+}
+
+// Lets a recorder take what fires its under run, and a press.
+fn take_a_fired_run(
+    rt: &impl Abort,
+    alloc: Global,
+    recorder: &mut Recorder,
+) -> Result<(), AllocError> {
+    take(recorder, alloc, LIMITED)?;
+    assert!(rt; fired(recorder, alloc)? == (1, 1));
+    take(recorder, alloc, b"button\n")?;
+    exports_a_press(rt, alloc, recorder)
+}
+
+#[test]
+fn a_run_that_has_fired_is_exported(rt: HostRuntime) -> Result<(), Fail> {
+    let mut recorder = new_recorder(&rt, rt.alloc(), 1)?;
+    Ok(take_a_fired_run(&rt, rt.alloc(), &mut recorder)?)
+}
+
+// Wants what a write and a read are exported as.
+fn exports_both(rt: &impl Abort, alloc: Global, recorder: &mut Recorder) -> Result<(), AllocError> {
+    take(recorder, alloc, THRESHOLD)?;
+    let text = exported(alloc, recorder)?;
+    assert!(rt; text.as_slice().ends_with(THRESHOLD));
+    let lines = b"1: code 0; state 1; supply on\n2: value 0600001B58; state 1; supply on\n";
+    assert!(rt; plays_to(alloc, recorder, lines)?);
+    Ok(())
+}
+
+#[test]
+fn a_write_and_a_read_are_exported(rt: HostRuntime) -> Result<(), Fail> {
+    let mut recorder = new_recorder(&rt, rt.alloc(), 4)?;
+    Ok(exports_both(&rt, rt.alloc(), &mut recorder)?)
+}
+
+// The lines that tell of a core.
+fn opening_lines(alloc: Global, core: &RelayCore) -> Result<Vec<u8>, AllocError> {
+    let opening = core.to_opening(alloc)?;
+    let mut lines = Vec::new(alloc);
+    write_opening(alloc, &mut lines, &opening)?;
+    Ok(lines)
+}
+
+// The lines that tell of a copy of a core.
+fn copied_lines(alloc: Global, core: &RelayCore) -> Result<Vec<u8>, AllocError> {
+    let copy = core.try_copy(alloc)?;
+    opening_lines(alloc, &copy)
+}
+
+// Whether a copy of a core is written down as the core itself.
+fn core_is_copied(alloc: Global, core: &RelayCore) -> Result<bool, AllocError> {
+    let own = opening_lines(alloc, core)?;
+    Ok(copied_lines(alloc, core)?.as_slice() == own.as_slice())
+}
+
+// The line of a copy of an event.
+fn copied_line(alloc: Global, event: &Event) -> Result<Vec<u8>, AllocError> {
+    let copy = event.try_copy(alloc)?;
+    let mut line = Vec::new(alloc);
+    write_event(alloc, &mut line, &copy)?;
+    Ok(line)
+}
+
+// Whether a copy of an event is written as this line.
+fn event_is_copied(alloc: Global, event: &Event, line: &[u8]) -> Result<bool, AllocError> {
+    Ok(copied_line(alloc, event)?.as_slice() == line)
+}
+
+// Wants the opening and the events of an export whose first event was pushed out.
+fn begins_in_mode_1(rt: &impl Abort, text: &[u8]) {
+    assert!(rt; has_line(text, 3, b"state 1") && has_line(text, 4, b"mode 1"));
+    assert!(rt; has_line(text, 31, b"events 2") && has_line(text, 33, b"button"));
+}
+
+// Wants what is exported once the first of three events was pushed out.
+fn exports_the_last(rt: &impl Abort, alloc: Global, recorder: &Recorder) -> Result<(), AllocError> {
+    let text = exported(alloc, recorder)?;
+    begins_in_mode_1(rt, text.as_slice());
+    let lines = b"1: code 0; state 0; supply off\n2: code 2; state 0; supply off\n";
+    assert!(rt; plays_to(alloc, recorder, lines)?);
+    Ok(())
+}
+
+// Wants that copies of the core and of the first kept event are written as these.
+fn is_copied(rt: &impl Abort, alloc: Global, recorder: &Recorder) -> Result<(), AllocError> {
+    assert!(rt; core_is_copied(alloc, recorder.core())?);
+    assert!(rt; recorder.count() == 2);
+    let first = b"execute 1 70 000060030AFF 1 0F00";
+    assert!(rt; event_is_copied(alloc, recorder.event(0), first)?);
+    Ok(())
+}
+
+// Lets a recorder take three events, of which it keeps two.
+fn take_a_cut(rt: &impl Abort, alloc: Global, recorder: &mut Recorder) -> Result<(), AllocError> {
+    take(recorder, alloc, CUT)?;
+    exports_the_last(rt, alloc, recorder)?;
+    is_copied(rt, alloc, recorder)
+}
+
+#[test]
+fn what_was_pushed_out_stands_in_the_opening(rt: HostRuntime) -> Result<(), Fail> {
+    let mut recorder = new_recorder(&rt, rt.alloc(), 2)?;
+    Ok(take_a_cut(&rt, rt.alloc(), &mut recorder)?)
+}

@@ -1,0 +1,386 @@
+//! Traces and what they print.
+use byte_streams::Counted;
+use std::alloc::Global;
+use std::io;
+use std::io::{ErrorKind, Read, Write};
+use std::test::Fail;
+use trace_player::{PlayFault, play, read_trace, write_trace};
+use trace_text::{Lines, end_line};
+
+// A switch that is cut and reconnected remotely, the button pressed between, a read, samples and moments.
+const TRACE: &[u8] = b"RELAYTRACE 1
+device 52454C415931
+state 1
+mode 0
+value 0
+now -
+normal 4294967295
+emergency 4294967295
+minover 0
+minunder 0
+profile 0 FFFFFFFFFFFFFFFFFF8000FF 0
+groups
+actions 0 0
+over 0 0
+under 0 0
+scripts 0100
+schedule 0 0 5 0100
+schedule 1 0 5 0100
+schedule 2 0 5 0100
+schedule 3 0 5 0100
+events 9
+set 1 70 000060030AFF 4 0 1601
+execute 1 70 000060030AFF 1 0F00
+button
+execute 1 70 000060030AFF 2 -
+button
+get 16 70 000060030AFF 2 0
+samples 10 20
+moment 5
+moment 4
+";
+
+// What it prints.
+const OUTPUT: &[u8] = b"1: code 0; state 1; supply on
+2: code 0; state 0; supply off
+3: code 2; state 0; supply off
+4: code 0; state 2; supply off
+5: code 0; state 1; supply on
+6: value 0301; state 1; supply on
+7: sampled 0 1; state 1; supply on
+8: ran 0; state 1; supply on
+9: stale 5; state 1; supply on
+";
+
+// The same meter, one sample before its run over 5,000 watts is long enough.
+const LONG_RUN: &[u8] = b"RELAYTRACE 1
+device 52454C415931
+state 1
+mode 0
+value 5001
+now -
+normal 5000
+emergency 4294967295
+minover 4294967295
+minunder 0
+profile 0 FFFFFFFFFFFFFFFFFF8000FF 0
+groups
+actions 0 0
+over 42949672949 0
+under 0 0
+scripts 0100
+schedule 0 0 5 0100
+schedule 1 0 5 0100
+schedule 2 0 5 0100
+schedule 3 0 5 0100
+events 1
+samples 5001 5001
+";
+
+// A meter in mode 5 whose export limiter executes script 1, which cuts the supply, at ten samples over 5,000 watts.
+const PAIRS: &[u8] = b"RELAYTRACE 2
+device 52454C415931
+state 1
+mode 5
+value 0
+now -
+normal 4294967295
+emergency 4294967295
+minover 0
+minunder 0
+profile 0 FFFFFFFFFFFFFFFFFF8000FF 0
+groups
+actions 0 0
+over 0 0
+under 0 0
+xvalue 0
+xnormal 5000
+xemergency 4294967295
+xminover 1
+xminunder 0
+xprofile 0 FFFFFFFFFFFFFFFFFF8000FF 0
+xgroups
+xactions 1 0
+xover 0 0
+xunder 0 0
+scripts 010102021200010101020516021200460906000060030AFF0F010F00
+schedule 0 0 5 0100
+schedule 1 0 5 0100
+schedule 2 0 5 0100
+schedule 3 0 5 0100
+events 3
+pairs 0 5001 0 5001 0 5001 0 5001 0 5001 0 5001 0 5001 0 5001 0 5001 0 5001
+button
+pairs 0 5001
+";
+
+// What it prints.
+const PAIRS_OUTPUT: &[u8] = b"1: sampled 0 1 1 0; state 2; supply off
+2: code 0; state 1; supply on
+3: sampled 0 1 0 0; state 1; supply on
+";
+
+// A stream of std that fails at one of its calls, counted from 1. Each other call moves a byte.
+#[derive(Drop)]
+struct Scripted {
+    calls: u32,
+    failing: u32,
+}
+
+impl Scripted {
+    fn new(failing: u32) -> Scripted {
+        Scripted { calls: 0, failing }
+    }
+
+    // Counts a call, and says whether it is the one that fails.
+    fn fails(&mut self) -> bool {
+        self.calls = self.calls.saturating_add(1);
+        self.calls == self.failing
+    }
+}
+
+impl Read for Scripted {
+    fn read(&mut self, buffer: &mut [u8]) -> io::Result<usize> {
+        if self.fails() {
+            return Err(io::Error::from(ErrorKind::ConnectionReset));
+        }
+        match buffer {
+            [first, ..] => {
+                *first = 7;
+                Ok(1)
+            }
+            [] => Ok(0),
+        }
+    }
+}
+
+impl Write for Scripted {
+    fn write(&mut self, bytes: &[u8]) -> io::Result<usize> {
+        if self.fails() {
+            return Err(io::Error::from(ErrorKind::BrokenPipe));
+        }
+        Ok(bytes.len().min(1))
+    }
+
+    fn flush(&mut self) -> io::Result<()> {
+        Ok(())
+    }
+}
+
+// A stream without an end.
+#[derive(Drop)]
+struct Endless;
+
+impl Read for Endless {
+    fn read(&mut self, buffer: &mut [u8]) -> io::Result<usize> {
+        buffer.fill(b'7');
+        Ok(buffer.len())
+    }
+}
+
+// Whether a text plays to this output, of so many lines.
+fn prints(alloc: Global, text: &[u8], count: u64, output: &[u8]) -> bool {
+    let mut reader = Counted::new(text);
+    let mut writer = Counted::new(Vec::new(alloc));
+    let played = play(alloc, &mut reader, &mut writer);
+    matches!(played, Ok(lines) if lines == count) && writer.into_inner().as_slice() == output
+}
+
+// Whether a text is refused at this line, and nothing is written.
+fn is_wrong_at(alloc: Global, text: &[u8], line: u64) -> bool {
+    let mut reader = Counted::new(text);
+    let mut writer = Counted::new(Vec::new(alloc));
+    let played = play(alloc, &mut reader, &mut writer);
+    matches!(played, Err(PlayFault::Line(number)) if number == line)
+        && writer.into_inner().is_empty()
+}
+
+// A text with another line in place of one, counted from 1.
+fn with_line(alloc: Global, text: &[u8], at: u64, other: &[u8]) -> Result<Vec<u8>, Fail> {
+    let mut out = Vec::new(alloc);
+    let mut number: u64 = 0;
+    for line in Lines::new(text) {
+        number = number.saturating_add(1);
+        out.extend_from_slice(if number == at { other } else { line })?;
+        end_line(&mut out)?;
+    }
+    Ok(out)
+}
+
+// A text without one of its lines, counted from 1.
+fn without_line(alloc: Global, text: &[u8], at: u64) -> Result<Vec<u8>, Fail> {
+    let mut out = Vec::new(alloc);
+    let mut number: u64 = 0;
+    for line in Lines::new(text) {
+        number = number.saturating_add(1);
+        if number != at {
+            out.extend_from_slice(line)?;
+            end_line(&mut out)?;
+        }
+    }
+    Ok(out)
+}
+
+// Whether the trace is refused at this line once its line `at` is another.
+fn is_wrong_with(
+    alloc: Global,
+    text: &[u8],
+    at: u64,
+    other: &[u8],
+    line: u64,
+) -> Result<bool, Fail> {
+    let changed = with_line(alloc, text, at, other)?;
+    Ok(is_wrong_at(alloc, changed.as_slice(), line))
+}
+
+// Whether the trace is refused at this line once its line `at` is missing.
+fn is_wrong_without(alloc: Global, at: u64, line: u64) -> Result<bool, Fail> {
+    let changed = without_line(alloc, TRACE, at)?;
+    Ok(is_wrong_at(alloc, changed.as_slice(), line))
+}
+
+// Whether the trace is refused at each line of its opening that is missing.
+fn is_wrong_without_each(alloc: Global) -> Result<bool, Fail> {
+    for at in 1..22 {
+        if !is_wrong_without(alloc, at, at)? {
+            return Ok(false);
+        }
+    }
+    Ok(true)
+}
+
+// A text that was read as a trace and written again.
+fn written_again(alloc: Global, text: &[u8]) -> Result<Vec<u8>, Fail> {
+    let trace = read_trace(alloc, text)?;
+    Ok(write_trace(alloc, &trace)?.into_vec())
+}
+
+// The long run with another line for the run, and a block of one sample.
+fn with_run(alloc: Global, run: &[u8]) -> Result<Vec<u8>, Fail> {
+    let changed = with_line(alloc, LONG_RUN, 14, run)?;
+    with_line(alloc, changed.as_slice(), 22, b"samples 5001")
+}
+
+// What comes of a read that fails, and whether nothing was written.
+fn fault_of_reader(alloc: Global, failing: u32) -> Option<PlayFault> {
+    let mut reader = Counted::new(Scripted::new(failing));
+    let mut writer = Counted::new(Vec::new(alloc));
+    let played = play(alloc, &mut reader, &mut writer);
+    if writer.into_inner().is_empty() {
+        played.err()
+    } else {
+        None
+    }
+}
+
+// What comes of a text without an end, and whether nothing was written.
+fn fault_of_endless(alloc: Global) -> Option<PlayFault> {
+    let mut reader = Counted::new(Endless);
+    let mut writer = Counted::new(Vec::new(alloc));
+    let played = play(alloc, &mut reader, &mut writer);
+    if writer.into_inner().is_empty() {
+        played.err()
+    } else {
+        None
+    }
+}
+
+// What comes of a write that fails.
+fn fault_of_writer(alloc: Global, failing: u32) -> Option<PlayFault> {
+    let mut reader = Counted::new(TRACE);
+    let mut writer = Counted::new(Scripted::new(failing));
+    play(alloc, &mut reader, &mut writer).err()
+}
+
+#[test]
+fn a_trace_is_played(rt: HostRuntime) {
+    assert!(rt; prints(rt.alloc(), TRACE, 9, OUTPUT));
+    assert!(rt; prints(rt.alloc(), PAIRS, 3, PAIRS_OUTPUT));
+}
+
+#[test]
+fn a_run_is_taken_up(rt: HostRuntime) -> Result<(), Fail> {
+    let alloc = rt.alloc();
+    assert!(rt; prints(alloc, LONG_RUN, 1, b"1: sampled 1 0; state 1; supply on\n"));
+    let fired = with_run(alloc, b"over 42949672950 1")?;
+    assert!(rt;
+        prints(
+            alloc,
+            fired.as_slice(),
+            1,
+            b"1: sampled 0 0; state 1; supply on\n"
+        )
+    );
+    let unfired = with_run(alloc, b"over 42949672950 0")?;
+    assert!(rt; is_wrong_at(alloc, unfired.as_slice(), 14));
+    Ok(())
+}
+
+#[test]
+fn a_read_of_a_list_is_played(rt: HostRuntime) -> Result<(), Fail> {
+    let alloc = rt.alloc();
+    let list = b"getlist 1 2 70 000060030AFF 3 0 70 000060030BFF 3 0";
+    let counted = with_line(alloc, LONG_RUN, 22, list)?;
+    let line = b"1: values 2 value 1601 code 4; state 1; supply on\n";
+    assert!(rt; prints(alloc, counted.as_slice(), 1, line));
+    Ok(())
+}
+
+#[test]
+fn a_line_that_is_missing_is_told(rt: HostRuntime) -> Result<(), Fail> {
+    let alloc = rt.alloc();
+    assert!(rt; is_wrong_without_each(alloc)?);
+    assert!(rt; is_wrong_without(alloc, 22, 30)?);
+    assert!(rt; is_wrong_without(alloc, 30, 30)?);
+    assert!(rt; is_wrong_at(alloc, b"", 1));
+    Ok(())
+}
+
+#[test]
+fn another_number_of_events_is_told(rt: HostRuntime) -> Result<(), Fail> {
+    let alloc = rt.alloc();
+    assert!(rt; is_wrong_with(alloc, TRACE, 21, b"events 8", 30)?);
+    assert!(rt; is_wrong_with(alloc, TRACE, 21, b"events 10", 31)?);
+    assert!(rt; is_wrong_with(alloc, TRACE, 21, b"events 65537", 21)?);
+    Ok(())
+}
+
+#[test]
+fn other_lines_are_told(rt: HostRuntime) -> Result<(), Fail> {
+    let alloc = rt.alloc();
+    assert!(rt; is_wrong_with(alloc, TRACE, 24, b"press", 24)?);
+    assert!(rt; is_wrong_with(alloc, TRACE, 28, b"pairs 0 5001", 28)?);
+    assert!(rt; is_wrong_with(alloc, PAIRS, 1, b"RELAYTRACE 1", 16)?);
+    Ok(())
+}
+
+#[test]
+fn a_last_line_that_is_not_ended_is_told(rt: HostRuntime) {
+    let alloc = rt.alloc();
+    let unended = TRACE.strip_suffix(b"\n").unwrap_or(b"");
+    assert!(rt; is_wrong_at(alloc, unended, 30));
+}
+
+#[test]
+fn a_trace_is_written_and_played_again(rt: HostRuntime) -> Result<(), Fail> {
+    let alloc = rt.alloc();
+    let again = written_again(alloc, TRACE)?;
+    assert!(rt; again.as_slice().starts_with(b"RELAYTRACE 2\n"));
+    assert!(rt; prints(alloc, again.as_slice(), 9, OUTPUT));
+    assert!(rt; written_again(alloc, PAIRS)?.as_slice() == PAIRS);
+    Ok(())
+}
+
+#[test]
+fn a_text_that_is_too_long_is_told(rt: HostRuntime) {
+    assert!(rt; fault_of_endless(rt.alloc()) == Some(PlayFault::TooLong));
+}
+
+#[test]
+fn a_stream_that_fails_is_told(rt: HostRuntime) {
+    let alloc = rt.alloc();
+    assert!(rt; fault_of_reader(alloc, 1) == Some(PlayFault::Read));
+    assert!(rt; fault_of_reader(alloc, 3) == Some(PlayFault::Read));
+    assert!(rt; fault_of_writer(alloc, 1) == Some(PlayFault::Write));
+    assert!(rt; fault_of_writer(alloc, 3) == Some(PlayFault::Write));
+}

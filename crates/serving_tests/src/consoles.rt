@@ -1,0 +1,108 @@
+//! What no clause says: that there is an answer where there is memory.
+use meter_serving::{console_event, read_head, resumed_recorder};
+use program_fault::Fault;
+use relay_core::{Event, Reply};
+use relay_recorder::Recorder;
+use std::alloc::{AllocError, Global};
+use std::test::Fail;
+
+// A switch that is cut remotely, samples and a moment; and a line that stands behind them.
+const TRACE: &[u8] = b"RELAYTRACE 1
+device 52454C415931
+state 1
+mode 0
+value 0
+now -
+normal 4294967295
+emergency 4294967295
+minover 0
+minunder 0
+profile 0 FFFFFFFFFFFFFFFFFF8000FF 0
+groups
+actions 0 0
+over 0 0
+under 0 0
+scripts 0100
+schedule 0 0 5 0100
+schedule 1 0 5 0100
+schedule 2 0 5 0100
+schedule 3 0 5 0100
+events 4
+set 1 70 000060030AFF 4 0 1601
+execute 1 70 000060030AFF 1 0F00
+samples 10 20
+moment 5
+moment 4
+";
+
+/// The letter of the event that a line brings, or a blank.
+fn brought(alloc: Global, line: &[u8]) -> Result<char, AllocError> {
+    let event = console_event(alloc, line)?;
+    Ok(match event {
+        Some(Event::Button) => 'b',
+        Some(Event::Moment(5)) => 'm',
+        Some(Event::Samples(_)) => 's',
+        Some(_) => '?',
+        None => ' ',
+    })
+}
+
+#[test]
+fn lines_bring_events(rt: HostRuntime) -> Result<(), Fail> {
+    let alloc = rt.alloc();
+    assert!(rt; brought(alloc, b"button")? == 'b');
+    assert!(rt; brought(alloc, b"moment 5")? == 'm');
+    assert!(rt; brought(alloc, b"samples 1 2")? == 's');
+    assert!(rt; brought(alloc, b"pairs 1 2")? == 's');
+    assert!(rt; brought(alloc, b"get 16 70 000060030AFF 3 0")? == ' ');
+    assert!(rt; brought(alloc, b"moment 5\r")? == ' ');
+    assert!(rt; brought(alloc, b"")? == ' ');
+    Ok(())
+}
+
+/// What a meter has kept, and the moment that it has for an earlier one's answer.
+#[derive(Clone, Copy, Drop)]
+struct Seen {
+    kept: u16,
+    last: u32,
+}
+
+/// Tells a meter of the moment 4.
+fn told_of_4(alloc: Global, recorder: &mut Recorder) -> Result<Seen, AllocError> {
+    let kept = recorder.count();
+    let reply = recorder.apply(alloc, Event::Moment(4))?;
+    let last = match reply {
+        Reply::Stale { last } => last,
+        _ => 0,
+    };
+    Ok(Seen { kept, last })
+}
+
+/// The same of a meter that goes on from the trace at the head of an input.
+fn resumed(alloc: Global, input: &mut &[u8]) -> Result<Seen, Fault> {
+    let trace = read_head(alloc, input)?;
+    let mut recorder = resumed_recorder(alloc, &trace, 1).map_err(|_| Fault::Memory)?;
+    told_of_4(alloc, &mut recorder).map_err(|_| Fault::Memory)
+}
+
+#[test]
+fn a_meter_goes_on_from_a_trace(rt: HostRuntime) -> Result<(), Fail> {
+    let mut input = TRACE;
+    let seen = resumed(rt.alloc(), &mut input).map_err(|_| "no meter")?;
+    assert!(rt; input == b"moment 4\n".as_slice());
+    assert!(rt; seen.kept == 0 && seen.last == 5);
+    Ok(())
+}
+
+#[test]
+fn another_head_is_wrong(rt: HostRuntime) -> Result<(), Fail> {
+    for mut input in [
+        b"".as_slice(),
+        b"button\n",
+        b"RELAYTRACE 1\nbutton\n",
+        &TRACE[..300],
+    ] {
+        assert!(rt; matches!(resumed(rt.alloc(), &mut input), Err(Fault::Input)));
+    }
+    Ok(())
+}

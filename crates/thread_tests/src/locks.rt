@@ -1,0 +1,378 @@
+//! What no clause says: that calls succeed, and what threads see of one another.
+ghost use Rattle.std.specs.Prelude.{◌≡◌, ◌<◌, ◌≤◌, IfOk, IfSome};
+ghost use Rattle.turn_lock.specs.Rule.{most_turns};
+ghost use Rattle.turn_lock.specs.Trials.{StandsBehind};
+
+mod counter;
+
+use counter::{Bump, Counter, Gate, Gated, Moody, Wish};
+use std::alloc::{AllocError, Global};
+use std::sync::{Arc, Wait};
+use std::test::Fail;
+use std::thread::{Threads, join};
+use turn_lock::{Busy, CallFault, Port, Shared, Turned};
+
+// What a call of a test's value answered.
+type Answer = Result<u64, CallFault>;
+
+// A lock over a new counter.
+fn start(alloc: Global, bound: u64) -> Result<(Shared<Counter>, Port<Counter>), AllocError>
+    requires { (0 < bound) × (bound ≤ most_turns) }
+    ensures { IfOk result (λ r. r.1.lock ≡ r.0) }
+{
+    Shared::new(alloc, Counter::new(), bound).map_err(|_| AllocError)
+}
+
+// The count at the close, if the lock isn't busy.
+fn close(shared: Shared<Counter>, port: Port<Counter>) -> Option<u64>
+    requires { port.lock ≡ shared }
+{
+    match shared.close(port) {
+        Ok(value) => Some(value.count),
+        Err(_) => None,
+    }
+}
+
+#[test]
+fn closes_at_once(rt: HostRuntime) -> Result<(), Fail> {
+    let (shared, port) = start(rt.alloc(), 1)?;
+    let count = close(shared, port);
+    assert_eq!(rt; count, Some(0));
+    Ok(())
+}
+
+fn bump_four_times<W: Wait>(rt: &W, alloc: Global, port: &mut Port<Counter>) -> [Answer; 4]
+    ensures { port.new.lock ≡ port.old.lock }
+{
+    [
+        port.call(rt, alloc, Bump),
+        port.call(rt, alloc, Bump),
+        port.call(rt, alloc, Bump),
+        port.call(rt, alloc, Bump),
+    ]
+}
+
+#[test]
+fn exhausts_one_port(rt: HostRuntime) -> Result<(), Fail> {
+    let alloc = rt.alloc();
+    let (shared, mut port) = start(alloc, 2)?;
+    let answers = bump_four_times(&rt, alloc, &mut port);
+    let count = close(shared, port);
+    let over = Err(CallFault::Exhausted);
+    assert_eq!(rt; answers, [Ok(1), Ok(2), over, over]);
+    assert_eq!(rt; count, Some(2));
+    Ok(())
+}
+
+fn bump_three<W: Wait>(rt: &W, alloc: Global, ports: &mut Three) -> [Answer; 3]
+    ensures { (ports.new.0.lock ≡ ports.old.0.lock) × (ports.new.1.lock ≡ ports.old.1.lock) × (ports.new.2.lock ≡ ports.old.2.lock) }
+{
+    let (one, two, three) = ports;
+    [
+        one.call(rt, alloc, Bump),
+        two.call(rt, alloc, Bump),
+        three.call(rt, alloc, Bump),
+    ]
+}
+
+// Three ports of one lock.
+type Three = (Port<Counter>, Port<Counter>, Port<Counter>);
+
+fn make_three(port: Port<Counter>) -> Result<Three, AllocError>
+    ensures { IfOk result (λ r. (r.0.lock ≡ port.lock) × (r.1.lock ≡ port.lock) × (r.2.lock ≡ port.lock)) }
+{
+    let mut one = port;
+    let mut two = one.split()?;
+    let three = two.split()?;
+    Ok((one, two, three))
+}
+
+fn join_three(ports: Three) -> Port<Counter>
+    requires { (ports.1.lock ≡ ports.0.lock) × (ports.2.lock ≡ ports.0.lock) }
+    ensures { result.lock ≡ ports.0.lock }
+{
+    let (mut one, mut two, three) = ports;
+    two.join(three);
+    one.join(two);
+    one
+}
+
+#[test]
+fn exhausts_three_ports(rt: HostRuntime) -> Result<(), Fail> {
+    let alloc = rt.alloc();
+    let (shared, port) = start(alloc, 3)?;
+    let mut ports = make_three(port)?;
+    let first = bump_three(&rt, alloc, &mut ports);
+    let second = bump_three(&rt, alloc, &mut ports);
+    let count = close(shared, join_three(ports));
+    assert_eq!(rt; first, [Ok(1), Ok(2), Ok(3)]);
+    assert_eq!(rt; second, [Err(CallFault::Exhausted); 3]);
+    assert_eq!(rt; count, Some(3));
+    Ok(())
+}
+
+fn ask_moody<W: Wait>(rt: &W, alloc: Global, port: &mut Port<Moody>) -> [Answer; 4]
+    ensures { port.new.lock ≡ port.old.lock }
+{
+    [
+        port.call(rt, alloc, Wish::Bump),
+        port.call(rt, alloc, Wish::Refuse),
+        port.call(rt, alloc, Wish::Bump),
+        port.call(rt, alloc, Wish::Bump),
+    ]
+}
+
+// The answers and the count at the close of a moody counter.
+fn call_moody<W: Wait>(rt: &W, alloc: Global) -> Result<([Answer; 4], Option<u64>), AllocError> {
+    let (shared, mut port) = Shared::new(alloc, Moody::new(), 3).map_err(|_| AllocError)?;
+    let answers = ask_moody(rt, alloc, &mut port);
+    let count = shared.close(port).ok().map(|value| value.count);
+    Ok((answers, count))
+}
+
+#[test]
+fn leaves_the_value_for_want_of_memory(rt: HostRuntime) -> Result<(), Fail> {
+    let (answers, count) = call_moody(&rt, rt.alloc())?;
+    let (none, over) = (Err(CallFault::Memory), Err(CallFault::Exhausted));
+    assert_eq!(rt; answers, [Ok(1), none, Ok(2), over]);
+    assert_eq!(rt; count, Some(2));
+    Ok(())
+}
+
+// Told of one port's call, another's next call stands behind it in one legal history.
+fn call_when_told<T: Turned, W: Wait>(
+    rt: &W,
+    alloc: Global,
+    one: &mut Port<T>,
+    two: &mut Port<T>,
+    first: T::Event,
+    second: T::Event,
+) -> Result<(T::Reply, T::Reply), CallFault>
+    requires { one.old.lock ≡ two.old.lock }
+    ensures lock { (one.new.lock ≡ one.old.lock) × (two.new.lock ≡ two.old.lock) }
+    ensures behind { IfOk result (λ r. StandsBehind T.legal one.old.known.number two.old.known.number first r.0 second r.1 two.new.known) }
+{
+    let a = one.call(rt, alloc, first)?;
+    let note = one.tell();
+    two.meet(note);
+    let b = two.call(rt, alloc, second)?;
+    Ok((a, b))
+}
+
+#[test]
+fn tells_and_meets(rt: HostRuntime) -> Result<(), Fail> {
+    let alloc = rt.alloc();
+    let (shared, mut one) = start(alloc, 9)?;
+    let mut two = one.split()?;
+    let told = call_when_told(&rt, alloc, &mut one, &mut two, Bump, Bump);
+    one.join(two);
+    let count = close(shared, one);
+    assert_eq!(rt; told, Ok((1, 2)));
+    assert_eq!(rt; count, Some(2));
+    Ok(())
+}
+
+// What a busy close gave back.
+type Refusal = (Busy, Shared<Gated>, Port<Gated>);
+
+fn close_while_busy<R: Threads + Wait + Sync>(
+    rt: &R,
+    alloc: Global,
+    shared: Shared<Gated>,
+    caller: Port<Gated>,
+    closer: Port<Gated>,
+    gate: &Gate,
+) -> (bool, Port<Gated>, Option<Refusal>)
+    requires { (caller.lock ≡ shared) × (closer.lock ≡ shared) }
+    ensures lock { result.1.lock ≡ shared }
+    ensures back { IfSome result.2 (λ r. (r.1 ≡ shared) × (r.2.lock ≡ shared)) }
+{
+    let ((called, caller), refusal) = join(
+        rt,
+        || -> (bool, Port<Gated>)
+            ensures { result.1.lock ≡ caller.lock }
+        {
+            let mut caller = caller;
+            let called = caller.call(rt, alloc, Bump).is_ok();
+            (called, caller)
+        },
+        || -> Option<Refusal>
+            requires { closer.lock ≡ shared }
+            ensures { IfSome result (λ r. (r.1 ≡ shared) × (r.2.lock ≡ shared)) }
+        {
+            gate.has_begun();
+            let refusal = shared.close(closer).err();
+            gate.open();
+            refusal
+        },
+    );
+    (called, caller, refusal)
+}
+
+// A lock over a value whose turns wait at the gate.
+fn start_gated(
+    alloc: Global,
+    gate: Arc<Gate, Global>,
+) -> Result<(Shared<Gated>, Port<Gated>), AllocError>
+    ensures { IfOk result (λ r. r.1.lock ≡ r.0) }
+{
+    Shared::new(alloc, Gated::new(gate), 5).map_err(|_| AllocError)
+}
+
+// One call through the open gate, which is shut then.
+fn call_through<W: Wait>(rt: &W, alloc: Global, port: &mut Port<Gated>, gate: &Gate) -> Answer
+    ensures { port.new.lock ≡ port.old.lock }
+{
+    gate.open();
+    let answer = port.call(rt, alloc, Bump);
+    gate.shut();
+    answer
+}
+
+// What a busy close said, and the count at the close once the caller is joined.
+fn close_again(refusal: Refusal, caller: Port<Gated>) -> Option<(Busy, u64)>
+    requires { (refusal.2.lock ≡ refusal.1) × (caller.lock ≡ refusal.1) }
+{
+    let (busy, shared, mut closer) = refusal;
+    closer.join(caller);
+    match shared.close(closer) {
+        Ok(value) => Some((busy, value.count)),
+        Err(_) => None,
+    }
+}
+
+#[test]
+fn is_busy_while_a_turn_is_held(rt: HostRuntime) -> Result<(), Fail> {
+    let alloc = rt.alloc();
+    let gate = Arc::new(alloc, Gate::new())?;
+    let (shared, mut caller) = start_gated(alloc, Arc::try_clone(&gate)?)?;
+    let first = call_through(&rt, alloc, &mut caller, &gate);
+    let closer = caller.split()?;
+    let (called, caller, refusal) = close_while_busy(&rt, alloc, shared, caller, closer, &gate);
+    let (busy, count) = close_again(refusal.ok_or("closed")?, caller).ok_or("busy")?;
+    assert_eq!(rt; first, Ok(1));
+    assert!(rt; called);
+    assert_eq!(rt; (busy.drawn, busy.served), (2, 1));
+    assert_eq!(rt; count, 2);
+    Ok(())
+}
+
+// Calls so often, and keeps the replies.
+fn bump<W: Wait>(
+    rt: &W,
+    alloc: Global,
+    port: Port<Counter>,
+    times: u64,
+) -> (Port<Counter>, Vec<u64>)
+    ensures { result.0.lock ≡ port.lock }
+{
+    let mut port = port;
+    let mut replies = Vec::new(alloc);
+    for _ in 0..times {
+        if let Ok(reply) = port.call(rt, alloc, Bump) {
+            let _ = replies.push(reply);
+        }
+    }
+    (port, replies)
+}
+
+// The same through two ports at once. The replies of both are put together.
+fn bump_both<R: Threads + Wait + Sync>(
+    rt: &R,
+    alloc: Global,
+    one: Port<Counter>,
+    two: Port<Counter>,
+    times: u64,
+) -> (Port<Counter>, Vec<u64>)
+    requires { two.lock ≡ one.lock }
+    ensures { result.0.lock ≡ one.lock }
+{
+    let ((mut one, mut replies), (two, mut others)) = join(
+        rt,
+        || -> (Port<Counter>, Vec<u64>)
+            ensures { result.0.lock ≡ one.lock }
+        { bump(rt, alloc, one, times) },
+        || -> (Port<Counter>, Vec<u64>)
+            ensures { result.0.lock ≡ two.lock }
+        { bump(rt, alloc, two, times) },
+    );
+    one.join(two);
+    let _ = replies.append(&mut others);
+    (one, replies)
+}
+
+fn bump_all<R: Threads + Wait + Sync>(
+    rt: &R,
+    alloc: Global,
+    ports: Ring,
+    times: u64,
+) -> (Port<Counter>, Vec<u64>)
+    requires { (ports.1.lock ≡ ports.0.lock) × (ports.2.lock ≡ ports.0.lock) × (ports.3.lock ≡ ports.0.lock) }
+    ensures { result.0.lock ≡ ports.0.lock }
+{
+    let (one, two, three, four) = ports;
+    let ((mut one, mut replies), (three, mut others)) = join(
+        rt,
+        || -> (Port<Counter>, Vec<u64>)
+            requires { two.lock ≡ one.lock }
+            ensures { result.0.lock ≡ one.lock }
+        { bump_both(rt, alloc, one, two, times) },
+        || -> (Port<Counter>, Vec<u64>)
+            requires { four.lock ≡ three.lock }
+            ensures { result.0.lock ≡ three.lock }
+        { bump_both(rt, alloc, three, four, times) },
+    );
+    one.join(three);
+    let _ = replies.append(&mut others);
+    (one, replies)
+}
+
+// Four ports of one lock, each of which was told by the one before.
+type Ring = (Port<Counter>, Port<Counter>, Port<Counter>, Port<Counter>);
+
+fn make_ring(port: Port<Counter>) -> Result<Ring, AllocError>
+    ensures { IfOk result (λ r. (r.0.lock ≡ port.lock) × (r.1.lock ≡ port.lock) × (r.2.lock ≡ port.lock) × (r.3.lock ≡ port.lock)) }
+{
+    let mut one = port;
+    let mut two = one.split()?;
+    let mut three = two.split()?;
+    let mut four = one.split()?;
+    two.meet(one.tell());
+    three.meet(two.tell());
+    four.meet(three.tell());
+    one.meet(four.tell());
+    Ok((one, two, three, four))
+}
+
+// True where the replies are 1 to `count`, each once.
+fn are_one_to(alloc: Global, mut replies: Vec<u64>, count: u64) -> Result<bool, AllocError> {
+    replies.sort()?;
+    let mut want = Vec::new(alloc);
+    for n in 1..=count {
+        want.push(n)?;
+    }
+    Ok(replies == want)
+}
+
+#[test]
+fn counts_for_four_threads(rt: HostRuntime) -> Result<(), Fail> {
+    let alloc = rt.alloc();
+    let (shared, port) = start(alloc, 40_000)?;
+    let (one, replies) = bump_all(&rt, alloc, make_ring(port)?, 10_000);
+    let count = close(shared, one);
+    assert_eq!(rt; count, Some(40_000));
+    assert!(rt; are_one_to(alloc, replies, 40_000)?);
+    Ok(())
+}
+
+#[test]
+fn exhausts_two_threads(rt: HostRuntime) -> Result<(), Fail> {
+    let alloc = rt.alloc();
+    let (shared, mut one) = start(alloc, 7)?;
+    let two = one.split()?;
+    let (one, replies) = bump_both(&rt, alloc, one, two, 5);
+    let count = close(shared, one);
+    assert_eq!(rt; count, Some(7));
+    assert!(rt; are_one_to(alloc, replies, 7)?);
+    Ok(())
+}

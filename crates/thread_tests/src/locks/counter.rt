@@ -1,0 +1,190 @@
+//! Values for the tests.
+ghost use Rattle.std.specs.Prelude.{◌≡◌, ◌≢◌, ℕ, ◌+◌, ◌%◌, ◌^◌, IfOk, IfErr};
+ghost use Rattle.turn_lock.specs.Trials.{next, Counts, count_after};
+
+use std::alloc::{AllocError, Global};
+use std::sync::Arc;
+use std::sync::atomic::{AtomicBool, Ordering};
+use std::thread;
+use turn_lock::Turned;
+
+/// How often a wait asks its flag.
+const ASKED: u64 = 1_000_000;
+
+/// Holds a turn up.
+#[derive(Drop)]
+pub(super) struct Gate {
+    begun: AtomicBool,
+    open: AtomicBool,
+}
+
+fn wait_for(flag: &AtomicBool) -> bool {
+    for _ in 0..ASKED {
+        if flag.load(Ordering::SeqCst) {
+            return true;
+        }
+        thread::yield_now();
+    }
+    false
+}
+
+impl Gate {
+    pub(super) fn new() -> Gate {
+        Gate {
+            begun: AtomicBool::new(false),
+            open: AtomicBool::new(false),
+        }
+    }
+
+    /// Holds up the next turn, after those that went through.
+    pub(super) fn shut(&self) {
+        self.begun.store(false, Ordering::SeqCst);
+        self.open.store(false, Ordering::SeqCst);
+    }
+
+    fn pass(&self) {
+        self.begun.store(true, Ordering::SeqCst);
+        wait_for(&self.open);
+    }
+
+    /// True once a turn has begun.
+    pub(super) fn has_begun(&self) -> bool {
+        wait_for(&self.begun)
+    }
+
+    /// Lets the turn go on.
+    pub(super) fn open(&self) {
+        self.open.store(true, Ordering::SeqCst);
+    }
+}
+
+/// The one event of a counter.
+#[derive(Clone, Copy)]
+pub(super) struct Bump;
+
+/// It counts its turns, and answers the count.
+#[derive(Drop)]
+pub(super) struct Counter {
+    pub(super) count: u64,
+}
+
+impl Counter {
+    pub(super) fn new() -> Counter
+        ensures { result.count ≡ 0 }
+    {
+        Counter { count: 0 }
+    }
+}
+
+impl Turned for Counter {
+    type Event = Bump;
+
+    type Reply = u64;
+
+    type Origin = ();
+
+    ghost origin = { λ _. tt };
+
+    ghost legal = { λ _ h. Counts 0 h };
+
+    ghost stands = { λ c h. Counts 0 h × (c.count ≡ count_after 0 h) };
+
+    ghost sure = { λ _. Unit {0} };
+
+    fn turn(&mut self, _alloc: Global, _event: Bump) -> Result<u64, AllocError> {
+        self.count = self.count.wrapping_add(1);
+        Ok(self.count)
+    }
+
+    ghost is_legal = { λ _ _ s. s.0 };
+}
+
+/// A counter whose turns wait at a gate.
+#[derive(Drop)]
+pub(super) struct Gated {
+    pub(super) count: u64,
+    gate: Arc<Gate, Global>,
+}
+
+impl Gated {
+    pub(super) fn new(gate: Arc<Gate, Global>) -> Gated
+        ensures { result.count ≡ 0 }
+    {
+        Gated { count: 0, gate }
+    }
+}
+
+impl Turned for Gated {
+    type Event = Bump;
+
+    type Reply = u64;
+
+    type Origin = ();
+
+    ghost origin = { λ _. tt };
+
+    ghost legal = { λ _ h. Counts 0 h };
+
+    ghost stands = { λ c h. Counts 0 h × (c.count ≡ count_after 0 h) };
+
+    ghost sure = { λ _. Unit {0} };
+
+    fn turn(&mut self, _alloc: Global, _event: Bump) -> Result<u64, AllocError> {
+        self.gate.pass();
+        self.count = self.count.wrapping_add(1);
+        Ok(self.count)
+    }
+
+    ghost is_legal = { λ _ _ s. s.0 };
+}
+
+/// What the moody counter is asked.
+#[derive(Clone, Copy)]
+pub(super) enum Wish {
+    Bump,
+    Refuse,
+}
+
+/// A counter that refuses when it is told to.
+#[derive(Drop)]
+pub(super) struct Moody {
+    pub(super) count: u64,
+}
+
+impl Moody {
+    pub(super) fn new() -> Moody
+        ensures { result.count ≡ 0 }
+    {
+        Moody { count: 0 }
+    }
+}
+
+impl Turned for Moody {
+    ghost use Rattle.thread_tests.specs.declared.locks.counter.Wish.TheVariants.{Bump};
+
+    type Event = Wish;
+
+    type Reply = u64;
+
+    type Origin = ();
+
+    ghost origin = { λ _. tt };
+
+    ghost legal = { λ _ h. Counts 0 h };
+
+    ghost stands = { λ c h. Counts 0 h × (c.count ≡ count_after 0 h) };
+
+    ghost sure = { λ e. e ≡ Bump };
+
+    fn turn(&mut self, _alloc: Global, event: Wish) -> Result<u64, AllocError> {
+        match event {
+            Wish::Bump => {
+                self.count = self.count.wrapping_add(1);
+                Ok(self.count)
+            }
+            Wish::Refuse => Err(AllocError),
+        }
+    }
+
+    ghost is_legal = { λ _ _ s. s.0 };
+}
