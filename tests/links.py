@@ -139,6 +139,8 @@ def definitions_back(text):
 
 def examples():
     for name, folder in CRATES.items():
+        if name.endswith("_tests"):
+            continue
         page = folder / "README.md"
         if not page.exists():
             yield f"{name} has no README"
