@@ -29,6 +29,9 @@ def sources(crate):
 
 
 SOURCES = {it: sources(it) for it in CRATES}
+ALL_SOURCES = "\n".join(SOURCES.values())
+# A function, a type, a constant, a module, or the variant of an enum.
+DECLARED = r"\b(?:fn|struct|enum|trait|const|mod|type) {0}\b|^ +{0}\b(?:[,( {{]|$)"
 EDITS = {crate: {it.stem for part in ("wrong", "must-fail") for it in (folder / part).glob("*.edit")} for crate, folder in CRATES.items()}
 ALL_EDITS = set().union(*EDITS.values())
 TESTS = {it for text in SOURCES.values() for it in re.findall(r"#\[test\]\s*(?:#\[[^\n]*\]\s*)*(?:pub )?fn (\w+)", text)}
@@ -77,8 +80,23 @@ def functions(text):
         words = re.fullmatch(r"(\w+)((?:::\w+)+)(?:\(\))?", it)
         if words and words[1] in CRATES:
             for name in words[2].split("::")[1:]:
-                if not re.search(rf"\b(?:fn|struct|enum|trait|const|mod|type) {name}\b|^ +{name}\b(?:[,( {{]|$)", SOURCES[words[1]], re.M):
+                if not re.search(DECLARED.format(name), SOURCES[words[1]], re.M):
                     yield f"no {name} in {words[1]}: {it}"
+
+
+def types(text):
+    """`TYPE::NAME` of whichever crate."""
+    for it in CODE.findall(text):
+        words = re.fullmatch(r"([A-Z]\w+)::(\w+)", it)
+        if words and not all(re.search(DECLARED.format(name), ALL_SOURCES, re.M) for name in words.groups()):
+            yield f"no {it}"
+
+
+def steps(text):
+    """A name alone, where it is no number."""
+    for it in CODE.findall(text):
+        if re.fullmatch(r"[a-zA-Z_]+", it) and it not in CRATES and not re.search(DECLARED.format(it), ALL_SOURCES, re.M) and it not in TESTS:
+            yield f"no {it}"
 
 
 def edits(text):
@@ -154,9 +172,10 @@ def examples():
 def lost():
     for page in pages():
         text = prose(page.read_text())
-        for what in (links(page, text), paths(page, text), functions(text), edits(text)):
+        for what in (links(page, text), paths(page, text), functions(text), types(text), edits(text)):
             for it in what:
                 yield f"{page.relative_to(TOP)}: {it}"
+    yield from (f"docs/A_GET.md: {it}" for it in steps((TOP / "docs" / "A_GET.md").read_text()))
     yield from (f"docs/WRONG_BODIES.md: {it}" for it in wrong_bodies((TOP / "docs" / "WRONG_BODIES.md").read_text()))
     yield from (f"docs/DEFINITIONS.md: {it}" for it in definitions((TOP / "docs" / "DEFINITIONS.md").read_text()))
     yield from (f"docs/PROMISES.md: {it}" for it in definitions_back((TOP / "docs" / "PROMISES.md").read_text()))
