@@ -1,0 +1,2 @@
+# Completions of trace_player for fish; bin/manuals writes this file.
+complete -c trace_player -f -l help -d 'tells how it is called'
