@@ -44,7 +44,8 @@ def long_trace():
              rows.write(rows.EXPORT_MIN_UNDER, rows.long_number(100_000)), rows.write(rows.EXPORT_ACTIONS, rows.actions(2, 0)),
              rows.write(rows.SCHEDULE_SCRIPT, "0202090600000A006AFF120002"), rows.write(rows.SCHEDULE_TYPE, "1601"),
              # the time 00:16:40.00 of 1 January 2000, which is moment 1,000
-             rows.write(rows.SCHEDULE_TIMES, "010102020904001028000905" + "07D00101FF"), rows.read(rows.MODE, rows.mode(5)), rows.moment(0, 0), rows.read(rows.MODE, rows.mode(5))]
+             rows.write(rows.SCHEDULE_TIMES, "010102020904001028000905" + "07D00101FF"), rows.read(rows.MODE, rows.mode(5)),
+             rows.moment(0, 0), rows.read(rows.MODE, rows.mode(5))]
     events = [it[0] for it in setup]
     second = 0
     for number in range(ROUNDS):
@@ -92,7 +93,7 @@ def long_rows(svg):
     yield "as many marks", (marks(svg, "firings-import-over"), marks(svg, "firings-export-over")) == (ROUNDS, -(-ROUNDS // 5))
     yield "no firing under a threshold", marks(svg, "firings-import-under") + marks(svg, "firings-export-under") == 0
     yield "all runs", all(finds(svg, f"runs-{which}-{side}") is not None for which in ("import", "export") for side in ("over", "under"))
-    yield "labels of setting up", any("set control_mode 5" in it for it in told)
+    yield "the label of the first call", any(it.startswith("1 set scripts ") for it in told)
     yield "the last moment", f"{34 * ROUNDS // 3600:02}:" in "".join(it[11:14] for it in told if it.startswith("2000-01-01 "))
 
 
