@@ -1,5 +1,6 @@
 # Completions of head_end for fish; bin/manuals writes this file.
 complete -c head_end -f -l help -d 'tells how it is called'
+complete -c head_end -f -l version -d 'tells its version'
 complete -c head_end -f -n __fish_use_subcommand -a check -d 'Reads the jobs on standard input and prints how many they are'
 complete -c head_end -f -n __fish_use_subcommand -a run -d 'Runs the jobs on standard input, and prints the report'
 complete -c head_end -f -n '__fish_seen_subcommand_from run' -l password -r -d 'The password of the management client, 1 to 32 bytes (else METER_PASSWORD)'

@@ -1,5 +1,6 @@
 # Completions of meter_server for fish; bin/manuals writes this file.
 complete -c meter_server -f -l help -d 'tells how it is called'
+complete -c meter_server -f -l version -d 'tells its version'
 complete -c meter_server -f -n __fish_use_subcommand -a apdu -d 'Answers xDLMS requests'
 complete -c meter_server -f -n __fish_use_subcommand -a hex -d 'Runs a client\'s session'
 complete -c meter_server -f -n '__fish_seen_subcommand_from hex' -l password -r -d 'The password of the management client, 1 to 32 bytes'
