@@ -208,6 +208,12 @@ CASES = [
     ("a campaign's password of 33 bytes", "head_end_cli", ["run", "--password", "p" * 33], b"", b"", FAULT_INPUT, 2),
     ("help of the head end", "head_end_cli", ["--help"], b"", None, b"", 0),
     ("help of a campaign", "head_end_cli", ["run", "--help"], b"", None, b"", 0),
+    ("the version of the meter", "meter_server_cli", ["--version"], b"", b"meter_server 0.1.0\n", b"", 0),
+    ("the version of the meter", "meter_server_cli", ["-V"], b"", b"meter_server 0.1.0\n", b"", 0),
+    ("the version of the player", "trace_player_cli", ["--version"], b"", b"trace_player 0.1.0\n", b"", 0),
+    ("the version of the player", "trace_player_cli", ["-V"], b"", b"trace_player 0.1.0\n", b"", 0),
+    ("the version of the head end", "head_end_cli", ["--version"], b"", b"head_end 0.1.0\n", b"", 0),
+    ("the version of the head end", "head_end_cli", ["-V"], b"", b"head_end 0.1.0\n", b"", 0),
 ]
 
 

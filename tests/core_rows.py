@@ -248,9 +248,12 @@ def opening_with(changes):
     return lines
 
 
+def trace_text(opening, events):
+    return "\n".join([*opening, f"events {len(events)}", *events]) + "\n"
+
+
 def play(opening, events):
-    trace = "\n".join([*opening, f"events {len(events)}", *events]) + "\n"
-    ran = subprocess.run([PLAYER], input=trace.encode(), capture_output=True, timeout=60)
+    ran = subprocess.run([PLAYER], input=trace_text(opening, events).encode(), capture_output=True, timeout=60)
     return ran.returncode, ran.stdout.decode(), ran.stderr.decode()
 
 

@@ -23,6 +23,13 @@ use std::rt::Env;
 /// A list of jobs has at most so many bytes.
 const MAX_INPUT: usize = 1_048_576;
 
+/// What `--help` tells below the options.
+const LIMITS_AND_STATUSES: &str = "\
+Limits: a list has 1,000 jobs and 1,048,576 bytes at most.
+A fault is the line `fault: WORD` on standard error.
+Exit status: 0 done; 2 the command line or the input is wrong; 3 reading or writing failed; 4 memory ran out.
+Example: echo m1 127.0.0.1:4059 state | head_end check";
+
 /// The command that runs a campaign.
 fn run_command<'a>(alloc: Global) -> Result<Command<'a>, AllocError> {
     let password = Arg::new(alloc, "password")
@@ -70,7 +77,9 @@ fn command_line<'a>(alloc: Global) -> Result<Command<'a>, AllocError> {
     );
     Command::new(alloc, "head_end")
         .bin_name("head_end")?
+        .version("0.1.0")
         .about("Switching campaigns over DLMS/COSEM electricity meters")
+        .after_help(LIMITS_AND_STATUSES)
         .subcommand_required(true)
         .subcommand(check)?
         .subcommand(run_command(alloc)?)

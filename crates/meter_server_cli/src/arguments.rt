@@ -2,6 +2,13 @@
 use clap::{Arg, ArgAction, Command, value_parser};
 use std::alloc::{AllocError, Global};
 
+/// What `--help` tells below the options.
+const LIMITS_AND_STATUSES: &str = "\
+Limits: apdu and hex read 1,048,576 bytes at most; serve has eight sessions at most at a time, and closes a ninth connection.
+A fault is the line `fault: WORD` on standard error.
+Exit status: 0 done; 2 the command line or the input is wrong; 3 reading, writing or listening failed; 4 memory or the turns of the lock ran out.
+Example: echo C001C10046000060030AFF0300 | meter_server apdu";
+
 /// The option `--password`.
 fn password<'a>(alloc: Global, is_required: bool) -> Arg<'a> {
     Arg::new(alloc, "password")
@@ -118,7 +125,9 @@ pub fn command_line<'a>(alloc: Global, has_password: bool) -> Result<Command<'a>
     );
     Command::new(alloc, "meter_server")
         .bin_name("meter_server")?
+        .version("0.1.0")
         .about("The supply switch of a DLMS/COSEM electricity meter")
+        .after_help(LIMITS_AND_STATUSES)
         .subcommand_required(true)
         .subcommand(apdu)?
         .subcommand(hex(alloc)?)?

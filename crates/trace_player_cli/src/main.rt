@@ -13,14 +13,23 @@ use std::process::ExitCode;
 use std::rt::Env;
 use trace_player::{PlayFault, play};
 
+/// What `--help` tells below the options.
+const LIMITS_AND_STATUSES: &str = "\
+Limits: a trace has 33,554,432 bytes and 65,536 events at most.
+A fault is the line `fault: WORD` on standard error.
+Exit status: 0 done; 2 the command line or the input is wrong; 3 reading or writing failed; 4 memory ran out.
+Example: trace_player < run.trace";
+
 /// The program, as its users see it.
 fn command_line<'a>(alloc: Global) -> Result<Command<'a>, AllocError> {
     Ok(
         Command::new(alloc, "trace_player")
             .bin_name("trace_player")?
+            .version("0.1.0")
             .about(
                 "Plays a trace of the supply switch: standard input is the trace, and each of its events is answered by a line",
-            ),
+            )
+            .after_help(LIMITS_AND_STATUSES),
     )
 }
 

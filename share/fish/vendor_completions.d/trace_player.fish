@@ -1,0 +1,3 @@
+# Completions of trace_player for fish; bin/manuals writes this file.
+complete -c trace_player -f -l help -d 'tells how it is called'
+complete -c trace_player -f -l version -d 'tells its version'

@@ -1,0 +1,168 @@
+#!/usr/bin/env python3
+"""Draws the worked trace and a long one with bin/trace_chart, looks for the marks that must be there, and has a browser render both.
+
+The long trace has the most events that a trace can have. What it must show is known from how it is made, not from the player's output.
+Where matplotlib or a headless browser is missing, what needs it is left out, by name (Debian: apt-get install python3-matplotlib chromium).
+
+usage: tests/charts.py [--keep FOLDER]     (the pictures stay in FOLDER)
+"""
+import os
+import re
+import shutil
+import subprocess
+import sys
+import tempfile
+import xml.etree.ElementTree as Tree
+from pathlib import Path
+
+sys.dont_write_bytecode = True
+sys.path.insert(0, str(Path(__file__).resolve().parent))
+import core_rows as rows
+
+TOP = Path(__file__).resolve().parent.parent
+WORKED = TOP / "crates" / "trace_player_cli" / "stdin"
+COMMITTED = TOP / "docs" / "worked_trace.svg"
+SVG = "{http://www.w3.org/2000/svg}"
+BROWSERS = ("chromium", "chromium-browser", "google-chrome")
+
+# The worked trace: its labels are what docs/TRACE.md tells of it.
+WORKED_LABELS = ["1 set control_mode 1", "2 remote_disconnect", "3 button: refused, 2", "4 remote_reconnect", "5 button", "6 get output_state (public)",
+                 "9 moment 4: stale"]
+ROUNDS = 936
+
+
+def long_trace():
+    """65,536 events. After 16 events that set the meter up come rounds of 70: a second of samples and a moment, 34 times, a press and a read.
+
+    In each round ten seconds lie over the import limiter's 5,000 W, which fires after one and disconnects; the press restores the supply, which
+    ends the run. In the 17th second of every fifth round the pairs have 7,000 W of export, over the export limiter's 6,000 W: with a need of one
+    second it fires once there, and lets the supply as it is. A schedule is due once, in the second of moment 1,000."""
+    setup = [rows.write(rows.TABLE, rows.scripts(s1=[rows.DISCONNECT], s2=[])), rows.write(rows.MODE, rows.mode(5)),
+             rows.write(rows.IMPORT_NORMAL, rows.long_number(5000)), rows.write(rows.IMPORT_MIN_OVER, rows.long_number(1)),
+             rows.write(rows.IMPORT_MIN_UNDER, rows.long_number(100_000)), rows.write(rows.IMPORT_ACTIONS, rows.actions(1, 0)),
+             rows.write(rows.EXPORT_NORMAL, rows.long_number(6000)), rows.write(rows.EXPORT_MIN_OVER, rows.long_number(1)),
+             rows.write(rows.EXPORT_MIN_UNDER, rows.long_number(100_000)), rows.write(rows.EXPORT_ACTIONS, rows.actions(2, 0)),
+             rows.write(rows.SCHEDULE_SCRIPT, "0202090600000A006AFF120002"), rows.write(rows.SCHEDULE_TYPE, "1601"),
+             # the time 00:16:40.00 of 1 January 2000, which is moment 1,000
+             rows.write(rows.SCHEDULE_TIMES, "010102020904001028000905" + "07D00101FF"), rows.read(rows.MODE, rows.mode(5)),
+             rows.moment(0, 0), rows.read(rows.MODE, rows.mode(5))]
+    events = [it[0] for it in setup]
+    second = 0
+    for number in range(ROUNDS):
+        for at in range(34):
+            second += 1
+            power = 6000 + at if 10 <= at < 20 else 1000 + 40 * at
+            export = 7000 if at == 17 and number % 5 == 0 else 500
+            events += ["pairs" + f" {power} {export}" * 10, f"moment {second}"]
+        events += ["button", f"get 1 {rows.SWITCH} 3 0"]
+    return events
+
+
+def finds(svg, name):
+    return next((it for it in svg.iter(f"{SVG}g") if it.get("id") == name), None)
+
+
+def marks(svg, name):
+    """How many marks stand in the group of this name."""
+    group = finds(svg, name)
+    return 0 if group is None else sum(1 for _ in group.iter(f"{SVG}use"))
+
+
+def texts(svg):
+    return ["".join(it.itertext()).strip() for it in svg.iter(f"{SVG}text")]
+
+
+def worked_rows(svg):
+    told = texts(svg)
+    for label in WORKED_LABELS:
+        yield f"the label {label}", label in told
+    yield "the power and the threshold", all(finds(svg, it) is not None for it in ("import-power", "import-threshold"))
+    yield "no export", finds(svg, "export-power") is None
+    yield "one firing under the threshold, none over it", (marks(svg, "firings-import-under"), marks(svg, "firings-import-over")) == (1, 0)
+    yield "the supply and the three states", all(finds(svg, it) is not None for it in ("supply", "state-0", "state-1", "state-2"))
+    yield "the moment", "2000-01-01 00:00:05" in told
+    yield "one legend", sum(1 for it in svg.iter(f"{SVG}g") if it.get("id", "").startswith("legend_")) == 1
+
+
+def long_rows(svg):
+    told = texts(svg)
+    yield "the heading", any(it.startswith("RELAY1: 65,536 events") for it in told)
+    yield "both powers and thresholds", all(finds(svg, f"{which}-{what}") is not None for which in ("import", "export") for what in ("power", "threshold"))
+    yield "a firing over the import threshold in each round", f"import limiter fires over its threshold ({ROUNDS:,})" in told
+    yield "a firing over the export threshold in every fifth", f"export limiter fires over its threshold ({-(-ROUNDS // 5):,})" in told
+    yield "as many marks", (marks(svg, "firings-import-over"), marks(svg, "firings-export-over")) == (ROUNDS, -(-ROUNDS // 5))
+    yield "no firing under a threshold", marks(svg, "firings-import-under") + marks(svg, "firings-export-under") == 0
+    yield "all runs", all(finds(svg, f"runs-{which}-{side}") is not None for which in ("import", "export") for side in ("over", "under"))
+    yield "the label of the first call", any(it.startswith("1 set scripts ") for it in told)
+    yield "the last moment", f"{34 * ROUNDS // 3600:02}:" in "".join(it[11:14] for it in told if it.startswith("2000-01-01 "))
+
+
+def charted(path, to):
+    with open(to, "wb") as file:
+        return subprocess.run([TOP / "bin" / "trace_chart", path], stdout=file, stderr=subprocess.PIPE, timeout=600)
+
+
+def rendered(browser, svg, picture):
+    """Whether a headless browser renders the picture without a fault, and something is to be seen."""
+    # (its lengths are points, four thirds of a browser's pixel)
+    size = [str(round(float(it) * 4 / 3)) for it in re.search(r'viewBox="0 0 ([\d.]+) ([\d.]+)"', svg.read_text()).groups()]
+    with tempfile.TemporaryDirectory(prefix="charts-browser-") as home:
+        words = [browser, "--headless", "--no-sandbox", "--disable-gpu", "--hide-scrollbars", f"--user-data-dir={home}", f"--screenshot={picture}",
+                 f"--window-size={','.join(size)}", "--default-background-color=FFFFFFFF", svg.as_uri()]
+        ran = subprocess.run(words, capture_output=True, timeout=120)
+    return ran.returncode == 0 and picture.exists() and picture.stat().st_size > 10_000
+
+
+def judged(name, path, room, rows_of, browser):
+    svg = room / f"{name}.svg"
+    ran = charted(path, svg)
+    yield f"{name}: it is drawn", ran.returncode == 0 and not ran.stderr
+    if ran.returncode:
+        print(ran.stderr.decode(errors="replace"))
+        return
+    for what, is_so in rows_of(Tree.parse(svg).getroot()):
+        yield f"{name}: {what}", is_so
+    if browser:
+        yield f"{name}: a browser renders it", rendered(browser, svg, room / f"{name}.png")
+
+
+def all_rows(room, browser):
+    yield from judged("worked_trace", WORKED, room, worked_rows, browser)
+    for what, is_so in worked_rows(Tree.parse(COMMITTED).getroot()):
+        yield f"docs/worked_trace.svg: {what}", is_so
+    trace = room / "long.trace"
+    trace.write_text(rows.trace_text(rows.NEW_METER, long_trace()))
+    yield from judged("long", trace, room, long_rows, browser)
+    wrong = room / "wrong.trace"
+    wrong.write_text("RELAYTRACE 3\n")
+    ran = charted(wrong, room / "wrong.svg")
+    yield "a wrong trace is a fault of the input", ran.returncode == 2 and b"fault: input" in ran.stderr and not (room / "wrong.svg").stat().st_size
+
+
+def has_matplotlib():
+    return any(subprocess.run([it, "-c", "import matplotlib"], capture_output=True).returncode == 0 for it in (sys.executable, "/usr/bin/python3"))
+
+
+def main(words):
+    if not has_matplotlib():
+        print("left out: charts, for want of matplotlib (Debian: apt-get install python3-matplotlib)")
+        print("0 passed, 0 failed")
+        return 0
+    browser = next((found for found in map(shutil.which, BROWSERS) if found), None)
+    if not browser:
+        print("left out: charts in a browser, for want of one (Debian: apt-get install chromium)")
+    passed, failed = 0, 0
+    with tempfile.TemporaryDirectory(prefix="charts-") as room:
+        if words[:1] == ["--keep"]:
+            room = words[1]
+            os.makedirs(room, exist_ok=True)
+        for name, is_so in all_rows(Path(room), browser):
+            passed, failed = passed + is_so, failed + (not is_so)
+            if not is_so:
+                print(f"FAILED charts: {name}")
+    print(f"{passed} passed, {failed} failed")
+    return 1 if failed else 0
+
+
+if __name__ == "__main__":
+    sys.exit(main(sys.argv[1:]))

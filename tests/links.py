@@ -1,0 +1,195 @@
+#!/usr/bin/env python3
+"""Tests that what README.md, docs/ and the crates' READMEs name is there: links and their places, files, functions, definitions, edits, tests.
+
+- A link leads to a file, and to a heading or an anchor in it.
+- A path in code or prose (docs/TRACE.md, bin/build, crates/NAME/..) is one of a file or folder.
+- `CRATE::NAME` is declared in that crate's sources; a crate of the toolchain's is not looked into.
+- `CRATE/EDIT` and each name in docs/WRONG_BODIES.md's last column is an edit, or a test; each edit stands there.
+- A definition that docs/DEFINITIONS.md names stands in a file of its row; each file of specs/ stands in docs/PROMISES.md.
+- Each crate has a README, whose example is a test that is there, or a file that the gate runs.
+"""
+import re
+import sys
+from pathlib import Path
+
+TOP = Path(__file__).resolve().parent.parent
+CRATES = {it.name: it for it in sorted((TOP / "crates").iterdir()) if (it / "src").is_dir()}
+# Words that stand for any name, as in crates/NAME/src.
+PLACEHOLDER = re.compile(r"\b(NAME|CRATE|PATH|TEXT|FILE|EDIT|PROGRAM|PREFIX|TRACE|JOBS|FOLDER)\b|\*|<|\.\.")
+CODE = re.compile(r"`([^`\n]+)`")
+LINK = re.compile(r"\[[^\]]*\]\(([^)\s]+)\)")
+
+
+def pages():
+    return [TOP / it for it in ("README.md", "CONTRIBUTING.md", "CHANGELOG.md")] + sorted((TOP / "docs").glob("*.md")) + sorted(TOP.glob("crates/*/README.md"))
+
+
+def sources(crate):
+    return "\n".join(it.read_text() for it in sorted((CRATES[crate] / "src").rglob("*.rt")))
+
+
+SOURCES = {it: sources(it) for it in CRATES}
+ALL_SOURCES = "\n".join(SOURCES.values())
+# A function, a type, a constant, a module, or the variant of an enum.
+DECLARED = r"\b(?:fn|struct|enum|trait|const|mod|type) {0}\b|^ +{0}\b(?:[,( {{]|$)"
+EDITS = {crate: {it.stem for part in ("wrong", "must-fail") for it in (folder / part).glob("*.edit")} for crate, folder in CRATES.items()}
+ALL_EDITS = set().union(*EDITS.values())
+TESTS = {it for text in SOURCES.values() for it in re.findall(r"#\[test\]\s*(?:#\[[^\n]*\]\s*)*(?:pub )?fn (\w+)", text)}
+
+
+def prose(text):
+    """A page without its blocks of code."""
+    return re.sub(r"(?ms)^```.*?^```$", "", text)
+
+
+def anchors(path):
+    text = prose(path.read_text())
+    heads = [re.sub(r"[^\w\- ]", "", it.lower()).replace(" ", "-") for it in re.findall(r"(?m)^#+ (.*)$", text)]
+    return {*heads, *re.findall(r'<a id="([^"]+)"', text)}
+
+
+def links(page, text):
+    for target in LINK.findall(text):
+        if re.match(r"https?:", target):
+            continue
+        path, _, place = target.partition("#")
+        there = (page.parent / path).resolve() if path else page
+        if not there.exists():
+            yield f"no file {target}"
+        elif place and place not in anchors(there):
+            yield f"no place {target}"
+
+
+def paths(page, text):
+    """Paths in code and in prose, from the top of the repository, or in a crate's README from its own folder."""
+    plain = LINK.sub("", text)
+    found = set(re.findall(r"(?<![\w/.-])(?:docs|bin|tests|bench|crates|share)/[\w./*<>-]*[\w/]", plain))
+    found |= {it for it in CODE.findall(plain) if re.fullmatch(r"(?:src|specs|proofs|wrong)/[\w./-]+", it)}
+    for it in sorted(found):
+        if not PLACEHOLDER.search(it) and not any((place / it).exists() for place in (TOP, page.parent)) and not is_shortened(it):
+            yield f"no file {it}"
+
+
+def is_shortened(path):
+    """A path of a crate's file told from its crate's folder, as `src/tests.rt`, where some crate has it."""
+    return path.startswith(("src/", "specs/", "proofs/", "wrong/")) and any((it / path).exists() for it in CRATES.values())
+
+
+def functions(text):
+    for it in CODE.findall(text):
+        words = re.fullmatch(r"(\w+)((?:::\w+)+)(?:\(\))?", it)
+        if words and words[1] in CRATES:
+            for name in words[2].split("::")[1:]:
+                if not re.search(DECLARED.format(name), SOURCES[words[1]], re.M):
+                    yield f"no {name} in {words[1]}: {it}"
+
+
+def types(text):
+    """`TYPE::NAME` of whichever crate."""
+    for it in CODE.findall(text):
+        words = re.fullmatch(r"([A-Z]\w+)::(\w+)", it)
+        if words and not all(re.search(DECLARED.format(name), ALL_SOURCES, re.M) for name in words.groups()):
+            yield f"no {it}"
+
+
+def steps(text):
+    """A name alone, where it is no number."""
+    for it in CODE.findall(text):
+        if re.fullmatch(r"[a-zA-Z_]+", it) and it not in CRATES and not re.search(DECLARED.format(it), ALL_SOURCES, re.M) and it not in TESTS:
+            yield f"no {it}"
+
+
+def edits(text):
+    for it in CODE.findall(text):
+        words = re.fullmatch(r"(\w+)/(\w+)", it)
+        if words and words[1] in CRATES and words[2] not in EDITS[words[1]] and not (CRATES[words[1]] / words[2]).exists():
+            yield f"no edit {it}"
+
+
+def wrong_bodies(text):
+    named = set()
+    for row in text.split("\n"):
+        cells = row.split(" | ")
+        if len(cells) == 2 and row.startswith("| "):
+            for it in CODE.findall(cells[1]):
+                name = it.rpartition("/")[2]
+                named.add(name)
+                if re.fullmatch(r"\w+_\w+_\w+", name) and name not in ALL_EDITS | TESTS:
+                    yield f"no edit or test {it}"
+    for it in sorted(ALL_EDITS - named):
+        yield f"the edit {it} is not told of"
+
+
+def definitions(text):
+    files = []
+    for row in text.split("\n"):
+        cells = row.strip("| ").split(" | ")
+        if not row.startswith("| ") or len(cells) < 2:
+            continue
+        names = CODE.findall(cells[1])
+        own = files_of_row(names)
+        if own or "the same file" not in cells[1]:
+            files = own
+        told = "\n".join(it.read_text() for it in files)
+        for it in names:
+            if re.fullmatch(r"[\w◌>=]+", it) and not re.search(rf"(?<![\w-]){re.escape(it)}(?![\w-])", told):
+                yield f"no definition {it} in {[str(file.relative_to(TOP)) for file in files]}"
+
+
+def files_of_row(names):
+    """The files that a row names: CRATE/specs/FILE, and FILE alone of the folder named before."""
+    found, folder = [], None
+    for it in names:
+        path = CRATES.get(it.partition("/")[0], TOP) / it.partition("/")[2]
+        if "/" in it and path.exists():
+            folder = path if path.is_dir() else path.parent
+            found += sorted(path.glob("*.antt")) if path.is_dir() else [path]
+        elif it.endswith(".antt") and folder and (folder / it).exists():
+            found.append(folder / it)
+    return found
+
+
+def definitions_back(text):
+    for it in sorted(TOP.glob("crates/*/specs/*.antt")):
+        if it.name != "Lib.antt" and f"../{it.relative_to(TOP)})" not in text:
+            yield f"{it.relative_to(TOP)} serves no promise"
+
+
+def examples():
+    for name, folder in CRATES.items():
+        if name.endswith("_tests"):
+            continue
+        page = folder / "README.md"
+        if not page.exists():
+            yield f"{name} has no README"
+            continue
+        text = page.read_text()
+        for test in re.findall(r"[Tt]ests? `(\w+)`", text):
+            if test not in TESTS:
+                yield f"{name}: no test {test}"
+
+
+def lost():
+    for page in pages():
+        text = prose(page.read_text())
+        for what in (links(page, text), paths(page, text), functions(text), types(text), edits(text)):
+            for it in what:
+                yield f"{page.relative_to(TOP)}: {it}"
+    yield from (f"docs/A_GET.md: {it}" for it in steps((TOP / "docs" / "A_GET.md").read_text()))
+    yield from (f"docs/WRONG_BODIES.md: {it}" for it in wrong_bodies((TOP / "docs" / "WRONG_BODIES.md").read_text()))
+    yield from (f"docs/DEFINITIONS.md: {it}" for it in definitions((TOP / "docs" / "DEFINITIONS.md").read_text()))
+    yield from (f"docs/PROMISES.md: {it}" for it in definitions_back((TOP / "docs" / "PROMISES.md").read_text()))
+    yield from examples()
+
+
+def main():
+    found = list(lost())
+    for it in found:
+        print(f"FAILED links: {it}")
+    passed = len(pages()) - len({it.split(": ")[0] for it in found if ".md: " in it})
+    print(f"{max(passed, 0)} passed, {len(found)} failed")
+    return 1 if found else 0
+
+
+if __name__ == "__main__":
+    sys.exit(main())
