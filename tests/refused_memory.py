@@ -27,9 +27,9 @@ is_long = False
 refusing = None
 
 
-def told(name, found):
-    """Prints how many refusals came to what."""
-    print(f"{name}: {sum(found.values())} refused: " + ", ".join(f"{count} {what}" for what, count in sorted(found.items())))
+def told(name, found, word="refused"):
+    """Prints how many calls that were refused, or failed, came to what."""
+    print(f"{name}: {sum(found.values())} {word}: " + ", ".join(f"{count} {what}" for what, count in sorted(found.items())))
 
 
 def each_refusal(run, count):
