@@ -32,7 +32,7 @@ fn new_lock(rt: &impl Abort, alloc: Global) -> Result<(Shared<Kept>, Port<Kept>)
 /// Whether a reply tells the device name.
 fn is_name(reply: &Reply) -> bool {
     match reply {
-        Reply::Value(Data::OctetString(name)) => name.as_slice() == b"RELAY1",
+        Reply::Value(Data::OctetString(name)) => name.as_slice() == b"RELAY1".as_slice(),
         _ => false,
     }
 }
