@@ -44,12 +44,12 @@ def verdict(ran):
         return "went unnoticed"
     if b"RefusedAndStood" in text:
         return "in the call, and all stood"
-    return "beside the call" if b"AllocError" in text else "WRONG"
+    return "beside the call" if b"AllocError" in text or b"OutOfMemory" in text else "WRONG"
 
 
 def calls_are_refused_memory(name):
-    listed = refusing.run([CALLS, "--list"]).output.decode().split()
-    names = [word for word in listed if "::" in word]
+    listed = refusing.run([CALLS, "--list"]).output.decode().splitlines()
+    names = [line.removesuffix(": test") for line in listed if line.endswith(": test")]
     check(f"{name}: four calls", len(names) == 4, names)
     for one in names:
         ample = refusing.run([CALLS, one])
