@@ -144,6 +144,7 @@ CASES = [
     ("a trace of no event", "meter_server_cli", SERVE + ["--depth", "0"], b"", b"", None, 2),
     ("a trace of 1,025 events", "meter_server_cli", SERVE + ["--depth", "1025"], b"", b"", None, 2),
     ("connections that are no number", "meter_server_cli", SERVE + ["--connections", "-1"], b"", b"", None, 2),
+    ("a session of no number of seconds", "meter_server_cli", SERVE + ["--session", "long"], b"", b"", None, 2),
     ("a text that is no address", "meter_server_cli", SERVE + ["--listen", "nowhere"], b"", b"", FAULT_LISTEN, 3),
     ("a password is looked at before the address", "meter_server_cli", ["serve", "--password", "", "--listen", "nowhere"], b"", b"",
      FAULT_INPUT, 2),

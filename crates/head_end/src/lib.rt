@@ -22,7 +22,7 @@ pub use conversing::converse;
 pub use fault::JobsFault;
 pub use jobs::read_jobs;
 pub use laws::{jobs_may_be_cut, reports_stand_end_to_end};
-pub use reporting::report;
+pub use reporting::{add_report, report};
 pub use row::{Line, Row};
 pub use running::run_job;
 pub use tcp::{TcpConnection, TcpConnector};

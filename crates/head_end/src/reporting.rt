@@ -9,15 +9,23 @@ use listed::Listed;
 use std::alloc::{AllocError, Global};
 
 /// The text of a report: for each job its name, a blank and `done N`, `refused N`, `rejected N`, `unknown` or `memory`, ended by the byte 0A.
-#[tactic(auto, unfolding(crate::specs::Reports::report_text))]
 pub fn report(alloc: Global, lines: &Listed<Line>) -> Result<Octets, AllocError>
     ensures { IfOk result (λ text. text ≡ report_text lines.now) }
 {
     let mut out = Octets::new(alloc);
-    'lines: for line in lines.as_slice() {
-        put_line(line, &mut out)?;
-    }
+    add_report(lines, &mut out)?;
     Ok(out)
+}
+
+/// Adds the text of a report to a text. Where that has room for it, 46 bytes for each job, no memory is taken.
+#[tactic(auto, unfolding(crate::specs::Reports::report_text))]
+pub fn add_report(lines: &Listed<Line>, out: &mut Octets) -> Result<(), AllocError>
+    ensures { OnOk result (out.new ≡ out.old ++ report_text lines.now) }
+{
+    'lines: for line in lines.as_slice() {
+        put_line(line, out)?;
+    }
+    Ok(())
 }
 
 /// One line.

@@ -6,7 +6,7 @@ use crate::progress::{Progress, Watch};
 use clap::ArgMatches;
 use client_core::Job;
 use cosem_axdr::Octets;
-use head_end::{Connector, report, run_watched_campaign};
+use head_end::{Connector, add_report, run_watched_campaign};
 use listed::Listed;
 use program_fault::Fault;
 use std::alloc::Global;
@@ -85,6 +85,17 @@ pub(crate) fn planned(rt: &HostRuntime, matches: &ArgMatches<'_>) -> Result<Plan
     })
 }
 
+/// A line of a report has at most so many bytes: a name of 32, and ` rejected 255` with its end.
+const LONGEST_LINE: usize = 46;
+
+/// Room for the report of so many jobs, so that none is lost for want of memory once its command went out.
+fn room_for(alloc: Global, jobs: usize) -> Result<Octets, Fault> {
+    match Vec::with_capacity(alloc, jobs.saturating_mul(LONGEST_LINE)) {
+        Ok(room) => Ok(Octets::from_vec(room)),
+        Err(_) => Err(Fault::Memory),
+    }
+}
+
 /// Runs the jobs and prints the report.
 pub(crate) fn run<R: Threads + Sync, C: Connector>(
     rt: &HostRuntime,
@@ -92,6 +103,7 @@ pub(crate) fn run<R: Threads + Sync, C: Connector>(
     connector: &C,
     plan: &Plan,
 ) -> Result<(), Fault> {
+    let mut text = room_for(rt.alloc(), plan.jobs.len())?;
     let progress = Progress::new(plan.jobs.len());
     let watch = Watch {
         rt,
@@ -108,7 +120,7 @@ pub(crate) fn run<R: Threads + Sync, C: Connector>(
         &watch,
     );
     let lines = campaign.map_err(|_| Fault::Memory)?;
-    let text = report(rt.alloc(), &lines).map_err(|_| Fault::Memory)?;
+    add_report(&lines, &mut text).map_err(|_| Fault::Memory)?;
     print(rt, text.as_slice())
 }
 

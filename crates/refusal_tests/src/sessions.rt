@@ -1,0 +1,79 @@
+//! A session that is refused memory has written the first of its answers, and the meter goes on.
+use crate::RefusedAndStood;
+use crate::page::Page;
+use byte_streams::Counted;
+use cosem_axdr::Octets;
+use meter_server::{ServeFault, serve_session};
+use relay_core::RelayCore;
+use session_core::SessionEnd;
+use std::alloc::{AllocError, Global};
+use std::process::Abort;
+use std::test::Fail;
+
+/// The public client's AARQ, and its GETs of the state of the switch and of the object list.
+const ASKED: &str =
+    "000100100001001F601DA109060760857405080101BE10040E01000000065F1F0400007E1F04B0000100100001000DC001C10046000060030AFF0300000100100001000DC001C1000F0000280000FF0200";
+
+/// How many bytes the answers have: an AARE of 51, a state of 14, and the list of 650 in a frame of 12 more.
+const ANSWERED: usize = 727;
+
+type Ended = Result<SessionEnd, ServeFault>;
+
+/// A session with a meter that writes on a page.
+fn serve(
+    alloc: Global,
+    core: &mut RelayCore,
+    input: &[u8],
+    page: &mut Page,
+    password: &Octets,
+) -> Ended {
+    let mut reader = Counted::new(input);
+    let mut writer = Counted::new(page);
+    serve_session(alloc, &mut reader, &mut writer, core, password)
+}
+
+/// Whether one session was refused memory, and the other was not and wrote all answers, of which the one's were the first.
+fn is_refused(ended: Ended, page: &Page, other_ended: Ended, other: &Page) -> bool {
+    ended == Err(ServeFault::Memory)
+        && other_ended == Ok(SessionEnd::Closed)
+        && other.text().len() == ANSWERED
+        && other.text().starts_with(page.text())
+}
+
+/// Two sessions with one meter, which is only read: memory is refused to one of them, or to none.
+fn serve_twice(
+    rt: &impl Abort,
+    alloc: Global,
+    core: &mut RelayCore,
+    input: &[u8],
+    password: &Octets,
+) -> Result<(), Fail> {
+    let mut page = Page::new();
+    let mut other = Page::new();
+    let ended = serve(alloc, core, input, &mut page, password);
+    let other_ended = serve(alloc, core, input, &mut other, password);
+    if ended == Ok(SessionEnd::Closed) && other_ended == Ok(SessionEnd::Closed) {
+        assert!(rt; page.text().len() == ANSWERED && page.text() == other.text());
+        return Ok(());
+    }
+    assert!(rt;
+        is_refused(ended, &page, other_ended, &other)
+            || is_refused(other_ended, &other, ended, &page)
+    );
+    Err(RefusedAndStood)?
+}
+
+fn new_core(rt: &impl Abort, alloc: Global) -> Result<RelayCore, AllocError> {
+    let device = Octets::from_slice(alloc, b"RELAY1")?;
+    assert!(rt; device.len() == 6);
+    RelayCore::new(alloc, &device)
+}
+
+#[test]
+fn serve_session_reads_and_lists(rt: HostRuntime) -> Result<(), Fail> {
+    let alloc = rt.alloc();
+    let password = Octets::from_slice(alloc, b"12345678")?;
+    let input = hex::decode(alloc, ASKED)?;
+    let mut core = new_core(&rt, alloc)?;
+    serve_twice(&rt, alloc, &mut core, input.as_slice(), &password)
+}

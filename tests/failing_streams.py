@@ -1,0 +1,142 @@
+#!/usr/bin/env python3
+"""Has each read and write in turn fail, move one byte, or be interrupted, over the executables that the gate left: in the programs' standard streams, in a client's
+connections (`head_end run`) and in a meter that serves two clients. After a failure nothing more is written on that stream, and the fault is named; a short or an
+interrupted call changes nothing.
+
+usage: tests/failing_streams.py"""
+
+import collections
+import os
+import sys
+
+sys.dont_write_bytecode = True  # the modules beside this one leave nothing behind
+
+import serving
+from campaigns import HEAD_END
+from refused_memory import METERS, PROGRAMS, talk, told
+from refusing import Refusing
+from scripted_meters import AARQ as CLIENT_AARQ
+from scripted_meters import RELEASE, REQUESTS, ScriptedMeter
+from serving import PASSWORD, PLAYER, SERVER, Client, Server, check, played, stands_in, test
+
+FAULTS = {b"fault: read\n", b"fault: write\n"}
+HARMLESS = ("short_stream", "interrupt_stream")
+refusing = None
+
+
+def each_call(run, how, count):
+    """What `run` tells of each call that fails, is short or is interrupted, counted. It is given the number of the call, by its name."""
+    return collections.Counter(run(**{how: number}) for number in range(1, count + 1))
+
+
+def after_failure(ran, ample):
+    """What a program did: its output is the first of the ample run's, and nothing follows the fault."""
+    if ran.status != 3 or ran.errors not in FAULTS or not ample.output.startswith(ran.output) or ran.late:
+        return f"WRONG: {ran}"
+    return ran.errors.decode().strip()
+
+
+def after_harmless(ran, ample):
+    return "same output" if ran[:3] == ample[:3] else f"WRONG: {ran}"
+
+
+def programs_have_failing_streams(name):
+    for title, program, words, text, _ in PROGRAMS:
+        ample = refusing.run([program, *words], text)
+        found = each_call(lambda **which: after_failure(refusing.run([program, *words], text, **which), ample), "fail_stream", ample.streams)
+        told(f"{title}, failing", found, "failed")
+        check(f"{name}: {title}", set(found) == {"fault: read", "fault: write"}, found)
+        for how in HARMLESS:
+            found = each_call(lambda **which: after_harmless(refusing.run([program, *words], text, **which), ample), how, ample.streams)
+            told(f"{title}, {how.split('_')[0]}", found, "met")
+            check(f"{name}: {title}: {how}", set(found) == {"same output"}, found)
+
+
+def campaign(jobs, **which):
+    return refusing.run([HEAD_END, "run", "--password", PASSWORD, "--workers", "1", "--timeout", "5"], jobs, **which)
+
+
+def campaign_failed(jobs, **which):
+    """What a campaign told: the fault of a standard stream, or a report in which the job whose connection failed is unknown at most."""
+    ran = campaign(jobs, **which)
+    if ran.late:
+        return f"WRONG: a write after the failure: {ran}"
+    if ran.status == 3 and ran.errors in FAULTS and not ran.output:
+        return ran.errors.decode().strip()
+    rows = [line.split(" ", 1)[1] for line in ran.output.decode().splitlines()]
+    differing = [row for row, (_, wanted) in zip(rows, METERS) if row != wanted]
+    if ran.status != 0 or ran.errors or len(rows) != len(METERS) or differing not in ([], ["unknown"]):
+        return f"WRONG: {ran}"
+    return "one job unknown" if differing else "the same report"
+
+
+def a_client_has_failing_connections(name):
+    meters = [ScriptedMeter(script) for script, _ in METERS]
+    jobs = "".join(f"m{number} 127.0.0.1:{meter.port} disconnect\n" for number, meter in enumerate(meters)).encode()
+    ample = campaign(jobs)
+    found = each_call(lambda **which: campaign_failed(jobs, **which), "fail_stream", ample.streams)
+    told("a campaign of four jobs, failing", found, "failed")
+    check(name, found["one job unknown"] and found["fault: read"] and found["fault: write"] and not any("WRONG" in what for what in found), found)
+    for how in HARMLESS:
+        found = each_call(lambda **which: after_harmless(campaign(jobs, **which), ample), how, ample.streams)
+        told(f"a campaign of four jobs, {how.split('_')[0]}", found, "met")
+        check(f"{name}: {how}", set(found) == {"same output"}, found)
+    for meter in meters:
+        meter.stop()
+        fronts = [[CLIENT_AARQ, REQUESTS["disconnect"], RELEASE][:len(talk.frames)] for talk in meter.talks]
+        check(f"{name}: each command once at most", [talk.frames for talk in meter.talks] == fronts)
+
+
+def served_failed(**which):
+    """What came of two clients that one after the other talk to a meter, and whether its trace tells what they saw."""
+    server = Server("--connections", "2", environment=refusing.environment(**which))
+    server.end_input()
+    clients, whole = [], 0
+    for _ in range(2):
+        clients.append(Client(server.port))
+        whole += talk(clients[-1])
+    status, trace, errors = server.ended()
+    late = refusing.counts()[2]
+    if late:
+        return "WRONG: a write after the failure"
+    if status == 3 and "fault: write\n" in errors and whole == 2:
+        return "fault: write of the trace"
+    if status != 0 or "fault" in errors:
+        return f"WRONG: status {status}, {errors}"
+    history = played(trace)
+    if not all(stands_in(client.seen, history) for client in clients) or len(history) > sum(len(client.seen) + 1 for client in clients):
+        return f"WRONG: a trace of {len(history)} events"
+    return f"the trace tells all, {whole} of 2 clients with all answers"
+
+
+def a_meter_has_failing_connections(name):
+    everything = "the trace tells all, 2 of 2 clients with all answers"
+    ample = served_failed()
+    count = refusing.counts()[1]
+    check(f"{name}: nothing fails", ample == everything, ample)
+    found = each_call(served_failed, "fail_stream", count)
+    told("meter_server serve, failing", found, "failed")
+    check(name, found["the trace tells all, 1 of 2 clients with all answers"] and found["fault: write of the trace"] and not any("WRONG" in what for what in found), found)
+    for how in HARMLESS:
+        found = each_call(served_failed, how, count)
+        told(f"meter_server serve, {how.split('_')[0]}", found, "met")
+        check(f"{name}: {how}", set(found) == {everything}, found)
+
+
+def main():
+    global refusing
+    for executable in (SERVER, PLAYER, HEAD_END):
+        if not os.access(executable, os.X_OK):
+            print(f"{executable} is not there: run the gate, or `rt run` in its crate")
+            print("0 passed, 1 failed")
+            return 1
+    refusing = Refusing()
+    for function in (programs_have_failing_streams, a_client_has_failing_connections, a_meter_has_failing_connections):
+        test(function)
+    refusing.stop()
+    print(f"{serving.passed} passed, {serving.failed} failed")
+    return 1 if serving.failed else 0
+
+
+if __name__ == "__main__":
+    sys.exit(main())

@@ -1,0 +1,238 @@
+#!/usr/bin/env python3
+"""Fuzzes the programs' standard input, over the executables that the gate left, from the rows that are stored: `meter_server apdu` and `hex`, `trace_player`,
+`head_end check`. Looks for crashes, hangs, statuses and texts that no input may bring, runs that differ between an input given whole and byte by byte, and between
+the executables of the two compilers. AFL++ (Debian's package `afl++`) takes a share of the time where it is installed, and is skipped by name where it is not.
+
+usage: tests/fuzz.py [--minutes N] [--seed N]     (one minute if left out; what is found lies in tests/corpus/)"""
+
+import argparse
+import collections
+import os
+import pathlib
+import random
+import shutil
+import subprocess
+import sys
+import tempfile
+import time
+
+sys.dont_write_bytecode = True  # the modules beside this one leave nothing behind
+
+import serving
+from campaigns import HEAD_END
+from command_lines import AARQ, CASES, GET_STATE, MANAGEMENT_AARQ, TRACE
+from serving import PASSWORD, PLAYER, SERVER, TOP, check
+
+CORPUS = TOP / "tests" / "corpus"
+SLOWEST = 10  # seconds that a program may take for an input of these sizes
+LONGEST_SEED = 4_096
+FAULTS = (b"fault: input\n",)
+
+
+def stored(words):
+    """The inputs of the stored command lines of a program, by its first words."""
+    return [text for _, program, given, text, _, _, _ in CASES if (program, given[:1]) == words and 0 < len(text) <= LONGEST_SEED]
+
+
+def counted(text):
+    """A trace that says how many events it has."""
+    head, told, rest = text.partition(b"\nevents ")
+    events = rest.partition(b"\n")[2]
+    return head + told + b"%d\n" % events.count(b"\n") + events if told else text
+
+
+# What is fuzzed: its name, program, words, whether its input is hexadecimal (whose bytes are changed then), its seeds.
+TARGETS = [
+    ("meter_server apdu", SERVER, ["apdu"], True, stored(("meter_server_cli", ["apdu"]))),
+    ("meter_server hex", SERVER, ["hex", "--password", PASSWORD], True, [AARQ + GET_STATE, MANAGEMENT_AARQ] + stored(("meter_server_cli", ["hex"]))),
+    ("trace_player", PLAYER, [], False, [TRACE] + stored(("trace_player_cli", []))),
+    ("head_end check", HEAD_END, ["check"], False, stored(("head_end_cli", ["check"]))),
+]
+INTERESTING = (0, 1, 2, 0x0F, 0x7F, 0x80, 0x81, 0x82, 0x84, 0xFE, 0xFF, 0x09, 0x0A, 0x20, 0x30, 0x39, 0x60, 0xC0, 0xC1, 0xC3)
+
+
+def changed(text, chance, others):
+    """A text with a few changes."""
+    text = bytearray(text)
+    for _ in range(chance.choice((1, 1, 2, 4, 16))):
+        at = chance.randrange(len(text) + 1)
+        what = chance.randrange(8)
+        if what == 0 and text:
+            text[at % len(text)] ^= 1 << chance.randrange(8)
+        elif what == 1 and text:
+            text[at % len(text)] = chance.choice(INTERESTING)
+        elif what == 2:
+            text[at:at] = bytes(chance.choice(INTERESTING) for _ in range(chance.randrange(1, 9)))
+        elif what == 3:
+            del text[at:at + chance.randrange(1, 9)]
+        elif what == 4:
+            piece = text[at:at + chance.randrange(1, 40)]
+            text[at:at] = piece * chance.choice((1, 2, 8))
+        elif what == 5:
+            other = chance.choice(others)
+            start = chance.randrange(len(other) + 1)
+            text[at:at + chance.randrange(40)] = other[start:start + chance.randrange(1, 80)]
+        elif what == 6:
+            del text[at:]
+        else:
+            other = bytes(chance.randrange(256) for _ in range(chance.randrange(1, 5)))
+            text[at:at + len(other)] = other
+    return bytes(text[:4 * LONGEST_SEED])
+
+
+def changed_lines(text, chance):
+    """A text with some digits changed, and lines repeated, taken out or put elsewhere."""
+    lines = text.split(b"\n")
+    for _ in range(chance.choice((1, 1, 2, 3))):
+        at = chance.randrange(len(lines))
+        what = chance.randrange(4)
+        if what == 0:
+            lines.insert(chance.randrange(len(lines)), lines[at])
+        elif what == 1 and len(lines) > 2:
+            del lines[at]
+        elif lines[at]:
+            line = bytearray(lines[at])
+            places = [place for place, byte in enumerate(line) if byte in b"0123456789"] or [0]
+            line[chance.choice(places)] = chance.choice(b"0123456789")
+            lines[at] = bytes(line)
+    return b"\n".join(lines)
+
+
+def lines_of(text, chance):
+    """The bytes in hexadecimal, cut into lines here and there."""
+    digits = text.hex().upper().encode()
+    if chance.randrange(2):
+        return digits + b"\n"
+    at = 2 * chance.randrange(len(text) + 1)
+    return digits[:at] + b"\n" + digits[at:] + b"\n"
+
+
+def pieces_of(text):
+    """The bytes of lines of hexadecimal, or none."""
+    try:
+        return bytes.fromhex(text.decode().replace("\n", " "))
+    except ValueError:
+        return b""
+
+
+def ran(program, words, text):
+    """The status, output and errors of a program; a status of its own where it takes too long."""
+    try:
+        made = subprocess.run([str(program), *words], input=text, capture_output=True, timeout=SLOWEST)
+        return made.returncode, made.stdout, made.stderr
+    except subprocess.TimeoutExpired:
+        return "takes too long", b"", b""
+
+
+def ran_by_bytes(program, words, text):
+    """The same with the input byte by byte."""
+    process = subprocess.Popen([str(program), *words], stdin=subprocess.PIPE, stdout=subprocess.PIPE, stderr=subprocess.PIPE, bufsize=0)
+    try:
+        for byte in text:
+            process.stdin.write(bytes([byte]))
+    except BrokenPipeError:
+        pass
+    try:
+        output, errors = process.communicate(timeout=SLOWEST)
+    except subprocess.TimeoutExpired:
+        process.kill()
+        process.wait()
+        return "takes too long", b"", b""
+    return process.returncode, output, errors
+
+
+def is_right(made):
+    """Whether a program may end so: all done with no fault, or the input is wrong and nothing is printed."""
+    status, output, errors = made
+    return (status == 0 and errors == b"") or (status == 2 and output == b"" and errors in FAULTS)
+
+
+def keep(title, text):
+    CORPUS.mkdir(exist_ok=True)
+    place = CORPUS / f"{title.replace(' ', '_')}.{abs(hash(text)) % 10**9}"
+    place.write_bytes(text)
+    return place
+
+
+def fuzz(title, program, words, is_hex, seeds, seconds, chance):
+    """Gives a program changed inputs for so many seconds. Counts what came of them."""
+    found, end = collections.Counter(), time.monotonic() + seconds
+    twin = pathlib.Path(f"{program}.by-rattle")
+    others = [pieces_of(seed) for seed in seeds] if is_hex else seeds
+    others = [seed for seed in others if seed] or [b"\0"]
+    while time.monotonic() < end:
+        text = chance.choice(others)
+        if is_hex or chance.randrange(4) == 0:
+            text = changed(text, chance, others)
+        else:
+            text = changed_lines(text, chance)
+            text = counted(text) if chance.randrange(8) else text
+        if is_hex:
+            text = lines_of(text, chance)
+            if chance.randrange(16) == 0:
+                text = changed(text, chance, [text])
+        made = ran(program, words, text)
+        found["done" if made[0] == 0 else "input is wrong" if made[0] == 2 else "WRONG"] += 1
+        if not is_right(made):
+            check(f"{title}: ends as it may", False, made, keep(title, text))
+        if len(text) <= 2_000 and found.total() % 4 == 0:
+            found["again byte by byte"] += 1
+            if ran_by_bytes(program, words, text) != made:
+                check(f"{title}: the same byte by byte", False, keep(title, text))
+        if twin.exists() and found.total() % 4 == 0:
+            found["again by the other compiler"] += 1
+            if ran(twin, words, text) != made:
+                check(f"{title}: the same by the other compiler", False, keep(title, text))
+    return found
+
+
+def by_afl(title, program, words, seeds, seconds):
+    """Has AFL++ change the inputs of a program, without looking into it. How many runs it made, and how many inputs it kept as crashes and hangs."""
+    with tempfile.TemporaryDirectory() as folder:
+        folder = pathlib.Path(folder)
+        (folder / "in").mkdir()
+        for number, seed in enumerate(seeds):
+            (folder / "in" / str(number)).write_bytes(seed)
+        words = ["afl-fuzz", "-n", "-V", str(int(seconds)), "-t", "2000", "-i", str(folder / "in"), "-o", str(folder / "out"), "--", str(program), *words]
+        environment = {**os.environ, "AFL_NO_UI": "1", "AFL_I_DONT_CARE_ABOUT_MISSING_CRASHES": "1", "AFL_SKIP_CPUFREQ": "1", "AFL_NO_AFFINITY": "1"}
+        made = subprocess.run(words, stdin=subprocess.DEVNULL, capture_output=True, timeout=seconds + 60, env=environment)
+        rows = (folder / "out" / "plot_data").read_text().splitlines() if made.returncode == 0 else []
+        if len(rows) < 2:
+            return None, made.stdout[-400:] + made.stderr[-400:]
+        kept = []
+        for kind in ("crashes", "hangs"):
+            places = sorted((folder / "out" / kind).glob("id*"))
+            kept.append(len(places))
+            for place in places:
+                keep(f"{title} {kind}", place.read_bytes())
+        return int(rows[-1].split(", ")[11]), tuple(kept)
+
+
+def main():
+    parser = argparse.ArgumentParser()
+    parser.add_argument("--minutes", type=float, default=1.0)
+    parser.add_argument("--seed", type=int, default=1)
+    options = parser.parse_args()
+    for executable in (SERVER, PLAYER, HEAD_END):
+        if not os.access(executable, os.X_OK):
+            print(f"{executable} is not there: run the gate, or `rt run` in its crate")
+            print("0 passed, 1 failed")
+            return 1
+    has_afl = shutil.which("afl-fuzz")
+    share = 60 * options.minutes / len(TARGETS) / (2 if has_afl else 1)
+    for title, program, words, is_hex, seeds in TARGETS:
+        found = fuzz(title, program, words, is_hex, seeds, share, random.Random(options.seed))
+        print(f"{title}: " + ", ".join(f"{count:,} {what}" for what, count in sorted(found.items())))
+        check(f"{title}: nothing wrong", not found["WRONG"])
+        if has_afl:
+            count, kept = by_afl(title, program, words, seeds, max(share, 5))
+            print(f"{title}: AFL++: {count} runs, crashes and hangs {kept}")
+            check(f"{title}: AFL++ finds nothing", count is not None and kept == (0, 0), kept)
+    if not has_afl:
+        print("SKIPPED AFL++: afl-fuzz is not installed")
+    print(f"{serving.passed} passed, {serving.failed} failed")
+    return 1 if serving.failed else 0
+
+
+if __name__ == "__main__":
+    sys.exit(main())

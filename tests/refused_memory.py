@@ -1,0 +1,192 @@
+#!/usr/bin/env python3
+"""Refuses each allocation in turn, over the executables that the gate left: in the tests of `refusal_tests` (the recorder's `apply`, a port's `call`, `serve_session`,
+`play`), in the programs, in a campaign, and in a meter that serves two clients. Prints how many were refused in each and what stood afterwards.
+
+usage: tests/refused_memory.py [--long]     (--long: every allocation, in place of the first, the last and some between)"""
+
+import argparse
+import collections
+import os
+import sys
+
+sys.dont_write_bytecode = True  # the modules beside this one leave nothing behind
+
+import serving
+from command_lines import AARE, AARQ, GET_STATE, GOT_STATE, TRACE
+from refusing import Refusing, turns
+from scripted_meters import AARQ as CLIENT_AARQ
+from scripted_meters import REQUESTS, ScriptedMeter, closes_without_answer, does_it, refuses, rejects
+from serving import DISCONNECT, MODE, PASSWORD, PLAYER, SERVER, STATE, TOP, Client, Server, Vanished, check, played, stands_in, test
+from campaigns import HEAD_END
+
+CALLS = os.environ.get("REFUSAL_TESTS") or TOP / "crates" / "refusal_tests" / "out" / "refusal_tests_tests"
+
+MEMORY = b"fault: memory\n"
+GET_OBJECTS = b"000100100001000DC001C1000F0000280000FF0200"
+is_long = False
+refusing = None
+
+
+def told(name, found, word="refused"):
+    """Prints how many calls that were refused, or failed, came to what."""
+    print(f"{name}: {sum(found.values())} {word}: " + ", ".join(f"{count} {what}" for what, count in sorted(found.items())))
+
+
+def each_refusal(run, count):
+    """What `run` tells of each allocation's refusal, counted. It is given the number of the allocation."""
+    return collections.Counter(run(number) for number in turns(count, is_long))
+
+
+def verdict(ran):
+    """What a test of `refusal_tests` found."""
+    text = ran.output + ran.errors
+    if ran.status == 0:
+        return "went unnoticed"
+    if b"RefusedAndStood" in text:
+        return "in the call, and all stood"
+    return "beside the call" if b"AllocError" in text or b"OutOfMemory" in text else "WRONG"
+
+
+def calls_are_refused_memory(name):
+    listed = refusing.run([CALLS, "--list"]).output.decode().splitlines()
+    names = [line.removesuffix(": test") for line in listed if line.endswith(": test")]
+    check(f"{name}: four calls", len(names) == 4, names)
+    for one in names:
+        ample = refusing.run([CALLS, one])
+        found = each_refusal(lambda number: verdict(refusing.run([CALLS, one], refuse_memory=number)), ample.allocations)
+        told(one, found)
+        check(f"{name}: {one}: ample memory", ample.status == 0, ample)
+        check(f"{name}: {one}", found["in the call, and all stood"] > 0 and not found["WRONG"], found)
+
+
+# A program, its words, its input, and whether it may have written the first of its lines where it was refused memory; else it has written nothing.
+PROGRAMS = [
+    ("meter_server apdu", SERVER, ["apdu"], b"C001C10046000060030AFF0300\nC101C10046000060030AFF04001602\nC001C1000F0000280000FF0200\n", False),
+    ("meter_server hex", SERVER, ["hex", "--password", PASSWORD], AARQ + GET_STATE + GET_OBJECTS, True),
+    ("trace_player", PLAYER, [], TRACE, False),
+    ("head_end check", HEAD_END, ["check"], b"m1 127.0.0.1:4059 disconnect\nm2 127.0.0.1:4060 state\n", False),
+]
+
+
+def after_refusal(ran, ample, writes_first):
+    """What a program did: as with ample memory, or the fault, with the first lines or none."""
+    if (ran.status, ran.output, ran.errors) == (0, ample.output, b""):
+        return "went unnoticed"
+    if ran.status != 4 or ran.errors != MEMORY:
+        return f"WRONG: status {ran.status}, {ran.errors}"
+    if not ran.output:
+        return "nothing written"
+    is_first = writes_first and ran.output.endswith(b"\n") and ample.output.startswith(ran.output)
+    return "first lines written" if is_first else "WRONG: other lines"
+
+
+def programs_are_refused_memory(name):
+    for title, program, words, text, writes_first in PROGRAMS:
+        ample = refusing.run([program, *words], text)
+        found = each_refusal(lambda number: after_refusal(refusing.run([program, *words], text, refuse_memory=number), ample, writes_first), ample.allocations)
+        told(title, found)
+        check(f"{name}: {title}: ample memory", ample.status == 0 and ample.output, ample)
+        check(f"{name}: {title}", found["nothing written"] > 0 and not any("WRONG" in what for what in found), found)
+    check(f"{name}: the session is the stored one", refusing.run([SERVER, "hex", "--password", PASSWORD], AARQ + GET_STATE).output == AARE + GOT_STATE)
+
+
+# The meters of a campaign of four disconnect jobs, and the rows that they bring.
+METERS = [(does_it, "done 0"), (rejects, "rejected 1"), (closes_without_answer, "unknown"), (refuses, "refused 250")]
+
+
+def campaign_refused(jobs, number):
+    """What a campaign told."""
+    ran = refusing.run([HEAD_END, "run", "--password", PASSWORD, "--workers", "2", "--timeout", "5"], jobs, refuse_memory=number)
+    if ran.status == 4 and ran.errors == MEMORY and not ran.output:
+        return "WRONG: a connection" if ran.connections else "whole: no connection"
+    rows = [line.split(" ", 1)[1] for line in ran.output.decode().splitlines()]
+    if ran.status != 0 or ran.errors or len(rows) != len(METERS) or any(row not in (wanted, "memory") for row, (_, wanted) in zip(rows, METERS)):
+        return f"WRONG: {ran}"
+    return "one job's row" if "memory" in rows else "went unnoticed"
+
+
+def a_campaign_is_refused_memory(name):
+    meters = [ScriptedMeter(script) for script, _ in METERS]
+    jobs = "".join(f"m{number} 127.0.0.1:{meter.port} disconnect\n" for number, meter in enumerate(meters)).encode()
+    ample = refusing.run([HEAD_END, "run", "--password", PASSWORD, "--workers", "2", "--timeout", "5"], jobs)
+    wanted = "".join(f"m{number} {row}\n" for number, (_, row) in enumerate(METERS)).encode()
+    check(f"{name}: ample memory", (ample.status, ample.output) == (0, wanted), ample)
+    found = each_refusal(lambda number: campaign_refused(jobs, number), ample.allocations)
+    told("a campaign of four jobs", found)
+    check(name, found["whole: no connection"] and found["one job's row"] and not any("WRONG" in what for what in found), found)
+    for meter in meters:
+        meter.stop()
+        once = all(talk.frames[:2] == [CLIENT_AARQ, REQUESTS["disconnect"]][:len(talk.frames)] for talk in meter.talks)
+        check(f"{name}: each command once", once and all(talk.frames.count(REQUESTS["disconnect"]) <= 1 for talk in meter.talks))
+
+
+def talk(client):
+    """What a client asks for until it has all its answers or is closed: True where it has them."""
+    try:
+        client.associate()
+        client.set(MODE, "1602")
+        client.execute(DISCONNECT)
+        client.get(STATE)
+        client.get_list(STATE, MODE)
+        client.release()
+        return True
+    except (Vanished, OSError):
+        return False
+    finally:
+        client.close()
+
+
+def served_refused(number):
+    """What came of two clients that one after the other talk to a meter, and whether its trace tells what they saw."""
+    server = Server("--connections", "2", environment=refusing.environment(refuse_memory=number))
+    if server.process.poll() is None:
+        server.end_input()  # (where the server takes no client, it ends with its console)
+    clients, whole = [], 0
+    for _ in range(2):
+        try:
+            clients.append(Client(server.port))
+            whole += talk(clients[-1])
+        except OSError:
+            pass
+    status, trace, errors = server.ended()
+    is_fault = status == 4 and "fault: memory\n" in errors
+    if not is_fault and (status != 0 or "fault" in errors):
+        return f"WRONG: status {status}, {errors}"
+    if not trace:
+        return f"the fault, {whole} of 2 clients with all answers" if is_fault else "WRONG: no trace"
+    history = played(trace)
+    # (a list's reading is an event of each client that the client does not keep; and a call whose answer found no memory is one)
+    if not all(stands_in(client.seen, history) for client in clients) or len(history) > sum(len(client.seen) + 1 for client in clients):
+        return f"WRONG: a trace of {len(history)} events"
+    return f"{'the fault, and ' * is_fault}the trace tells all, {whole} of 2 clients with all answers"
+
+
+def a_meter_that_serves_is_refused_memory(name):
+    ample = served_refused(0)
+    count = refusing.counts()[0]
+    check(f"{name}: ample memory", ample == "the trace tells all, 2 of 2 clients with all answers", ample)
+    found = each_refusal(served_refused, count)
+    told("meter_server serve", found)
+    check(name, not any("WRONG" in what for what in found), found)
+
+
+def main():
+    global is_long, refusing
+    parser = argparse.ArgumentParser()
+    parser.add_argument("--long", action="store_true", help="every allocation")
+    is_long = parser.parse_args().long
+    for executable in (CALLS, SERVER, PLAYER, HEAD_END):
+        if not os.access(executable, os.X_OK):
+            print(f"{executable} is not there: run the gate, or `rt run` in its crate")
+            print("0 passed, 1 failed")
+            return 1
+    refusing = Refusing()
+    for function in (calls_are_refused_memory, programs_are_refused_memory, a_campaign_is_refused_memory, a_meter_that_serves_is_refused_memory):
+        test(function)
+    refusing.stop()
+    print(f"{serving.passed} passed, {serving.failed} failed")
+    return 1 if serving.failed else 0
+
+
+if __name__ == "__main__":
+    sys.exit(main())

@@ -1,0 +1,137 @@
+/* Stands between a program and the C library, for tests/refusing.py: refuses one allocation, or fails, shortens or interrupts one read or write.
+   The environment says which, counted from 1: REFUSE_MEMORY, FAIL_STREAM, SHORT_STREAM, INTERRUPT_STREAM. At the program's end the file REFUSING_REPORT gets a
+   line of numbers: allocations, reads and writes, writes on the failed stream after its failure, and connections begun. Standard error is left alone. */
+
+typedef unsigned long size;
+typedef long count;
+
+extern void *__libc_malloc(size);
+extern void *__libc_calloc(size, size);
+extern void *__libc_realloc(void *, size);
+extern count syscall(count, ...);
+extern int *__errno_location(void);
+extern char *getenv(const char *);
+
+enum { READ = 0, WRITE = 1, OPEN = 2, CLOSE = 3, WRITEV = 20, CONNECT = 42, SENDTO = 44, RECVFROM = 45, SENDMSG = 46, EXIT_GROUP = 231 };
+enum { INTERRUPTED = 4, FAILED = 5, NO_MEMORY = 12 };
+enum { STANDARD_ERROR = 2, NONE = -1 };
+
+static size refused, failing, shortened, interrupted;
+static size allocations, streams, late, connections;
+static int failed = NONE;
+
+static size number(const char *name) {
+    const char *text = getenv(name);
+    size value = 0;
+    while (text && *text) value = value * 10 + (size)(*text++ - '0');
+    return value;
+}
+
+__attribute__((constructor)) static void begin(void) {
+    refused = number("REFUSE_MEMORY");
+    failing = number("FAIL_STREAM");
+    shortened = number("SHORT_STREAM");
+    interrupted = number("INTERRUPT_STREAM");
+}
+
+static char *digits(char *end, size value) {
+    do *--end = (char)('0' + value % 10);
+    while (value /= 10);
+    return end;
+}
+
+__attribute__((destructor)) static void report(void) {
+    const char *name = getenv("REFUSING_REPORT");
+    char text[100], *end = text + sizeof text, *from = end;
+    *--from = '\n';
+    from = digits(from, connections);
+    *--from = ' ';
+    from = digits(from, late);
+    *--from = ' ';
+    from = digits(from, streams);
+    *--from = ' ';
+    from = digits(from, allocations);
+    if (!name) return;
+    count file = syscall(OPEN, name, 01 | 0100 | 01000, 0600);
+    syscall(WRITE, file, from, (size)(end - from));
+    syscall(CLOSE, file);
+}
+
+void _exit(int status) {
+    report();
+    for (;;) syscall(EXIT_GROUP, (count)status);
+}
+
+static int is_refused(void) {
+    if (__sync_add_and_fetch(&allocations, 1) != refused) return 0;
+    *__errno_location() = NO_MEMORY;
+    return 1;
+}
+
+void *malloc(size bytes) { return is_refused() ? 0 : __libc_malloc(bytes); }
+
+void *calloc(size items, size bytes) { return is_refused() ? 0 : __libc_calloc(items, bytes); }
+
+void *realloc(void *old, size bytes) { return is_refused() ? 0 : __libc_realloc(old, bytes); }
+
+/* How many bytes this read or write may move: fewer where it is to be short, none where it fails. */
+static count allowed(int file, size bytes, int is_write) {
+    if (file == STANDARD_ERROR) return (count)bytes;
+    if (is_write && file == failed) __sync_add_and_fetch(&late, 1);
+    size turn = __sync_add_and_fetch(&streams, 1);
+    if (turn == shortened && bytes > 1) return 1;
+    if (turn != failing && turn != interrupted) return (count)bytes;
+    if (turn == failing) failed = file;
+    *__errno_location() = turn == failing ? FAILED : INTERRUPTED;
+    return -1;
+}
+
+count read(int file, void *to, size bytes) {
+    count most = allowed(file, bytes, 0);
+    return most < 0 ? -1 : syscall(READ, file, to, most);
+}
+
+count write(int file, const void *from, size bytes) {
+    count most = allowed(file, bytes, 1);
+    return most < 0 ? -1 : syscall(WRITE, file, from, most);
+}
+
+count recvfrom(int file, void *to, size bytes, int flags, void *peer, void *length) {
+    count most = allowed(file, bytes, 0);
+    return most < 0 ? -1 : syscall(RECVFROM, file, to, most, flags, peer, length);
+}
+
+count recv(int file, void *to, size bytes, int flags) { return recvfrom(file, to, bytes, flags, 0, 0); }
+
+count sendto(int file, const void *from, size bytes, int flags, const void *peer, unsigned length) {
+    count most = allowed(file, bytes, 1);
+    return most < 0 ? -1 : syscall(SENDTO, file, from, most, flags, peer, length);
+}
+
+count send(int file, const void *from, size bytes, int flags) { return sendto(file, from, bytes, flags, 0, 0); }
+
+struct part {
+    void *bytes;
+    size length;
+};
+
+count writev(int file, const struct part *parts, int number_of_parts) {
+    count most = allowed(file, number_of_parts ? parts[0].length : 0, 1);
+    if (most < 0) return -1;
+    if (number_of_parts && (size)most < parts[0].length) return syscall(WRITE, file, parts[0].bytes, most);
+    return syscall(WRITEV, file, parts, number_of_parts);
+}
+
+count sendmsg(int file, const void *message, int flags) {
+    return allowed(file, 1, 1) < 0 ? -1 : syscall(SENDMSG, file, message, flags);
+}
+
+int connect(int file, const void *peer, unsigned length) {
+    __sync_add_and_fetch(&connections, 1);
+    return (int)syscall(CONNECT, file, peer, length);
+}
+
+int close(int file) {
+    if (file == failed) failed = NONE;
+    return (int)syscall(CLOSE, file);
+}

@@ -1,0 +1,79 @@
+"""Runs programs of which one allocation, read or write is refused: by tests/refusing.c between them and the C library, which the toolchain's own compiler builds."""
+
+import os
+import pathlib
+import subprocess
+import tempfile
+from typing import NamedTuple
+
+from serving import PATIENCE, TOP
+
+SOURCE = TOP / "tests" / "refusing.c"
+TARGET = "--target=x86_64-unknown-linux-gnu"
+
+
+class Ran(NamedTuple):
+    """What came of a program, how many allocations, and reads and writes it made, writes on a stream after that had failed, and connections."""
+
+    status: int
+    output: bytes
+    errors: bytes
+    allocations: int
+    streams: int
+    late: int
+    connections: int
+
+
+def toolchain():
+    """The folder of the toolchain's compiler and C library."""
+    page = subprocess.run(["rt", "doc"], capture_output=True, text=True, check=True, timeout=PATIENCE).stdout.strip()
+    return pathlib.Path(page).parent / "toolchain"
+
+
+def library_in(folder):
+    """Builds the library that refuses."""
+    kit = toolchain()
+    made, linked = folder / "refusing.o", folder / "refusing.so"
+    for words in ([kit / "bin" / "clang", TARGET, f"--sysroot={kit}", "--no-default-config", "-O1", "-fPIC", "-c", SOURCE, "-o", made],
+                  [kit / "bin" / "ld.lld", "-shared", "-o", linked, made, kit / "lib" / "libc.so.6"]):
+        subprocess.run([str(word) for word in words], check=True, timeout=PATIENCE)
+    return linked
+
+
+class Refusing:
+    """The library that refuses, in a folder of its own, and the programs that are run with it."""
+
+    def __init__(self):
+        self.kept = tempfile.TemporaryDirectory()
+        self.folder = pathlib.Path(self.kept.name)
+        self.library = library_in(self.folder)
+        self.report = self.folder / "report"
+
+    def environment(self, **which):
+        """What has a program's one call refused: `refuse_memory`, `fail_stream`, `short_stream` or `interrupt_stream`, with its number."""
+        self.report.unlink(missing_ok=True)
+        named = {name.upper(): str(number) for name, number in which.items()}
+        return {"LD_PRELOAD": str(self.library), "REFUSING_REPORT": str(self.report), **named}
+
+    def counts(self):
+        """What was counted when the program last run ended; zeros where it did not end by itself."""
+        try:
+            return [int(number) for number in self.report.read_text().split()]
+        except FileNotFoundError:
+            return [0, 0, 0, 0]
+
+    def run(self, words, text=b"", **which):
+        environment = {**os.environ, **self.environment(**which)}
+        ran = subprocess.run([str(word) for word in words], input=text, capture_output=True, timeout=PATIENCE, env=environment)
+        return Ran(ran.returncode, ran.stdout, ran.stderr, *self.counts())
+
+    def stop(self):
+        self.kept.cleanup()
+
+
+def turns(count, is_long):
+    """Which calls of so many are refused: all, or the first eight, the last eight and eight between."""
+    if is_long or count <= 24:
+        return range(1, count + 1)
+    between = range(9, count - 7, max(1, (count - 16) // 8))
+    return [*range(1, 9), *between, *range(count - 7, count + 1)]
