@@ -1,5 +1,6 @@
 //! Campaigns over scripted connections and over loopback.
-ghost use Rattle.std.specs.Prelude.{◌≤◌, length, IfOk};
+ghost use Rattle.std.specs.Prelude.{IfOk};
+ghost use Rattle.acse_ber.specs.Password.{IsPassword};
 
 mod campaigns;
 mod jobs_texts;
@@ -64,7 +65,7 @@ pub fn job(alloc: Global, name: &[u8], address: &[u8]) -> Result<Job, AllocError
 
 /// The password 12345678.
 pub fn password(alloc: Global) -> Result<Octets, AllocError>
-    ensures { IfOk result (λ password. length password ≤ 32) }
+    ensures { IfOk result IsPassword }
 {
     Octets::from_slice(alloc, b"12345678")
 }
