@@ -1,5 +1,6 @@
 pub mod Conformance
 pub mod Fit
+pub mod Password
 pub mod Reading
 pub mod Spelling
 pub mod Text

@@ -1,5 +1,6 @@
 //! The AARQ of a client that gives a password.
 ghost use Rattle.std.specs.Prelude.{◌≡◌, IfOk};
+ghost use Rattle.acse_ber.specs.Password.{IsPassword};
 ghost use Rattle.acse_ber.specs.Text.{request_text, low_level_aarq};
 
 use crate::aarq::Aarq;
@@ -8,7 +9,7 @@ use crate::initiate::{ABSENT, CONFORMANCE_HEAD, REQUEST_HEAD, VERSION};
 use cosem_axdr::Octets;
 use std::alloc::{AllocError, Global};
 
-/// Makes the AARQ of a client with low-level security: with this password, of the application context of logical names without ciphering, and with an InitiateRequest of version 6.
+/// Makes the AARQ of a client with low-level security: with this password, 1 to 32 bytes, of the application context of logical names without ciphering, and with an InitiateRequest of version 6.
 ///
 /// It proposes the conformance `bits`, of which the lowest 24 are taken, the first bit the highest of them, and says that the client takes APDUs of at most `limit` bytes; 0 is no limit.
 #[tactic(auto, unfolding(crate::specs::Text::low_level_aarq))]
@@ -18,6 +19,7 @@ pub fn low_level_aarq(
     bits: u32,
     limit: u16,
 ) -> Result<Aarq, AllocError>
+    requires { IsPassword password.now }
     ensures { IfOk result (λ aarq. aarq ≡ low_level_aarq password.now bits limit) }
 {
     Ok(Aarq {

@@ -1,5 +1,6 @@
 //! The judgement of a request for an association (IEC 62056-5-3).
 ghost use Rattle.std.specs.Prelude.{◌≡◌};
+ghost use Rattle.acse_ber.specs.Password.{IsPassword};
 ghost use Rattle.acse_ber.specs.Verdict.{is_no_mechanism, is_password, agreed, authenticated, judged, verdict_of};
 
 use crate::aarq::Aarq;
@@ -45,12 +46,14 @@ const NO_SIZE_LIMIT: u16 = 0;
 
 const SHORTEST_PDU_SIZE: u16 = 64;
 
-/// Judges an AARQ that came from the client port `sap`: the refusal of the first check that it fails, or what is negotiated.
+/// Judges an AARQ that came from the client port `sap`: the refusal of the first check that it fails, or what is negotiated. The management client has this password,
+/// 1 to 32 bytes.
 ///
 /// The checks, in this order: the port, the application context, the mechanism, and on the management client's port that there is one and the password;
 /// that the user information is an InitiateRequest, its version, that a service that the meter offers is proposed, and the size.
 #[tactic(auto, unfolding(crate::specs::Verdict::verdict_of))]
 pub fn judge(aarq: &Aarq, sap: u16, password: &Octets) -> Verdict
+    requires { IsPassword password.now }
     ensures { result ≡ verdict_of aarq.now sap password.now }
 {
     match associate(aarq, sap, password) {

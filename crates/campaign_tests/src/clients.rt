@@ -1,3 +1,6 @@
+ghost use Rattle.std.specs.Prelude.{IfOk};
+ghost use Rattle.acse_ber.specs.Password.{IsPassword};
+
 use client_core::{Client, Job, Outcome, Verb};
 use cosem_axdr::Octets;
 use std::alloc::{AllocError, Global};
@@ -51,14 +54,12 @@ fn client_of(alloc: Global, verb: Verb) -> Result<Client, Fail> {
         address: Octets::from_slice(alloc, b"127.0.0.1:4059")?,
         verb,
     };
-    let password = password(alloc)?;
-    if password.len() > 32 {
-        return Err(Fail::from("too long a password"));
-    }
-    Ok(Client::start(alloc, &job, &password)?)
+    Ok(Client::start(alloc, &job, &password(alloc)?)?)
 }
 
-fn password(alloc: Global) -> Result<Octets, AllocError> {
+fn password(alloc: Global) -> Result<Octets, AllocError>
+    ensures { IfOk result IsPassword }
+{
     Octets::from_slice(alloc, b"12345678")
 }
 

@@ -1,5 +1,6 @@
 //! What the meters of the tests answer, and what they are to be sent.
-ghost use Rattle.std.specs.Prelude.{◌≤◌, length, IfOk};
+ghost use Rattle.std.specs.Prelude.{IfOk};
+ghost use Rattle.acse_ber.specs.Password.{IsPassword};
 
 use client_core::{Job, Verb};
 use cosem_axdr::Octets;
@@ -58,7 +59,7 @@ pub(crate) fn job(alloc: Global, name: &[u8], address: &[u8]) -> Result<Job, All
 
 /// The password 12345678.
 pub(crate) fn password(alloc: Global) -> Result<Octets, AllocError>
-    ensures { IfOk result (λ password. length password ≤ 32) }
+    ensures { IfOk result IsPassword }
 {
     Octets::from_slice(alloc, b"12345678")
 }

@@ -1,4 +1,5 @@
-ghost use Rattle.std.specs.Prelude.{◌≡◌, ◌≤◌, [], false, length, IfOk, OnOk, OnErr};
+ghost use Rattle.std.specs.Prelude.{◌≡◌, [], false, IfOk, OnOk, OnErr};
+ghost use Rattle.acse_ber.specs.Password.{IsPassword};
 ghost use Rattle.client_core.specs.Outcomes.{is_served};
 ghost use Rattle.client_core.specs.Standing.{Stands, Gives, Feeds, Ends, Tells};
 
@@ -26,10 +27,10 @@ pub struct Client {
 }
 
 impl Client {
-    /// A client that has given no text and was fed nothing. It makes all three texts: the AARQ with the password, which has at most 32 bytes, the request of the
+    /// A client that has given no text and was fed nothing. It makes all three texts: the AARQ with the password, which has 1 to 32 bytes, the request of the
     /// job's verb, and the release.
     pub fn start(alloc: Global, job: &Job, password: &Octets) -> Result<Client, AllocError>
-        requires { length password.now ≤ 32 }
+        requires { IsPassword password.now }
         ensures { IfOk result (Stands job.now.verb password.now [] 0 false) }
     {
         Ok(Client {

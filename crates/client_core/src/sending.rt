@@ -1,5 +1,6 @@
 //! The texts that a client sends.
 ghost use Rattle.std.specs.Prelude.{◌≡◌, ◌≤◌, length, IfOk};
+ghost use Rattle.acse_ber.specs.Password.{IsPassword};
 ghost use Rattle.xdlms_apdu.specs.Text.{request_text};
 ghost use Rattle.client_core.specs.Texts.{framed, aarq_payload, action_payload, request_payload, aarq_frame, request_frame, release_frame};
 
@@ -24,20 +25,20 @@ const DISCONNECT_CONTROL: ClassId = ClassId(70);
 /// The logical name of the meter's disconnect control.
 const SUPPLY: Obis = Obis([0, 0, 96, 3, 10, 255]);
 
-/// The request for an association, with a password of at most 32 bytes.
+/// The request for an association, with a password of 1 to 32 bytes.
 #[tactic(auto, using(crate::proofs::Passwords::aarq_short), unfolding(crate::specs::Texts::aarq_frame))]
 pub fn aarq_frame(alloc: Global, password: &Octets) -> Result<Octets, AllocError>
-    requires { length password.now ≤ 32 }
+    requires { IsPassword password.now }
     ensures { IfOk result (λ text. text ≡ aarq_frame password.now) }
 {
     let payload = aarq_payload(alloc, password)?;
     framed(alloc, payload.as_slice())
 }
 
-/// The AARQ, with a password of at most 32 bytes.
+/// The AARQ, with a password of 1 to 32 bytes.
 #[tactic(auto, using(crate::proofs::Passwords::aarq_written))]
 fn aarq_payload(alloc: Global, password: &Octets) -> Result<Octets, AllocError>
-    requires { length password.now ≤ 32 }
+    requires { IsPassword password.now }
     ensures { IfOk result (λ text. text ≡ aarq_payload password.now) }
 {
     let aarq = low_level_aarq(alloc, password.as_slice(), SERVICES, MOST_BYTES)?;

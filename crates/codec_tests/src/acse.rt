@@ -1,3 +1,6 @@
+ghost use Rattle.std.specs.Prelude.{IfOk};
+ghost use Rattle.acse_ber.specs.Password.{IsPassword};
+
 use acse_ber::{
     Aare, Aarq, AcseFault, Info, RELEASE_REQUEST, RELEASE_RESPONSE, Verdict, is_release, judge,
     low_level_aarq, read_aare, read_aarq, write_aare, write_aarq,
@@ -89,11 +92,21 @@ type Judged = (
     Verdict,
 );
 
+// A password of a row, 1 to 32 bytes.
+fn password_of(alloc: Global, bytes: &[u8]) -> Result<Octets, Fail>
+    ensures { IfOk result IsPassword }
+{
+    if bytes.is_empty() || bytes.len() > 32 {
+        return Err(Fail::from("a password has 1 to 32 bytes"));
+    }
+    Ok(Octets::from_slice(alloc, bytes)?)
+}
+
 fn has_verdict(alloc: Global, row: &Judged) -> Result<bool, Fail> {
     let (port, password, example, changes, verdict) = row;
     let bytes = changed(alloc, example, changes)?;
     let aarq = read_aarq(alloc, bytes.as_slice())?;
-    let password = Octets::from_slice(alloc, password)?;
+    let password = password_of(alloc, password)?;
     Ok(judge(&aarq, *port, &password) == *verdict)
 }
 
@@ -292,10 +305,10 @@ const FIRST_FAULTS: [Judged; 9] = [
         Verdict::InitiateError(1),
     ),
     (1, PASSWORD, &MANAGEMENT_AARQ, &WRONG, Verdict::Rejected(1)),
-    (1, b"", &MANAGEMENT_AARQ, &WRONG, Verdict::Rejected(13)),
+    (1, b"87654321", &MANAGEMENT_AARQ, &WRONG, Verdict::Rejected(13)),
     (
         1,
-        b"",
+        b"87654321",
         &MANAGEMENT_AARQ,
         &[
             (55, 0x3F),
@@ -310,7 +323,7 @@ const FIRST_FAULTS: [Judged; 9] = [
     ),
     (
         1,
-        b"",
+        b"87654321",
         &MANAGEMENT_AARQ,
         &[
             (55, 0x3F),
@@ -323,8 +336,8 @@ const FIRST_FAULTS: [Judged; 9] = [
         ],
         Verdict::Rejected(11),
     ),
-    (1, b"", &MANAGEMENT_AARQ, &WORST, Verdict::Rejected(2)),
-    (15, b"", &MANAGEMENT_AARQ, &WORST, Verdict::Rejected(1)),
+    (1, b"87654321", &MANAGEMENT_AARQ, &WORST, Verdict::Rejected(2)),
+    (15, b"87654321", &MANAGEMENT_AARQ, &WORST, Verdict::Rejected(1)),
 ];
 
 // All of the user information is wrong.

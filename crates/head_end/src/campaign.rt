@@ -1,5 +1,6 @@
 //! Many jobs at many meters, side by side.
 ghost use Rattle.std.specs.Prelude.{◌≡◌, ◌+◌, ◌*◌, ◌^◌, ◌<◌, ◌≤◌, ℕ, length, map, slice_index_or, IfOk, IfSome};
+ghost use Rattle.acse_ber.specs.Password.{IsPassword};
 ghost use Rattle.client_core.specs.declared.job.Job.{Job};
 ghost use Rattle.head_end.specs.declared.row.Row.{Row};
 ghost use Rattle.head_end.specs.declared.row.Line.{Line};
@@ -17,7 +18,7 @@ use std::alloc::{AllocError, Global};
 use std::thread;
 use std::thread::Threads;
 
-/// Runs all jobs, each on one connection to its meter, with so many workers, and gives their lines in the order of the jobs. The password has at most 32 bytes.
+/// Runs all jobs, each on one connection to its meter, with so many workers, and gives their lines in the order of the jobs. The password has 1 to 32 bytes.
 ///
 /// Jobs that stand side by side are taken by different workers. All memory of the report is taken before the first connection is made.
 pub fn run_campaign<R: Threads + Sync, C: Connector>(
@@ -30,7 +31,7 @@ pub fn run_campaign<R: Threads + Sync, C: Connector>(
 ) -> Result<Listed<Line>, AllocError>
     requires some { 1 ≤ workers }
     requires few { workers ≤ 16 }
-    requires password { length password.now ≤ 32 }
+    requires password { IsPassword password.now }
     ensures { IfOk result (AreLines (C.tells connector.now) jobs.now) }
 {
     run_watched_campaign(rt, alloc, jobs, connector, password, workers, &Unwatched)
@@ -48,7 +49,7 @@ pub fn run_watched_campaign<R: Threads + Sync, C: Connector, W: Watcher>(
 ) -> Result<Listed<Line>, AllocError>
     requires some { 1 ≤ workers }
     requires few { workers ≤ 16 }
-    requires password { length password.now ≤ 32 }
+    requires password { IsPassword password.now }
     ensures { IfOk result (AreLines (C.tells connector.now) jobs.now) }
 {
     let workers = usize::from(workers);
@@ -87,7 +88,7 @@ fn fill<R: Threads + Sync, C: Connector, W: Watcher>(
     requires workers { 0 < workers }
     requires slots { length rows.old ≡ turns * workers }
     requires room { length jobs.now < turns * workers }
-    requires password { length password.now ≤ 32 }
+    requires password { IsPassword password.now }
     requires names { map (λ line. line.id) lines.old ≡ map (λ job. job.id) jobs.now }
     ensures lines { AreLines (C.tells connector.now) jobs.now lines.new }
     ensures len { length lines.new ≡ length lines.old }
@@ -138,7 +139,7 @@ fn work<R: Threads + Sync, C: Connector, W: Watcher>(
     requires some { 0 < turns }
     requires workers { 0 < workers }
     requires slots { length rows.old ≡ turns * workers }
-    requires password { length password.now ≤ 32 }
+    requires password { IsPassword password.now }
     ensures rows { (slot : ℕ) (job : Job) (row : Row) → slot < turns * workers → place_at turns workers slot < length jobs.now
         → IsRow (C.tells connector.now) (slice_index_or jobs.now (place_at turns workers slot) job) (slice_index_or rows.new slot row) }
     ensures len { length rows.new ≡ length rows.old }
@@ -148,7 +149,7 @@ fn work<R: Threads + Sync, C: Connector, W: Watcher>(
         rows,
         workers,
         &|slot, row|
-            requires { (0 < turns) × (slot < turns * workers) × (turns * workers < 2 ^ 64) × (length password.now ≤ 32) }
+            requires { (0 < turns) × (slot < turns * workers) × (turns * workers < 2 ^ 64) × IsPassword password.now }
             ensures { (job : Job) → place_at turns workers slot < length jobs.entry.now → IsRow (C.tells connector.entry.now) (slice_index_or jobs.entry.now (place_at turns workers slot) job) row.exit.now }
         {
             work_slot(
@@ -173,7 +174,7 @@ fn work_slot<C: Connector, W: Watcher>(
     requires some { 0 < turns }
     requires slot { slot < turns * workers }
     requires fits { turns * workers < 2 ^ 64 }
-    requires password { length password.now ≤ 32 }
+    requires password { IsPassword password.now }
     ensures { (job : Job) → place_at turns workers slot < length jobs.now
         → IsRow (C.tells connector.now) (slice_index_or jobs.now (place_at turns workers slot) job) row.new }
 {

@@ -1,5 +1,6 @@
 //! One job at one meter.
-ghost use Rattle.std.specs.Prelude.{◌≤◌, length, IfOk};
+ghost use Rattle.std.specs.Prelude.{IfOk};
+ghost use Rattle.acse_ber.specs.Password.{IsPassword};
 ghost use Rattle.head_end.specs.Rows.{IsOutcome, IsRow};
 
 use crate::connection::Connector;
@@ -9,9 +10,9 @@ use client_core::{Client, Job, Outcome};
 use cosem_axdr::Octets;
 use std::alloc::{AllocError, Global};
 
-/// The row of a job: on one connection to its meter, what the meter answers. The password has at most 32 bytes.
+/// The row of a job: on one connection to its meter, what the meter answers. The password has 1 to 32 bytes.
 pub fn run_job<C: Connector>(alloc: Global, job: &Job, connector: &C, password: &Octets) -> Row
-    requires { length password.now ≤ 32 }
+    requires { IsPassword password.now }
     ensures { IsRow (C.tells connector.now) job.now result }
 {
     match try_job(alloc, job, connector, password) {
@@ -27,7 +28,7 @@ fn try_job<C: Connector>(
     connector: &C,
     password: &Octets,
 ) -> Result<Outcome, AllocError>
-    requires { length password.now ≤ 32 }
+    requires { IsPassword password.now }
     ensures { IfOk result (IsOutcome (C.tells connector.now job.now.address) job.now.verb) }
 {
     let mut client = Client::start(alloc, job, password)?;

@@ -1,4 +1,5 @@
 ghost use Rattle.std.specs.Prelude.{◌≤◌, length};
+ghost use Rattle.acse_ber.specs.Password.{IsPassword};
 ghost use Rattle.meter_server.specs.Hexadecimal.{Hexed, Played};
 
 use crate::fault::{HexFault, ServeFault};
@@ -21,6 +22,7 @@ fn play<W: Writer>(
 ) -> Result<(), HexFault>
     requires writable { W.can_write writer.now }
     requires named { (1 ≤ length device.now) × (length device.now ≤ 16) }
+    requires password { IsPassword password.now }
     ensures { Played device.now password.now input.now (W.contents writer.old) (W.failures writer.old) result (W.contents writer.new) (W.failures writer.new) }
 {
     let mut core = RelayCore::new(alloc, device)?;
@@ -35,7 +37,7 @@ fn play<W: Writer>(
 }
 
 /// Serves a session whose bytes a text has in hexadecimal: pairs of digits in either case, with blanks and line ends passed over, at most 1,048,576 characters.
-/// It has a new meter of this device name, 1 to 16 bytes, and the management client this password. Each frame that is sent is written as a line of hexadecimal in
+/// It has a new meter of this device name, 1 to 16 bytes, and the management client this password, 1 to 32 bytes. Each frame that is sent is written as a line of hexadecimal in
 /// capitals. A session that a wrong header or the end of the text cuts is no fault.
 ///
 /// Nothing is written before the whole text is read and is pairs of digits. A text that is too long is told before what its characters are.
@@ -49,6 +51,7 @@ pub fn run_hex<R: Reader, W: Writer>(
     requires readable { R.can_read reader.now }
     requires writable { W.can_write writer.now }
     requires named { (1 ≤ length device.now) × (length device.now ≤ 16) }
+    requires password { IsPassword password.now }
     ensures { Hexed R.remaining R.failures W.contents W.failures device.now password.now reader.old writer.old result reader.new writer.new }
 {
     let text = read_text(alloc, reader)?;

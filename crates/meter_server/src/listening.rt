@@ -1,4 +1,5 @@
 //! Where clients come from, and who is told of their sessions.
+ghost use Rattle.acse_ber.specs.Password.{IsPassword};
 ghost use Rattle.turn_lock.specs.Shown.{IsSame};
 
 use crate::fault::ServeFault;
@@ -38,6 +39,7 @@ pub(crate) struct Client<I, O, V> {
     output: O,
     observer: V,
     password: Octets,
+    ghost sized: { IsPassword password },
 }
 
 impl<I: Read + Drop + Send, O: Write + Drop + Send, V: Observer + Drop + Send> Connection<
@@ -62,12 +64,13 @@ impl<I: Read + Drop + Send, O: Write + Drop + Send, V: Observer + Drop + Send> C
 
 /// The clients of a listener, each of whom has the password of the management client beside it.
 #[derive(Drop)]
-pub(crate) struct Clients<'a, L> {
+pub(crate) struct Clients<'a, 'b, L> {
     pub(crate) listener: &'a mut L,
-    pub(crate) password: &'a Octets,
+    pub(crate) password: &'b Octets,
+    ghost sized: { IsPassword password.now },
 }
 
-impl<'a, L: Listener> session_threads::Listener<Port<Kept>> for Clients<'a, L> {
+impl<'a, 'b, L: Listener> session_threads::Listener<Port<Kept>> for Clients<'a, 'b, L> {
     type Connection = Client<L::Input, L::Output, L::Observer>;
 
     fn accept(&mut self, alloc: Global) -> Result<Option<Self::Connection>, ListenFault> {

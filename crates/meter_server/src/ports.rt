@@ -1,5 +1,6 @@
 //! A session that shares its meter with others.
 ghost use Rattle.std.specs.Prelude.{List};
+ghost use Rattle.acse_ber.specs.Password.{IsPassword};
 ghost use Rattle.meter_server.specs.Meters.{Replied};
 ghost use Rattle.meter_server.specs.Ports.{MeterPort, PortSteps, Enters};
 ghost use Rattle.meter_server.specs.Served.{Served};
@@ -55,7 +56,7 @@ pub fn calls_are_entered()
 {}
 
 /// Serves one session as [`serve_session`] does, by the events of a port: each event that the session asks is a call of the port, and waits for its turn. Between
-/// two events the session holds no turn. The port comes back.
+/// two events the session holds no turn. The management client has this password, 1 to 32 bytes. The port comes back.
 pub fn serve_port<R: Reader, O: Writer, W: Wait>(
     rt: &W,
     alloc: Global,
@@ -66,6 +67,7 @@ pub fn serve_port<R: Reader, O: Writer, W: Wait>(
 ) -> (Port<Kept>, Result<SessionEnd, ServeFault>)
     requires readable { R.can_read reader.now }
     requires writable { O.can_write writer.now }
+    requires password { IsPassword password.now }
     ensures served { Served R.remaining R.reads R.failures O.contents O.failures PortSteps password.now reader.old writer.old port result.1 reader.new writer.new result.0 }
     ensures same { IsSame port result.0 }
 {

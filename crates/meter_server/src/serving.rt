@@ -1,4 +1,5 @@
 ghost use Rattle.std.specs.Prelude.{◌≡◌, ℕ, List, [], false, IfOk, IfErr, OnOk};
+ghost use Rattle.acse_ber.specs.Password.{IsPassword};
 ghost use Rattle.meter_server.specs.Served.{Served, DoesAll, Stops, as_bytes};
 ghost use Rattle.meter_server.specs.Settling.{Settled, IsSettled};
 ghost use Rattle.session_core.specs.Progress.{Owes};
@@ -121,7 +122,7 @@ fn serve<R: Reader, W: Writer, M: Meter>(
 }
 
 /// Serves one session: reads what the client sends, asks the meter, and writes the answers, up to the end of the input or a header that no frame has. The
-/// management client has this password.
+/// management client has this password, 1 to 32 bytes.
 ///
 /// Whatever the input is, and however its bytes come, the meter is asked exactly the events of the session, and exactly the answers to its replies are
 /// written, all that are due before the next read or call. A fault is `Read` or `Write` where the reader or writer failed, or `Read` after 4,294,967,295 reads;
@@ -135,6 +136,7 @@ pub fn serve_session<R: Reader, W: Writer, M: Meter>(
 ) -> Result<SessionEnd, ServeFault>
     requires readable { R.can_read reader.now }
     requires writable { W.can_write writer.now }
+    requires password { IsPassword password.now }
     ensures { Served R.remaining R.reads R.failures W.contents W.failures M.steps password.now reader.old writer.old meter.old result reader.new writer.new meter.new }
 {
     let mut session = Session::new(alloc, password)?;

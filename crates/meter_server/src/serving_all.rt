@@ -1,5 +1,6 @@
 //! The whole server: sessions of clients, blocks of samples, moments and presses, each in a thread of its own, over one meter.
-ghost use Rattle.std.specs.Prelude.{◌≡◌, ◌≤◌, ◌+◌, [], length, Some, Ok, IfOk, IfErr, OnOk};
+ghost use Rattle.std.specs.Prelude.{◌≡◌, ◌+◌, [], Some, Ok, IfOk, IfErr, OnOk};
+ghost use Rattle.acse_ber.specs.Password.{IsPassword};
 ghost use Rattle.kept_meter.specs.Calls.{IsLegal as IsLegalRun};
 ghost use Rattle.meter_server.specs.ServingAll.{AllBlocks, AllMoments, AllPresses, Acted, IsFresh, IsLimit};
 ghost use Rattle.session_threads.specs.Ports.{GoesOn, AreJoined, child};
@@ -51,6 +52,7 @@ fn serve_clients<L: Listener, R: Threads + Wait + Copy + Send + 'static>(
     password: &Octets,
     limit: u64,
 ) -> Result<Served, ServeFault>
+    requires { IsPassword password.now }
     ensures goes { GoesOn port.old port.new }
     ensures joined { AreJoined port.old.known.splits port.new }
     ensures limit { IfOk result (IsLimit limit) }
@@ -83,7 +85,8 @@ fn serve_until_button<
     password: &Octets,
     limit: u64,
 ) -> Result<Served, ServeFault>
-    requires { running.promise.port.value.lock ≡ port.old.lock }
+    requires lock { running.promise.port.value.lock ≡ port.old.lock }
+    requires password { IsPassword password.now }
     ensures goes { GoesOn port.old port.new }
     ensures joined { AreJoined port.old.known.splits port.new }
     ensures own { IsAmong running.promise.port.value.known.number port.new.known.joined }
@@ -109,6 +112,7 @@ fn serve_with_button<
     password: &Octets,
     limit: u64,
 ) -> Result<Served, ServeFault>
+    requires { IsPassword password.now }
     ensures goes { GoesOn port.old port.new }
     ensures joined { AreJoined port.old.known.splits port.new }
     ensures limit { IfOk result (IsLimit limit) }
@@ -136,7 +140,8 @@ fn serve_until_clock<
     password: &Octets,
     limit: u64,
 ) -> Result<Served, ServeFault>
-    requires { running.promise.port.value.lock ≡ port.old.lock }
+    requires lock { running.promise.port.value.lock ≡ port.old.lock }
+    requires password { IsPassword password.now }
     ensures goes { GoesOn port.old port.new }
     ensures joined { AreJoined port.old.known.splits port.new }
     ensures own { IsAmong running.promise.port.value.known.number port.new.known.joined }
@@ -165,6 +170,7 @@ fn serve_with_clock<
     password: &Octets,
     limit: u64,
 ) -> Result<Served, ServeFault>
+    requires { IsPassword password.now }
     ensures goes { GoesOn port.old port.new }
     ensures joined { AreJoined port.old.known.splits port.new }
     ensures limit { IfOk result (IsLimit limit) }
@@ -195,7 +201,8 @@ fn serve_until_sampler<
     password: &Octets,
     limit: u64,
 ) -> Result<Served, ServeFault>
-    requires { running.promise.port.value.lock ≡ port.old.lock }
+    requires lock { running.promise.port.value.lock ≡ port.old.lock }
+    requires password { IsPassword password.now }
     ensures goes { GoesOn port.old port.new }
     ensures joined { AreJoined port.old.known.splits port.new }
     ensures own { IsAmong running.promise.port.value.known.number port.new.known.joined }
@@ -227,6 +234,7 @@ fn serve_with_sampler<
     password: &Octets,
     limit: u64,
 ) -> Result<Served, ServeFault>
+    requires { IsPassword password.now }
     ensures goes { GoesOn port.old port.new }
     ensures joined { AreJoined port.old.known.splits port.new }
     ensures limit { IfOk result (IsLimit limit) }
@@ -270,7 +278,7 @@ pub fn serve_all<
     password: &Octets,
     limit: u64,
 ) -> Result<(Port<Kept>, Served), (Port<Kept>, ServeFault)>
-    requires { (1 ≤ length password.now) × (length password.now ≤ 32) }
+    requires { IsPassword password.now }
     ensures goes { IfOk result (λ r. GoesOn port r.0 × IsLegal IsLegalRun r.0.known × AreJoined port.known.splits r.0) }
     ensures goes_err { IfErr result (λ r. GoesOn port r.0 × IsLegal IsLegalRun r.0.known × AreJoined port.known.splits r.0) }
     ensures limit { IfOk result (λ r. IsLimit limit r.1) }

@@ -20,4 +20,4 @@ pub record RunsAgain (r : Recording) (history : List Told) (origin world : World
 
 -- from this world the kept events run as they did in every history that the recorder stands for
 abbrev pub Replays : Recording → World → Type 0
-Replays r world = (history : List Told) (origin : World) → StandsForHistory r history origin → AreEvents r.events → RunsAgain r history origin world
+Replays r world = (history : List Told) (origin : World) → StandsForHistory r history origin → RunsAgain r history origin world

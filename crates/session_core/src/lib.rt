@@ -14,6 +14,7 @@ mod limit;
 mod link;
 mod next;
 mod outgoing;
+mod password;
 mod replying;
 mod session;
 mod state;

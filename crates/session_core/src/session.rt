@@ -1,9 +1,11 @@
 ghost use Rattle.std.specs.Prelude.{◌≡◌, true, Some, IfOk, IfErr, OnOk, OnErr, Ok};
+ghost use Rattle.acse_ber.specs.Password.{IsPassword};
 ghost use Rattle.session_core.specs.declared.task.Task.TheVariants.{Listen, Over};
 
 use crate::answer::SERVER_PORT;
 use crate::end::SessionEnd;
 use crate::next::Next;
+use crate::password::Password;
 use crate::replying::{Answered, answer_reply};
 use crate::state::State;
 use crate::step::Step;
@@ -20,7 +22,7 @@ use wrapper_frame::{Deframer, WrapperFault};
 /// or more input.
 #[derive(Debug, Drop)]
 pub struct Session {
-    password: Octets,
+    password: Password,
     deframer: Deframer,
     is_finished: bool,
     state: State,
@@ -31,12 +33,13 @@ impl Session {
     ghost use Rattle.session_core.specs.Remaining.{is_asking, ended};
     ghost use Rattle.session_core.specs.Progress.{Owes, Feeds, Finishes, StepsBy, Leaves, Takes, WorksBy, task_by, next_by};
 
-    /// A session of which no byte has come. The management client has this password.
+    /// A session of which no byte has come. The management client has this password, 1 to 32 bytes.
     pub fn new(alloc: Global, password: &Octets) -> Result<Session, AllocError>
+        requires { IsPassword password.now }
         ensures { IfOk result (Owes password.now) }
     {
         Ok(Session {
-            password: password.try_clone(alloc)?,
+            password: Password::of(alloc, password)?,
             deframer: Deframer::new(alloc),
             is_finished: false,
             state: State::new(),

@@ -13,9 +13,9 @@ use crate::due::Due;
 use crate::incoming::{Incoming, LongService, Purpose, add_to};
 use crate::link::{Link, answer_to, opened};
 use crate::outgoing::{Outgoing, continue_by};
+use crate::password::Password;
 use crate::step::Step;
 use acse_ber::{AcseFault, judge, read_aarq};
-use cosem_axdr::Octets;
 use relay_core::Event;
 use std::alloc::{AllocError, Global};
 use wrapper_frame::Frame;
@@ -51,7 +51,7 @@ impl State {
     pub(crate) fn hear(
         &mut self,
         alloc: Global,
-        password: &Octets,
+        password: &Password,
         frame: &Frame,
     ) -> Result<Step, AllocError>
         ensures outcome { IfOk result (λ step. step_outcome step ≡ outcome_at password.now self.old frame.now) }
@@ -72,7 +72,12 @@ impl State {
     }
 
     // An AARQ ends the association, and opens another if it is accepted.
-    fn open(&mut self, alloc: Global, password: &Octets, frame: &Frame) -> Result<Step, AllocError>
+    fn open(
+        &mut self,
+        alloc: Global,
+        password: &Password,
+        frame: &Frame,
+    ) -> Result<Step, AllocError>
         ensures outcome { IfOk result (λ step. step_outcome step ≡ says frame.now.src (opening_answer password.now frame.now.src (aarq_of frame.now.payload))) }
         ensures after { OnOk result (self.new ≡ record { link = opened_by password.now frame.now; incoming = None; outgoing = None }) }
         ensures err { OnErr result (self.new ≡ self.old) }
@@ -247,7 +252,7 @@ impl State {
 #[tactic(auto, unfolding(crate::specs::Association::opened_by))]
 fn read_opening(
     alloc: Global,
-    password: &Octets,
+    password: &Password,
     frame: &Frame,
 ) -> Result<(Option<Link>, Due), AllocError>
     ensures link { IfOk result (λ opening. opening.0 ≡ opened_by password.now frame.now) }
@@ -256,7 +261,7 @@ fn read_opening(
 {
     match read_aarq(alloc, frame.payload.as_slice()) {
         Ok(aarq) => {
-            let verdict = judge(&aarq, frame.src, password);
+            let verdict = judge(&aarq, frame.src, password.octets());
             Ok((
                 opened(frame.src, verdict),
                 Due::association(frame.src, answer_to(verdict)),

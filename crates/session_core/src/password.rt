@@ -1,0 +1,43 @@
+ghost use Rattle.std.specs.Prelude.{◌≡◌, IfOk};
+ghost use Rattle.acse_ber.specs.Password.{IsPassword};
+
+use cosem_axdr::Octets;
+use std::alloc::{AllocError, Global};
+use std::marker::Model;
+
+/// The password of the management client: 1 to 32 bytes. Contracts see the list of them.
+#[derive(Debug, Drop)]
+pub(crate) struct Password {
+    octets: Octets,
+}
+
+impl Model for Password {
+    ghost use Rattle.std.specs.Prelude.{List, ℕ};
+    ghost use Rattle.acse_ber.specs.Password.{IsPassword};
+
+    ghost Value = { List ℕ };
+
+    ghost view = { λ password. password.octets };
+
+    ghost invariant = { λ password. IsPassword password.octets };
+}
+
+impl Password {
+    /// A copy of a password.
+    pub(crate) fn of(alloc: Global, octets: &Octets) -> Result<Password, AllocError>
+        requires { IsPassword octets.now }
+        ensures { IfOk result (λ password. password ≡ octets.now) }
+    {
+        Ok(Password {
+            octets: octets.try_clone(alloc)?,
+        })
+    }
+
+    /// Its bytes.
+    pub(crate) fn octets(&self) -> &Octets
+        ensures octets { result.now ≡ self.now }
+        ensures password { IsPassword result.now }
+    {
+        &self.octets
+    }
+}
