@@ -10,11 +10,12 @@ mod console;
 mod hex_session;
 mod lines;
 mod listening;
+mod plan;
 mod serving;
 mod texts;
 
 use crate::arguments::command_line;
-use crate::serving::{PASSWORD_VARIABLE, Plan};
+use crate::plan::{PASSWORD_VARIABLE, Plan};
 use clap::ArgMatches;
 use clap::error::ErrorKind;
 use program_fault::Fault;
@@ -40,7 +41,7 @@ fn begin_chosen<I: Read + Drop>(
     matches: &ArgMatches<'_>,
 ) -> Result<Next<I>, Fault> {
     match matches.subcommand() {
-        Some(("serve", matches)) => Ok(Next::Serve(serving::planned(rt, input, matches)?)),
+        Some(("serve", matches)) => Ok(Next::Serve(plan::planned(rt, input, matches)?)),
         Some(("apdu", _)) => {
             apdu::run(rt)?;
             Ok(Next::Ended(0))

@@ -1,150 +1,30 @@
 //! The command `serve`: a meter that clients reach over TCP.
-ghost use Rattle.std.specs.Prelude.{◌≡◌, ◌≤◌, [], length, IfOk};
+ghost use Rattle.std.specs.Prelude.{◌≡◌, ◌≤◌, length, IfOk};
 
 use crate::console::{Console, Sources};
 use crate::listening::{Sockets, Stopped};
-use crate::texts::{LONGEST_DEVICE, LONGEST_PASSWORD, octets_of};
-use clap::ArgMatches;
+use crate::plan::{Options, Plan};
 use cosem_axdr::Octets;
 use kept_meter::Kept;
 use meter_server::{ServeFault, serve_all};
-use meter_serving::{closed_meter, meter_trace, read_head, resumed_recorder};
+use meter_serving::{closed_meter, meter_trace};
 use program_fault::Fault;
 use relay_recorder::Recorder;
 use std::alloc::Global;
-use std::env::VarError;
-use std::io::{BufRead, BufReader, Read, Write};
+use std::io::{BufReader, Read, Write};
 use std::net::{SocketAddr, TcpListener, TcpStream};
 use std::sync::atomic::{AtomicBool, Ordering};
 use std::sync::{Arc, Wait};
+use std::thread;
 use std::thread::{JoinHandle, Threads};
 use std::time::Duration;
-use std::{env, thread};
 use turn_lock::{Port, Shared};
 
 /// The meter takes so many calls.
 const MOST_CALLS: u64 = 4_611_686_018_427_387_904;
 
-/// The trace of an earlier run has at most so many bytes.
-const LONGEST_TRACE: u64 = 33_554_432;
-
 /// So often a connection is tried that wakes the listener.
 const MOST_CALLS_TO_WAKE: u32 = 100;
-
-/// The environment's word for the password.
-pub(crate) const PASSWORD_VARIABLE: &str = "METER_PASSWORD";
-
-/// What the options ask for.
-#[derive(Clone, Copy)]
-struct Options {
-    depth: u16,
-    connections: u64,
-    inactivity: u32,
-    stops_with_input: bool,
-    resumes: bool,
-    is_verbose: bool,
-}
-
-impl Options {
-    /// The options of a command line.
-    fn of(matches: &ArgMatches<'_>) -> Options {
-        let depth = matches.get_one::<u16>("depth").unwrap_or(0);
-        let connections = matches.get_one::<u64>("connections").unwrap_or(0);
-        let inactivity = matches.get_one::<u32>("inactivity").unwrap_or(0);
-        let stops_with_input = matches.get_flag("stop-with-input");
-        let resumes = matches.get_flag("resume");
-        let is_verbose = matches.get_flag("verbose");
-        Options {
-            depth,
-            connections,
-            inactivity,
-            stops_with_input,
-            resumes,
-            is_verbose,
-        }
-    }
-}
-
-/// The password of the management client: that of the command line, else that of the environment.
-fn password_of(rt: &HostRuntime, matches: &ArgMatches<'_>) -> Result<Octets, Fault>
-    ensures { IfOk result (λ octets. (1 ≤ length octets) × (length octets ≤ 32)) }
-{
-    if let Some(text) = matches.get_str("password") {
-        return octets_of(rt.alloc(), text, LONGEST_PASSWORD);
-    }
-    match env::var(rt, PASSWORD_VARIABLE) {
-        Ok(text) => octets_of(rt.alloc(), text.as_str(), LONGEST_PASSWORD),
-        Err(VarError::OutOfMemory) => Err(Fault::Memory),
-        Err(_) => Err(Fault::Input),
-    }
-}
-
-/// The recorder that the meter begins with: a new meter's, or that of one which goes on from the trace at the head of an input.
-fn first_recorder<B: BufRead>(
-    alloc: Global,
-    device: &Octets,
-    options: &Options,
-    input: &mut B,
-) -> Result<Recorder, Fault>
-    requires { (1 ≤ length device.now) × (length device.now ≤ 16) }
-    ensures { IfOk result (λ recorder. recorder.events ≡ []) }
-{
-    let depth = options.depth;
-    if depth < 1 || depth > 1024 {
-        return Err(Fault::Input);
-    }
-    let made = if options.resumes {
-        let trace = read_head(alloc, &mut input.by_ref().take(LONGEST_TRACE))?;
-        resumed_recorder(alloc, &trace, depth)
-    } else {
-        Recorder::new(alloc, device, depth)
-    };
-    made.map_err(|_| Fault::Memory)
-}
-
-/// What is to be served: the meter, where its clients come to, and the lines of its console.
-#[derive(Drop)]
-pub(crate) struct Plan<I> {
-    options: Options,
-    password: Octets,
-    recorder: Recorder,
-    input: BufReader<I>,
-    listener: TcpListener,
-    address: SocketAddr,
-    ghost some: { 1 ≤ length password },
-    ghost short: { length password ≤ 32 },
-    ghost unused: { length recorder.events ≡ 0 },
-}
-
-/// Does all that is done before the first client comes: judges the options, reads the trace to go on from, and listens.
-#[tactic(auto, using(crate::proofs::Unused::uncounted))]
-pub(crate) fn planned<I: Read + Drop>(
-    rt: &HostRuntime,
-    input: I,
-    matches: &ArgMatches<'_>,
-) -> Result<Plan<I>, Fault> {
-    let alloc = rt.alloc();
-    let options = Options::of(matches);
-    let password = password_of(rt, matches)?;
-    let device = matches.get_str("device").unwrap_or("");
-    let device = octets_of(alloc, device, LONGEST_DEVICE)?;
-    let mut input = BufReader::new(alloc, input).map_err(|_| Fault::Memory)?;
-    let recorder = first_recorder(alloc, &device, &options, &mut input)?;
-    let address = matches.get_str("listen").unwrap_or("");
-    let listener = TcpListener::bind(rt, address).map_err(|_| Fault::Listen)?;
-    let address = listener.local_addr().map_err(|_| Fault::Listen)?;
-    if options.is_verbose {
-        let _ = eprintln!(rt; "listening on {address}");
-    }
-    Ok(Plan {
-        options,
-        password,
-        recorder,
-        input,
-        listener,
-        address,
-    })
-}
 
 /// The fault of a server. That no further client was taken is none where the listener did not fail: standard input had ended.
 fn told(fault: ServeFault, has_failed: bool) -> Result<(), Fault> {
@@ -211,7 +91,10 @@ fn taken_out(shared: Shared<Kept>, port: Port<Kept>) -> Result<Kept, Fault>
 {
     match closed_meter(shared, port) {
         Ok(kept) => Ok(kept),
-        Err((fault, _)) => Err(fault),
+        Err((fault, port)) => {
+            drop(port);
+            Err(fault)
+        }
     }
 }
 
@@ -234,8 +117,14 @@ fn print_kept(rt: &HostRuntime, kept: &Kept) -> Result<(), Fault> {
 fn print_trace(rt: &HostRuntime, shared: Shared<Kept>, port: Port<Kept>) -> Result<(), Fault>
     requires { port.lock ≡ shared }
 {
-    let kept = taken_out(shared, port)?;
-    print_kept(rt, &kept)
+    match taken_out(shared, port) {
+        Ok(kept) => {
+            let printed = print_kept(rt, &kept);
+            drop(kept);
+            printed
+        }
+        Err(fault) => Err(fault),
+    }
 }
 
 /// How long a read or a write of a client may take.
@@ -253,7 +142,13 @@ fn locked(alloc: Global, recorder: Recorder) -> Result<(Shared<Kept>, Port<Kept>
     requires { length recorder.events ≡ 0 }
     ensures { IfOk result (λ r. r.1.lock ≡ r.0) }
 {
-    Shared::new(alloc, Kept::new(recorder), MOST_CALLS).map_err(|_| Fault::Memory)
+    match Shared::new(alloc, Kept::new(recorder), MOST_CALLS) {
+        Ok(meter) => Ok(meter),
+        Err((_, kept)) => {
+            drop(kept);
+            Err(Fault::Memory)
+        }
+    }
 }
 
 /// Where clients come from, and the flag by which the console ends the listening.
@@ -379,6 +274,22 @@ fn prepared<R: Wait + Copy, I: Read + Drop>(
     Ok((sockets, sources, reading))
 }
 
+/// The sockets and the sources of the meter's own events, once the console's thread has begun.
+fn started<R: Threads + Wait + Copy + Drop + Send + 'static, I: Read + Drop + Send + 'static>(
+    rt: &HostRuntime,
+    threads: &R,
+    options: &Options,
+    input: BufReader<I>,
+    listener: TcpListener,
+    address: SocketAddr,
+) -> Result<(Sockets<HostRuntime>, Sources<R>, JoinHandle<()>), Fault> {
+    let (sockets, sources, reading) = prepared(rt, threads, options, input, listener, address)?;
+    match start_console(rt, threads, reading) {
+        Ok(console) => Ok((sockets, sources, console)),
+        Err(fault) => Err(fault),
+    }
+}
+
 /// Serves clients beside the lines of the console, and prints the trace of the meter when it ends.
 pub(crate) fn run<
     R: Threads + Wait + Copy + Drop + Send + 'static,
@@ -392,23 +303,27 @@ pub(crate) fn run<
         listener,
         address,
     } = plan;
-    let (mut sockets, sources, reading) = prepared(
-        rt, threads, &options, input, listener, address,
-    )?;
-    let reading = start_console(rt, threads, reading)?;
-    let connections = options.connections;
-    let (served, printed) = serve_recorder(
-        rt,
-        threads,
-        &mut sockets,
-        sources,
-        recorder,
-        &password,
-        connections,
-    );
-    // (the sources have ended where no fault came, so the console has)
-    if served.is_ok() {
-        reading.join(threads);
+    match started(rt, threads, &options, input, listener, address) {
+        Ok((mut sockets, sources, console)) => {
+            let connections = options.connections;
+            let (served, printed) = serve_recorder(
+                rt,
+                threads,
+                &mut sockets,
+                sources,
+                recorder,
+                &password,
+                connections,
+            );
+            // (the sources have ended where no fault came, so the console has)
+            if served.is_ok() {
+                console.join(threads);
+            }
+            served.and(printed)
+        }
+        Err(fault) => {
+            drop(recorder);
+            Err(fault)
+        }
     }
-    served.and(printed)
 }
