@@ -145,12 +145,12 @@ def has_matplotlib():
 
 def main(words):
     if not has_matplotlib():
-        print("left out: charts, for want of matplotlib (Debian: apt-get install python3-matplotlib)")
+        print("SKIPPED charts: matplotlib is not installed (Debian: apt-get install python3-matplotlib)")
         print("0 passed, 0 failed")
         return 0
     browser = next((found for found in map(shutil.which, BROWSERS) if found), None)
     if not browser:
-        print("left out: charts in a browser, for want of one (Debian: apt-get install chromium)")
+        print("SKIPPED charts in a browser: none is installed (Debian: apt-get install chromium)")
     passed, failed = 0, 0
     with tempfile.TemporaryDirectory(prefix="charts-") as room:
         if words[:1] == ["--keep"]:
