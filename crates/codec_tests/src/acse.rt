@@ -305,7 +305,13 @@ const FIRST_FAULTS: [Judged; 9] = [
         Verdict::InitiateError(1),
     ),
     (1, PASSWORD, &MANAGEMENT_AARQ, &WRONG, Verdict::Rejected(1)),
-    (1, b"87654321", &MANAGEMENT_AARQ, &WRONG, Verdict::Rejected(13)),
+    (
+        1,
+        b"87654321",
+        &MANAGEMENT_AARQ,
+        &WRONG,
+        Verdict::Rejected(13),
+    ),
     (
         1,
         b"87654321",
@@ -336,8 +342,20 @@ const FIRST_FAULTS: [Judged; 9] = [
         ],
         Verdict::Rejected(11),
     ),
-    (1, b"87654321", &MANAGEMENT_AARQ, &WORST, Verdict::Rejected(2)),
-    (15, b"87654321", &MANAGEMENT_AARQ, &WORST, Verdict::Rejected(1)),
+    (
+        1,
+        b"87654321",
+        &MANAGEMENT_AARQ,
+        &WORST,
+        Verdict::Rejected(2),
+    ),
+    (
+        15,
+        b"87654321",
+        &MANAGEMENT_AARQ,
+        &WORST,
+        Verdict::Rejected(1),
+    ),
 ];
 
 // All of the user information is wrong.

@@ -1,5 +1,6 @@
 //! `head_end run`.
-ghost use Rattle.std.specs.Prelude.{◌≤◌, length, IfOk};
+ghost use Rattle.std.specs.Prelude.{◌≤◌, IfOk};
+ghost use Rattle.acse_ber.specs.Password.{IsPassword};
 
 use crate::jobs_of;
 use crate::progress::{Progress, Watch};
@@ -24,7 +25,7 @@ pub(crate) struct Plan {
     pub(crate) connect_within: Duration,
     pub(crate) answer_within: Duration,
     pub(crate) is_shown: bool,
-    ghost short: { length password ≤ 32 },
+    ghost sized: { IsPassword password },
     ghost some: { 1 ≤ workers },
     ghost few: { workers ≤ 16 },
 }
@@ -46,7 +47,7 @@ fn workers(matches: &ArgMatches<'_>) -> u8
 
 /// A password of 1 to 32 bytes.
 fn judged(alloc: Global, text: &str) -> Result<Octets, Fault>
-    ensures { IfOk result (λ password. length password ≤ 32) }
+    ensures { IfOk result IsPassword }
 {
     let bytes = text.as_bytes();
     if bytes.is_empty() || bytes.len() > 32 {
@@ -60,7 +61,7 @@ fn judged(alloc: Global, text: &str) -> Result<Octets, Fault>
 
 /// The password of the command line, or else of the environment.
 fn password(rt: &HostRuntime, matches: &ArgMatches<'_>) -> Result<Octets, Fault>
-    ensures { IfOk result (λ password. length password ≤ 32) }
+    ensures { IfOk result IsPassword }
 {
     if let Some(text) = matches.get_str("password") {
         return judged(rt.alloc(), text);

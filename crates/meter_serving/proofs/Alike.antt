@@ -49,21 +49,21 @@ split_world n events w =
 
 -- the world after a trace's run agrees with the one after every history that its recorder stands for
 trace_agrees : (r : Recording) (trace : Trace) (history : List Told) (origin : World) → IsFitOpening trace.opening → IsWorld (opened trace.opening)
-    → IsTraceOf r trace → StandsForHistory r history origin → AreEvents r.events
+    → AreEvents trace.events → IsTraceOf r trace → StandsForHistory r history origin
     → AgreeInRange (world_of trace) (world_after (events_of history) origin)
-trace_agrees r trace history origin fit range traced stands small =
+trace_agrees r trace history origin fit range small traced stands =
     let n = r.capacity in
     let before = world_after (all_but_last n (events_of history)) origin in
     let fit_here : IsFitOpening (opening_of r.opening) = subst IsFitOpening traced.opening fit in
     let agree = opening_agrees r.opening before fit_here.import.runs fit_here.export.runs stands.opening in
     let first : AgreeInRange (opened trace.opening) before =
     record { range = range; agree = subst (λ (o : Opening). Agree (opened o) before) (sym traced.opening) agree } in
-    let after = worlds_after trace.events (opened trace.opening) before (subst AreEvents (sym traced.events) small) first in
+    let after = worlds_after trace.events (opened trace.opening) before small first in
     let same : world_after trace.events before ≡ world_after (events_of history) origin =
     ap (λ (es : List Event). world_after es before) (traced.events ∙ stands.kept) ∙ split_world n (events_of history) origin in
     subst (λ (w : World). AgreeInRange (world_of trace) w) same after
 
-pub goes_on : (trace : Trace) → IsFitOpening trace.opening → IsWorld (opened trace.opening) → GoesOn trace (world_of trace)
-goes_on trace fit range = λ r traced history origin stands small further few.
-    let alike = trace_agrees r trace history origin fit range traced stands small in
+pub goes_on : (trace : Trace) → IsFitOpening trace.opening → IsWorld (opened trace.opening) → AreEvents trace.events → GoesOn trace (world_of trace)
+goes_on trace fit range small = λ r traced history origin stands further few.
+    let alike = trace_agrees r trace history origin fit range small traced stands in
     replies_alike further (world_of trace) (world_after (events_of history) origin) few alike.range alike.agree

@@ -5,6 +5,7 @@ use Rattle.relay_core.specs.Opening.{opened}
 use Rattle.relay_recorder.specs.Recording.{Recording}
 use Rattle.relay_recorder.specs.Replaying.{Replays}
 use Rattle.relay_recorder.specs.declared.trace.Trace.{Trace}
+use Rattle.trace_player.specs.Exported.{PrintsTheEnd}
 use Rattle.trace_player.specs.Traces.{trace_text}
 use Rattle.turn_lock.specs.declared.known.Known.{Known}
 
@@ -13,9 +14,10 @@ pub record IsStillOut {E R O : Type 0} (before after : Known E R O) : Type 0 whe
   pub ended : length before.seen ≤ after.served
   pub drawn : after.served < after.drawn
 
--- a text is that of the recorder's trace, and this runs again as it ran
+-- a text is that of the recorder's trace, and this runs again as it ran and prints the lines of the kept events
 pub record TellsRun (r : Recording) (text : List ℕ) : Type 0 where
   pub trace : Trace
   pub written : text ≡ trace_text trace
   pub traced : IsTraceOf r trace
   pub replays : Replays r (opened trace.opening)
+  pub prints : PrintsTheEnd r trace

@@ -26,4 +26,4 @@ AnswersAlike world history origin = (further : List Event) → AreEvents further
 -- a meter that stands for this world goes on where the one stopped that wrote the trace down
 abbrev pub GoesOn : Trace → World → Type 0
 GoesOn trace world = (r : Recording) → IsTraceOf r trace
-    → (history : List Told) (origin : World) → StandsForHistory r history origin → AreEvents r.events → AnswersAlike world history origin
+    → (history : List Told) (origin : World) → StandsForHistory r history origin → AnswersAlike world history origin

@@ -8,7 +8,7 @@ use cosem_axdr::Octets;
 use kept_meter::Kept;
 use program_fault::Fault;
 use std::alloc::{AllocError, Global};
-use trace_player::write_trace;
+use trace_player::{exported_run_is_played, write_trace};
 use turn_lock::{Port, Shared};
 
 /// Takes the meter out from behind its lock. Errors: `Turns` where a port is still out, whose calls the meter may have taken: the port read how many turns had
@@ -25,10 +25,11 @@ pub fn closed_meter(shared: Shared<Kept>, port: Port<Kept>) -> Result<Kept, (Fau
     }
 }
 
-/// The text of the trace that tells what came to a meter.
+/// The text of the trace that tells what came to a meter. Played, it prints the lines of the events that it keeps, with the replies that were given.
 pub fn meter_trace(alloc: Global, kept: &Kept) -> Result<Octets, AllocError>
     ensures { IfOk result (TellsRun kept.now.recorder) }
 {
+    exported_run_is_played();
     let trace = kept.recorder().export(alloc)?;
     write_trace(alloc, &trace)
 }

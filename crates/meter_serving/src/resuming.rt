@@ -8,7 +8,7 @@ ghost use Rattle.relay_core.specs.Stands.{StandsFor};
 ghost use Rattle.relay_core.specs.World.{World};
 
 use relay_core::{Event, LimiterOpening, Opening, OpeningFault, RelayCore};
-use relay_recorder::{Recorder, Trace};
+use relay_recorder::{Recorder, Trace, events_are_in_range};
 use std::alloc::{AllocError, Global};
 
 /// A core that stands as an opening says.
@@ -46,6 +46,7 @@ pub fn resumed_recorder(alloc: Global, trace: &Trace, capacity: u16) -> Result<R
     ensures goes_on { GoesOn trace.now (world_of trace.now) }
 {
     has_range(alloc, &trace.opening);
+    events_are_in_range(trace.events.as_slice());
     let mut core = opened_core(alloc, &trace.opening)?;
     take_events(&mut core, alloc, trace.events.as_slice())?;
     Recorder::from_core(alloc, core, capacity)

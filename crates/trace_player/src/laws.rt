@@ -28,8 +28,8 @@ pub fn read_trace_is_written()
     ensures written { (trace : Trace) → text_with trace (written_forms trace.opening) ≡ trace_text trace }
 {}
 
-/// What a recorder exports prints, where it can be written, the lines of the kept events in every history that the recorder stands for: so a trace that was
-/// exported, written and played tells the replies that were given.
+/// What a recorder exports prints the lines of the kept events in every history that the recorder stands for: so a trace that was exported, written and played
+/// tells the replies that were given.
 pub fn exported_run_is_played()
-    ensures { (r : Recording) (trace : Trace) → trace.events ≡ r.events → Replays r (opened trace.opening) → IsWritableTrace trace → PrintsTheEnd r trace }
+    ensures { (r : Recording) (trace : Trace) → trace.events ≡ r.events → Replays r (opened trace.opening) → PrintsTheEnd r trace }
 {}
