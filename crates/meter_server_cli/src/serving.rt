@@ -2,6 +2,7 @@
 ghost use Rattle.std.specs.Prelude.{◌≡◌, ◌≤◌, [], length, IfOk};
 
 use crate::console::{Console, Sources};
+use crate::lasting::Limits;
 use crate::listening::{Sockets, Stopped};
 use crate::texts::{LONGEST_DEVICE, LONGEST_PASSWORD, octets_of};
 use clap::ArgMatches;
@@ -40,6 +41,7 @@ struct Options {
     depth: u16,
     connections: u64,
     inactivity: u32,
+    session: u32,
     stops_with_input: bool,
     resumes: bool,
     is_verbose: bool,
@@ -51,6 +53,7 @@ impl Options {
         let depth = matches.get_one::<u16>("depth").unwrap_or(0);
         let connections = matches.get_one::<u64>("connections").unwrap_or(0);
         let inactivity = matches.get_one::<u32>("inactivity").unwrap_or(0);
+        let session = matches.get_one::<u32>("session").unwrap_or(0);
         let stops_with_input = matches.get_flag("stop-with-input");
         let resumes = matches.get_flag("resume");
         let is_verbose = matches.get_flag("verbose");
@@ -58,6 +61,7 @@ impl Options {
             depth,
             connections,
             inactivity,
+            session,
             stops_with_input,
             resumes,
             is_verbose,
@@ -238,7 +242,7 @@ fn print_trace(rt: &HostRuntime, shared: Shared<Kept>, port: Port<Kept>) -> Resu
     print_kept(rt, &kept)
 }
 
-/// How long a read or a write of a client may take.
+/// A limit of time; 0 seconds stand for none.
 fn limit_of(seconds: u32) -> Option<Duration> {
     if seconds == 0 {
         None
@@ -266,8 +270,11 @@ fn sockets_of(
     let Ok(theirs) = Arc::try_clone(&stopped) else {
         return Err(Fault::Memory);
     };
-    let inactivity = limit_of(options.inactivity);
-    let sockets = Sockets::new(*rt, listener, inactivity, theirs, options.is_verbose);
+    let limits = Limits {
+        call: limit_of(options.inactivity),
+        session: limit_of(options.session),
+    };
+    let sockets = Sockets::new(*rt, listener, limits, theirs, options.is_verbose);
     Ok((sockets, stopped))
 }
 
