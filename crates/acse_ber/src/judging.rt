@@ -1,5 +1,5 @@
 //! The judgement of a request for an association (IEC 62056-5-3).
-ghost use Rattle.std.specs.Prelude.{◌≡◌};
+ghost use Rattle.std.specs.Prelude.{◌≡◌, bytes_eq};
 ghost use Rattle.acse_ber.specs.Password.{IsPassword};
 ghost use Rattle.acse_ber.specs.Verdict.{is_no_mechanism, is_password, agreed, authenticated, judged, verdict_of};
 
@@ -114,9 +114,23 @@ fn is_password(password: &Octets, given: &Option<Octets>) -> bool
     ensures { result ≡ is_password password.now given.now }
 {
     match given {
-        Some(given) => given.as_slice() == password.as_slice(),
+        Some(given) => is_same(given.as_slice(), password.as_slice()),
         None => false,
     }
+}
+
+// Whether these are the same bytes. All of them are looked at, so that the time taken doesn't tell how far they agree.
+fn is_same(given: &[u8], password: &[u8]) -> bool
+    ensures { result ≡ bytes_eq given.now password.now }
+{
+    if given.len() != password.len() {
+        return false;
+    }
+    let mut differing = 0;
+    'bytes: for i in 0..given.len() {
+        differing |= given[i] ^ password[i];
+    }
+    differing == 0
 }
 
 // The checks of what the client proposes.

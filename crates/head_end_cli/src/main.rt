@@ -15,10 +15,10 @@ use head_end::{JobsFault, TcpConnector, read_jobs};
 use listed::Listed;
 use program_fault::Fault;
 use std::alloc::{AllocError, Global};
-use std::env;
 use std::io::Read;
 use std::process::ExitCode;
 use std::rt::Env;
+use std::{env, io};
 
 /// A list of jobs has at most so many bytes.
 const MAX_INPUT: usize = 1_048_576;
@@ -128,10 +128,18 @@ fn begin_chosen(rt: &HostRuntime, matches: &ArgMatches<'_>) -> Result<Next, Faul
     }
 }
 
+/// The fault of a command line that can't be had: no memory, or a word that is no text.
+fn words_fault(kind: io::ErrorKind) -> Fault {
+    match kind {
+        io::ErrorKind::OutOfMemory => Fault::Memory,
+        _ => Fault::Input,
+    }
+}
+
 /// Reads the command line and does what it asks for, up to a campaign. The exit status is 2 for a command line that is wrong.
 fn begin(rt: &HostRuntime) -> Result<Next, Fault> {
     let alloc = rt.alloc();
-    let words = env::args(rt).map_err(|_| Fault::Memory)?;
+    let words = env::args(rt).map_err(|error| words_fault(error.kind()))?;
     let words: Vec<String> = words.collect(alloc).map_err(|_| Fault::Memory)?;
     let command = command_line(alloc).map_err(|_| Fault::Memory)?;
     match command.try_get_matches_from(words.as_slice()) {

@@ -89,6 +89,16 @@ fn inactivity<'a>(alloc: Global) -> Arg<'a> {
         .value_parser(value_parser!(u32))
 }
 
+/// The option `--session`.
+fn session<'a>(alloc: Global) -> Arg<'a> {
+    Arg::new(alloc, "session")
+        .long("session")
+        .value_name("SECONDS")
+        .help("How long a client's session may last; 0 is no limit")
+        .default_value("3600")
+        .value_parser(value_parser!(u32))
+}
+
 /// The command `serve`. Where the environment has no password, the command line has to give it.
 fn serve<'a>(alloc: Global, has_password: bool) -> Result<Command<'a>, AllocError> {
     Command::new(alloc, "serve")
@@ -101,6 +111,7 @@ fn serve<'a>(alloc: Global, has_password: bool) -> Result<Command<'a>, AllocErro
         .arg(depth(alloc))?
         .arg(connections(alloc))?
         .arg(inactivity(alloc))?
+        .arg(session(alloc))?
         .arg(flag(
             alloc,
             "stop-with-input",

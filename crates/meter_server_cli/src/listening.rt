@@ -1,4 +1,5 @@
 //! The sockets that clients come to.
+use crate::lasting::{Lasting, Limits};
 use meter_server::{ListenFault, Listener, Observer, ServeFault, SessionEnd};
 use std::alloc::Global;
 use std::io;
@@ -6,7 +7,7 @@ use std::io::ErrorKind;
 use std::net::{SocketAddr, TcpListener, TcpStream};
 use std::sync::Arc;
 use std::sync::atomic::{AtomicBool, Ordering};
-use std::time::Duration;
+use std::time::Clock;
 
 /// Whether standard input has ended, so that no further client is taken.
 pub type Stopped = Arc<AtomicBool, Global>;
@@ -16,25 +17,25 @@ pub type Stopped = Arc<AtomicBool, Global>;
 pub struct Sockets<R> {
     rt: R,
     listener: TcpListener,
-    inactivity: Option<Duration>,
+    limits: Limits,
     stopped: Stopped,
     is_verbose: bool,
     has_failed: bool,
 }
 
-impl<R: Eprint + Copy> Sockets<R> {
-    /// Clients of this listener. A read or a write of theirs that takes longer than `inactivity` fails.
+impl<R: Clock + Eprint + Copy> Sockets<R> {
+    /// Clients of this listener. Their reads and writes fail where they, or their session, take longer than `limits` say.
     pub fn new(
         rt: R,
         listener: TcpListener,
-        inactivity: Option<Duration>,
+        limits: Limits,
         stopped: Stopped,
         is_verbose: bool,
     ) -> Sockets<R> {
         Sockets {
             rt,
             listener,
-            inactivity,
+            limits,
             stopped,
             is_verbose,
             has_failed: false,
@@ -46,23 +47,14 @@ impl<R: Eprint + Copy> Sockets<R> {
         self.has_failed
     }
 
-    /// A client's stream, twice: what it sends, and what is sent to it.
-    fn both_ways(&self, stream: TcpStream) -> io::Result<(TcpStream, TcpStream)> {
-        stream.set_nodelay(true)?;
-        stream.set_read_timeout(self.inactivity)?;
-        stream.set_write_timeout(self.inactivity)?;
-        let output = stream.try_clone()?;
-        Ok((stream, output))
-    }
-
     /// A client that connected, and who is told of its session.
     fn client(
         &self,
         stream: TcpStream,
         address: SocketAddr,
-    ) -> io::Result<(TcpStream, TcpStream, Told<R>)> {
+    ) -> io::Result<(Lasting<R>, Lasting<R>, Told<R>)> {
         let told = Told::new(self.rt, address, self.is_verbose);
-        let (input, output) = self.both_ways(stream)?;
+        let (input, output) = Lasting::both_ways(self.rt, stream, self.limits)?;
         Ok((input, output, told))
     }
 }
@@ -72,14 +64,14 @@ fn is_passing(kind: ErrorKind) -> bool {
     matches!(kind, ErrorKind::Interrupted | ErrorKind::ConnectionAborted)
 }
 
-impl<R: Eprint + Copy + Send + 'static> Listener for Sockets<R> {
-    type Input = TcpStream;
+impl<R: Clock + Eprint + Copy + Drop + Send + 'static> Listener for Sockets<R> {
+    type Input = Lasting<R>;
 
-    type Output = TcpStream;
+    type Output = Lasting<R>;
 
     type Observer = Told<R>;
 
-    fn accept(&mut self) -> Result<(TcpStream, TcpStream, Told<R>), ListenFault> {
+    fn accept(&mut self) -> Result<(Lasting<R>, Lasting<R>, Told<R>), ListenFault> {
         for _ in 0..u64::MAX {
             match self.listener.accept() {
                 Ok((stream, address)) => {

@@ -8,6 +8,7 @@ mod apdu;
 mod arguments;
 mod console;
 mod hex_session;
+mod lasting;
 mod lines;
 mod listening;
 mod plan;
@@ -19,11 +20,11 @@ use crate::plan::{PASSWORD_VARIABLE, Plan};
 use clap::ArgMatches;
 use clap::error::ErrorKind;
 use program_fault::Fault;
-use std::env;
 use std::env::VarError;
 use std::io::Read;
 use std::process::ExitCode;
 use std::rt::Env;
+use std::{env, io};
 
 /// What is to be done once the command line is read.
 #[derive(Drop)]
@@ -54,10 +55,18 @@ fn begin_chosen<I: Read + Drop>(
     }
 }
 
+/// The fault of a command line that can't be had: no memory, or a word that is no text.
+fn words_fault(kind: io::ErrorKind) -> Fault {
+    match kind {
+        io::ErrorKind::OutOfMemory => Fault::Memory,
+        _ => Fault::Input,
+    }
+}
+
 /// Reads the command line and does what it asks for, up to the first client of a server. The exit status is 2 for a command line that is wrong.
 fn begin<I: Read + Drop>(rt: &HostRuntime, input: I) -> Result<Next<I>, Fault> {
     let alloc = rt.alloc();
-    let words = env::args(rt).map_err(|_| Fault::Memory)?;
+    let words = env::args(rt).map_err(|error| words_fault(error.kind()))?;
     let words: Vec<String> = words.collect(alloc).map_err(|_| Fault::Memory)?;
     let has_password = !matches!(env::var(rt, PASSWORD_VARIABLE), Err(VarError::NotPresent));
     let command = command_line(alloc, has_password).map_err(|_| Fault::Memory)?;

@@ -25,6 +25,7 @@ pub(crate) struct Options {
     pub(crate) depth: u16,
     pub(crate) connections: u64,
     pub(crate) inactivity: u32,
+    pub(crate) session: u32,
     pub(crate) stops_with_input: bool,
     pub(crate) resumes: bool,
     pub(crate) is_verbose: bool,
@@ -36,6 +37,7 @@ impl Options {
         let depth = matches.get_one::<u16>("depth").unwrap_or(0);
         let connections = matches.get_one::<u64>("connections").unwrap_or(0);
         let inactivity = matches.get_one::<u32>("inactivity").unwrap_or(0);
+        let session = matches.get_one::<u32>("session").unwrap_or(0);
         let stops_with_input = matches.get_flag("stop-with-input");
         let resumes = matches.get_flag("resume");
         let is_verbose = matches.get_flag("verbose");
@@ -43,6 +45,7 @@ impl Options {
             depth,
             connections,
             inactivity,
+            session,
             stops_with_input,
             resumes,
             is_verbose,

@@ -2,6 +2,7 @@
 ghost use Rattle.std.specs.Prelude.{◌≡◌, ◌≤◌, length, IfOk};
 
 use crate::console::{Console, Sources};
+use crate::lasting::Limits;
 use crate::listening::{Sockets, Stopped};
 use crate::plan::{Options, Plan};
 use cosem_axdr::Octets;
@@ -127,7 +128,7 @@ fn print_trace(rt: &HostRuntime, shared: Shared<Kept>, port: Port<Kept>) -> Resu
     }
 }
 
-/// How long a read or a write of a client may take.
+/// A limit of time; 0 seconds stand for none.
 fn limit_of(seconds: u32) -> Option<Duration> {
     if seconds == 0 {
         None
@@ -161,8 +162,11 @@ fn sockets_of(
     let Ok(theirs) = Arc::try_clone(&stopped) else {
         return Err(Fault::Memory);
     };
-    let inactivity = limit_of(options.inactivity);
-    let sockets = Sockets::new(*rt, listener, inactivity, theirs, options.is_verbose);
+    let limits = Limits {
+        call: limit_of(options.inactivity),
+        session: limit_of(options.session),
+    };
+    let sockets = Sockets::new(*rt, listener, limits, theirs, options.is_verbose);
     Ok((sockets, stopped))
 }
 

@@ -8,9 +8,9 @@ use clap::Command;
 use clap::error::ErrorKind;
 use program_fault::Fault;
 use std::alloc::{AllocError, Global};
-use std::env;
 use std::process::ExitCode;
 use std::rt::Env;
+use std::{env, io};
 use trace_player::{PlayFault, play};
 
 /// What `--help` tells below the options.
@@ -46,10 +46,18 @@ fn play_input(rt: &HostRuntime) -> Result<(), Fault> {
     }
 }
 
+/// The fault of a command line that can't be had: no memory, or a word that is no text.
+fn words_fault(kind: io::ErrorKind) -> Fault {
+    match kind {
+        io::ErrorKind::OutOfMemory => Fault::Memory,
+        _ => Fault::Input,
+    }
+}
+
 /// Reads the command line and does what it asks for. Gives the exit status: 0, or 2 for a command line that is wrong.
 fn run(rt: &HostRuntime) -> Result<u8, Fault> {
     let alloc = rt.alloc();
-    let words = env::args(rt).map_err(|_| Fault::Memory)?;
+    let words = env::args(rt).map_err(|error| words_fault(error.kind()))?;
     let words: Vec<String> = words.collect(alloc).map_err(|_| Fault::Memory)?;
     let command = command_line(alloc).map_err(|_| Fault::Memory)?;
     match command.try_get_matches_from(words.as_slice()) {
