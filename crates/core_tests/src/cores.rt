@@ -32,7 +32,10 @@ const MODE: Place = (70, DISCONNECT_CONTROL, 4);
 const SCRIPTS: Place = (9, SCRIPT_TABLE, 2);
 
 fn new_core(alloc: Global) -> Result<RelayCore, AllocError> {
-    RelayCore::new(alloc, &Octets::from_slice(alloc, b"A")?)
+    let device = Octets::from_slice(alloc, b"A")?;
+    let made = RelayCore::new(alloc, &device);
+    drop(device);
+    made
 }
 
 fn attribute_at(place: Place) -> AttrRef {
@@ -87,6 +90,14 @@ fn code(reply: &Reply) -> u8 {
     }
 }
 
+/// Lets a core take an event, and tells the code of the reply.
+fn code_of(core: &mut RelayCore, alloc: Global, event: &Event) -> Result<u8, AllocError> {
+    let reply = core.step(alloc, event)?;
+    let told = code(&reply);
+    drop(reply);
+    Ok(told)
+}
+
 /// Whether a core takes a write of what bytes spell with success.
 fn takes(
     core: &mut RelayCore,
@@ -95,8 +106,9 @@ fn takes(
     bytes: &[u8],
 ) -> Result<bool, AllocError> {
     let event = written(alloc, place, bytes)?;
-    let reply = core.step(alloc, &event)?;
-    Ok(code(&reply) == 0)
+    let told = code_of(core, alloc, &event);
+    drop(event);
+    Ok(told? == 0)
 }
 
 /// Whether it takes all of these.
@@ -142,5 +154,7 @@ fn does(core: &mut RelayCore, alloc: Global, scenario: Scenario) -> Result<bool,
 /// Whether a new core does so. It is let go here alone: that it may be is long to prove.
 fn is_done(alloc: Global, scenario: Scenario) -> Result<bool, AllocError> {
     let mut core = new_core(alloc)?;
-    does(&mut core, alloc, scenario)
+    let done = does(&mut core, alloc, scenario);
+    drop(core);
+    done
 }

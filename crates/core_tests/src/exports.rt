@@ -56,15 +56,26 @@ fn codes_of(alloc: Global, lines: &[Line]) -> Result<Vec<u8>, AllocError> {
 /// The codes of the replies when a core takes these events.
 fn run_codes(core: &mut RelayCore, alloc: Global, events: &Events) -> Result<Vec<u8>, AllocError> {
     match run(core, alloc, events) {
-        Ok(lines) => codes_of(alloc, lines.as_slice()),
-        Err(_) => Err(AllocError),
+        Ok(lines) => {
+            let codes = codes_of(alloc, lines.as_slice());
+            drop(lines);
+            codes
+        }
+        Err(stop) => {
+            drop(stop);
+            Err(AllocError)
+        }
     }
 }
 
 /// The codes of the replies when a trace's events are taken from its opening on.
 fn played_codes(alloc: Global, trace: &Trace) -> Result<Vec<u8>, AllocError> {
     match RelayCore::from_opening(alloc, &trace.opening) {
-        Ok(mut core) => run_codes(&mut core, alloc, &trace.events),
+        Ok(mut core) => {
+            let codes = run_codes(&mut core, alloc, &trace.events);
+            drop(core);
+            codes
+        }
         Err(_) => Err(AllocError),
     }
 }
@@ -83,7 +94,9 @@ fn trace_plays_to(
 /// Whether the run of a recorder's export ends in the last of these codes, one for each kept event.
 fn plays_to(alloc: Global, recorder: &Recorder, codes: &[u8]) -> Result<bool, AllocError> {
     let trace = recorder.export(alloc)?;
-    trace_plays_to(alloc, &trace, recorder.count(), codes)
+    let plays = trace_plays_to(alloc, &trace, recorder.count(), codes);
+    drop(trace);
+    plays
 }
 
 /// The export of a recorder, pushed around by so many events, plays to the replies that it gave.

@@ -15,7 +15,9 @@ fn new_recorder(rt: &impl Abort, alloc: Global, capacity: u16) -> Result<Recorde
     let device = Octets::from_slice(alloc, b"RELAY1")?;
     assert!(rt; device.len() == 6);
     assert!(rt; capacity >= 1 && capacity <= 1024);
-    Recorder::new(alloc, &device, capacity)
+    let made = Recorder::new(alloc, &device, capacity);
+    drop(device);
+    made
 }
 
 /// A management client's write of an attribute.
@@ -76,7 +78,9 @@ pub(crate) fn code_of(
     event: Event,
 ) -> Result<u8, AllocError> {
     let reply = recorder.apply(alloc, event)?;
-    Ok(code(&reply))
+    let told = code(&reply);
+    drop(reply);
+    Ok(told)
 }
 
 /// The letter of the kept event at an index, or a question mark where none is.
@@ -191,7 +195,9 @@ pub(crate) fn with_recorder(
     scenario: Scenario,
 ) -> Result<(), AllocError> {
     let mut recorder = new_recorder(rt, alloc, capacity)?;
-    lead(rt, &mut recorder, alloc, scenario)
+    let led = lead(rt, &mut recorder, alloc, scenario);
+    drop(recorder);
+    led
 }
 
 #[test]

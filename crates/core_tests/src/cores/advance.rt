@@ -17,17 +17,23 @@ fn steps_of(parts: &Parts, identifier: u16) -> Option<u8> {
 /// Whether script 3 of what the event moves in has two steps, and there is no script 1.
 fn moves_script_3(alloc: Global, event: &Event) -> Result<bool, AllocError> {
     let parts = RelayCore::parts(alloc, event)?;
-    Ok(steps_of(&parts, 3) == Some(2) && steps_of(&parts, 1) == None)
+    let moves = steps_of(&parts, 3) == Some(2) && steps_of(&parts, 1) == None;
+    drop(parts);
+    Ok(moves)
 }
 
 fn is_moved(alloc: Global) -> Result<bool, AllocError> {
     let event = written(alloc, SCRIPTS, MODE_0_AND_DISCONNECT)?;
-    moves_script_3(alloc, &event)
+    let moves = moves_script_3(alloc, &event);
+    drop(event);
+    moves
 }
 
 fn is_plain(alloc: Global, event: &Event) -> Result<bool, AllocError> {
     let parts = RelayCore::parts(alloc, event)?;
-    Ok(matches!(parts, Parts::Plain))
+    let plain = matches!(&parts, Parts::Plain);
+    drop(parts);
+    Ok(plain)
 }
 
 #[test]
@@ -37,17 +43,26 @@ fn written_scripts_are_moved_in(rt: HostRuntime) -> Result<(), Fail> {
     Ok(())
 }
 
-/// Takes a copy of an event with its parts read apart, and without a reply.
+/// Takes an event with its parts read apart, and without a reply.
+fn advance_apart(core: &mut RelayCore, alloc: Global, event: &Event) -> Result<(), AllocError> {
+    let parts = RelayCore::parts(alloc, event)?;
+    core.advance(event, parts);
+    Ok(())
+}
+
+/// Takes a copy of an event so.
 fn advance(core: &mut RelayCore, alloc: Global, event: &Event) -> Result<(), AllocError> {
     let copy = event.try_copy(alloc)?;
-    let parts = RelayCore::parts(alloc, &copy)?;
-    core.advance(&copy, parts);
-    Ok(())
+    let taken = advance_apart(core, alloc, &copy);
+    drop(copy);
+    taken
 }
 
 fn advance_write(core: &mut RelayCore, alloc: Global, bytes: &[u8]) -> Result<(), AllocError> {
     let event = written(alloc, MODE, bytes)?;
-    advance(core, alloc, &event)
+    let taken = advance(core, alloc, &event);
+    drop(event);
+    taken
 }
 
 /// In mode 1 a moment comes, and the supply is disconnected.
@@ -67,7 +82,9 @@ fn is_disconnected(core: &RelayCore) -> bool {
 /// Whether a copy is in the same state.
 fn is_copied(core: &RelayCore, alloc: Global) -> Result<bool, AllocError> {
     let copy = core.try_copy(alloc)?;
-    Ok(is_disconnected(&copy))
+    let same = is_disconnected(&copy);
+    drop(copy);
+    Ok(same)
 }
 
 /// Whether a core comes to that state, and a copy is in it too.

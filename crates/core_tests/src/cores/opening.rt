@@ -14,11 +14,21 @@ const SETTINGS: &[(Place, &[u8])] = &[
     ((71, EXPORT_LIMITER, 9), b"\x01\x01\x12\x00\x07"),
 ];
 
+/// Three pairs of 5001 and 9001 W.
+fn three_pairs(alloc: Global) -> Result<Event, AllocError> {
+    match Block::from_pairs(alloc, &[5001; 3], &[9001; 3]) {
+        Ok(pairs) => Ok(Event::Samples(pairs)),
+        Err(_) => Err(AllocError),
+    }
+}
+
 /// Moment 50 comes, and three pairs of 5001 and 9001 W.
 fn pass(core: &mut RelayCore, alloc: Global) -> Result<(), AllocError> {
-    let _ran = core.step(alloc, &Event::Moment(50))?;
-    let pairs = Block::from_pairs(alloc, &[5001; 3], &[9001; 3]).map_err(|_| AllocError)?;
-    let _sampled = core.step(alloc, &Event::Samples(pairs))?;
+    let _ran = code_of(core, alloc, &Event::Moment(50))?;
+    let sampled = three_pairs(alloc)?;
+    let told = code_of(core, alloc, &sampled);
+    drop(sampled);
+    let _told = told?;
     Ok(())
 }
 
@@ -49,7 +59,9 @@ fn is_set(opening: &Opening) -> bool {
 
 fn tells(core: &RelayCore, alloc: Global) -> Result<bool, AllocError> {
     let opening = core.to_opening(alloc)?;
-    Ok(is_set(&opening))
+    let told = is_set(&opening);
+    drop(opening);
+    Ok(told)
 }
 
 /// Whether a core has these last samples, and tells so.
@@ -60,14 +72,20 @@ fn is_the_same(core: &RelayCore, alloc: Global) -> Result<bool, AllocError> {
 /// Whether a core of an opening is the same.
 fn is_opened_again(alloc: Global, opening: &Opening) -> Result<bool, AllocError> {
     match RelayCore::from_opening(alloc, opening) {
-        Ok(core) => is_the_same(&core, alloc),
+        Ok(core) => {
+            let same = is_the_same(&core, alloc);
+            drop(core);
+            same
+        }
         Err(_) => Err(AllocError),
     }
 }
 
 fn is_written_down(core: &RelayCore, alloc: Global) -> Result<bool, AllocError> {
     let opening = core.to_opening(alloc)?;
-    is_opened_again(alloc, &opening)
+    let opened = is_opened_again(alloc, &opening);
+    drop(opening);
+    opened
 }
 
 pub(super) fn is_told(core: &mut RelayCore, alloc: Global) -> Result<bool, AllocError> {

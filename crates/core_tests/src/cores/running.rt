@@ -3,15 +3,35 @@ use cosem_names::{AttributeSelection, GetResult, ResultCode};
 use listed::Listed;
 use std::test::Fail;
 
+/// Puts an event behind the others.
+fn push(events: &mut Events, event: Event) -> Result<(), AllocError> {
+    match events.push(event) {
+        Ok(()) => Ok(()),
+        Err(failed) => {
+            drop(failed);
+            Err(AllocError)
+        }
+    }
+}
+
+fn push_in_mode_1(events: &mut Events) -> Result<(), AllocError> {
+    push(events, set(MODE, Data::Enum(1)))?;
+    push(events, execute(1))?;
+    push(events, execute(1))?;
+    push(events, execute(2))?;
+    push(events, Event::Button)
+}
+
 /// Mode 1, disconnect, disconnect, reconnect, Button.
 fn events_in_mode_1(alloc: Global) -> Result<Events, AllocError> {
     let mut events = Events::new(alloc);
-    events.push(set(MODE, Data::Enum(1)))?;
-    events.push(execute(1))?;
-    events.push(execute(1))?;
-    events.push(execute(2))?;
-    events.push(Event::Button)?;
-    Ok(events)
+    match push_in_mode_1(&mut events) {
+        Ok(()) => Ok(events),
+        Err(fault) => {
+            drop(events);
+            Err(fault)
+        }
+    }
 }
 
 /// Whether lines have these states and supply outputs, and the code 0.
@@ -28,14 +48,25 @@ fn runs_by_the_tables(
     alloc: Global,
     events: &Events,
 ) -> Result<bool, AllocError> {
-    let lines = run(core, alloc, events).map_err(|_| AllocError)?;
     let expected = [(1, true), (0, false), (0, false), (2, false), (1, true)];
-    Ok(are_lines(&lines, expected.as_slice()))
+    match run(core, alloc, events) {
+        Ok(lines) => {
+            let by_the_tables = are_lines(&lines, expected.as_slice());
+            drop(lines);
+            Ok(by_the_tables)
+        }
+        Err(stop) => {
+            drop(stop);
+            Err(AllocError)
+        }
+    }
 }
 
 pub(super) fn runs_in_mode_1(core: &mut RelayCore, alloc: Global) -> Result<bool, AllocError> {
     let events = events_in_mode_1(alloc)?;
-    runs_by_the_tables(core, alloc, &events)
+    let by_the_tables = runs_by_the_tables(core, alloc, &events);
+    drop(events);
+    by_the_tables
 }
 
 #[test]
@@ -73,10 +104,19 @@ fn is_state_and_unknown(reply: &Reply) -> bool {
     }
 }
 
+/// Whether a core that takes this event replies so.
+fn replies_to(core: &mut RelayCore, alloc: Global, event: &Event) -> Result<bool, AllocError> {
+    let reply = core.step(alloc, event)?;
+    let so = is_state_and_unknown(&reply);
+    drop(reply);
+    Ok(so)
+}
+
 pub(super) fn reads_a_list(core: &mut RelayCore, alloc: Global) -> Result<bool, AllocError> {
     let event = state_and_unknown(alloc)?;
-    let reply = core.step(alloc, &event)?;
-    Ok(is_state_and_unknown(&reply))
+    let read = replies_to(core, alloc, &event);
+    drop(event);
+    read
 }
 
 #[test]

@@ -19,21 +19,37 @@ const RAISES: &[(Place, &[u8])] = &[
     ((71, IMPORT_LIMITER, 11), OVER_1),
 ];
 
-/// A block of 256 import values of 6000 W, scanned at this threshold if there is one.
-fn block_of(alloc: Global, scan: Option<u32>) -> Result<Block, AllocError> {
-    let values = [6000; 256];
-    let mut block = Block::from_slice(alloc, values.as_slice()).map_err(|_| AllocError)?;
+/// The block, scanned at this threshold if there is one.
+fn scanned(mut block: Block, scan: Option<u32>) -> Block {
     if let Some(threshold) = scan {
         block.scan(threshold, 5000);
     }
-    Ok(block)
+    block
+}
+
+/// A block of 256 import values of 6000 W, scanned at this threshold if there is one.
+fn block_of(alloc: Global, scan: Option<u32>) -> Result<Block, AllocError> {
+    let values = [6000; 256];
+    match Block::from_slice(alloc, values.as_slice()) {
+        Ok(block) => Ok(scanned(block, scan)),
+        Err(_) => Err(AllocError),
+    }
+}
+
+/// Whether a core that takes this event replies that each side fired once.
+fn fires_both(core: &mut RelayCore, alloc: Global, event: &Event) -> Result<bool, AllocError> {
+    let reply = core.step(alloc, event)?;
+    let fired = matches!(&reply, Reply::Sampled { over: 1, under: 1 });
+    drop(reply);
+    Ok(fired)
 }
 
 /// Whether each side fires once: the upper at the 40th sample, and the lower at the 50th after it.
 fn fires_twice(core: &mut RelayCore, alloc: Global, scan: Option<u32>) -> Result<bool, AllocError> {
     let event = Event::Samples(block_of(alloc, scan)?);
-    let reply = core.step(alloc, &event)?;
-    Ok(matches!(reply, Reply::Sampled { over: 1, under: 1 }) && core.threshold() == 9000)
+    let fired = fires_both(core, alloc, &event);
+    drop(event);
+    Ok(fired? && core.threshold() == 9000)
 }
 
 /// Whether it does so once it is set.
