@@ -22,12 +22,27 @@ const GET: [u8; 13] = [
     0xC0, 0x01, 0xC1, 0x00, 0x46, 0x00, 0x00, 0x60, 0x03, 0x0A, 0xFF, 0x03, 0x00,
 ];
 
-/// Takes the frames that are whole, at most three.
-fn take_all(deframer: &mut Deframer, alloc: Global, frames: &mut Vec<Frame>) -> Result<(), Fail> {
-    for _ in 0..3 {
-        if let Some(frame) = deframer.take(alloc)? {
+/// Takes the first frame if it is whole, and tells whether it is.
+fn take_one(deframer: &mut Deframer, alloc: Global, frames: &mut Vec<Frame>) -> Result<bool, Fail> {
+    match deframer.take(alloc)? {
+        Some(frame) => {
             frames.push(frame)?;
+            Ok(true)
         }
+        None => Ok(false),
+    }
+}
+
+/// Feeds bytes, and takes the frames that are whole, at most three.
+fn feed_and_take(
+    deframer: &mut Deframer,
+    alloc: Global,
+    bytes: &[u8],
+    frames: &mut Vec<Frame>,
+) -> Result<(), Fail> {
+    deframer.feed(bytes)?;
+    for _ in 0..3 {
+        take_one(deframer, alloc, frames)?;
     }
     Ok(())
 }
@@ -43,18 +58,65 @@ fn assert_frame(rt: &impl Abort, frame: &Frame, payload: &[u8]) {
     assert_eq!(rt; frame.payload.as_slice(), payload);
 }
 
+/// Takes the two frames out of two pieces of the stream.
+fn check_pieces(
+    rt: &impl Abort,
+    alloc: Global,
+    pieces: (&[u8], &[u8]),
+    deframer: &mut Deframer,
+    frames: &mut Vec<Frame>,
+) -> Result<(), Fail> {
+    feed_and_take(deframer, alloc, pieces.0, frames)?;
+    feed_and_take(deframer, alloc, pieces.1, frames)?;
+    assert_both(rt, frames.as_slice());
+    assert!(rt; deframer.is_empty());
+    Ok(())
+}
+
 #[test]
 fn two_frames_come_out_of_every_cut(rt: HostRuntime) -> Result<(), Fail> {
+    let alloc = rt.alloc();
     for (cut, _) in STREAM.iter().enumerate() {
-        let mut frames = Vec::new(rt.alloc());
-        let mut deframer = Deframer::new(rt.alloc());
-        deframer.feed(&STREAM[..cut])?;
-        take_all(&mut deframer, rt.alloc(), &mut frames)?;
-        deframer.feed(&STREAM[cut..])?;
-        take_all(&mut deframer, rt.alloc(), &mut frames)?;
-        assert_both(&rt, frames.as_slice());
-        assert!(rt; deframer.is_empty());
+        let mut frames = Vec::new(alloc);
+        let mut deframer = Deframer::new(alloc);
+        let pieces = (&STREAM[..cut], &STREAM[cut..]);
+        let checked = check_pieces(&rt, alloc, pieces, &mut deframer, &mut frames);
+        drop(deframer);
+        drop(frames);
+        checked?;
     }
+    Ok(())
+}
+
+/// Feeds the byte of a place in the stream, and takes the frame that ends with it.
+fn feed_byte(
+    rt: &impl Abort,
+    alloc: Global,
+    (at, byte): (usize, u8),
+    deframer: &mut Deframer,
+    frames: &mut Vec<Frame>,
+) -> Result<(), Fail> {
+    assert_eq!(rt;
+        deframer.is_empty(),
+        at == 0 || at == 39,
+        "before byte {at}"
+    );
+    deframer.feed(&[byte])?;
+    let is_taken = take_one(deframer, alloc, frames)?;
+    assert_eq!(rt; is_taken, at == 38 || at == 59, "at byte {at}");
+    Ok(())
+}
+
+fn check_bytes(
+    rt: &impl Abort,
+    alloc: Global,
+    deframer: &mut Deframer,
+    frames: &mut Vec<Frame>,
+) -> Result<(), Fail> {
+    for (at, byte) in STREAM.iter().enumerate() {
+        feed_byte(rt, alloc, (at, *byte), deframer, frames)?;
+    }
+    assert_both(rt, frames.as_slice());
     Ok(())
 }
 
@@ -62,31 +124,46 @@ fn two_frames_come_out_of_every_cut(rt: HostRuntime) -> Result<(), Fail> {
 fn two_frames_come_out_byte_by_byte(rt: HostRuntime) -> Result<(), Fail> {
     let mut frames = Vec::new(rt.alloc());
     let mut deframer = Deframer::new(rt.alloc());
-    for (at, byte) in STREAM.iter().enumerate() {
-        assert_eq!(rt;
-            deframer.is_empty(),
-            at == 0 || at == 39,
-            "before byte {at}"
-        );
-        deframer.feed(&[*byte])?;
-        let taken = deframer.take(rt.alloc())?;
-        assert_eq!(rt; taken.is_some(), at == 38 || at == 59, "at byte {at}");
-        if let Some(frame) = taken {
-            frames.push(frame)?;
-        }
-    }
-    assert_both(&rt, frames.as_slice());
-    Ok(())
+    let checked = check_bytes(&rt, rt.alloc(), &mut deframer, &mut frames);
+    drop(deframer);
+    drop(frames);
+    checked
+}
+
+/// Whether there is no frame yet.
+fn takes_none(deframer: &mut Deframer, alloc: Global) -> Result<bool, Fail> {
+    let taken = deframer.take(alloc)?;
+    let is_none = taken.is_none();
+    drop(taken);
+    Ok(is_none)
 }
 
 /// Feeds eight bytes one by one. There is no frame and no fault before the last.
-fn fed_header(rt: &impl Abort, alloc: Global, header: [u8; 8]) -> Result<Deframer, Fail> {
-    let mut deframer = Deframer::new(alloc);
+fn feed_header(
+    rt: &impl Abort,
+    alloc: Global,
+    deframer: &mut Deframer,
+    header: [u8; 8],
+) -> Result<(), Fail> {
     for byte in header.iter() {
-        assert!(rt; deframer.take(alloc)?.is_none());
+        assert!(rt; takes_none(deframer, alloc)?);
         deframer.feed(&[*byte])?;
     }
-    Ok(deframer)
+    Ok(())
+}
+
+/// Why no frame is taken.
+fn take_fault(deframer: &mut Deframer, alloc: Global) -> Option<WrapperFault> {
+    deframer.take(alloc).err()
+}
+
+/// Asks twice, and feeds more behind a wrong header.
+fn check_fault(rt: &impl Abort, alloc: Global, deframer: &mut Deframer, fault: WrapperFault) {
+    for _ in 0..2 {
+        assert_eq!(rt; take_fault(deframer, alloc), Some(fault));
+        assert_eq!(rt; deframer.feed(&STREAM), Err(fault));
+    }
+    assert!(rt; !deframer.is_empty());
 }
 
 #[test]
@@ -113,13 +190,30 @@ fn a_wrong_header_is_answered_for_good(rt: HostRuntime) -> Result<(), Fail> {
             WrapperFault::TooLong,
         ),
     ] {
-        let mut deframer = fed_header(&rt, rt.alloc(), header)?;
-        for _ in 0..2 {
-            assert_eq!(rt; deframer.take(rt.alloc()).err(), Some(fault));
-            assert_eq!(rt; deframer.feed(&STREAM), Err(fault));
+        let mut deframer = Deframer::new(rt.alloc());
+        let fed = feed_header(&rt, rt.alloc(), &mut deframer, header);
+        if fed.is_ok() {
+            check_fault(&rt, rt.alloc(), &mut deframer, fault);
         }
-        assert!(rt; !deframer.is_empty());
+        drop(deframer);
+        fed?;
     }
+    Ok(())
+}
+
+fn check_before_wrong(
+    rt: &impl Abort,
+    alloc: Global,
+    deframer: &mut Deframer,
+    frames: &mut Vec<Frame>,
+) -> Result<(), Fail> {
+    deframer.feed(&STREAM)?;
+    deframer.feed(&[0x00, 0x02, 0x00, 0x10, 0x00, 0x01, 0x00, 0x00])?;
+    for _ in 0..2 {
+        take_one(deframer, alloc, frames)?;
+    }
+    assert_both(rt, frames.as_slice());
+    assert_eq!(rt; take_fault(deframer, alloc), Some(WrapperFault::Version));
     Ok(())
 }
 
@@ -127,71 +221,122 @@ fn a_wrong_header_is_answered_for_good(rt: HostRuntime) -> Result<(), Fail> {
 fn frames_before_a_wrong_header_come_first(rt: HostRuntime) -> Result<(), Fail> {
     let mut frames = Vec::new(rt.alloc());
     let mut deframer = Deframer::new(rt.alloc());
-    deframer.feed(&STREAM)?;
-    deframer.feed(&[0x00, 0x02, 0x00, 0x10, 0x00, 0x01, 0x00, 0x00])?;
-    for _ in 0..2 {
-        if let Some(frame) = deframer.take(rt.alloc())? {
-            frames.push(frame)?;
-        }
-    }
-    assert_both(&rt, frames.as_slice());
-    assert_eq!(rt;
-        deframer.take(rt.alloc()).err(),
-        Some(WrapperFault::Version)
-    );
+    let checked = check_before_wrong(&rt, rt.alloc(), &mut deframer, &mut frames);
+    drop(deframer);
+    drop(frames);
+    checked
+}
+
+/// Wants a frame of this payload to be the first.
+fn check_first(
+    rt: &impl Abort,
+    alloc: Global,
+    deframer: &mut Deframer,
+    payload: &[u8],
+) -> Result<(), Fail> {
+    let frame = deframer.take(alloc)?.ok_or("no frame")?;
+    assert_frame(rt, &frame, payload);
+    drop(frame);
     Ok(())
+}
+
+/// Wants the text of a frame, which has this payload.
+fn check_text(rt: &impl Abort, alloc: Global, text: &[u8], payload: &[u8]) -> Result<(), Fail> {
+    assert_eq!(rt;
+        text.get(..9),
+        Some([0x00, 0x01, 0x00, 0x10, 0x00, 0x01, 0x04, 0x00, 0xAB].as_slice())
+    );
+    assert_eq!(rt; text.len(), 1032);
+    let mut deframer = Deframer::new(alloc);
+    let checked = match deframer.feed(text) {
+        Ok(()) => check_first(rt, alloc, &mut deframer, payload),
+        Err(fault) => Err(Fail::from(fault)),
+    };
+    drop(deframer);
+    checked
 }
 
 #[test]
 fn the_longest_payload_is_written_and_taken(rt: HostRuntime) -> Result<(), Fail> {
-    let payload = vec![in rt.alloc(); 0xAB; 1025]?;
+    let payload = [0xAB; 1025];
     let longest = &payload[1..];
     let text = frame(rt.alloc(), 16, 1, longest)?;
+    let checked = check_text(&rt, rt.alloc(), text.as_slice(), longest);
+    drop(text);
     assert_eq!(rt;
-        text.as_slice().get(..9),
-        Some([0x00, 0x01, 0x00, 0x10, 0x00, 0x01, 0x04, 0x00, 0xAB].as_slice())
-    );
-    assert_eq!(rt; text.len(), 1032);
-    let mut deframer = Deframer::new(rt.alloc());
-    deframer.feed(text.as_slice())?;
-    let taken = deframer.take(rt.alloc())?.ok_or("no frame")?;
-    assert_frame(&rt, &taken, longest);
-    assert_eq!(rt;
-        frame(rt.alloc(), 16, 1, payload.as_slice()).err(),
+        frame(rt.alloc(), 16, 1, &payload).err(),
         Some(WrapperFault::TooLong)
     );
-    Ok(())
+    checked
+}
+
+/// Whether the frame of a payload has this text.
+fn is_written(
+    alloc: Global,
+    (src, dst): (u16, u16),
+    payload: &[u8],
+    written: &[u8],
+) -> Result<bool, Fail> {
+    let text = frame(alloc, src, dst, payload)?;
+    let same = text.as_slice() == written;
+    drop(text);
+    Ok(same)
 }
 
 #[test]
 fn a_frame_has_the_written_text(rt: HostRuntime) -> Result<(), Fail> {
-    let text = frame(rt.alloc(), 1, 16, &[0xC4, 0x01, 0xC1, 0x00, 0x16, 0x01])?;
+    let payload = [0xC4, 0x01, 0xC1, 0x00, 0x16, 0x01];
     let written = [
         0x00, 0x01, 0x00, 0x01, 0x00, 0x10, 0x00, 0x06, 0xC4, 0x01, 0xC1, 0x00, 0x16, 0x01,
     ];
-    assert_eq!(rt; text.as_slice(), written.as_slice());
-    let empty = frame(rt.alloc(), 0x1234, 0xFEDC, &[])?;
-    assert_eq!(rt;
-        empty.as_slice(),
-        [0x00, 0x01, 0x12, 0x34, 0xFE, 0xDC, 0x00, 0x00].as_slice()
-    );
+    assert!(rt; is_written(rt.alloc(), (1, 16), &payload, &written)?);
+    let empty = [0x00, 0x01, 0x12, 0x34, 0xFE, 0xDC, 0x00, 0x00];
+    assert!(rt; is_written(rt.alloc(), (0x1234, 0xFEDC), &[], &empty)?);
+    Ok(())
+}
+
+/// Feeds the stream, again where memory runs out.
+fn feed_again(rt: &impl Abort, deframer: &mut Deframer) -> Result<(), Fail> {
+    if deframer.feed(&STREAM) == Err(WrapperFault::Memory) {
+        assert!(rt; deframer.is_empty());
+        deframer.feed(&STREAM)?;
+    }
+    Ok(())
+}
+
+/// Takes the first frame, again where memory runs out.
+fn take_again(deframer: &mut Deframer, alloc: Global) -> Result<Option<Frame>, WrapperFault> {
+    match deframer.take(alloc) {
+        Err(WrapperFault::Memory) => deframer.take(alloc),
+        first => first,
+    }
+}
+
+/// Wants a frame of this payload to be the first, where the call is repeated.
+fn check_first_again(
+    rt: &impl Abort,
+    alloc: Global,
+    deframer: &mut Deframer,
+    payload: &[u8],
+) -> Result<(), Fail> {
+    let frame = take_again(deframer, alloc)?.ok_or("no frame")?;
+    assert_frame(rt, &frame, payload);
+    drop(frame);
+    Ok(())
+}
+
+fn check_repeated(rt: &impl Abort, alloc: Global, deframer: &mut Deframer) -> Result<(), Fail> {
+    feed_again(rt, deframer)?;
+    check_first_again(rt, alloc, deframer, &ASSOCIATION)?;
+    check_first_again(rt, alloc, deframer, &GET)?;
+    assert!(rt; deframer.is_empty());
     Ok(())
 }
 
 #[test]
 fn a_call_that_found_no_memory_can_be_repeated(rt: HostRuntime) -> Result<(), Fail> {
     let mut deframer = Deframer::new(rt.alloc());
-    if deframer.feed(&STREAM) == Err(WrapperFault::Memory) {
-        assert!(rt; deframer.is_empty());
-        deframer.feed(&STREAM)?;
-    }
-    for payload in [ASSOCIATION.as_slice(), GET.as_slice()] {
-        let taken = match deframer.take(rt.alloc()) {
-            Err(WrapperFault::Memory) => deframer.take(rt.alloc())?,
-            first => first?,
-        };
-        assert_frame(&rt, &taken.ok_or("no frame")?, payload);
-    }
-    assert!(rt; deframer.is_empty());
-    Ok(())
+    let checked = check_repeated(&rt, rt.alloc(), &mut deframer);
+    drop(deframer);
+    checked
 }

@@ -24,45 +24,61 @@ fn is_no_hex(alloc: Global, word: &[u8]) -> Result<bool, AllocError> {
     Ok(hex_of(alloc, word)?.is_none())
 }
 
-// The words of a line with a bar before each.
-fn barred_words(alloc: Global, line: &[u8]) -> Result<Vec<u8>, AllocError> {
-    let mut out = Vec::new(alloc);
+// Adds the words of a line with a bar before each.
+fn add_barred_words(line: &[u8], out: &mut Vec<u8>) -> Result<(), AllocError> {
     for word in Words::new(line) {
         out.push(b'|')?;
         out.extend_from_slice(word)?;
     }
-    Ok(out)
+    Ok(())
 }
 
-// The lines of a text with a bar before each, and a star before what is behind them.
-fn barred_lines(alloc: Global, text: &[u8]) -> Result<Vec<u8>, AllocError> {
+// Whether the words of a line, with a bar before each, are these.
+fn has_words(alloc: Global, line: &[u8], barred: &[u8]) -> Result<bool, AllocError> {
     let mut out = Vec::new(alloc);
+    let added = add_barred_words(line, &mut out);
+    let same = out.as_slice() == barred;
+    drop(out);
+    added?;
+    Ok(same)
+}
+
+// Adds the lines of a text with a bar before each, and a star before what is behind them.
+fn add_barred_lines(text: &[u8], out: &mut Vec<u8>) -> Result<(), AllocError> {
     let mut lines = Lines::new(text);
     while let Some(line) = lines.next() {
         out.push(b'|')?;
         out.extend_from_slice(line)?;
     }
     out.push(b'*')?;
-    out.extend_from_slice(lines.rest())?;
-    Ok(out)
+    out.extend_from_slice(lines.rest())
 }
 
-// Some lines of a trace.
-fn some_lines(alloc: Global) -> Result<Vec<u8>, AllocError> {
-    let mut out = Vec::from_slice(alloc, b"device")?;
-    add_hex(alloc, &mut out, b"RELAY1")?;
-    end_line(&mut out)?;
+// Whether the lines of a text, with a bar before each, and what is behind them are these.
+fn has_lines(alloc: Global, text: &[u8], barred: &[u8]) -> Result<bool, AllocError> {
+    let mut out = Vec::new(alloc);
+    let added = add_barred_lines(text, &mut out);
+    let same = out.as_slice() == barred;
+    drop(out);
+    added?;
+    Ok(same)
+}
+
+// Adds some lines of a trace.
+fn add_some_lines(alloc: Global, out: &mut Vec<u8>) -> Result<(), AllocError> {
+    out.extend_from_slice(b"device")?;
+    add_hex(alloc, out, b"RELAY1")?;
+    end_line(out)?;
     out.extend_from_slice(b"normal")?;
-    add_number(&mut out, 4_294_967_295)?;
-    end_line(&mut out)?;
+    add_number(out, 4_294_967_295)?;
+    end_line(out)?;
     out.extend_from_slice(b"now")?;
-    add_word(&mut out, b"-")?;
-    end_line(&mut out)?;
+    add_word(out, b"-")?;
+    end_line(out)?;
     out.extend_from_slice(b"groups")?;
-    end_line(&mut out)?;
-    write_number(&mut out, 0)?;
-    write_hex(alloc, &mut out, &[0x0F, 0xA0])?;
-    Ok(out)
+    end_line(out)?;
+    write_number(out, 0)?;
+    write_hex(alloc, out, &[0x0F, 0xA0])
 }
 
 #[test]
@@ -134,43 +150,30 @@ fn lines_are_split(rt: HostRuntime) {
 #[test]
 fn lines_are_read(rt: HostRuntime) -> Result<(), Fail> {
     let alloc = rt.alloc();
-    assert_eq!(rt;
-        barred_lines(alloc, b"state 1\nmode 0\n")?.as_slice(),
-        b"|state 1|mode 0*".as_slice()
-    );
-    assert_eq!(rt;
-        barred_lines(alloc, b"state 1\n\nmode")?.as_slice(),
-        b"|state 1|*mode".as_slice()
-    );
-    assert_eq!(rt; barred_lines(alloc, b"")?.as_slice(), b"*".as_slice());
+    assert!(rt; has_lines(alloc, b"state 1\nmode 0\n", b"|state 1|mode 0*")?);
+    assert!(rt; has_lines(alloc, b"state 1\n\nmode", b"|state 1|*mode")?);
+    assert!(rt; has_lines(alloc, b"", b"*")?);
     Ok(())
 }
 
 #[test]
 fn words_are_read(rt: HostRuntime) -> Result<(), Fail> {
     let alloc = rt.alloc();
-    assert_eq!(rt;
-        barred_words(alloc, b"get 16 70")?.as_slice(),
-        b"|get|16|70".as_slice()
-    );
-    assert_eq!(rt;
-        barred_words(alloc, b"button")?.as_slice(),
-        b"|button".as_slice()
-    );
-    assert_eq!(rt;
-        barred_words(alloc, b"get  16 ")?.as_slice(),
-        b"|get||16|".as_slice()
-    );
-    assert_eq!(rt; barred_words(alloc, b"")?.as_slice(), b"|".as_slice());
+    assert!(rt; has_words(alloc, b"get 16 70", b"|get|16|70")?);
+    assert!(rt; has_words(alloc, b"button", b"|button")?);
+    assert!(rt; has_words(alloc, b"get  16 ", b"|get||16|")?);
+    assert!(rt; has_words(alloc, b"", b"|")?);
     Ok(())
 }
 
 #[test]
 fn texts_are_written(rt: HostRuntime) -> Result<(), Fail> {
-    let text = some_lines(rt.alloc())?;
-    assert_eq!(rt;
-        text.as_slice(),
-        b"device 52454C415931\nnormal 4294967295\nnow -\ngroups\n00FA0".as_slice()
-    );
+    let mut text = Vec::new(rt.alloc());
+    let added = add_some_lines(rt.alloc(), &mut text);
+    let same = text.as_slice()
+        == b"device 52454C415931\nnormal 4294967295\nnow -\ngroups\n00FA0".as_slice();
+    drop(text);
+    added?;
+    assert!(rt; same);
     Ok(())
 }
