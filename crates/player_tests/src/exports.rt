@@ -1,7 +1,7 @@
 //! What a recorder exports, written as text and played.
 use byte_streams::Counted;
 use cosem_axdr::Octets;
-use relay_core::{Event, RelayCore, Reply};
+use relay_core::{Event, Opening, RelayCore, Reply};
 use relay_recorder::Recorder;
 use std::alloc::{AllocError, Global};
 use std::process::Abort;
@@ -35,7 +35,9 @@ fn new_recorder(rt: &impl Abort, alloc: Global, capacity: u16) -> Result<Recorde
     let device = Octets::from_slice(alloc, b"RELAY1")?;
     assert!(rt; device.len() == 6);
     assert!(rt; capacity >= 1 && capacity <= 1024);
-    Recorder::new(alloc, &device, capacity)
+    let recorder = Recorder::new(alloc, &device, capacity);
+    drop(device);
+    recorder
 }
 
 // The event of a line.
@@ -43,10 +45,18 @@ fn event(alloc: Global, line: &[u8]) -> Result<Event, AllocError> {
     read_event(alloc, Version::Two, line).map_err(|_| AllocError)
 }
 
+// Lets a recorder take the event of a line.
+fn take_line(recorder: &mut Recorder, alloc: Global, line: &[u8]) -> Result<(), AllocError> {
+    let event = event(alloc, line)?;
+    let reply = recorder.apply(alloc, event)?;
+    drop(reply);
+    Ok(())
+}
+
 // Lets a recorder take the event of each line of a text.
 fn take(recorder: &mut Recorder, alloc: Global, text: &[u8]) -> Result<(), AllocError> {
     for line in Lines::new(text) {
-        let _reply = recorder.apply(alloc, event(alloc, line)?)?;
+        take_line(recorder, alloc, line)?;
     }
     Ok(())
 }
@@ -60,20 +70,37 @@ fn full_block(alloc: Global) -> Result<Vec<u8>, AllocError> {
     Ok(line)
 }
 
+// The same as an event.
+fn full_block_event(alloc: Global) -> Result<Event, AllocError> {
+    let line = full_block(alloc)?;
+    let block = event(alloc, line.as_slice());
+    drop(line);
+    block
+}
+
+// How often both sides fire by a reply, or a hundred of each.
+fn fired_by(reply: &Reply) -> (u16, u16) {
+    match reply {
+        Reply::Sampled { over, under } => (*over, *under),
+        _ => (100, 100),
+    }
+}
+
 // How often both sides fire in a full block, or a hundred of each.
 fn fired(recorder: &mut Recorder, alloc: Global) -> Result<(u16, u16), AllocError> {
-    let line = full_block(alloc)?;
-    let block = event(alloc, line.as_slice())?;
-    match recorder.apply(alloc, block)? {
-        Reply::Sampled { over, under } => Ok((over, under)),
-        _ => Ok((100, 100)),
-    }
+    let block = full_block_event(alloc)?;
+    let reply = recorder.apply(alloc, block)?;
+    let given = fired_by(&reply);
+    drop(reply);
+    Ok(given)
 }
 
 // The text of a recorder's export.
 fn exported(alloc: Global, recorder: &Recorder) -> Result<Octets, AllocError> {
     let trace = recorder.export(alloc)?;
-    write_trace(alloc, &trace)
+    let text = write_trace(alloc, &trace);
+    drop(trace);
+    text
 }
 
 // Whether a text has this line at a number, counted from 1.
@@ -92,14 +119,30 @@ fn has_line(text: &[u8], number: usize, wanted: &[u8]) -> bool {
 fn played(alloc: Global, text: &[u8]) -> Result<Vec<u8>, AllocError> {
     let mut reader = Counted::new(text);
     let mut writer = Counted::new(Vec::new(alloc));
-    let _events = play(alloc, &mut reader, &mut writer).map_err(|_| AllocError)?;
-    Ok(writer.into_inner())
+    let events = play(alloc, &mut reader, &mut writer);
+    let output = writer.into_inner();
+    if events.is_ok() {
+        Ok(output)
+    } else {
+        drop(output);
+        Err(AllocError)
+    }
+}
+
+// Whether a text plays to these lines.
+fn text_plays_to(alloc: Global, text: &[u8], lines: &[u8]) -> Result<bool, AllocError> {
+    let output = played(alloc, text)?;
+    let is_so = output.as_slice() == lines;
+    drop(output);
+    Ok(is_so)
 }
 
 // Whether a recorder's export plays to these lines.
 fn plays_to(alloc: Global, recorder: &Recorder, lines: &[u8]) -> Result<bool, AllocError> {
     let text = exported(alloc, recorder)?;
-    Ok(played(alloc, text.as_slice())?.as_slice() == lines)
+    let is_so = text_plays_to(alloc, text.as_slice(), lines);
+    drop(text);
+    is_so
 }
 
 // Wants the limiter's lines of an export whose only event is a press.
@@ -113,6 +156,7 @@ fn has_a_fired_run(rt: &impl Abort, text: &[u8]) {
 fn exports_a_press(rt: &impl Abort, alloc: Global, recorder: &Recorder) -> Result<(), AllocError> {
     let text = exported(alloc, recorder)?;
     has_a_fired_run(rt, text.as_slice());
+    drop(text);
     assert!(rt; plays_to(alloc, recorder, b"1: code 2; state 1; supply on\n")?);
     Ok(())
 }
@@ -132,7 +176,9 @@ fn take_a_fired_run(
 #[test]
 fn a_run_that_has_fired_is_exported(rt: HostRuntime) -> Result<(), Fail> {
     let mut recorder = new_recorder(&rt, rt.alloc(), 1)?;
-    Ok(take_a_fired_run(&rt, rt.alloc(), &mut recorder)?)
+    let taken = take_a_fired_run(&rt, rt.alloc(), &mut recorder);
+    drop(recorder);
+    Ok(taken?)
 }
 
 // Wants what a write and a read are exported as.
@@ -140,6 +186,7 @@ fn exports_both(rt: &impl Abort, alloc: Global, recorder: &mut Recorder) -> Resu
     take(recorder, alloc, THRESHOLD)?;
     let text = exported(alloc, recorder)?;
     assert!(rt; text.as_slice().ends_with(THRESHOLD));
+    drop(text);
     let lines = b"1: code 0; state 1; supply on\n2: value 0600001B58; state 1; supply on\n";
     assert!(rt; plays_to(alloc, recorder, lines)?);
     Ok(())
@@ -148,40 +195,71 @@ fn exports_both(rt: &impl Abort, alloc: Global, recorder: &mut Recorder) -> Resu
 #[test]
 fn a_write_and_a_read_are_exported(rt: HostRuntime) -> Result<(), Fail> {
     let mut recorder = new_recorder(&rt, rt.alloc(), 4)?;
-    Ok(exports_both(&rt, rt.alloc(), &mut recorder)?)
+    let taken = exports_both(&rt, rt.alloc(), &mut recorder);
+    drop(recorder);
+    Ok(taken?)
+}
+
+// The lines of an opening.
+fn lines_of(alloc: Global, opening: &Opening) -> Result<Vec<u8>, AllocError> {
+    let mut lines = Vec::new(alloc);
+    write_opening(alloc, &mut lines, opening)?;
+    Ok(lines)
 }
 
 // The lines that tell of a core.
 fn opening_lines(alloc: Global, core: &RelayCore) -> Result<Vec<u8>, AllocError> {
     let opening = core.to_opening(alloc)?;
-    let mut lines = Vec::new(alloc);
-    write_opening(alloc, &mut lines, &opening)?;
-    Ok(lines)
+    let lines = lines_of(alloc, &opening);
+    drop(opening);
+    lines
 }
 
 // The lines that tell of a copy of a core.
 fn copied_lines(alloc: Global, core: &RelayCore) -> Result<Vec<u8>, AllocError> {
     let copy = core.try_copy(alloc)?;
-    opening_lines(alloc, &copy)
+    let lines = opening_lines(alloc, &copy);
+    drop(copy);
+    lines
+}
+
+// Whether a copy of a core tells of itself so.
+fn copy_tells(alloc: Global, core: &RelayCore, lines: &[u8]) -> Result<bool, AllocError> {
+    let copied = copied_lines(alloc, core)?;
+    let is_so = copied.as_slice() == lines;
+    drop(copied);
+    Ok(is_so)
 }
 
 // Whether a copy of a core is written down as the core itself.
 fn core_is_copied(alloc: Global, core: &RelayCore) -> Result<bool, AllocError> {
     let own = opening_lines(alloc, core)?;
-    Ok(copied_lines(alloc, core)?.as_slice() == own.as_slice())
+    let is_so = copy_tells(alloc, core, own.as_slice());
+    drop(own);
+    is_so
+}
+
+// The line of an event.
+fn line_of(alloc: Global, event: &Event) -> Result<Vec<u8>, AllocError> {
+    let mut line = Vec::new(alloc);
+    write_event(alloc, &mut line, event)?;
+    Ok(line)
 }
 
 // The line of a copy of an event.
 fn copied_line(alloc: Global, event: &Event) -> Result<Vec<u8>, AllocError> {
     let copy = event.try_copy(alloc)?;
-    let mut line = Vec::new(alloc);
-    write_event(alloc, &mut line, &copy)?;
-    Ok(line)
+    let line = line_of(alloc, &copy);
+    drop(copy);
+    line
 }
 
 // Whether a copy of an event is written as this line.
 fn event_is_copied(alloc: Global, event: &Event, line: &[u8]) -> Result<bool, AllocError> {
-    Ok(copied_line(alloc, event)?.as_slice() == line)
+    let copied = copied_line(alloc, event)?;
+    let is_so = copied.as_slice() == line;
+    drop(copied);
+    Ok(is_so)
 }
 
 // Wants the opening and the events of an export whose first event was pushed out.
@@ -194,6 +272,7 @@ fn begins_in_mode_1(rt: &impl Abort, text: &[u8]) {
 fn exports_the_last(rt: &impl Abort, alloc: Global, recorder: &Recorder) -> Result<(), AllocError> {
     let text = exported(alloc, recorder)?;
     begins_in_mode_1(rt, text.as_slice());
+    drop(text);
     let lines = b"1: code 0; state 0; supply off\n2: code 2; state 0; supply off\n";
     assert!(rt; plays_to(alloc, recorder, lines)?);
     Ok(())
@@ -218,5 +297,7 @@ fn take_a_cut(rt: &impl Abort, alloc: Global, recorder: &mut Recorder) -> Result
 #[test]
 fn what_was_pushed_out_stands_in_the_opening(rt: HostRuntime) -> Result<(), Fail> {
     let mut recorder = new_recorder(&rt, rt.alloc(), 2)?;
-    Ok(take_a_cut(&rt, rt.alloc(), &mut recorder)?)
+    let taken = take_a_cut(&rt, rt.alloc(), &mut recorder);
+    drop(recorder);
+    Ok(taken?)
 }
