@@ -1,5 +1,6 @@
 //! What `serve` is asked for, and all that is done before the first client comes.
 ghost use Rattle.std.specs.Prelude.{◌≡◌, ◌≤◌, [], length, IfOk};
+ghost use Rattle.acse_ber.specs.Password.{IsPassword};
 
 use crate::texts::{LONGEST_DEVICE, LONGEST_PASSWORD, octets_of};
 use clap::ArgMatches;
@@ -55,7 +56,7 @@ impl Options {
 
 /// The password of the management client: that of the command line, else that of the environment.
 fn password_of(rt: &HostRuntime, matches: &ArgMatches<'_>) -> Result<Octets, Fault>
-    ensures { IfOk result (λ octets. (1 ≤ length octets) × (length octets ≤ 32)) }
+    ensures { IfOk result IsPassword }
 {
     if let Some(text) = matches.get_str("password") {
         return octets_of(rt.alloc(), text, LONGEST_PASSWORD);
@@ -102,8 +103,7 @@ pub(crate) struct Plan<I> {
     pub(crate) input: BufReader<I>,
     pub(crate) listener: TcpListener,
     pub(crate) address: SocketAddr,
-    ghost some: { 1 ≤ length password },
-    ghost short: { length password ≤ 32 },
+    ghost sized: { IsPassword password },
     ghost unused: { length recorder.events ≡ 0 },
 }
 

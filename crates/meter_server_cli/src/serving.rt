@@ -1,5 +1,6 @@
 //! The command `serve`: a meter that clients reach over TCP.
-ghost use Rattle.std.specs.Prelude.{◌≡◌, ◌≤◌, length, IfOk};
+ghost use Rattle.std.specs.Prelude.{◌≡◌, length, IfOk};
+ghost use Rattle.acse_ber.specs.Password.{IsPassword};
 
 use crate::console::{Console, Sources};
 use crate::lasting::Limits;
@@ -49,7 +50,7 @@ fn serve_sockets<R: Threads + Wait + Copy + Drop + Send + 'static>(
     password: &Octets,
     connections: u64,
 ) -> (Port<Kept>, Result<(), Fault>)
-    requires { (1 ≤ length password.now) × (length password.now ≤ 32) }
+    requires { IsPassword password.now }
     ensures { result.0.lock ≡ port.lock }
 {
     let Sources {
@@ -218,7 +219,7 @@ fn serve_and_print<R: Threads + Wait + Copy + Drop + Send + 'static>(
     password: &Octets,
     connections: u64,
 ) -> (Result<(), Fault>, Result<(), Fault>)
-    requires password { (1 ≤ length password.now) × (length password.now ≤ 32) }
+    requires password { IsPassword password.now }
     requires lock { meter.1.lock ≡ meter.0 }
 {
     let (shared, port) = meter;
@@ -244,7 +245,7 @@ fn serve_recorder<R: Threads + Wait + Copy + Drop + Send + 'static>(
     password: &Octets,
     connections: u64,
 ) -> (Result<(), Fault>, Result<(), Fault>)
-    requires password { (1 ≤ length password.now) × (length password.now ≤ 32) }
+    requires password { IsPassword password.now }
     requires unused { length recorder.events ≡ 0 }
 {
     match locked(rt.alloc(), recorder) {
