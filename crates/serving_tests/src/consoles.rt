@@ -1,8 +1,10 @@
 //! What no clause says: that there is an answer where there is memory.
+ghost use Rattle.relay_core.specs.Opening.{IsFitOpening};
+
 use meter_serving::{console_event, read_head, resumed_recorder};
 use program_fault::Fault;
 use relay_core::{Event, Reply};
-use relay_recorder::Recorder;
+use relay_recorder::{Recorder, Trace};
 use std::alloc::{AllocError, Global};
 use std::test::Fail;
 
@@ -35,16 +37,26 @@ moment 5
 moment 4
 ";
 
+/// The letter of an event.
+fn letter(event: &Event) -> char {
+    match event {
+        Event::Button => 'b',
+        Event::Moment(5) => 'm',
+        Event::Samples(_) => 's',
+        _ => '?',
+    }
+}
+
 /// The letter of the event that a line brings, or a blank.
 fn brought(alloc: Global, line: &[u8]) -> Result<char, AllocError> {
-    let event = console_event(alloc, line)?;
-    Ok(match event {
-        Some(Event::Button) => 'b',
-        Some(Event::Moment(5)) => 'm',
-        Some(Event::Samples(_)) => 's',
-        Some(_) => '?',
-        None => ' ',
-    })
+    match console_event(alloc, line)? {
+        Some(event) => {
+            let letter = letter(&event);
+            drop(event);
+            Ok(letter)
+        }
+        None => Ok(' '),
+    }
 }
 
 #[test]
@@ -67,22 +79,42 @@ struct Seen {
     last: u32,
 }
 
+/// The moment that a reply has for an earlier one's answer, or 0.
+fn last(reply: &Reply) -> u32 {
+    match reply {
+        Reply::Stale { last } => *last,
+        _ => 0,
+    }
+}
+
 /// Tells a meter of the moment 4.
 fn told_of_4(alloc: Global, recorder: &mut Recorder) -> Result<Seen, AllocError> {
     let kept = recorder.count();
     let reply = recorder.apply(alloc, Event::Moment(4))?;
-    let last = match reply {
-        Reply::Stale { last } => last,
-        _ => 0,
-    };
+    let last = last(&reply);
+    drop(reply);
     Ok(Seen { kept, last })
 }
 
-/// The same of a meter that goes on from the trace at the head of an input.
+/// The same of a meter that goes on from a trace.
+fn resumed_from(alloc: Global, trace: &Trace) -> Result<Seen, AllocError>
+    requires { IsFitOpening trace.now.opening }
+{
+    let mut recorder = resumed_recorder(alloc, trace, 1)?;
+    let seen = told_of_4(alloc, &mut recorder);
+    drop(recorder);
+    seen
+}
+
+/// The same of the trace at the head of an input.
 fn resumed(alloc: Global, input: &mut &[u8]) -> Result<Seen, Fault> {
     let trace = read_head(alloc, input)?;
-    let mut recorder = resumed_recorder(alloc, &trace, 1).map_err(|_| Fault::Memory)?;
-    told_of_4(alloc, &mut recorder).map_err(|_| Fault::Memory)
+    let seen = resumed_from(alloc, &trace);
+    drop(trace);
+    match seen {
+        Ok(seen) => Ok(seen),
+        Err(_) => Err(Fault::Memory),
+    }
 }
 
 #[test]

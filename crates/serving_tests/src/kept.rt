@@ -18,13 +18,27 @@ const THRESHOLD: AttrRef = AttrRef {
     number: 4,
 };
 
-/// What a meter has kept whose lock is closed: how many events, and the threshold of its import limiter.
+/// How many events a meter has kept, and the threshold of its import limiter.
+fn seen(kept: &Kept) -> (u16, u32) {
+    let recorder = kept.recorder();
+    (recorder.count(), recorder.core().threshold())
+}
+
+/// The same of a meter whose lock is closed, or None where it is busy.
 fn closed(shared: Shared<Kept>, port: Port<Kept>) -> Option<(u16, u32)>
     requires { port.lock ≡ shared }
 {
     match shared.close(port) {
-        Ok(kept) => Some((kept.recorder().count(), kept.recorder().core().threshold())),
-        Err(_) => None,
+        Ok(kept) => {
+            let seen = seen(&kept);
+            drop(kept);
+            Some(seen)
+        }
+        Err((_, shared, port)) => {
+            drop(shared);
+            drop(port);
+            None
+        }
     }
 }
 
@@ -54,7 +68,9 @@ fn ask<W: Wait>(
     ensures { port.new.lock ≡ port.old.lock }
 {
     let reply = port.call(rt, alloc, event)?;
-    Ok((code(&reply), number(&reply)))
+    let told = (code(&reply), number(&reply));
+    drop(reply);
+    Ok(told)
 }
 
 /// A management client's write of the threshold.

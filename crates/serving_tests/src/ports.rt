@@ -32,7 +32,10 @@ fn lock_over<T: Turned>(
 {
     match Shared::new(alloc, value, bound) {
         Ok(made) => Ok(made),
-        Err((error, _)) => Err(error),
+        Err((error, value)) => {
+            drop(value);
+            Err(error)
+        }
     }
 }
 
@@ -56,8 +59,16 @@ fn kept(shared: Shared<Kept>, port: Port<Kept>) -> Option<u16>
     requires { port.lock ≡ shared }
 {
     match shared.close(port) {
-        Ok(kept) => Some(kept.recorder().count()),
-        Err(_) => None,
+        Ok(kept) => {
+            let count = kept.recorder().count();
+            drop(kept);
+            Some(count)
+        }
+        Err((_, shared, port)) => {
+            drop(shared);
+            drop(port);
+            None
+        }
     }
 }
 
@@ -75,7 +86,9 @@ fn gives<W: Wait>(
     let mut reader = Counted::new(texts.0);
     let mut writer = Counted::new(Vec::new(alloc));
     let (port, result) = serve_port(rt, alloc, &mut reader, &mut writer, port, password);
-    let is_so = result == end && writer.into_inner().as_slice() == texts.1;
+    let output = writer.into_inner();
+    let is_so = result == end && output.as_slice() == texts.1;
+    drop(output);
     (port, is_so)
 }
 
