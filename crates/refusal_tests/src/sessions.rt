@@ -1,4 +1,6 @@
 //! A session that is refused memory has written the first of its answers, and the meter goes on.
+ghost use Rattle.acse_ber.specs.Password.{IsPassword};
+
 use crate::RefusedAndStood;
 use crate::page::Page;
 use byte_streams::Counted;
@@ -26,7 +28,9 @@ fn serve(
     input: &[u8],
     page: &mut Page,
     password: &Octets,
-) -> Ended {
+) -> Ended
+    requires { IsPassword password.now }
+{
     let mut reader = Counted::new(input);
     let mut writer = Counted::new(page);
     serve_session(alloc, &mut reader, &mut writer, core, password)
@@ -47,7 +51,9 @@ fn serve_twice(
     core: &mut RelayCore,
     input: &[u8],
     password: &Octets,
-) -> Result<(), Fail> {
+) -> Result<(), Fail>
+    requires { IsPassword password.now }
+{
     let mut page = Page::new();
     let mut other = Page::new();
     let ended = serve(alloc, core, input, &mut page, password);

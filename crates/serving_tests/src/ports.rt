@@ -1,5 +1,6 @@
 //! What no clause says: that sessions through several ports reach one meter.
 ghost use Rattle.std.specs.Prelude.{◌≡◌, ◌<◌, ◌≤◌, [], IfOk};
+ghost use Rattle.acse_ber.specs.Password.{IsPassword};
 
 use crate::talks::{MANAGEMENT, talk};
 use byte_streams::Counted;
@@ -81,6 +82,7 @@ fn gives<W: Wait>(
     password: &Octets,
     end: Result<SessionEnd, ServeFault>,
 ) -> (Port<Kept>, bool)
+    requires { IsPassword password.now }
     ensures { result.0.lock ≡ port.lock }
 {
     let mut reader = Counted::new(texts.0);
@@ -99,7 +101,9 @@ fn serve_two<R: Wait + Abort>(
     password: &Octets,
     first: &(Vec<u8>, Vec<u8>),
     second: &(Vec<u8>, Vec<u8>),
-) -> Result<(bool, bool, Option<u16>), AllocError> {
+) -> Result<(bool, bool, Option<u16>), AllocError>
+    requires { IsPassword password.now }
+{
     let (shared, mut one) = new_lock(rt, alloc, 9)?;
     let two = one.split()?;
     let end = Ok(SessionEnd::Closed);
@@ -130,7 +134,9 @@ fn serve_one_turn<R: Wait + Abort>(
     alloc: Global,
     password: &Octets,
     texts: (&[u8], &[u8]),
-) -> Result<(bool, Option<u16>), AllocError> {
+) -> Result<(bool, Option<u16>), AllocError>
+    requires { IsPassword password.now }
+{
     let (shared, port) = new_lock(rt, alloc, 1)?;
     let end = Err(ServeFault::Exhausted);
     let (port, has_stopped) = gives(rt, alloc, port, texts, password, end);
