@@ -1,5 +1,6 @@
 //! What no clause says: that sessions through several ports reach one meter.
 ghost use Rattle.std.specs.Prelude.{◌≡◌, ◌<◌, ◌≤◌, [], IfOk};
+ghost use Rattle.acse_ber.specs.Password.{IsPassword};
 
 use crate::sessions::{Input, MANAGEMENT, Output, Ran, talk};
 use byte_streams::Counted;
@@ -69,6 +70,7 @@ fn serve_through<W: Wait>(
     password: &Octets,
     input: &[u8],
 ) -> (Port<Kept>, Ran)
+    requires { IsPassword password.now }
     ensures { result.0.lock ≡ port.lock }
 {
     let mut reader = Counted::new(Input {

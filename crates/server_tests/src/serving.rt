@@ -1,5 +1,6 @@
 //! What no clause says: that sessions run side by side, who is served, and that all of the meter's actors reach one meter.
-ghost use Rattle.std.specs.Prelude.{◌≡◌, ◌≤◌, length, IfOk};
+ghost use Rattle.std.specs.Prelude.{◌≡◌, IfOk};
+ghost use Rattle.acse_ber.specs.Password.{IsPassword};
 
 mod callers;
 mod loopback;
@@ -119,7 +120,7 @@ fn serve_by<L: Listener, R: Threads + Wait + Copy + Send + 'static>(
     password: &Octets,
     limit: u64,
 ) -> (Port<Kept>, Result<Served, ServeFault>)
-    requires { (1 ≤ length password.now) × (length password.now ≤ 32) }
+    requires { IsPassword password.now }
     ensures { result.0.lock ≡ port.lock }
 {
     let Given {
