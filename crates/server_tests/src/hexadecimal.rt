@@ -1,5 +1,6 @@
 //! Sessions over texts in hexadecimal.
 ghost use Rattle.std.specs.Prelude.{◌≤◌, length};
+ghost use Rattle.acse_ber.specs.Password.{IsPassword};
 
 use crate::sessions::{Input, Output, PUBLIC_AARE, PUBLIC_AARQ, PUBLIC_GET, PUBLIC_STATE};
 use byte_streams::Counted;
@@ -19,7 +20,8 @@ struct Ran {
 
 /// Plays a text as a meter with this name and password. One of its reads and one of its writes may fail.
 fn play(alloc: Global, text: &str, failing: (u32, u32), device: &Octets, password: &Octets) -> Ran
-    requires { (1 ≤ length device.now) × (length device.now ≤ 16) }
+    requires device { (1 ≤ length device.now) × (length device.now ≤ 16) }
+    requires password { IsPassword password.now }
 {
     let mut reader = Counted::new(Input {
         rest: text.as_bytes(),

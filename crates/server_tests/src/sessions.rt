@@ -1,3 +1,6 @@
+ghost use Rattle.std.specs.Prelude.{IfOk};
+ghost use Rattle.acse_ber.specs.Password.{IsPassword};
+
 use byte_streams::Counted;
 use cosem_axdr::Octets;
 use meter_server::{Meter, ServeFault, serve_session};
@@ -126,7 +129,9 @@ pub(crate) struct Ran {
 }
 
 /// A session of a meter.
-fn serve(alloc: Global, plan: &Plan, input: &[u8], meter: &mut Limited, password: &Octets) -> Ran {
+fn serve(alloc: Global, plan: &Plan, input: &[u8], meter: &mut Limited, password: &Octets) -> Ran
+    requires { IsPassword password.now }
+{
     let mut reader = Counted::new(Input {
         rest: input,
         piece: plan.piece,
@@ -154,9 +159,20 @@ fn new_meter(alloc: Global, events: u32) -> Result<Limited, AllocError> {
     })
 }
 
+/// A password of 1 to 32 bytes.
+fn password_of(alloc: Global, text: &str) -> Result<Octets, AllocError>
+    ensures { IfOk result IsPassword }
+{
+    let bytes = text.as_bytes();
+    if bytes.is_empty() || bytes.len() > 32 {
+        return Err(AllocError);
+    }
+    Octets::from_slice(alloc, bytes)
+}
+
 /// A session of a new meter.
 pub(crate) fn run(alloc: Global, plan: &Plan, input: &[u8]) -> Result<Ran, AllocError> {
-    let password = Octets::from_slice(alloc, plan.password.as_bytes())?;
+    let password = password_of(alloc, plan.password)?;
     let mut meter = new_meter(alloc, plan.events)?;
     Ok(serve(alloc, plan, input, &mut meter, &password))
 }
