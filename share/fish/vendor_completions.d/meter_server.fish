@@ -12,6 +12,7 @@ complete -c meter_server -f -n '__fish_seen_subcommand_from serve' -l listen -r 
 complete -c meter_server -f -n '__fish_seen_subcommand_from serve' -l depth -r -d 'How many events the trace holds, 1 to 1024: the last ones'
 complete -c meter_server -f -n '__fish_seen_subcommand_from serve' -l connections -r -d 'How many connections are accepted; 0 is no limit'
 complete -c meter_server -f -n '__fish_seen_subcommand_from serve' -l inactivity -r -d 'How long a read or a write of a client may take before its session ends; 0 is no limit'
+complete -c meter_server -f -n '__fish_seen_subcommand_from serve' -l session -r -d 'How long a client\'s session may last; 0 is no limit'
 complete -c meter_server -f -n '__fish_seen_subcommand_from serve' -l stop-with-input -d 'Accept no further connection once standard input has ended'
 complete -c meter_server -f -n '__fish_seen_subcommand_from serve' -l resume -d 'Go on from the trace at the head of standard input'
 complete -c meter_server -f -n '__fish_seen_subcommand_from serve' -l verbose -d 'Tell on standard error who connects and how each session ends'
