@@ -156,11 +156,12 @@ def keep(title, text):
 
 def fuzz(title, program, words, is_hex, seeds, seconds, chance):
     """Gives a program changed inputs for so many seconds. Counts what came of them."""
-    found, end = collections.Counter(), time.monotonic() + seconds
+    found, end, turn = collections.Counter(), time.monotonic() + seconds, 0
     twin = pathlib.Path(f"{program}.by-rattle")
     others = [pieces_of(seed) for seed in seeds] if is_hex else seeds
     others = [seed for seed in others if seed] or [b"\0"]
     while time.monotonic() < end:
+        turn += 1
         text = chance.choice(others)
         if is_hex or chance.randrange(4) == 0:
             text = changed(text, chance, others)
@@ -175,11 +176,11 @@ def fuzz(title, program, words, is_hex, seeds, seconds, chance):
         found["done" if made[0] == 0 else "input is wrong" if made[0] == 2 else "WRONG"] += 1
         if not is_right(made):
             check(f"{title}: ends as it may", False, made, keep(title, text))
-        if len(text) <= 2_000 and found.total() % 4 == 0:
+        if len(text) <= 2_000 and turn % 4 == 0:
             found["again byte by byte"] += 1
             if ran_by_bytes(program, words, text) != made:
                 check(f"{title}: the same byte by byte", False, keep(title, text))
-        if twin.exists() and found.total() % 4 == 0:
+        if twin.exists() and turn % 4 == 2:
             found["again by the other compiler"] += 1
             if ran(twin, words, text) != made:
                 check(f"{title}: the same by the other compiler", False, keep(title, text))
