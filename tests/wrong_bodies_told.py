@@ -1,5 +1,8 @@
 #!/usr/bin/env python3
-"""Tests bin/wrong_bodies: beside a wrong body that is refused it tells a right one, one that can't be read and one of a text that isn't there, and counts them."""
+"""Tests bin/wrong_bodies: beside a wrong body that is refused it tells a right one, one that can't be read and one of a text that isn't there, and counts them; and an edit
+of a constant stands beside others only where nothing but functions' bodies names the constant."""
+import importlib.machinery
+import importlib.util
 import os
 import re
 import subprocess
@@ -14,6 +17,36 @@ EDITS = {
     "a_body_that_cannot_be_read": ("Fault::Memory | Fault::Turns => 4,", "Fault::Memory | Fault::Turns => 4)(,", r"BAD EDIT"),
     "a_text_that_is_not_there": ("Fault::Memory | Fault::Turns => 5,", "Fault::Memory | Fault::Turns => 4,", r"BAD EDIT"),
 }
+
+BODY = "const LIMIT: u8 = 3;\n\nfn limit() -> u8 {\n    LIMIT\n}\n"
+# The files of a crate that has the constant LIMIT, and the functions whose bodies name it, or None where anything else does.
+SOURCES = {
+    "a body names the constant": ({"src/lib.rt": BODY}, ["limit"]),
+    "two bodies in two files name it": ({"src/lib.rt": BODY, "src/more.rt": "use crate::LIMIT;\n\nfn twice() -> u8 {\n    LIMIT + LIMIT\n}\n"}, ["limit", "more::twice"]),
+    "a contract names it": ({"src/lib.rt": BODY.replace("u8 {", "u8\n    ensures { result \u2261 LIMIT }\n{")}, None),
+    "a type names it": ({"src/lib.rt": BODY, "src/more.rt": "struct Page {\n    bytes: [u8; LIMIT],\n}\n"}, None),
+    "another constant names it": ({"src/lib.rt": BODY + "\nconst TWICE: u8 = 2 * LIMIT;\n"}, None),
+    "a definition names it": ({"src/lib.rt": BODY, "specs/Limits.antt": "use Rattle.a.specs.declared.TheConstants.{LIMIT}\n"}, None),
+    "a use gives it another name": ({"src/lib.rt": BODY, "src/more.rt": "use crate::LIMIT as MOST;\n"}, None),
+}
+
+
+def judge():
+    """The module of bin/wrong_bodies."""
+    sys.dont_write_bytecode = True
+    loader = importlib.machinery.SourceFileLoader("wrong_bodies", f"{TOP}/bin/wrong_bodies")
+    module = importlib.util.module_from_spec(importlib.util.spec_from_loader("wrong_bodies", loader))
+    loader.exec_module(module)
+    return module
+
+
+def users_are_told():
+    """For each of the files above whether the functions are found as they must be."""
+    users_of, rows = judge().users_of, {}
+    for name, (sources, wanted) in SOURCES.items():
+        users = users_of("LIMIT", sources)
+        rows[name] = (users if users is None else sorted(it.name for it in users.values())) == wanted
+    return rows
 
 
 def told_of_edits():
@@ -35,6 +68,7 @@ def main():
     rows = {name: any(f"program_fault/{name}: " in it and re.search(wanted, it) for it in lines) for name, (_, _, wanted) in EDITS.items()}
     rows["the wrong body beside them is refused"] = bool(own) and all(": refused" in it for it in own)
     rows["all are counted"] = status == 1 and lines[-1] == f"{len(own)} passed, {len(EDITS)} failed"
+    rows.update(users_are_told())
     for name, is_well in rows.items():
         print(f"wrong_bodies_told: {name}: {'as it must be' if is_well else 'NOT SO'}")
     failed = sum(not it for it in rows.values())
