@@ -71,9 +71,7 @@ class Meter(Server):
         words = [str(SERVER), "serve", "--listen", "127.0.0.1:0", "--verbose", "--password", "87654321" if self.rejects else PASSWORD]
         words += ["--connections", str(len(VERBS) + self.writes)] if self.counts else ["--stop-with-input"]
         words += ["--resume"] if self.resumes else []
-        self.process = subprocess.Popen(words, stdin=subprocess.PIPE, stdout=subprocess.PIPE, stderr=subprocess.PIPE)
-        os.set_blocking(self.process.stderr.fileno(), False)
-        self.errors = b""
+        self.start(words)
         if self.resumes:
             self.say_bytes(trace_in_mode(self.mode))
 

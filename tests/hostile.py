@@ -218,8 +218,7 @@ def eight_clients_at_full_speed(name):
 
 def a_soak_keeps_its_memory(name):
     """The same with one server, which keeps 64 events: once these are full, and each place was taken, memory stays."""
-    # (what --verbose tells of more sessions fills the pipe of standard error, which is read at the end)
-    rounds = 12 if not is_long else 16
+    rounds = 12 if not is_long else 120
     begun, sessions, sizes = time.monotonic(), 0, []
     server = Server("--depth", "64", "--stop-with-input")
     watch = Watch(server.process)

@@ -8,6 +8,7 @@ import re
 import socket
 import subprocess
 import sys
+import threading
 import time
 
 TOP = pathlib.Path(__file__).resolve().parent.parent
@@ -171,26 +172,28 @@ class Server:
         words = [str(SERVER), "serve", "--listen", f"127.0.0.1:{self.port}", "--verbose", *options]
         if password is not None:
             words += ["--password", password]
-        self.process = subprocess.Popen(words, stdin=subprocess.PIPE, stdout=subprocess.PIPE, stderr=subprocess.PIPE,
-                                        env={**os.environ, **(environment or {})})
-        os.set_blocking(self.process.stderr.fileno(), False)
-        self.errors = b""
+        self.start(words, environment)
         if console:
             self.say_bytes(console)
         self.wait_for(b"listening on")
 
+    def start(self, words, environment=None):
+        self.process = subprocess.Popen(words, stdin=subprocess.PIPE, stdout=subprocess.PIPE, stderr=subprocess.PIPE,
+                                        env={**os.environ, **(environment or {})})
+        self.errors = b""
+        self.reader = threading.Thread(target=self.read_errors, daemon=True)
+        self.reader.start()
+
+    def read_errors(self):
+        """Takes what standard error says as it comes, so that the server never waits for its reader."""
+        while piece := self.process.stderr.read1():
+            self.errors += piece
+
     def wait_for(self, words, times=1):
-        """Waits until standard error has these words so many times, or the server has ended."""
+        """Waits until standard error has these words so many times, or has ended."""
         end = time.monotonic() + PATIENCE
-        while self.errors.count(words) < times and time.monotonic() < end:
-            piece = self.process.stderr.read()
-            if piece:
-                self.errors += piece
-            elif self.process.poll() is not None:
-                self.errors += self.process.stderr.read() or b""
-                break
-            else:
-                time.sleep(0.005)
+        while self.errors.count(words) < times and self.reader.is_alive() and time.monotonic() < end:
+            time.sleep(0.005)
         return self.errors.count(words) >= times
 
     def say(self, *lines):
@@ -221,8 +224,8 @@ class Server:
             while time.monotonic() < end:
                 is_over = self.process.poll() is not None
                 output += self.process.stdout.read() or b""
-                self.errors += self.process.stderr.read() or b""
                 if is_over:
+                    self.reader.join(PATIENCE)
                     return self.process.returncode, output.decode(), self.errors.decode()
                 time.sleep(0.005)
             return "does not end", output.decode(), self.errors.decode()
