@@ -1,6 +1,6 @@
 #!/usr/bin/env python3
 """Tests bin/wrong_bodies: beside a wrong body that is refused it tells a right one, one that can't be read and one of a text that isn't there, and counts them; and an edit
-of a constant stands beside others only where nothing but functions' bodies names the constant."""
+of a constant stands beside others only where nothing but functions' bodies names the constant; and what is left of the functions beside the edited ones."""
 import importlib.machinery
 import importlib.util
 import os
@@ -30,6 +30,55 @@ SOURCES = {
     "a use gives it another name": ({"src/lib.rt": BODY, "src/more.rt": "use crate::LIMIT as MOST;\n"}, None),
 }
 
+# The functions of a crate, of which `edited` is edited: what is to be left of each body, and whether its proof has a hole.
+LEFT = """pub struct Page {
+    lines: u8,
+}
+
+impl Page {
+    pub fn lines(&self) -> u8
+        ensures {
+            result ≡ self.now.lines
+        }
+    {
+        self.lines
+    }
+}
+
+impl Default for Page {
+    fn default() -> Page {
+        Page { lines: 0 }
+    }
+}
+
+const fn least() -> u8 {
+    1
+}
+
+#[cycle(parity)]
+fn is_even(n: u8) -> bool {
+    n == 0 || !is_even(n - 1)
+}
+
+fn a_law()
+    ensures { ⊤ }
+{}
+
+fn edited(page: &Page) -> u8 {
+    page.lines()
+}
+
+fn beside() -> u8 {
+    let one = 1;
+    one + 1
+}
+"""
+KEPT = LEFT.replace("        self.lines\n", "loop {}\n").replace("    let one = 1;\n    one + 1\n", "loop {}\n\n")
+HOLES = {
+    "proofs/page/Page/lines/Proof.antt": "use Rattle.book.proofs.page.Page.lines.Statement.{statement}\n\npub lines_spec : {M : Type 1} → statement M\nlines_spec = ?\n",
+    "proofs/page/beside/Proof.antt": "use Rattle.book.proofs.page.beside.Statement.{statement}\n\npub beside_spec : {M : Type 1} → statement M\nbeside_spec = ?\n",
+}
+
 
 def judge():
     """The module of bin/wrong_bodies."""
@@ -47,6 +96,18 @@ def users_are_told():
         users = users_of("LIMIT", sources)
         rows[name] = (users if users is None else sorted(it.name for it in users.values())) == wanted
     return rows
+
+
+def bodies_are_left_out():
+    """Whether the functions beside an edited one are left as they must be."""
+    module = judge()
+    edited = next(it for it in module.functions_of("src/page.rt", LEFT) if it.name == "page::edited")
+    stubs, gone = module.without_bodies("book", {"src/page.rt": LEFT}, {(edited.path, edited.first)})
+    return {
+        "a body beside an edited one is left out, of the edited one, a trait, a constant, a cycle and a law none": stubs.pop("src/page.rt") == KEPT,
+        "what is left out has a hole for its proof": stubs == HOLES,
+        "and its own proof is left out": gone == [it.replace("Proof", part) for it in HOLES for part in ("Invariants", "Answers")],
+    }
 
 
 def told_of_edits():
@@ -69,6 +130,7 @@ def main():
     rows["the wrong body beside them is refused"] = bool(own) and all(": refused" in it for it in own)
     rows["all are counted"] = status == 1 and lines[-1] == f"{len(own)} passed, {len(EDITS)} failed"
     rows.update(users_are_told())
+    rows.update(bodies_are_left_out())
     for name, is_well in rows.items():
         print(f"wrong_bodies_told: {name}: {'as it must be' if is_well else 'NOT SO'}")
     failed = sum(not it for it in rows.values())

@@ -1,10 +1,9 @@
 -- A session whose bytes are written in hexadecimal.
-use Rattle.std.proofs.Common.{◌≡◌, ℕ, Option, List, [], ◌∷◌, Result, Ok, Err, IsErrAnd, refl, sym, ap₂, subst, inl, append-nil}
+use Rattle.std.proofs.Common.{◌≡◌, ℕ, Option, List, [], ◌∷◌, Result, Ok, Err, refl, sym, ap₂, subst, inl, inr, append-nil}
 use Rattle.std.specs.List.{flat_map}
 use Rattle.std.specs.Io.KnownBytes.{Appends}
-use Rattle.std.proofs.KnownBytes.{Appends-nil}
 use Rattle.meter_server.proofs.Reaching.{reached_new, reached_fed, does_all_on, stops_on}
-use Rattle.meter_server.specs.Hexadecimal.{hex_line, replies_of, hex_output, Played, RunsShort}
+use Rattle.meter_server.specs.Hexadecimal.{hex_line, replies_of, hex_output, Played, PlayedOn, RunsShort}
 use Rattle.meter_server.specs.Meters.{Replied, CoreSteps}
 use Rattle.meter_server.specs.Served.{DoesAll, StopsShort, Stops, IsUsedUp}
 use Rattle.meter_server.specs.Settling.{Reached}
@@ -39,45 +38,47 @@ fed_all : (password input : List ℕ) (s fed : Session) (core : RelayCore) (writ
     → Reached CoreSteps hex_line (Asks password) (Answers password) end_of core written input fed core written
 fed_all password input s fed core written owes feeds = reached_fed [] input s fed core written (reached_new password s core written owes) feeds
 
--- all lines were written
-pub played_all : (device password input : List ℕ) (s fed : Session) (core core' : RelayCore) (written written' : Option (List ℕ))
-    → StandsFor core (new_world device) → Owes password s → Feeds s input fed
+-- all was written
+pub on_all : (password input : List ℕ) (s fed : Session) (core core' : RelayCore) (written written' : Option (List ℕ))
+    → Owes password s → Feeds s input fed
     → DoesAll CoreSteps hex_line (still_asks fed []) (still_sends fed []) core written core' written'
-    → Appends written written' (hex_output device password input)
-played_all device password input s fed core core' written written' is_new owes feeds all =
-    let done = subst (λ (seen : List ℕ). DoesAll CoreSteps hex_line (Asks password seen) (Answers password seen) core written core' written') (append-nil input)
-    (does_all_on input [] fed core core' written written' (fed_all password input s fed core written owes feeds) all) in
-    subst (λ (replies : List Reply). Appends written written' (flat_map hex_line (Answers password input replies)))
-    (replies_are core core' (Asks password input) done.replies (new_world device) done.replied is_new) done.wrote
+    → DoesAll CoreSteps hex_line (Asks password input) (Answers password input) core written core' written'
+on_all password input s fed core core' written written' owes feeds all =
+    subst (λ (seen : List ℕ). DoesAll CoreSteps hex_line (Asks password seen) (Answers password seen) core written core' written') (append-nil input)
+    (does_all_on input [] fed core core' written written' (fed_all password input s fed core written owes feeds) all)
 
 -- memory ran out in the session
-played_short : (device password input : List ℕ) (s fed : Session) (core core' : RelayCore) (written written' : Option (List ℕ)) (failed failed' : ℕ)
-    → StandsFor core (new_world device) → Owes password s → Feeds s input fed
+on_short : (password input : List ℕ) (s fed : Session) (core core' : RelayCore) (written written' : Option (List ℕ)) (failed failed' : ℕ)
+    → Owes password s → Feeds s input fed
     → StopsShort CoreSteps hex_line (still_asks fed []) (still_sends fed []) core written core' written'
-    → RunsShort device password input written written'
-played_short device password input s fed core core' written written' failed failed' is_new owes feeds stops = record {
-  core = core;
-  core' = core';
-  is_new = is_new;
-  stops = subst (λ (seen : List ℕ). StopsShort CoreSteps hex_line (Asks password seen) (Answers password seen) core written core' written') (append-nil input)
-      (stops_on input [] fed core core' written written' failed failed' fault.Memory (fed_all password input s fed core written owes feeds) stops);
-}
+    → StopsShort CoreSteps hex_line (Asks password input) (Answers password input) core written core' written'
+on_short password input s fed core core' written written' failed failed' owes feeds stops =
+    subst (λ (seen : List ℕ). StopsShort CoreSteps hex_line (Asks password seen) (Answers password seen) core written core' written') (append-nil input)
+    (stops_on input [] fed core core' written written' failed failed' fault.Memory (fed_all password input s fed core written owes feeds) stops)
 
 -- the same of a fault that is want of memory
-pub played_short_by : (device password input : List ℕ) (s fed : Session) (core core' : RelayCore) (written written' : Option (List ℕ)) (failed failed' : ℕ) (f : ServeFault)
-    → f ≡ fault.Memory → StandsFor core (new_world device) → Owes password s → Feeds s input fed
+pub on_short_by : (password input : List ℕ) (s fed : Session) (core core' : RelayCore) (written written' : Option (List ℕ)) (failed failed' : ℕ) (f : ServeFault)
+    → f ≡ fault.Memory → Owes password s → Feeds s input fed
     → Stops CoreSteps hex_line (still_asks fed []) (still_sends fed []) core written failed f core' written' failed'
-    → RunsShort device password input written written'
-played_short_by device password input s fed core core' written written' failed failed' f is is_new owes feeds stops =
-    played_short device password input s fed core core' written written' failed failed' is_new owes feeds
+    → StopsShort CoreSteps hex_line (Asks password input) (Answers password input) core written core' written'
+on_short_by password input s fed core core' written written' failed failed' f is owes feeds stops =
+    on_short password input s fed core core' written written' failed failed' owes feeds
     (subst (λ (g : ServeFault). Stops CoreSteps hex_line (still_asks fed []) (still_sends fed []) core written failed g core' written' failed') is stops)
 
--- memory ran out before the session
-pub played_none : (device password input : List ℕ) (written : Option (List ℕ)) (failed : ℕ) (result : Result (Unit {0}) HexFault)
-    → IsErrAnd result (λ f. f ≡ hex_fault.Memory) → Played device password input written failed result written failed
-played_none device password input written failed (Ok done) is = absurd is
-played_none device password input written failed (Err f) is =
-    subst (λ (g : HexFault). Played device password input written failed (Err g) written failed) (sym is) (inl (Appends-nil written))
+-- what came of a meter that was new
+pub played_new : (device password input : List ℕ) (core core' : RelayCore) (written written' : Option (List ℕ)) (failed failed' : ℕ) (result : Result (Unit {0}) HexFault)
+    → StandsFor core (new_world device) → PlayedOn password input core written failed result core' written' failed'
+    → Played device password input written failed result written' failed'
+played_new device password input core core' written written' failed failed' (Ok done) is_new all =
+    subst (λ (replies : List Reply). Appends written written' (flat_map hex_line (Answers password input replies)))
+    (replies_are core core' (Asks password input) all.replies (new_world device) all.replied is_new) all.wrote
+played_new device password input core core' written written' failed failed' (Err hex_fault.Digits) is_new none = absurd none
+played_new device password input core core' written written' failed failed' (Err hex_fault.TooLong) is_new none = absurd none
+played_new device password input core core' written written' failed failed' (Err hex_fault.Read) is_new none = absurd none
+played_new device password input core core' written written' failed failed' (Err hex_fault.Write) is_new fails = fails
+played_new device password input core core' written written' failed failed' (Err hex_fault.Memory) is_new (inl nothing) = inl nothing
+played_new device password input core core' written written' failed failed' (Err hex_fault.Memory) is_new (inr stops) =
+    inr (record { core = core; core' = core'; is_new = is_new; stops = stops })
 
 -- a core takes every event
 pub never_used_up : (asks : List Event) (sends : List Reply → List (List ℕ)) (core core' : RelayCore) (written written' : Option (List ℕ))

@@ -2,6 +2,8 @@
 --     bytes_of      the bytes of a text
 --     hex_line      a frame as a line
 --     hex_output    the lines of a whole session of a new meter
+--     PlayedOn      what came of the bytes of a session, by the result: of a meter
+--     Played        the same of a new meter
 --     Hexed         what came of a text, by the result
 use Rattle.std.specs.Prelude.{◌≡◌, ◌⊎◌, ◌<◌, ◌≤◌, ℕ, Bool, ◌==◌, ◌||◌, not, Option, List, [], ◌∷◌, ◌++◌, length, map, filter, ⊤, Result, Ok, Err}
 use Rattle.std.specs.List.{flat_map}
@@ -9,7 +11,7 @@ use Rattle.std.specs.Io.KnownBytes.{Appends, Consumes, IsAtEnd}
 use Rattle.hex.specs.Hex.{decode_of, encode_upper}
 use Rattle.hex.specs.declared.error.FromHexError.{FromHexError}
 use Rattle.meter_server.specs.Meters.{CoreSteps}
-use Rattle.meter_server.specs.Served.{StopsShort}
+use Rattle.meter_server.specs.Served.{DoesAll, StopsShort}
 use Rattle.meter_server.specs.declared.fault.HexFault.{HexFault}
 use Rattle.meter_server.specs.declared.fault.HexFault.TheVariants as fault
 use Rattle.relay_core.specs.declared.event.Event.{Event}
@@ -77,7 +79,18 @@ pub record RunsShort (device password input : List ℕ) (written written' : Opti
   pub is_new : StandsFor core (new_world device)
   pub stops : StopsShort CoreSteps hex_line (Asks password input) (Answers password input) core written core' written'
 
--- what came of the bytes of a text
+-- what came of the bytes of a session that a meter was given
+abbrev pub PlayedOn : List ℕ → List ℕ → RelayCore → Option (List ℕ) → ℕ → Result (Unit {0}) HexFault → RelayCore → Option (List ℕ) → ℕ → Type 0
+PlayedOn password input core written failed (Ok done) core' written' failed' =
+    DoesAll CoreSteps hex_line (Asks password input) (Answers password input) core written core' written'
+PlayedOn password input core written failed (Err fault.Digits) core' written' failed' = ⊥
+PlayedOn password input core written failed (Err fault.TooLong) core' written' failed' = ⊥
+PlayedOn password input core written failed (Err fault.Read) core' written' failed' = ⊥
+PlayedOn password input core written failed (Err fault.Write) core' written' failed' = failed < failed'
+PlayedOn password input core written failed (Err fault.Memory) core' written' failed' =
+    Appends written written' [] ⊎ StopsShort CoreSteps hex_line (Asks password input) (Answers password input) core written core' written'
+
+-- what came of the bytes of a session that a new meter was given
 abbrev pub Played : List ℕ → List ℕ → List ℕ → Option (List ℕ) → ℕ → Result (Unit {0}) HexFault → Option (List ℕ) → ℕ → Type 0
 Played device password input written failed (Ok done) written' failed' = Appends written written' (hex_output device password input)
 Played device password input written failed (Err fault.Digits) written' failed' = ⊥

@@ -1,6 +1,6 @@
 ghost use Rattle.std.specs.Prelude.{◌≤◌, length};
 ghost use Rattle.acse_ber.specs.Password.{IsPassword};
-ghost use Rattle.meter_server.specs.Hexadecimal.{Hexed, Played};
+ghost use Rattle.meter_server.specs.Hexadecimal.{Hexed, Played, PlayedOn};
 
 use crate::fault::{HexFault, ServeFault};
 use crate::form::AsHexLine;
@@ -12,7 +12,38 @@ use relay_core::RelayCore;
 use session_core::Session;
 use std::alloc::Global;
 
+/// Serves the session of an input on a meter, and writes each frame as a line.
+fn play_on<W: Writer>(
+    alloc: Global,
+    input: &[u8],
+    writer: &mut W,
+    core: &mut RelayCore,
+    password: &Octets,
+) -> Result<(), HexFault>
+    requires writable { W.can_write writer.now }
+    requires password { IsPassword password.now }
+    ensures { PlayedOn password.now input.now core.old (W.contents writer.old) (W.failures writer.old) result core.new (W.contents writer.new) (W.failures writer.new) }
+{
+    let mut session = Session::new(alloc, password)?;
+    match session.feed(input) {
+        Ok(()) => {}
+        Err(_) => {
+            drop(session);
+            return Err(HexFault::Memory);
+        }
+    }
+    let ended = end_input::<AsHexLine, W, RelayCore>(alloc, &mut session, writer, core);
+    drop(session);
+    match ended {
+        Ok(_) => Ok(()),
+        Err(ServeFault::Write) => Err(HexFault::Write),
+        Err(ServeFault::Memory) => Err(HexFault::Memory),
+        Err(ServeFault::Read | ServeFault::Exhausted | ServeFault::Listen) => unreachable!(),
+    }
+}
+
 /// Serves the session of an input on a new meter, and writes each frame as a line.
+#[tactic(auto, using(crate::proofs::HexSessions::played_new))]
 fn play<W: Writer>(
     alloc: Global,
     input: &[u8],
@@ -26,14 +57,9 @@ fn play<W: Writer>(
     ensures { Played device.now password.now input.now (W.contents writer.old) (W.failures writer.old) result (W.contents writer.new) (W.failures writer.new) }
 {
     let mut core = RelayCore::new(alloc, device)?;
-    let mut session = Session::new(alloc, password)?;
-    session.feed(input)?;
-    match end_input::<AsHexLine, W, RelayCore>(alloc, &mut session, writer, &mut core) {
-        Ok(_) => Ok(()),
-        Err(ServeFault::Write) => Err(HexFault::Write),
-        Err(ServeFault::Memory) => Err(HexFault::Memory),
-        Err(ServeFault::Read | ServeFault::Exhausted | ServeFault::Listen) => unreachable!(),
-    }
+    let played = play_on(alloc, input, writer, &mut core, password);
+    drop(core);
+    played
 }
 
 /// Serves a session whose bytes a text has in hexadecimal: pairs of digits in either case, with blanks and line ends passed over, at most 1,048,576 characters.

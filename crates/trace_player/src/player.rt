@@ -40,9 +40,12 @@ pub fn play<R: Reader, W: Writer>(
     ensures { Plays R.remaining R.failures W.contents W.failures reader.old writer.old result reader.new writer.new }
 {
     let trace = read_input(alloc, reader)?;
-    let lines = play_trace(alloc, &trace)?;
+    let count = trace.events.len() as u64;
+    let played = play_trace(alloc, &trace);
+    drop(trace);
+    let lines = played?;
     match writer.write_all(lines.as_slice()) {
-        Ok(()) => Ok(trace.events.len() as u64),
+        Ok(()) => Ok(count),
         Err(_) => Err(PlayFault::Write),
     }
 }

@@ -48,9 +48,17 @@ fn read_lines(alloc: Global, lines: &mut TraceLines) -> Result<Trace, TraceFault
     ensures fit { IfOk result (λ trace. IsFitOpening trace.opening) }
 {
     let (version, opening) = read_opening(alloc, lines)?;
-    let count = read_event_count(lines)?;
-    let events = read_events(alloc, version, count, lines)?;
-    ended(lines, Trace { opening, events })
+    let read = match read_event_count(lines) {
+        Ok(count) => read_events(alloc, version, count, lines),
+        Err(fault) => Err(fault),
+    };
+    match read {
+        Ok(events) => ended(lines, Trace { opening, events }),
+        Err(fault) => {
+            drop(opening);
+            Err(fault)
+        }
+    }
 }
 
 /// Reads the text of a trace, in version 1 or 2. Errors: `TooLong`, `Line` of the first line that is not as a trace has it there, `Memory`.
