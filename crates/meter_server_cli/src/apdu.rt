@@ -51,18 +51,45 @@ fn requests(alloc: Global, text: &[u8]) -> Result<Vec<Vec<u8>>, Fault> {
     Ok(requests)
 }
 
+/// Adds a core's answer to a request, a line in hexadecimal.
+fn add_answer(
+    alloc: Global,
+    core: &mut RelayCore,
+    request: &[u8],
+    lines: &mut String,
+) -> Result<(), Fault> {
+    let answer = answer_apdu(core, alloc, request).map_err(|_| Fault::Memory)?;
+    let line = hex::encode_upper(alloc, answer.as_slice()).map_err(|_| Fault::Memory)?;
+    lines.push_str(line.as_str()).map_err(|_| Fault::Memory)?;
+    lines.push('\n').map_err(|_| Fault::Memory)
+}
+
 /// One core's answers to requests, a line each, in hexadecimal.
+fn add_answers(
+    alloc: Global,
+    core: &mut RelayCore,
+    requests: &[Vec<u8>],
+    lines: &mut String,
+) -> Result<(), Fault> {
+    for request in requests {
+        add_answer(alloc, core, request.as_slice(), lines)?;
+    }
+    Ok(())
+}
+
+/// The answers of a new meter to requests, a line each, in hexadecimal.
 fn answers(alloc: Global, requests: &[Vec<u8>]) -> Result<String, Fault> {
     let device = Octets::from_slice(alloc, b"RELAY1").map_err(|_| Fault::Memory)?;
-    let mut core = RelayCore::new(alloc, &device).map_err(|_| Fault::Memory)?;
     let mut lines = String::new(alloc);
-    for request in requests {
-        let answer = answer_apdu(&mut core, alloc, request.as_slice()).map_err(|_| Fault::Memory)?;
-        let line = hex::encode_upper(alloc, answer.as_slice()).map_err(|_| Fault::Memory)?;
-        lines.push_str(line.as_str()).map_err(|_| Fault::Memory)?;
-        lines.push('\n').map_err(|_| Fault::Memory)?;
-    }
-    Ok(lines)
+    let answered = match RelayCore::new(alloc, &device) {
+        Ok(mut core) => {
+            let answered = add_answers(alloc, &mut core, requests, &mut lines);
+            drop(core);
+            answered
+        }
+        Err(_) => Err(Fault::Memory),
+    };
+    answered.map(|()| lines)
 }
 
 /// The command `apdu`: answers each request of standard input. All requests are judged before any is answered.

@@ -99,19 +99,37 @@ fn session<'a>(alloc: Global) -> Arg<'a> {
         .value_parser(value_parser!(u32))
 }
 
-/// The command `serve`. Where the environment has no password, the command line has to give it.
-fn serve<'a>(alloc: Global, has_password: bool) -> Result<Command<'a>, AllocError> {
-    Command::new(alloc, "serve")
-        .about(
-            "Serves clients over TCP. Lines of standard input press the button, give samples and tell the time; at the end the trace is printed",
-        )
+/// The command `apdu`.
+fn apdu<'a>(alloc: Global) -> Command<'a> {
+    Command::new(alloc, "apdu").about(
+        "Answers xDLMS requests: each line of standard input is one, in hexadecimal",
+    )
+}
+
+/// A command with the options of `serve` that tell who is served and where. Where the environment has no password, the command line has to give it.
+fn with_meter<'a>(
+    alloc: Global,
+    command: Command<'a>,
+    has_password: bool,
+) -> Result<Command<'a>, AllocError> {
+    command
         .arg(password(alloc, !has_password))?
         .arg(device(alloc))?
-        .arg(listen(alloc))?
+        .arg(listen(alloc))
+}
+
+/// A command with the options of `serve` that bound what it keeps and for how long it serves.
+fn with_bounds<'a>(alloc: Global, command: Command<'a>) -> Result<Command<'a>, AllocError> {
+    command
         .arg(depth(alloc))?
         .arg(connections(alloc))?
         .arg(inactivity(alloc))?
-        .arg(session(alloc))?
+        .arg(session(alloc))
+}
+
+/// A command with the options of `serve` that have no value.
+fn with_flags<'a>(alloc: Global, command: Command<'a>) -> Result<Command<'a>, AllocError> {
+    command
         .arg(flag(
             alloc,
             "stop-with-input",
@@ -129,18 +147,39 @@ fn serve<'a>(alloc: Global, has_password: bool) -> Result<Command<'a>, AllocErro
         ))
 }
 
+/// The command `serve`. Where the environment has no password, the command line has to give it.
+fn serve<'a>(alloc: Global, has_password: bool) -> Result<Command<'a>, AllocError> {
+    let command = Command::new(alloc, "serve").about(
+        "Serves clients over TCP. Lines of standard input press the button, give samples and tell the time; at the end the trace is printed",
+    );
+    let command = with_meter(alloc, command, has_password)?;
+    let command = with_bounds(alloc, command)?;
+    with_flags(alloc, command)
+}
+
+/// The program's command with one of its subcommands.
+fn with_subcommand<'a>(
+    program: Command<'a>,
+    made: Result<Command<'a>, AllocError>,
+) -> Result<Command<'a>, AllocError> {
+    match made {
+        Ok(command) => program.subcommand(command),
+        Err(error) => {
+            drop(program);
+            Err(error)
+        }
+    }
+}
+
 /// The commands of the program. The environment may have the password of `serve`.
 pub fn command_line<'a>(alloc: Global, has_password: bool) -> Result<Command<'a>, AllocError> {
-    let apdu = Command::new(alloc, "apdu").about(
-        "Answers xDLMS requests: each line of standard input is one, in hexadecimal",
-    );
-    Command::new(alloc, "meter_server")
+    let program = Command::new(alloc, "meter_server")
         .bin_name("meter_server")?
         .version("0.1.0")
         .about("The supply switch of a DLMS/COSEM electricity meter")
         .after_help(LIMITS_AND_STATUSES)
-        .subcommand_required(true)
-        .subcommand(apdu)?
-        .subcommand(hex(alloc)?)?
-        .subcommand(serve(alloc, has_password)?)
+        .subcommand_required(true);
+    let program = program.subcommand(apdu(alloc))?;
+    let program = with_subcommand(program, hex(alloc))?;
+    with_subcommand(program, serve(alloc, has_password))
 }

@@ -68,6 +68,20 @@ fn password_of(rt: &HostRuntime, matches: &ArgMatches<'_>) -> Result<Octets, Fau
     }
 }
 
+/// The recorder of a meter that goes on from the trace at the head of an input.
+fn recorder_of_head<B: BufRead>(alloc: Global, input: &mut B, depth: u16) -> Result<Recorder, Fault>
+    requires { (1 ≤ depth) × (depth ≤ 1024) }
+    ensures { IfOk result (λ recorder. recorder.events ≡ []) }
+{
+    let trace = read_head(alloc, &mut input.by_ref().take(LONGEST_TRACE))?;
+    let made = resumed_recorder(alloc, &trace, depth);
+    drop(trace);
+    match made {
+        Ok(recorder) => Ok(recorder),
+        Err(_) => Err(Fault::Memory),
+    }
+}
+
 /// The recorder that the meter begins with: a new meter's, or that of one which goes on from the trace at the head of an input.
 fn first_recorder<B: BufRead>(
     alloc: Global,
@@ -82,13 +96,10 @@ fn first_recorder<B: BufRead>(
     if depth < 1 || depth > 1024 {
         return Err(Fault::Input);
     }
-    let made = if options.resumes {
-        let trace = read_head(alloc, &mut input.by_ref().take(LONGEST_TRACE))?;
-        resumed_recorder(alloc, &trace, depth)
-    } else {
-        Recorder::new(alloc, device, depth)
-    };
-    match made {
+    if options.resumes {
+        return recorder_of_head(alloc, input, depth);
+    }
+    match Recorder::new(alloc, device, depth) {
         Ok(recorder) => Ok(recorder),
         Err(_) => Err(Fault::Memory),
     }
