@@ -451,7 +451,7 @@ fn new_fault(
 fn what_is_not_taken_is_refused(rt: HostRuntime) {
     for (attribute, text, expected) in &WRITES {
         let found = new_fault(rt.alloc(), *attribute, text);
-        assert!(rt; found == Some(*expected), "{attribute:?} of {text}");
+        assert!(rt; found == Some(*expected), "{text}");
     }
 }
 

@@ -79,21 +79,20 @@ fn step_fault(alloc: Global, step: &str) -> Option<ScriptFault> {
     fault
 }
 
-/// Adds script `script` of so many steps, each of them `step`, but the last one, which is `last`.
-fn push_script(
-    alloc: Global,
-    text: &mut String,
-    script: u8,
-    (steps, step, last): (u8, &str, &str),
-) -> Result<(), AllocError> {
-    let start = format!(in alloc; "020212{script:04X}01{steps:02X}")?;
-    let pushed = text.push_str(start.as_str());
-    drop(start);
-    pushed?;
+/// Adds so many steps, all of them `step` but the last one, which is `last`.
+fn push_steps(text: &mut String, steps: u8, step: &str, last: &str) -> Result<(), AllocError> {
     for _ in 1..steps {
         text.push_str(step)?;
     }
     text.push_str(last)
+}
+
+/// Adds the start of script `script`, which has so many steps.
+fn push_start(alloc: Global, text: &mut String, script: u8, steps: u8) -> Result<(), AllocError> {
+    let start = format!(in alloc; "020212{script:04X}01{steps:02X}")?;
+    let pushed = text.push_str(start.as_str());
+    drop(start);
+    pushed
 }
 
 /// Adds so many scripts of so many steps, each of them `step`, but the last step of the last script, which is `last`.
@@ -105,7 +104,8 @@ fn push_scripts(
 ) -> Result<(), AllocError> {
     for script in 1..=scripts {
         let end = if script == scripts { last } else { step };
-        push_script(alloc, text, script, (steps, step, end))?;
+        push_start(alloc, text, script, steps)?;
+        push_steps(text, steps, step, end)?;
     }
     Ok(())
 }
@@ -165,7 +165,7 @@ fn check_steps(
     }
 }
 
-/// A copy of the table of a text.
+/// A copy of a table of a text.
 fn copied(alloc: Global, text: &str) -> Option<ScriptTable> {
     let table = table(alloc, text)?;
     let copy = table.try_clone(alloc).ok();
@@ -452,14 +452,15 @@ const READ_STEPS: [(&str, Step); 8] = [
     ("020516021200460906000060030AFF0F020F7F", Step::Reconnect),
 ];
 
+/// Whether a text is of this step.
+fn is_step_text(alloc: Global, text: &str, step: Step) -> bool {
+    is_step(alloc, one_step(alloc, text), Some(step)) == Ok(true)
+}
+
 #[test]
 fn steps_are_read(rt: HostRuntime) {
     for (text, step) in &READ_STEPS {
-        let found = one_step(rt.alloc(), text);
-        assert!(rt;
-            is_step(rt.alloc(), found, Some(*step)) == Ok(true),
-            "{text}"
-        );
+        assert!(rt; is_step_text(rt.alloc(), text, *step), "{text}");
     }
 }
 
