@@ -1,4 +1,4 @@
-ghost use Rattle.std.specs.Prelude.{IfOk};
+ghost use Rattle.std.specs.Prelude.{IfSome};
 ghost use Rattle.acse_ber.specs.Password.{IsPassword};
 
 use acse_ber::{
@@ -80,6 +80,7 @@ fn check_parts(rt: &impl Abort, aarq: &Aarq) {
 fn an_aarq_is_read_into_its_parts(rt: HostRuntime) -> Result<(), Fail> {
     let aarq = read_aarq(rt.alloc(), &MANAGEMENT_AARQ)?;
     check_parts(&rt, &aarq);
+    drop(aarq);
     Ok(())
 }
 
@@ -93,28 +94,43 @@ type Judged = (
 );
 
 // A password of a row, 1 to 32 bytes.
-fn password_of(alloc: Global, bytes: &[u8]) -> Result<Octets, Fail>
-    ensures { IfOk result IsPassword }
+fn password_of(alloc: Global, bytes: &[u8]) -> Option<Octets>
+    ensures { IfSome result IsPassword }
 {
     if bytes.is_empty() || bytes.len() > 32 {
-        return Err(Fail::from("a password has 1 to 32 bytes"));
+        return None;
     }
-    Ok(Octets::from_slice(alloc, bytes)?)
+    Octets::from_slice(alloc, bytes).ok()
 }
 
-fn has_verdict(alloc: Global, row: &Judged) -> Result<bool, Fail> {
+// The verdict on an AARQ.
+fn verdict_on(alloc: Global, aarq: &Aarq, port: u16, password: &[u8]) -> Option<Verdict> {
+    let password = password_of(alloc, password)?;
+    let verdict = judge(aarq, port, &password);
+    drop(password);
+    Some(verdict)
+}
+
+// The verdict on the bytes of an AARQ.
+fn verdict_of(alloc: Global, bytes: &[u8], port: u16, password: &[u8]) -> Option<Verdict> {
+    let aarq = read_aarq(alloc, bytes).ok()?;
+    let verdict = verdict_on(alloc, &aarq, port, password);
+    drop(aarq);
+    verdict
+}
+
+fn has_verdict(alloc: Global, row: &Judged) -> Result<bool, AllocError> {
     let (port, password, example, changes, verdict) = row;
     let bytes = changed(alloc, example, changes)?;
-    let aarq = read_aarq(alloc, bytes.as_slice())?;
-    let password = password_of(alloc, password)?;
-    Ok(judge(&aarq, *port, &password) == *verdict)
+    let found = verdict_of(alloc, bytes.as_slice(), *port, password);
+    drop(bytes);
+    Ok(found == Some(*verdict))
 }
 
-fn check_verdicts(rt: &impl Abort, alloc: Global, rows: &[Judged]) -> Result<(), Fail> {
+fn check_verdicts(rt: &impl Abort, alloc: Global, rows: &[Judged]) {
     for (place, row) in rows.iter().enumerate() {
-        assert!(*rt; has_verdict(alloc, row)?, "at {place}");
+        assert!(*rt; has_verdict(alloc, row) == Ok(true), "at {place}");
     }
-    Ok(())
 }
 
 const OF_THE_PUBLIC_CLIENT: [Judged; 2] = [
@@ -133,8 +149,8 @@ const OF_THE_PUBLIC_CLIENT: [Judged; 2] = [
 ];
 
 #[test]
-fn the_public_client_needs_no_password(rt: HostRuntime) -> Result<(), Fail> {
-    check_verdicts(&rt, rt.alloc(), &OF_THE_PUBLIC_CLIENT)
+fn the_public_client_needs_no_password(rt: HostRuntime) {
+    check_verdicts(&rt, rt.alloc(), &OF_THE_PUBLIC_CLIENT);
 }
 
 const OF_THE_MANAGEMENT_CLIENT: [Judged; 5] = [
@@ -167,8 +183,8 @@ const OF_THE_MANAGEMENT_CLIENT: [Judged; 5] = [
 ];
 
 #[test]
-fn the_management_client_needs_its_password(rt: HostRuntime) -> Result<(), Fail> {
-    check_verdicts(&rt, rt.alloc(), &OF_THE_MANAGEMENT_CLIENT)
+fn the_management_client_needs_its_password(rt: HostRuntime) {
+    check_verdicts(&rt, rt.alloc(), &OF_THE_MANAGEMENT_CLIENT);
 }
 
 // Another port, another context, a higher and the lowest level of security, and no InitiateRequest.
@@ -205,8 +221,8 @@ const OTHER_OPENINGS: [Judged; 5] = [
 ];
 
 #[test]
-fn other_ports_contexts_and_mechanisms_are_rejected(rt: HostRuntime) -> Result<(), Fail> {
-    check_verdicts(&rt, rt.alloc(), &OTHER_OPENINGS)
+fn other_ports_contexts_and_mechanisms_are_rejected(rt: HostRuntime) {
+    check_verdicts(&rt, rt.alloc(), &OTHER_OPENINGS);
 }
 
 // An older version, a PDU size that is too short, none, the shortest with GET alone, and no service that the meter offers.
@@ -257,8 +273,8 @@ const PROPOSALS: [Judged; 5] = [
 ];
 
 #[test]
-fn a_proposal_is_checked(rt: HostRuntime) -> Result<(), Fail> {
-    check_verdicts(&rt, rt.alloc(), &PROPOSALS)
+fn a_proposal_is_checked(rt: HostRuntime) {
+    check_verdicts(&rt, rt.alloc(), &PROPOSALS);
 }
 
 // The public client's AARQ with its fields in another order, and an empty one beside them.
@@ -277,8 +293,8 @@ const IN_OTHER_ORDERS: [Judged; 3] = [
 ];
 
 #[test]
-fn fields_come_in_any_order(rt: HostRuntime) -> Result<(), Fail> {
-    check_verdicts(&rt, rt.alloc(), &IN_OTHER_ORDERS)
+fn fields_come_in_any_order(rt: HostRuntime) {
+    check_verdicts(&rt, rt.alloc(), &IN_OTHER_ORDERS);
 }
 
 // Of the management client's AARQ ever more is wrong, and what is wrong comes ever sooner.
@@ -381,8 +397,8 @@ const WORST: [(usize, u8); 8] = [
 ];
 
 #[test]
-fn the_first_check_that_fails_decides(rt: HostRuntime) -> Result<(), Fail> {
-    check_verdicts(&rt, rt.alloc(), &FIRST_FAULTS)
+fn the_first_check_that_fails_decides(rt: HostRuntime) {
+    check_verdicts(&rt, rt.alloc(), &FIRST_FAULTS);
 }
 
 // A field twice, no context, a field of a lower tag, and a length that is one too many.
@@ -409,18 +425,17 @@ fn is_unreadable(
     changes: &[(usize, u8)],
 ) -> Result<bool, AllocError> {
     let bytes = changed(alloc, example, changes)?;
-    Ok(matches!(
-        read_aarq(alloc, bytes.as_slice()),
-        Err(AcseFault::Unreadable)
-    ))
+    let fault = read_aarq(alloc, bytes.as_slice()).err();
+    drop(bytes);
+    Ok(fault == Some(AcseFault::Unreadable))
 }
 
 #[test]
-fn fields_come_once_each(rt: HostRuntime) -> Result<(), Fail> {
+fn fields_come_once_each(rt: HostRuntime) {
     for (place, (example, changes)) in UNREADABLE_AARQS.iter().enumerate() {
-        assert!(rt; is_unreadable(rt.alloc(), example, changes)?, "at {place}");
+        let found = is_unreadable(rt.alloc(), example, changes);
+        assert!(rt; found == Ok(true), "at {place}");
     }
-    Ok(())
 }
 
 // Bytes, and whether they are a request for a release. A length may have one or two bytes behind its first, and not none or three.
@@ -458,27 +473,36 @@ fn management_aarq(alloc: Global) -> Result<Aarq, AllocError> {
 }
 
 fn is_written_as(alloc: Global, aarq: &Aarq, bytes: &[u8]) -> Result<bool, AllocError> {
-    Ok(write_aarq(alloc, aarq)?.as_slice() == bytes)
+    let text = write_aarq(alloc, aarq)?;
+    let is_same = text.as_slice() == bytes;
+    drop(text);
+    Ok(is_same)
 }
 
 #[test]
 fn an_aarq_is_written(rt: HostRuntime) -> Result<(), Fail> {
     let aarq = management_aarq(rt.alloc())?;
-    assert!(rt; is_written_as(rt.alloc(), &aarq, &MANAGEMENT_AARQ)?);
+    let found = is_written_as(rt.alloc(), &aarq, &MANAGEMENT_AARQ);
+    drop(aarq);
+    assert!(rt; found == Ok(true));
     Ok(())
 }
 
 #[test]
 fn an_aarq_is_written_as_it_was_read(rt: HostRuntime) -> Result<(), Fail> {
     let aarq = read_aarq(rt.alloc(), &PUBLIC_AARQ)?;
-    assert!(rt; is_written_as(rt.alloc(), &aarq, &PUBLIC_AARQ)?);
+    let found = is_written_as(rt.alloc(), &aarq, &PUBLIC_AARQ);
+    drop(aarq);
+    assert!(rt; found == Ok(true));
     Ok(())
 }
 
 #[test]
 fn a_clients_aarq_is_made(rt: HostRuntime) -> Result<(), Fail> {
     let aarq = low_level_aarq(rt.alloc(), PASSWORD, 0x1C19, 1024)?;
-    assert!(rt; is_written_as(rt.alloc(), &aarq, &MANAGEMENT_AARQ)?);
+    let found = is_written_as(rt.alloc(), &aarq, &MANAGEMENT_AARQ);
+    drop(aarq);
+    assert!(rt; found == Ok(true));
     Ok(())
 }
 
@@ -528,18 +552,27 @@ const WRITTEN_AARES: [WrittenAare; 5] = [
     ),
 ];
 
+// Whether the bytes are what is written of an AARE.
+fn is_text_of(alloc: Global, aare: &Aare, bytes: &[u8]) -> Result<bool, AllocError> {
+    let text = write_aare(alloc, aare)?;
+    let is_same = text.as_slice() == bytes;
+    drop(text);
+    Ok(is_same)
+}
+
 fn is_written(alloc: Global, row: &WrittenAare) -> Result<bool, AllocError> {
     let (aare, example, changes) = row;
     let bytes = changed(alloc, example, changes)?;
-    Ok(write_aare(alloc, aare)?.as_slice() == bytes.as_slice())
+    let found = is_text_of(alloc, aare, bytes.as_slice());
+    drop(bytes);
+    found
 }
 
 #[test]
-fn an_aare_is_written(rt: HostRuntime) -> Result<(), Fail> {
+fn an_aare_is_written(rt: HostRuntime) {
     for (place, row) in WRITTEN_AARES.iter().enumerate() {
-        assert!(rt; is_written(rt.alloc(), row)?, "at {place}");
+        assert!(rt; is_written(rt.alloc(), row) == Ok(true), "at {place}");
     }
-    Ok(())
 }
 
 // Bytes, as an example and what of it is changed, and what they are read as.
@@ -583,15 +616,16 @@ const READ_AARES: [ReadAare; 7] = [
 fn is_read(alloc: Global, row: &ReadAare) -> Result<bool, AllocError> {
     let (example, changes, expected) = row;
     let bytes = changed(alloc, example, changes)?;
-    Ok(read_aare(alloc, bytes.as_slice()) == *expected)
+    let found = read_aare(alloc, bytes.as_slice());
+    drop(bytes);
+    Ok(found == *expected)
 }
 
 #[test]
-fn an_aare_is_read(rt: HostRuntime) -> Result<(), Fail> {
+fn an_aare_is_read(rt: HostRuntime) {
     for (place, row) in READ_AARES.iter().enumerate() {
-        assert!(rt; is_read(rt.alloc(), row)?, "at {place}");
+        assert!(rt; is_read(rt.alloc(), row) == Ok(true), "at {place}");
     }
-    Ok(())
 }
 
 #[test]

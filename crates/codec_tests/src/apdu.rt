@@ -2,7 +2,6 @@ use cosem_axdr::{Data, Octets};
 use cosem_names::{AttrRef, AttributeSelection, ClassId, GetResult, MethodRef, Obis, ResultCode};
 use listed::Listed;
 use std::alloc::{AllocError, Global};
-use std::test::Fail;
 use xdlms_apdu::{
     ApduFault, Block, Exception, InvokeId, Request, Response, read_request, read_response,
     text_of_request_spells, text_of_response_spells, write_request, write_response,
@@ -278,37 +277,134 @@ fn text_of_response(alloc: Global, response: &Response) -> Result<Octets, AllocE
     write_response(alloc, response)
 }
 
-// Whether the bytes are read as that request, seen by what Debug writes of both, and are what is written of it.
-fn is_request(alloc: Global, bytes: &[u8], expected: &Request) -> Result<bool, Fail> {
-    let read = request_of(alloc, bytes)?;
-    let same = format!(in alloc; "{read:?}")? == format!(in alloc; "{expected:?}")?;
-    Ok(same && text_of_request(alloc, expected)?.as_slice() == bytes)
+// Whether Debug writes this of a request.
+fn is_debug_of_request(
+    alloc: Global,
+    request: &Request,
+    expected: &str,
+) -> Result<bool, AllocError> {
+    let text = format!(in alloc; "{request:?}")?;
+    let is_same = text.as_str() == expected;
+    drop(text);
+    Ok(is_same)
 }
 
-fn is_response(alloc: Global, bytes: &[u8], expected: &Response) -> Result<bool, Fail> {
-    let read = response_of(alloc, bytes)?;
-    let same = format!(in alloc; "{read:?}")? == format!(in alloc; "{expected:?}")?;
-    Ok(same && text_of_response(alloc, expected)?.as_slice() == bytes)
+// Whether requests are the same, seen by what Debug writes of both.
+fn are_same_requests(alloc: Global, one: &Request, other: &Request) -> Result<bool, AllocError> {
+    let text = format!(in alloc; "{one:?}")?;
+    let are_same = is_debug_of_request(alloc, other, text.as_str());
+    drop(text);
+    are_same
+}
+
+// Whether the bytes are read as that request.
+fn is_read_as_request(alloc: Global, bytes: &[u8], expected: &Request) -> bool {
+    match request_of(alloc, bytes) {
+        Ok(request) => {
+            let are_same = are_same_requests(alloc, &request, expected);
+            drop(request);
+            are_same == Ok(true)
+        }
+        Err(_) => false,
+    }
+}
+
+// Whether the bytes are what is written of a request.
+fn is_text_of_request(alloc: Global, request: &Request, bytes: &[u8]) -> bool {
+    match text_of_request(alloc, request) {
+        Ok(text) => {
+            let is_same = text.as_slice() == bytes;
+            drop(text);
+            is_same
+        }
+        Err(_) => false,
+    }
+}
+
+// Whether the text at that place of the table is read as what it spells, and is what is written of it.
+fn is_request_at(alloc: Global, place: usize, text: &[u8]) -> bool {
+    match request_at(alloc, place) {
+        Ok(expected) => {
+            let is_read = is_read_as_request(alloc, text, &expected);
+            let is_written = is_text_of_request(alloc, &expected, text);
+            drop(expected);
+            is_read && is_written
+        }
+        Err(_) => false,
+    }
+}
+
+// Whether Debug writes this of a response.
+fn is_debug_of_response(
+    alloc: Global,
+    response: &Response,
+    expected: &str,
+) -> Result<bool, AllocError> {
+    let text = format!(in alloc; "{response:?}")?;
+    let is_same = text.as_str() == expected;
+    drop(text);
+    Ok(is_same)
+}
+
+// Whether responses are the same, seen by what Debug writes of both.
+fn are_same_responses(alloc: Global, one: &Response, other: &Response) -> Result<bool, AllocError> {
+    let text = format!(in alloc; "{one:?}")?;
+    let are_same = is_debug_of_response(alloc, other, text.as_str());
+    drop(text);
+    are_same
+}
+
+// Whether the bytes are read as that response.
+fn is_read_as_response(alloc: Global, bytes: &[u8], expected: &Response) -> bool {
+    match response_of(alloc, bytes) {
+        Ok(response) => {
+            let are_same = are_same_responses(alloc, &response, expected);
+            drop(response);
+            are_same == Ok(true)
+        }
+        Err(_) => false,
+    }
+}
+
+// Whether the bytes are what is written of a response.
+fn is_text_of_response(alloc: Global, response: &Response, bytes: &[u8]) -> bool {
+    match text_of_response(alloc, response) {
+        Ok(text) => {
+            let is_same = text.as_slice() == bytes;
+            drop(text);
+            is_same
+        }
+        Err(_) => false,
+    }
+}
+
+// Whether the text at that place of the table is read as what it spells, and is what is written of it.
+fn is_response_at(alloc: Global, place: usize, text: &[u8]) -> bool {
+    match response_at(alloc, place) {
+        Ok(expected) => {
+            let is_read = is_read_as_response(alloc, text, &expected);
+            let is_written = is_text_of_response(alloc, &expected, text);
+            drop(expected);
+            is_read && is_written
+        }
+        Err(_) => false,
+    }
 }
 
 #[test]
-fn each_request_is_read_and_written(rt: HostRuntime) -> Result<(), Fail> {
+fn each_request_is_read_and_written(rt: HostRuntime) {
     text_of_request_spells();
     for (place, text) in REQUESTS.iter().enumerate() {
-        let expected = request_at(rt.alloc(), place)?;
-        assert!(rt; is_request(rt.alloc(), text, &expected)?, "at {place}");
+        assert!(rt; is_request_at(rt.alloc(), place, text), "at {place}");
     }
-    Ok(())
 }
 
 #[test]
-fn each_response_is_read_and_written(rt: HostRuntime) -> Result<(), Fail> {
+fn each_response_is_read_and_written(rt: HostRuntime) {
     text_of_response_spells();
     for (place, text) in RESPONSES.iter().enumerate() {
-        let expected = response_at(rt.alloc(), place)?;
-        assert!(rt; is_response(rt.alloc(), text, &expected)?, "at {place}");
+        assert!(rt; is_response_at(rt.alloc(), place, text), "at {place}");
     }
-    Ok(())
 }
 
 // Why bytes are no request, and no response; None where they are one.
@@ -320,10 +416,29 @@ fn response_fault(alloc: Global, bytes: &[u8]) -> Option<ApduFault> {
     response_of(alloc, bytes).err()
 }
 
-fn with_a_byte_behind(alloc: Global, text: &[u8]) -> Result<Vec<u8>, AllocError> {
-    let mut longer = text.to_vec(alloc)?;
-    longer.push(0)?;
-    Ok(longer)
+fn with_a_byte_behind(alloc: Global, text: &[u8]) -> Option<Vec<u8>> {
+    let mut longer = text.to_vec(alloc).ok()?;
+    if longer.push(0).is_ok() {
+        Some(longer)
+    } else {
+        drop(longer);
+        None
+    }
+}
+
+// Why a text with a byte behind it is no request, and no response; None where it is one.
+fn late_request_fault(alloc: Global, text: &[u8]) -> Option<ApduFault> {
+    let longer = with_a_byte_behind(alloc, text)?;
+    let fault = request_fault(alloc, longer.as_slice());
+    drop(longer);
+    fault
+}
+
+fn late_response_fault(alloc: Global, text: &[u8]) -> Option<ApduFault> {
+    let longer = with_a_byte_behind(alloc, text)?;
+    let fault = response_fault(alloc, longer.as_slice());
+    drop(longer);
+    fault
 }
 
 #[test]
@@ -340,13 +455,11 @@ fn a_request_that_ends_too_early_is_unreadable(rt: HostRuntime) {
 }
 
 #[test]
-fn a_request_that_ends_too_late_is_unreadable(rt: HostRuntime) -> Result<(), Fail> {
+fn a_request_that_ends_too_late_is_unreadable(rt: HostRuntime) {
     for text in &REQUESTS {
-        let longer = with_a_byte_behind(rt.alloc(), text)?;
-        let fault = request_fault(rt.alloc(), longer.as_slice());
-        assert!(rt; fault == Some(ApduFault::Unreadable), "{longer:?}");
+        let fault = late_request_fault(rt.alloc(), text);
+        assert!(rt; fault == Some(ApduFault::Unreadable), "{text:?}");
     }
-    Ok(())
 }
 
 #[test]
@@ -363,13 +476,11 @@ fn a_response_that_ends_too_early_is_unreadable(rt: HostRuntime) {
 }
 
 #[test]
-fn a_response_that_ends_too_late_is_unreadable(rt: HostRuntime) -> Result<(), Fail> {
+fn a_response_that_ends_too_late_is_unreadable(rt: HostRuntime) {
     for text in &RESPONSES {
-        let longer = with_a_byte_behind(rt.alloc(), text)?;
-        let fault = response_fault(rt.alloc(), longer.as_slice());
-        assert!(rt; fault == Some(ApduFault::Unreadable), "{longer:?}");
+        let fault = late_response_fault(rt.alloc(), text);
+        assert!(rt; fault == Some(ApduFault::Unreadable), "{text:?}");
     }
-    Ok(())
 }
 
 const REQUEST_FAULTS: [(&[u8], ApduFault); 11] = [
@@ -450,15 +561,20 @@ const OTHER_SPELLINGS: [(&[u8], &[u8]); 2] = [
 ];
 
 // Whether bytes are read as a request that is written as these.
-fn is_written_as(alloc: Global, bytes: &[u8], written: &[u8]) -> Result<bool, Fail> {
-    let request = request_of(alloc, bytes)?;
-    Ok(text_of_request(alloc, &request)?.as_slice() == written)
+fn is_written_as(alloc: Global, bytes: &[u8], written: &[u8]) -> bool {
+    match request_of(alloc, bytes) {
+        Ok(request) => {
+            let is_same = is_text_of_request(alloc, &request, written);
+            drop(request);
+            is_same
+        }
+        Err(_) => false,
+    }
 }
 
 #[test]
-fn other_spellings_are_read_and_not_written(rt: HostRuntime) -> Result<(), Fail> {
+fn other_spellings_are_read_and_not_written(rt: HostRuntime) {
     for (bytes, written) in &OTHER_SPELLINGS {
-        assert!(rt; is_written_as(rt.alloc(), bytes, written)?, "{bytes:?}");
+        assert!(rt; is_written_as(rt.alloc(), bytes, written), "{bytes:?}");
     }
-    Ok(())
 }

@@ -77,10 +77,13 @@ fn fault_of(alloc: Global, text: &[u8]) -> Option<DataFault> {
     read(alloc, text).err()
 }
 
-fn written(alloc: Global, value: &Data) -> Result<Octets, AllocError> {
+// Whether a value is written as these bytes.
+fn is_written(alloc: Global, value: &Data, bytes: &[u8]) -> bool {
     let mut text = Octets::new(alloc);
-    write(alloc, value, &mut text)?;
-    Ok(text)
+    let is_done = write(alloc, value, &mut text).is_ok();
+    let is_same = is_done && text.as_slice() == bytes;
+    drop(text);
+    is_same
 }
 
 fn is_fit(value: &Data) -> bool {
@@ -92,44 +95,77 @@ fn len_of(value: &Data) -> u64 {
 }
 
 // Whether all of the text is read as this value, of which it is the written text.
-fn is_text_of(alloc: Global, text: &[u8], value: &Data) -> Result<bool, DataFault> {
-    let (found, len) = read_from(alloc, text)?;
-    Ok(
-        found == *value
-            && len == text.len()
-            && written(alloc, &found)?.as_slice() == text
-            && len_of(value) == len as u64
-            && is_fit(value),
-    )
+fn is_text_of(alloc: Global, text: &[u8], value: &Data) -> bool {
+    match read_from(alloc, text) {
+        Ok((found, len)) => {
+            let is_same = found == *value && is_written(alloc, &found, text);
+            drop(found);
+            is_same && len == text.len() && len_of(value) == len as u64 && is_fit(value)
+        }
+        Err(_) => false,
+    }
 }
 
 // Whether all of the text is read, and written as the other.
-fn is_written_as(alloc: Global, text: &[u8], other: &[u8]) -> Result<bool, DataFault> {
-    let (value, len) = read_from(alloc, text)?;
-    Ok(len == text.len() && written(alloc, &value)?.as_slice() == other)
+fn is_written_as(alloc: Global, text: &[u8], other: &[u8]) -> bool {
+    match read_from(alloc, text) {
+        Ok((value, len)) => {
+            let is_same = is_written(alloc, &value, other);
+            drop(value);
+            is_same && len == text.len()
+        }
+        Err(_) => false,
+    }
+}
+
+// Whether this is the text of the value at that place.
+fn is_text_at(alloc: Global, place: usize, text: &[u8]) -> bool {
+    match value_at(alloc, place) {
+        Ok(value) => {
+            let is_text = is_text_of(alloc, text, &value);
+            drop(value);
+            is_text
+        }
+        Err(_) => false,
+    }
 }
 
 #[test]
-fn each_tag_is_read_and_written(rt: HostRuntime) -> Result<(), Fail> {
+fn each_tag_is_read_and_written(rt: HostRuntime) {
     for (place, text) in TEXTS.iter().enumerate() {
-        let value = value_at(rt.alloc(), place)?;
-        assert!(rt; is_text_of(rt.alloc(), text, &value)?, "at {place}");
+        assert!(rt; is_text_at(rt.alloc(), place, text), "at {place}");
     }
-    Ok(())
+}
+
+// Whether a copy of a value is equal to it.
+fn is_copied(alloc: Global, value: &Data) -> bool {
+    match value.try_clone(alloc) {
+        Ok(copy) => {
+            let is_same = copy == *value;
+            drop(copy);
+            is_same
+        }
+        Err(_) => false,
+    }
 }
 
 // Whether a copy of the value at that place is equal to it.
-fn is_copied(alloc: Global, place: usize) -> Result<bool, AllocError> {
-    let value = value_at(alloc, place)?;
-    Ok(value.try_clone(alloc)? == value)
+fn is_copied_at(alloc: Global, place: usize) -> bool {
+    match value_at(alloc, place) {
+        Ok(value) => {
+            let is_same = is_copied(alloc, &value);
+            drop(value);
+            is_same
+        }
+        Err(_) => false,
+    }
 }
 
 #[test]
-fn each_value_is_copied(rt: HostRuntime) -> Result<(), Fail> {
+fn each_value_is_copied(rt: HostRuntime) {
     for place in 0..20 {
-        assert!(rt; is_copied(rt.alloc(), place)?, "at {place}");
+        assert!(rt; is_copied_at(rt.alloc(), place), "at {place}");
     }
-    Ok(())
 }
 
 #[test]
@@ -155,17 +191,18 @@ const OTHER_FORMS: [(&[u8], &[u8]); 3] = [
 ];
 
 #[test]
-fn other_forms_are_read(rt: HostRuntime) -> Result<(), Fail> {
+fn other_forms_are_read(rt: HostRuntime) {
     for (text, written) in &OTHER_FORMS {
-        assert!(rt; is_written_as(rt.alloc(), text, written)?, "{text:?}");
+        assert!(rt; is_written_as(rt.alloc(), text, written), "{text:?}");
     }
-    Ok(())
 }
 
 #[test]
 fn bytes_behind_a_value_are_left(rt: HostRuntime) -> Result<(), Fail> {
     let (value, len) = read_from(rt.alloc(), &[0x16, 0x03, 0x16])?;
-    assert!(rt; value == Data::Enum(3) && len == 2);
+    let is_three = value == Data::Enum(3);
+    drop(value);
+    assert!(rt; is_three && len == 2);
     Ok(())
 }
 
@@ -222,7 +259,8 @@ fn eight_deep(alloc: Global) -> Result<Data, DataFault> {
 #[test]
 fn the_deepest_value_is_read_and_written(rt: HostRuntime) -> Result<(), Fail> {
     let value = eight_deep(rt.alloc())?;
-    assert!(rt; is_text_of(rt.alloc(), &NINE_DEEP[2..], &value)?);
+    assert!(rt; is_text_of(rt.alloc(), &NINE_DEEP[2..], &value));
+    drop(value);
     Ok(())
 }
 
@@ -231,6 +269,7 @@ fn a_value_around_the_deepest_does_not_fit(rt: HostRuntime) -> Result<(), Fail> 
     let items = vec![in rt.alloc(); eight_deep(rt.alloc())?]?;
     let deeper = Data::Structure(Items::from_vec(items));
     assert!(rt; !is_fit(&deeper) && len_of(&deeper) == 19);
+    drop(deeper);
     Ok(())
 }
 
@@ -262,56 +301,87 @@ fn make_wide(alloc: Global, form: Wide) -> Result<Data, AllocError> {
     }
 }
 
+// Whether a value is read from its text again.
+fn is_read_again(alloc: Global, value: &Data) -> bool {
+    let mut text = Octets::new(alloc);
+    let is_done = write(alloc, value, &mut text).is_ok();
+    let is_same = is_done && is_text_of(alloc, text.as_slice(), value);
+    drop(text);
+    is_same
+}
+
 // Whether a value has a text of so many bytes and is read from it again.
-fn is_widest(alloc: Global, form: Wide, len: u64) -> Result<bool, DataFault> {
-    let value = make_wide(alloc, form)?;
-    Ok(len_of(&value) == len && is_text_of(alloc, written(alloc, &value)?.as_slice(), &value)?)
+fn is_widest(alloc: Global, form: Wide, len: u64) -> bool {
+    match make_wide(alloc, form) {
+        Ok(value) => {
+            let is_same = len_of(&value) == len && is_read_again(alloc, &value);
+            drop(value);
+            is_same
+        }
+        Err(_) => false,
+    }
+}
+
+// The fault of a value's text.
+fn text_fault(alloc: Global, value: &Data) -> Option<DataFault> {
+    let mut text = Octets::new(alloc);
+    let is_done = write(alloc, value, &mut text).is_ok();
+    let fault = fault_of(alloc, text.as_slice());
+    drop(text);
+    if is_done { fault } else { None }
 }
 
 // Whether a value has a text of so many bytes, is not fit, and is too long to be read.
-fn is_too_wide(alloc: Global, form: Wide, len: u64) -> Result<bool, AllocError> {
-    let value = make_wide(alloc, form)?;
-    let fault = fault_of(alloc, written(alloc, &value)?.as_slice());
-    Ok(len_of(&value) == len && !is_fit(&value) && fault == Some(DataFault::TooLong))
+fn is_too_wide(alloc: Global, form: Wide, len: u64) -> bool {
+    match make_wide(alloc, form) {
+        Ok(value) => {
+            let is_long = len_of(&value) == len && !is_fit(&value);
+            let fault = text_fault(alloc, &value);
+            drop(value);
+            is_long && fault == Some(DataFault::TooLong)
+        }
+        Err(_) => false,
+    }
 }
 
 #[test]
-fn the_widest_values_are_read_and_written(rt: HostRuntime) -> Result<(), Fail> {
+fn the_widest_values_are_read_and_written(rt: HostRuntime) {
     for (form, len) in [(Wide::Nulls(255), 258), (Wide::String(8188), 8192)] {
-        assert!(rt; is_widest(rt.alloc(), form, len)?, "{len} bytes");
+        assert!(rt; is_widest(rt.alloc(), form, len), "{len} bytes");
     }
-    Ok(())
 }
 
 #[test]
-fn wider_values_are_too_long(rt: HostRuntime) -> Result<(), Fail> {
+fn wider_values_are_too_long(rt: HostRuntime) {
     for (form, len) in [(Wide::Nulls(256), 260), (Wide::String(8189), 8193)] {
-        assert!(rt; is_too_wide(rt.alloc(), form, len)?, "{len} bytes");
+        assert!(rt; is_too_wide(rt.alloc(), form, len), "{len} bytes");
     }
-    Ok(())
 }
 
 // Whether a bit-string of so many bits in one byte fits.
 fn bits_fit(alloc: Global, bits: usize, byte: u8) -> Result<bool, AllocError> {
     let bytes = Octets::from_slice(alloc, &[byte])?;
-    Ok(is_fit(&Data::BitString { bits, bytes }))
+    let value = Data::BitString { bits, bytes };
+    let is_fit = is_fit(&value);
+    drop(value);
+    Ok(is_fit)
 }
 
+// The bits of a bit-string, its byte, and whether it fits.
+const BITS: [(usize, u8, bool); 5] = [
+    (5, 0xB8, true),
+    (8, 0xFF, true),
+    (9, 0xB8, false),
+    (0, 0x00, false),
+    (5, 0xB9, false),
+];
+
 #[test]
-fn bit_strings_that_are_not_whole_do_not_fit(rt: HostRuntime) -> Result<(), Fail> {
-    for (bits, byte, fits) in [
-        (5, 0xB8, true),
-        (8, 0xFF, true),
-        (9, 0xB8, false),
-        (0, 0x00, false),
-        (5, 0xB9, false),
-    ] {
-        assert!(rt;
-            bits_fit(rt.alloc(), bits, byte)? == fits,
-            "{bits} of {byte}"
-        );
+fn bit_strings_that_are_not_whole_do_not_fit(rt: HostRuntime) {
+    for (bits, byte, fits) in &BITS {
+        let found = bits_fit(rt.alloc(), *bits, *byte);
+        assert!(rt; found == Ok(*fits), "{bits} of {byte}");
     }
-    Ok(())
 }
 
 #[test]
@@ -324,7 +394,7 @@ fn accessors_give_numbers(rt: HostRuntime) {
         Data::Enum(3).enumerated() == Some(3),
         Data::Integer(-2).integer() == Some(-2),
     ];
-    assert_eq!(rt; found, [true; 6]);
+    assert!(rt; found == [true; 6]);
 }
 
 // Whether the accessors give the bytes of a string, a date-time, a date and a time.
@@ -340,7 +410,8 @@ fn bytes_given(string: &Data) -> [bool; 4] {
 #[test]
 fn accessors_give_bytes(rt: HostRuntime) -> Result<(), Fail> {
     let string = value_at(rt.alloc(), 7)?;
-    assert_eq!(rt; bytes_given(&string), [true; 4]);
+    assert!(rt; bytes_given(&string) == [true; 4]);
+    drop(string);
     Ok(())
 }
 
@@ -361,20 +432,37 @@ fn items_given(value: &Data) -> (Option<usize>, Option<usize>) {
 fn accessors_give_items(rt: HostRuntime) -> Result<(), Fail> {
     for (place, given) in [(1, (Some(2), None)), (2, (None, Some(2)))] {
         let value = value_at(rt.alloc(), place)?;
-        assert!(rt; items_given(&value) == given, "at {place}");
+        let found = items_given(&value);
+        drop(value);
+        assert!(rt; found == given, "at {place}");
     }
     Ok(())
 }
 
+// Whether a value is equal to the one at that place.
+fn is_value_at(alloc: Global, value: &Data, place: usize) -> Result<bool, AllocError> {
+    let other = value_at(alloc, place)?;
+    let is_same = *value == other;
+    drop(other);
+    Ok(is_same)
+}
+
+// Whether the values at two places are equal.
+fn are_equal(alloc: Global, one: usize, other: usize) -> Result<bool, AllocError> {
+    let value = value_at(alloc, one)?;
+    let is_same = is_value_at(alloc, &value, other);
+    drop(value);
+    is_same
+}
+
 #[test]
-fn values_are_equal_to_themselves_alone(rt: HostRuntime) -> Result<(), Fail> {
-    for a in 0..20 {
-        for b in 0..20 {
-            let same = value_at(rt.alloc(), a)? == value_at(rt.alloc(), b)?;
-            assert!(rt; same == (a == b), "{a} and {b}");
+fn values_are_equal_to_themselves_alone(rt: HostRuntime) {
+    for one in 0..20 {
+        for other in 0..20 {
+            let found = are_equal(rt.alloc(), one, other);
+            assert!(rt; found == Ok(one == other), "{one} and {other}");
         }
     }
-    Ok(())
 }
 
 #[test]
@@ -385,33 +473,28 @@ fn items_keep_what_is_put_in(rt: HostRuntime) -> Result<(), Fail> {
     Ok(())
 }
 
-// Three bytes, put in by one and by two.
-fn three_octets(alloc: Global) -> Result<Octets, AllocError> {
-    let mut octets = Octets::new(alloc);
+// Puts in three bytes, by one and by two.
+fn push_three(octets: &mut Octets) -> Result<(), AllocError> {
     octets.push(0xAB)?;
-    octets.extend_from_slice(&[0xCD, 0xEF])?;
-    Ok(octets)
+    octets.extend_from_slice(&[0xCD, 0xEF])
 }
 
-// The bytes of a copy, where it is equal to what it was made of.
-fn copied(alloc: Global, octets: &Octets) -> Result<Option<Vec<u8>>, AllocError> {
+// Whether octets are the three bytes, and a copy is equal to them and gives them back.
+fn are_three(alloc: Global, octets: &Octets) -> Result<bool, AllocError> {
     let copy = octets.try_clone(alloc)?;
-    if copy == *octets {
-        Ok(Some(copy.into_vec()))
-    } else {
-        Ok(None)
-    }
+    let is_same = copy == *octets && !octets.is_empty() && octets.len() == 3;
+    let bytes = copy.into_vec();
+    let are_bytes = bytes.as_slice() == [0xAB, 0xCD, 0xEF].as_slice();
+    drop(bytes);
+    Ok(is_same && are_bytes)
 }
 
 #[test]
-fn octets_keep_what_is_put_in(rt: HostRuntime) -> Result<(), Fail> {
-    let octets = three_octets(rt.alloc())?;
-    let counted = !octets.is_empty() && octets.len() == 3;
-    let copy = copied(rt.alloc(), &octets)?;
-    assert!(rt;
-        counted && copy.is_some_and(|bytes| bytes.as_slice() == [0xAB, 0xCD, 0xEF].as_slice())
-    );
-    Ok(())
+fn octets_keep_what_is_put_in(rt: HostRuntime) {
+    let mut octets = Octets::new(rt.alloc());
+    assert!(rt; push_three(&mut octets).is_ok());
+    assert!(rt; are_three(rt.alloc(), &octets) == Ok(true));
+    drop(octets);
 }
 
 #[test]

@@ -51,57 +51,86 @@ fn is_read(
     limiter: &Limiter,
     attribute: LimiterAttribute,
     text: &str,
-) -> Result<bool, Fail> {
-    let value = shown(alloc, which, limiter, attribute)?;
-    is_text(alloc, &value, text)
-}
-
-/// Writes an attribute with the Data of this text, and says whether it is taken.
-fn write(
-    alloc: Global,
-    limiter: &mut Limiter,
-    attribute: LimiterAttribute,
-    text: &str,
-) -> Result<bool, Fail> {
-    let value = data(alloc, text)?;
-    match setting_of(attribute, &value) {
-        Ok(Some(setting)) => {
-            apply(setting, limiter);
-            Ok(true)
+) -> bool {
+    match shown(alloc, which, limiter, attribute) {
+        Ok(value) => {
+            let found = is_text(alloc, &value, text);
+            drop(value);
+            found
         }
-        _ => Ok(false),
+        Err(_) => false,
     }
 }
 
-/// Writes the group ids with the Data of this text.
-fn write_ids(alloc: Global, limiter: &mut Limiter, text: &str) -> Result<(), Fail> {
-    let mut with_ids = groups_of(alloc, &data(alloc, text)?)?;
-    swap_groups(limiter, &mut with_ids);
-    Ok(())
-}
-
-/// The fault of a write of an attribute with the Data of this text.
-fn fault(
+/// The setting of an attribute by the Data of this text; none where there is no Data.
+fn setting(
     alloc: Global,
     attribute: LimiterAttribute,
     text: &str,
-) -> Result<Option<SettingFault>, Fail> {
-    Ok(setting_of(attribute, &data(alloc, text)?).err())
+) -> Option<Result<Option<Setting>, SettingFault>> {
+    let value = data(alloc, text)?;
+    let setting = setting_of(attribute, &value);
+    drop(value);
+    Some(setting)
 }
 
-/// The fault of a write of group ids with the Data of this text.
-fn ids_fault(alloc: Global, text: &str) -> Result<Option<SettingFault>, Fail> {
-    Ok(groups_of(alloc, &data(alloc, text)?).err())
+/// Writes an attribute with the Data of this text, and says whether it is taken.
+fn write(alloc: Global, limiter: &mut Limiter, attribute: LimiterAttribute, text: &str) -> bool {
+    match setting(alloc, attribute, text) {
+        Some(Ok(Some(setting))) => {
+            apply(setting, limiter);
+            true
+        }
+        _ => false,
+    }
+}
+
+/// A limiter with the group ids of this text.
+fn with_ids(alloc: Global, text: &str) -> Option<Limiter> {
+    let value = data(alloc, text)?;
+    let limiter = groups_of(alloc, &value).ok();
+    drop(value);
+    limiter
+}
+
+/// Writes the group ids with the Data of this text, and says whether they are taken.
+fn write_ids(alloc: Global, limiter: &mut Limiter, text: &str) -> bool {
+    match with_ids(alloc, text) {
+        Some(mut other) => {
+            swap_groups(limiter, &mut other);
+            drop(other);
+            true
+        }
+        None => false,
+    }
+}
+
+/// The fault of a write of group ids with the Data of this text, if it has one; none where there is no Data.
+fn ids_fault(alloc: Global, text: &str) -> Option<Option<SettingFault>> {
+    let value = data(alloc, text)?;
+    let fault = groups_of(alloc, &value).err();
+    drop(value);
+    Some(fault)
+}
+
+/// Adds so many items, all of them long-unsigned 5 but the last one.
+fn push_ids(text: &mut String, count: u8, last: &str) -> Result<(), AllocError> {
+    for _ in 1..count {
+        text.push_str("120005")?;
+    }
+    text.push_str(last)
 }
 
 /// An array of so many items, all of them long-unsigned 5 but the last one.
 fn ids_text(alloc: Global, count: u8, last: &str) -> Result<String, AllocError> {
     let mut text = format!(in alloc; "01{count:02X}")?;
-    for _ in 1..count {
-        text.push_str("120005")?;
+    match push_ids(&mut text, count, last) {
+        Ok(()) => Ok(text),
+        Err(fault) => {
+            drop(text);
+            Err(fault)
+        }
     }
-    text.push_str(last)?;
-    Ok(text)
 }
 
 /// What is done with an import limiter, and what it then is to show.
@@ -119,29 +148,26 @@ enum Step {
 }
 
 /// Takes a step, and says whether it went as it is to go.
-fn take(alloc: Global, limiter: &mut Limiter, step: &Step) -> Result<bool, Fail> {
+fn take(alloc: Global, limiter: &mut Limiter, step: &Step) -> bool {
     match step {
         Step::Write(attribute, text) => write(alloc, limiter, *attribute, text),
-        Step::WriteIds(text) => {
-            write_ids(alloc, limiter, text)?;
-            Ok(true)
-        }
+        Step::WriteIds(text) => write_ids(alloc, limiter, text),
         Step::At(moment) => {
             limiter.at(*moment);
-            Ok(true)
+            true
         }
-        Step::Sample(sample, is_over) => Ok((limiter.sample(*sample) == Fire::Over) == *is_over),
+        Step::Sample(sample, is_over) => (limiter.sample(*sample) == Fire::Over) == *is_over,
         Step::Read(attribute, text) => is_read(alloc, Which::Import, limiter, *attribute, text),
     }
 }
 
 /// Takes these steps with a new limiter.
-fn play(rt: &impl Abort, alloc: Global, steps: &[Step]) -> Result<(), Fail> {
+fn play(rt: &impl Abort, alloc: Global, steps: &[Step]) {
     let mut limiter = Limiter::new(alloc);
     for (place, step) in steps.iter().enumerate() {
-        assert!(*rt; take(alloc, &mut limiter, step)?, "at step {place}");
+        assert!(*rt; take(alloc, &mut limiter, step), "at step {place}");
     }
-    Ok(())
+    drop(limiter);
 }
 
 const NUMBERS: [(u8, LimiterAttribute); 10] = [
@@ -171,18 +197,22 @@ fn attributes_have_the_numbers_2_to_11(rt: HostRuntime) {
     }
 }
 
+const MONITORED: [(Which, &str); 2] = [
+    (Which::Import, "020312000309060100010700FF0F02"),
+    (Which::Export, "020312000309060100020700FF0F02"),
+];
+
 #[test]
-fn each_limiter_monitors_its_register(rt: HostRuntime) -> Result<(), Fail> {
-    let alloc = rt.alloc();
-    let limiter = Limiter::new(alloc);
-    for (which, text) in [
-        (Which::Import, "020312000309060100010700FF0F02"),
-        (Which::Export, "020312000309060100020700FF0F02"),
-    ] {
+fn each_limiter_monitors_its_register(rt: HostRuntime) {
+    let limiter = Limiter::new(rt.alloc());
+    for (which, text) in &MONITORED {
         let attribute = LimiterAttribute::MonitoredValue;
-        assert!(rt; is_read(alloc, which, &limiter, attribute, text)?, "{text}");
+        assert!(rt;
+            is_read(rt.alloc(), *which, &limiter, attribute, text),
+            "{text}"
+        );
     }
-    Ok(())
+    drop(limiter);
 }
 
 const OF_A_NEW_LIMITER: [Step; 9] = [
@@ -204,8 +234,8 @@ const OF_A_NEW_LIMITER: [Step; 9] = [
 ];
 
 #[test]
-fn a_new_limiter(rt: HostRuntime) -> Result<(), Fail> {
-    play(&rt, rt.alloc(), &OF_A_NEW_LIMITER)
+fn a_new_limiter(rt: HostRuntime) {
+    play(&rt, rt.alloc(), &OF_A_NEW_LIMITER);
 }
 
 const THRESHOLDS_AND_DURATIONS: [Step; 21] = [
@@ -234,8 +264,8 @@ const THRESHOLDS_AND_DURATIONS: [Step; 21] = [
 ];
 
 #[test]
-fn thresholds_and_durations_are_read_back(rt: HostRuntime) -> Result<(), Fail> {
-    play(&rt, rt.alloc(), &THRESHOLDS_AND_DURATIONS)
+fn thresholds_and_durations_are_read_back(rt: HostRuntime) {
+    play(&rt, rt.alloc(), &THRESHOLDS_AND_DURATIONS);
 }
 
 const EMERGENCY: [Step; 17] = [
@@ -259,8 +289,8 @@ const EMERGENCY: [Step; 17] = [
 ];
 
 #[test]
-fn an_emergency_profile_is_active_in_its_time(rt: HostRuntime) -> Result<(), Fail> {
-    play(&rt, rt.alloc(), &EMERGENCY)
+fn an_emergency_profile_is_active_in_its_time(rt: HostRuntime) {
+    play(&rt, rt.alloc(), &EMERGENCY);
 }
 
 const START_AS_A_DATE_TIME: [Step; 2] = [
@@ -272,80 +302,91 @@ const START_AS_A_DATE_TIME: [Step; 2] = [
 ];
 
 #[test]
-fn a_start_may_be_a_date_time(rt: HostRuntime) -> Result<(), Fail> {
-    play(&rt, rt.alloc(), &START_AS_A_DATE_TIME)
+fn a_start_may_be_a_date_time(rt: HostRuntime) {
+    play(&rt, rt.alloc(), &START_AS_A_DATE_TIME);
 }
 
 #[test]
-fn actions_are_read_back(rt: HostRuntime) -> Result<(), Fail> {
+fn actions_are_read_back(rt: HostRuntime) {
     let alloc = rt.alloc();
-    let mut limiter = Limiter::new(alloc);
-    let is_taken = write(alloc, &mut limiter, LimiterAttribute::Actions, ACTIONS)?;
-    let actions = Actions {
-        over: 1,
-        under: 258,
-    };
-    assert!(rt; is_taken && limiter.actions() == actions);
     let attribute = LimiterAttribute::Actions;
-    assert!(rt; is_read(alloc, Which::Import, &limiter, attribute, ACTIONS)?);
-    Ok(())
+    let mut limiter = Limiter::new(alloc);
+    assert!(rt; write(alloc, &mut limiter, attribute, ACTIONS));
+    assert!(rt;
+        limiter.actions()
+            == Actions {
+                over: 1,
+                under: 258
+            }
+    );
+    assert!(rt; is_read(alloc, Which::Import, &limiter, attribute, ACTIONS));
+    drop(limiter);
 }
 
-/// Trades group ids of a text for those of a limiter, and says what both then have.
-fn is_traded(alloc: Global, limiter: &mut Limiter) -> Result<[bool; 4], Fail> {
-    let mut other = groups_of(alloc, &data(alloc, "0103120007120001120007")?)?;
-    swap_groups(limiter, &mut other);
-    Ok([
+/// Trades group ids for those of a limiter, and says what both then have.
+fn traded(limiter: &mut Limiter, other: &mut Limiter) -> [bool; 4] {
+    swap_groups(limiter, other);
+    [
         limiter.groups() == [7, 1, 7].as_slice(),
         limiter.normal_threshold() == 3000,
         other.groups().is_empty(),
         other.normal_threshold() == u32::MAX,
-    ])
+    ]
+}
+
+/// Trades group ids of a text for those of a limiter, and says whether both then have what they are to have.
+fn is_traded(alloc: Global, limiter: &mut Limiter) -> bool {
+    match with_ids(alloc, "0103120007120001120007") {
+        Some(mut other) => {
+            let found = traded(limiter, &mut other);
+            drop(other);
+            found == [true; 4]
+        }
+        None => false,
+    }
 }
 
 /// Writes as many group ids as a limiter has at most, and says whether it has them.
-fn is_filled(alloc: Global, limiter: &mut Limiter) -> Result<[bool; 3], Fail> {
-    let full = ids_text(alloc, 32, "12FFFF")?;
-    write_ids(alloc, limiter, full.as_str())?;
+fn is_filled(alloc: Global, limiter: &mut Limiter, full: &str) -> [bool; 4] {
     let attribute = LimiterAttribute::EmergencyProfileGroupIdList;
-    Ok([
+    [
+        write_ids(alloc, limiter, full),
         limiter.groups().len() == 32,
         limiter.groups().get(31) == Some(&65_535),
-        is_read(alloc, Which::Import, limiter, attribute, full.as_str())?,
-    ])
+        is_read(alloc, Which::Import, limiter, attribute, full),
+    ]
 }
 
-/// Trades a limiter's group ids, of which there are none at first, and writes others.
-fn trade(rt: &impl Abort, alloc: Global, limiter: &mut Limiter) -> Result<(), Fail> {
+/// Trades a limiter's group ids, of which there are none at first, and writes others, at last these.
+fn trade(rt: &impl Abort, alloc: Global, limiter: &mut Limiter, full: &str) {
     let attribute = LimiterAttribute::ThresholdNormal;
-    assert!(*rt; write(alloc, limiter, attribute, "0600000BB8")?);
-    assert_eq!(*rt; is_traded(alloc, limiter)?, [true; 4]);
-    write_ids(alloc, limiter, "0100")?;
-    assert!(*rt; limiter.groups().is_empty());
-    assert_eq!(*rt; is_filled(alloc, limiter)?, [true; 3]);
-    Ok(())
+    assert!(*rt; write(alloc, limiter, attribute, "0600000BB8"));
+    assert!(*rt; is_traded(alloc, limiter));
+    assert!(*rt; write_ids(alloc, limiter, "0100") && limiter.groups().is_empty());
+    assert!(*rt; is_filled(alloc, limiter, full) == [true; 4]);
 }
 
 #[test]
 fn group_ids_are_traded(rt: HostRuntime) -> Result<(), Fail> {
+    let full = ids_text(rt.alloc(), 32, "12FFFF")?;
     let mut limiter = Limiter::new(rt.alloc());
-    trade(&rt, rt.alloc(), &mut limiter)
+    trade(&rt, rt.alloc(), &mut limiter, full.as_str());
+    drop(limiter);
+    drop(full);
+    Ok(())
 }
 
 #[test]
-fn other_attributes_set_nothing(rt: HostRuntime) -> Result<(), Fail> {
-    let alloc = rt.alloc();
+fn other_attributes_set_nothing(rt: HostRuntime) {
     for attribute in [
         LimiterAttribute::MonitoredValue,
         LimiterAttribute::ThresholdActive,
         LimiterAttribute::EmergencyProfileGroupIdList,
         LimiterAttribute::EmergencyProfileActive,
     ] {
-        let is_refused = fault(alloc, attribute, "0600000001")?.is_some();
-        let is_taken = write(alloc, &mut Limiter::new(alloc), attribute, "0600000001")?;
-        assert!(rt; !is_refused && !is_taken, "{attribute:?}");
+        let setting = setting(rt.alloc(), attribute, "0600000001");
+        assert!(rt; matches!(setting, Some(Ok(None))), "{attribute:?}");
     }
-    Ok(())
 }
 
 /// No double-long-unsigned.
@@ -456,15 +497,31 @@ const REFUSED: [(LimiterAttribute, &[&str], SettingFault); 8] = [
     ),
 ];
 
-#[test]
-fn what_an_attribute_does_not_take_is_refused(rt: HostRuntime) -> Result<(), Fail> {
-    for (attribute, texts, expected) in &REFUSED {
-        for text in *texts {
-            let found = fault(rt.alloc(), *attribute, text)?;
-            assert!(rt; found == Some(*expected), "{attribute:?} of {text}");
-        }
+/// The fault of a write of an attribute with the Data of this text.
+fn fault(alloc: Global, attribute: LimiterAttribute, text: &str) -> Option<SettingFault> {
+    match setting(alloc, attribute, text) {
+        Some(Err(fault)) => Some(fault),
+        _ => None,
     }
-    Ok(())
+}
+
+/// Wants this fault of an attribute for each of these texts.
+fn check_faults(
+    rt: &impl Abort,
+    alloc: Global,
+    (attribute, texts, expected): &(LimiterAttribute, &[&str], SettingFault),
+) {
+    for text in *texts {
+        let found = fault(alloc, *attribute, text);
+        assert!(*rt; found == Some(*expected), "{attribute:?} of {text}");
+    }
+}
+
+#[test]
+fn what_an_attribute_does_not_take_is_refused(rt: HostRuntime) {
+    for row in &REFUSED {
+        check_faults(&rt, rt.alloc(), row);
+    }
 }
 
 /// No group ids.
@@ -479,12 +536,11 @@ const IDS_OF_OTHER_TYPES: [&str; 7] = [
 ];
 
 #[test]
-fn group_ids_of_other_types_are_refused(rt: HostRuntime) -> Result<(), Fail> {
+fn group_ids_of_other_types_are_refused(rt: HostRuntime) {
     for text in &IDS_OF_OTHER_TYPES {
-        let found = ids_fault(rt.alloc(), text)?;
-        assert!(rt; found == Some(SettingFault::Unmatched), "{text}");
+        let found = ids_fault(rt.alloc(), text);
+        assert!(rt; found == Some(Some(SettingFault::Unmatched)), "{text}");
     }
-    Ok(())
 }
 
 /// How many ids, the text of the last one, and the fault.
@@ -495,12 +551,18 @@ const MANY_IDS: [(u8, &str, Option<SettingFault>); 3] = [
     (33, "1105", Some(SettingFault::Unmatched)),
 ];
 
+/// The fault of so many ids, if they have one; none where there is no Data.
+fn many_ids_fault(alloc: Global, count: u8, last: &str) -> Option<Option<SettingFault>> {
+    let text = ids_text(alloc, count, last).ok()?;
+    let found = ids_fault(alloc, text.as_str());
+    drop(text);
+    found
+}
+
 #[test]
-fn a_limiter_has_32_groups_at_most(rt: HostRuntime) -> Result<(), Fail> {
+fn a_limiter_has_32_groups_at_most(rt: HostRuntime) {
     for (count, last, expected) in &MANY_IDS {
-        let text = ids_text(rt.alloc(), *count, last)?;
-        let found = ids_fault(rt.alloc(), text.as_str())?;
-        assert!(rt; found == *expected, "{count}, {last}");
+        let found = many_ids_fault(rt.alloc(), *count, last);
+        assert!(rt; found == Some(*expected), "{count}, {last}");
     }
-    Ok(())
 }

@@ -15,110 +15,85 @@ const LAST_SECOND: &str = "010102020904173B3B000905FFFFFFFEFF";
 /// 31 March 2028, 23:59:59.
 const MARCH: u32 = 891_475_199;
 
+/// An attribute, the text that is written to it, and the fault of the write, if it has one.
+type Write = (ScheduleAttribute, &'static str, Option<ScheduleFault>);
+
+/// An attribute, and the text that it is written as.
+type Written = (ScheduleAttribute, &'static str);
+
 /// Whether an attribute is written as the bytes of this text.
 fn is_written(
     alloc: Global,
     schedule: &ActionSchedule,
     attribute: ScheduleAttribute,
     text: &str,
-) -> Result<bool, Fail> {
-    let value = schedule.to_data(alloc, attribute)?;
-    is_text(alloc, &value, text)
-}
-
-// The calls under test, without their contracts: a test is run for what no clause says, and its own proof then has little to look at.
-fn set_script(schedule: &mut ActionSchedule, value: &Data) -> Result<(), ScheduleFault> {
-    schedule.set_script(value)
-}
-
-fn set_kind(schedule: &mut ActionSchedule, value: &Data) -> Result<(), ScheduleFault> {
-    schedule.set_kind(value)
-}
-
-fn set_entries(
-    alloc: Global,
-    schedule: &mut ActionSchedule,
-    value: &Data,
-) -> Result<(), ScheduleFault> {
-    schedule.set_entries(alloc, value)
-}
-
-fn swap_entries(one: &mut ActionSchedule, other: &mut ActionSchedule) {
-    one.swap_entries(other);
-}
-
-/// Gives a schedule script 1, a type, and the entries of this text.
-fn set_all(
-    alloc: Global,
-    schedule: &mut ActionSchedule,
-    kind: u8,
-    entries: &str,
-) -> Result<(), Fail> {
-    set_script(schedule, &data(alloc, SCRIPT)?)?;
-    set_kind(schedule, &Data::Enum(kind))?;
-    set_entries(alloc, schedule, &data(alloc, entries)?)?;
-    Ok(())
-}
-
-/// A schedule of a type, with the entries of this text.
-fn schedule(alloc: Global, kind: u8, entries: &str) -> Result<ActionSchedule, Fail> {
-    let mut schedule = ActionSchedule::new(alloc);
-    set_all(alloc, &mut schedule, kind, entries)?;
-    Ok(schedule)
-}
-
-/// Whether a schedule of a type fits it with the entries of this text.
-fn is_fit(alloc: Global, kind: u8, entries: &str) -> Result<bool, Fail> {
-    Ok(schedule(alloc, kind, entries)?.fits())
+) -> bool {
+    match schedule.to_data(alloc, attribute) {
+        Ok(value) => {
+            let found = is_text(alloc, &value, text);
+            drop(value);
+            found
+        }
+        Err(_) => false,
+    }
 }
 
 /// Wants that attributes of a schedule are written as these texts.
-fn check_written(
-    rt: &impl Abort,
-    alloc: Global,
-    schedule: &ActionSchedule,
-    expected: &[(ScheduleAttribute, &str)],
-) -> Result<(), Fail> {
+fn check_written(rt: &impl Abort, alloc: Global, schedule: &ActionSchedule, expected: &[Written]) {
     for (attribute, text) in expected {
-        assert!(*rt; is_written(alloc, schedule, *attribute, text)?, "{text}");
+        assert!(*rt; is_written(alloc, schedule, *attribute, text), "{text}");
     }
-    Ok(())
 }
 
-/// An attribute and the text that is written to it.
-enum Write {
-    Script(&'static str),
-    Kind(&'static str),
-    Entries(&'static str),
+/// Writes an attribute, and gives the fault of the write.
+fn set(
+    alloc: Global,
+    schedule: &mut ActionSchedule,
+    attribute: ScheduleAttribute,
+    value: &Data,
+) -> Option<ScheduleFault> {
+    match attribute {
+        ScheduleAttribute::ExecutedScript => schedule.set_script(value).err(),
+        ScheduleAttribute::Kind => schedule.set_kind(value).err(),
+        ScheduleAttribute::ExecutionTime => schedule.set_entries(alloc, value).err(),
+    }
 }
 
-/// The fault of a write.
+/// The fault of a write of this text, if it has one; none where there is no Data.
 fn fault_of(
     alloc: Global,
     schedule: &mut ActionSchedule,
-    write: &Write,
-) -> Result<Option<ScheduleFault>, Fail> {
-    Ok(match write {
-        Write::Script(text) => set_script(schedule, &data(alloc, text)?).err(),
-        Write::Kind(text) => set_kind(schedule, &data(alloc, text)?).err(),
-        Write::Entries(text) => set_entries(alloc, schedule, &data(alloc, text)?).err(),
-    })
+    attribute: ScheduleAttribute,
+    text: &str,
+) -> Option<Option<ScheduleFault>> {
+    let value = data(alloc, text)?;
+    let fault = set(alloc, schedule, attribute, &value);
+    drop(value);
+    Some(fault)
 }
 
 /// Wants these faults of writes to one schedule.
-fn check_faults(
-    rt: &impl Abort,
-    alloc: Global,
-    schedule: &mut ActionSchedule,
-    writes: &[(Write, Option<ScheduleFault>)],
-) -> Result<(), Fail> {
-    for (place, (write, expected)) in writes.iter().enumerate() {
-        assert!(*rt;
-            fault_of(alloc, schedule, write)? == *expected,
-            "at {place}"
-        );
+fn check_faults(rt: &impl Abort, alloc: Global, schedule: &mut ActionSchedule, writes: &[Write]) {
+    for (attribute, text, expected) in writes {
+        let found = fault_of(alloc, schedule, *attribute, text);
+        assert!(*rt; found == Some(*expected), "{text}");
     }
-    Ok(())
+}
+
+/// Gives a schedule a type, and says whether it takes it.
+fn is_of_kind(schedule: &mut ActionSchedule, kind: u8) -> bool {
+    let value = Data::Enum(kind);
+    let is_taken = schedule.set_kind(&value).is_ok();
+    drop(value);
+    is_taken
+}
+
+/// Gives a new schedule script 1, a type, and the entries of this text, and says whether it takes them.
+fn is_prepared(alloc: Global, schedule: &mut ActionSchedule, kind: u8, entries: &str) -> bool {
+    let script_fault = fault_of(alloc, schedule, ScheduleAttribute::ExecutedScript, SCRIPT);
+    let has_kind = is_of_kind(schedule, kind);
+    let entries_fault = fault_of(alloc, schedule, ScheduleAttribute::ExecutionTime, entries);
+    script_fault == Some(None) && has_kind && entries_fault == Some(None)
 }
 
 /// The type of a schedule of the last second of each month, the moment before, the moment now, and whether it is due.
@@ -137,16 +112,21 @@ const DUE: [(u8, u32, u32, bool); 10] = [
     (2, MARCH - 1, MARCH, false),
 ];
 
+/// Whether a schedule of the last second of each month is due; none where it isn't made.
+fn is_due(alloc: Global, kind: u8, previous: u32, now: u32) -> Option<bool> {
+    let mut schedule = ActionSchedule::new(alloc);
+    let is_prepared = is_prepared(alloc, &mut schedule, kind, LAST_SECOND);
+    let is_due = schedule.due(previous, now);
+    drop(schedule);
+    if is_prepared { Some(is_due) } else { None }
+}
+
 #[test]
-fn the_last_second_of_a_month(rt: HostRuntime) -> Result<(), Fail> {
+fn the_last_second_of_a_month(rt: HostRuntime) {
     for (kind, previous, now, due) in &DUE {
-        let schedule = schedule(rt.alloc(), *kind, LAST_SECOND)?;
-        assert!(rt;
-            schedule.due(*previous, *now) == *due,
-            "{kind}: {previous} to {now}"
-        );
+        let found = is_due(rt.alloc(), *kind, *previous, *now);
+        assert!(rt; found == Some(*due), "{kind}: {previous} to {now}");
     }
-    Ok(())
 }
 
 /// Two entries at the same time.
@@ -208,15 +188,21 @@ const FITS: [(u8, &str, bool); 26] = [
     (2, LAST_SECOND, false),
 ];
 
+/// Whether a schedule of a type fits it with the entries of this text; none where it isn't made.
+fn is_fit(alloc: Global, kind: u8, entries: &str) -> Option<bool> {
+    let mut schedule = ActionSchedule::new(alloc);
+    let is_prepared = is_prepared(alloc, &mut schedule, kind, entries);
+    let is_fit = schedule.fits();
+    drop(schedule);
+    if is_prepared { Some(is_fit) } else { None }
+}
+
 #[test]
-fn entries_fit_their_type(rt: HostRuntime) -> Result<(), Fail> {
+fn entries_fit_their_type(rt: HostRuntime) {
     for (kind, entries, fits) in &FITS {
-        assert!(rt;
-            is_fit(rt.alloc(), *kind, entries)? == *fits,
-            "type {kind}: {entries}"
-        );
+        let found = is_fit(rt.alloc(), *kind, entries);
+        assert!(rt; found == Some(*fits), "type {kind}: {entries}");
     }
-    Ok(())
 }
 
 /// What a schedule is apart from what is written.
@@ -224,7 +210,7 @@ fn known(schedule: &ActionSchedule) -> (u16, ScheduleType) {
     (schedule.selector(), schedule.kind())
 }
 
-const OF_A_NEW_SCHEDULE: [(ScheduleAttribute, &str); 3] = [
+const OF_A_NEW_SCHEDULE: [Written; 3] = [
     (
         ScheduleAttribute::ExecutedScript,
         "0202090600000A006AFF120000",
@@ -234,56 +220,81 @@ const OF_A_NEW_SCHEDULE: [(ScheduleAttribute, &str); 3] = [
 ];
 
 #[test]
-fn a_new_schedule(rt: HostRuntime) -> Result<(), Fail> {
+fn a_new_schedule(rt: HostRuntime) {
     let schedule = ActionSchedule::new(rt.alloc());
     assert!(rt; known(&schedule) == (0, ScheduleType::Type5));
     assert!(rt; schedule.fits() && !schedule.due(0, u32::MAX));
-    check_written(&rt, rt.alloc(), &schedule, &OF_A_NEW_SCHEDULE)
+    check_written(&rt, rt.alloc(), &schedule, &OF_A_NEW_SCHEDULE);
+    drop(schedule);
 }
 
-const OF_TYPE_3: [(ScheduleAttribute, &str); 3] = [
+/// Entries of a time and a date, and not of octet-strings.
+const LAST_SECOND_AS_A_TIME: &str = "010102021B173B3B001AFFFFFFFEFF";
+
+const OF_TYPE_3: [Written; 3] = [
     (ScheduleAttribute::ExecutedScript, SCRIPT),
     (ScheduleAttribute::Kind, "1603"),
     (ScheduleAttribute::ExecutionTime, LAST_SECOND),
 ];
 
 #[test]
-fn attributes_are_written_back(rt: HostRuntime) -> Result<(), Fail> {
-    let schedule = schedule(rt.alloc(), 3, "010102021B173B3B001AFFFFFFFEFF")?;
+fn attributes_are_written_back(rt: HostRuntime) {
+    let alloc = rt.alloc();
+    let mut schedule = ActionSchedule::new(alloc);
+    assert!(rt; is_prepared(alloc, &mut schedule, 3, LAST_SECOND_AS_A_TIME));
     assert!(rt; known(&schedule) == (1, ScheduleType::Type3));
-    check_written(&rt, rt.alloc(), &schedule, &OF_TYPE_3)
+    check_written(&rt, alloc, &schedule, &OF_TYPE_3);
+    drop(schedule);
 }
 
-/// Trades the entries of a schedule for those of a new one, of which a copy is made.
-fn trade(rt: &impl Abort, alloc: Global, first: &mut ActionSchedule) -> Result<(), Fail> {
-    let time = ScheduleAttribute::ExecutionTime;
-    let mut second = ActionSchedule::new(alloc);
-    swap_entries(first, &mut second);
-    assert!(*rt; is_written(alloc, first, time, "0100")?);
-    let copy = second.try_clone(alloc)?;
-    assert!(*rt; is_written(alloc, &copy, time, LAST_SECOND)?);
+const OF_A_COPY: [Written; 1] = [(ScheduleAttribute::ExecutionTime, LAST_SECOND)];
+
+/// Wants that a copy of a schedule of no script has the entries of the last second.
+fn check_copy(rt: &impl Abort, alloc: Global, schedule: &ActionSchedule) -> Result<(), AllocError> {
+    let copy = schedule.try_clone(alloc)?;
+    check_written(rt, alloc, &copy, &OF_A_COPY);
     assert!(*rt; known(&copy) == (0, ScheduleType::Type5));
+    drop(copy);
     Ok(())
 }
 
+/// Trades the entries of a schedule for those of a new one, of which a copy is made.
+fn trade(rt: &impl Abort, alloc: Global, first: &mut ActionSchedule) -> Result<(), AllocError> {
+    let mut second = ActionSchedule::new(alloc);
+    first.swap_entries(&mut second);
+    check_written(rt, alloc, first, &OF_A_NEW_SCHEDULE[2..]);
+    let copied = check_copy(rt, alloc, &second);
+    drop(second);
+    copied
+}
+
 #[test]
-fn entries_are_traded_and_copied(rt: HostRuntime) -> Result<(), Fail> {
-    let mut first = schedule(rt.alloc(), 3, "010102021B173B3B001AFFFFFFFEFF")?;
-    trade(&rt, rt.alloc(), &mut first)
+fn entries_are_traded_and_copied(rt: HostRuntime) {
+    let alloc = rt.alloc();
+    let mut first = ActionSchedule::new(alloc);
+    assert!(rt; is_prepared(alloc, &mut first, 3, LAST_SECOND_AS_A_TIME));
+    assert!(rt; trade(&rt, alloc, &mut first).is_ok());
+    drop(first);
 }
 
 /// The script of another table, a type that there isn't, an hour that there isn't, and no entries.
-const REFUSED_WRITES: [(Write, Option<ScheduleFault>); 4] = [
+const REFUSED_WRITES: [Write; 4] = [
     (
-        Write::Script("0202090600000A006BFF120002"),
+        ScheduleAttribute::ExecutedScript,
+        "0202090600000A006BFF120002",
         Some(ScheduleFault::Value),
     ),
-    (Write::Kind("1606"), Some(ScheduleFault::Value)),
+    (ScheduleAttribute::Kind, "1606", Some(ScheduleFault::Value)),
     (
-        Write::Entries("010102020904180000000905FFFFFFFFFF"),
+        ScheduleAttribute::ExecutionTime,
+        "010102020904180000000905FFFFFFFFFF",
         Some(ScheduleFault::Value),
     ),
-    (Write::Entries("00"), Some(ScheduleFault::Unmatched)),
+    (
+        ScheduleAttribute::ExecutionTime,
+        "00",
+        Some(ScheduleFault::Unmatched),
+    ),
 ];
 
 const OF_TYPE_1: [(ScheduleAttribute, &str); 3] = [
@@ -293,107 +304,155 @@ const OF_TYPE_1: [(ScheduleAttribute, &str); 3] = [
 ];
 
 #[test]
-fn a_refused_write_changes_nothing(rt: HostRuntime) -> Result<(), Fail> {
-    let mut schedule = schedule(rt.alloc(), 1, LAST_SECOND)?;
-    check_faults(&rt, rt.alloc(), &mut schedule, &REFUSED_WRITES)?;
-    check_written(&rt, rt.alloc(), &schedule, &OF_TYPE_1)
+fn a_refused_write_changes_nothing(rt: HostRuntime) {
+    let alloc = rt.alloc();
+    let mut schedule = ActionSchedule::new(alloc);
+    assert!(rt; is_prepared(alloc, &mut schedule, 1, LAST_SECOND));
+    check_faults(&rt, alloc, &mut schedule, &REFUSED_WRITES);
+    check_written(&rt, alloc, &schedule, &OF_TYPE_1);
+    drop(schedule);
 }
 
 /// Writes, each to a new schedule, and the fault of each, if it has one.
-const WRITES: [(Write, Option<ScheduleFault>); 26] = [
+const WRITES: [Write; 26] = [
     // Scripts.
     (
-        Write::Script("0102090600000A006AFF120001"),
+        ScheduleAttribute::ExecutedScript,
+        "0102090600000A006AFF120001",
         Some(ScheduleFault::Unmatched),
     ),
     (
-        Write::Script("0201090600000A006AFF"),
+        ScheduleAttribute::ExecutedScript,
+        "0201090600000A006AFF",
         Some(ScheduleFault::Unmatched),
     ),
     (
-        Write::Script("02020A0600000A006AFF120001"),
+        ScheduleAttribute::ExecutedScript,
+        "02020A0600000A006AFF120001",
         Some(ScheduleFault::Unmatched),
     ),
     (
-        Write::Script("0202090500000A006A120001"),
+        ScheduleAttribute::ExecutedScript,
+        "0202090500000A006A120001",
         Some(ScheduleFault::Unmatched),
     ),
     (
-        Write::Script("0202090600000A006BFF1101"),
+        ScheduleAttribute::ExecutedScript,
+        "0202090600000A006BFF1101",
         Some(ScheduleFault::Unmatched),
     ),
     (
-        Write::Script("0202090600000A006BFF120001"),
+        ScheduleAttribute::ExecutedScript,
+        "0202090600000A006BFF120001",
         Some(ScheduleFault::Value),
     ),
     // Types.
-    (Write::Kind("1101"), Some(ScheduleFault::Unmatched)),
-    (Write::Kind("00"), Some(ScheduleFault::Unmatched)),
-    (Write::Kind("1600"), Some(ScheduleFault::Value)),
-    (Write::Kind("1606"), Some(ScheduleFault::Value)),
-    (Write::Kind("1601"), None),
-    (Write::Kind("1605"), None),
+    (
+        ScheduleAttribute::Kind,
+        "1101",
+        Some(ScheduleFault::Unmatched),
+    ),
+    (
+        ScheduleAttribute::Kind,
+        "00",
+        Some(ScheduleFault::Unmatched),
+    ),
+    (ScheduleAttribute::Kind, "1600", Some(ScheduleFault::Value)),
+    (ScheduleAttribute::Kind, "1606", Some(ScheduleFault::Value)),
+    (ScheduleAttribute::Kind, "1601", None),
+    (ScheduleAttribute::Kind, "1605", None),
     // Entries of another type.
-    (Write::Entries("0200"), Some(ScheduleFault::Unmatched)),
-    (Write::Entries("01010100"), Some(ScheduleFault::Unmatched)),
     (
-        Write::Entries("01010201090400000000"),
+        ScheduleAttribute::ExecutionTime,
+        "0200",
         Some(ScheduleFault::Unmatched),
     ),
     (
-        Write::Entries("010102030904000000000905FFFFFFFFFF00"),
+        ScheduleAttribute::ExecutionTime,
+        "01010100",
         Some(ScheduleFault::Unmatched),
     ),
     (
-        Write::Entries("0101020209030000000905FFFFFFFFFF"),
+        ScheduleAttribute::ExecutionTime,
+        "01010201090400000000",
         Some(ScheduleFault::Unmatched),
     ),
     (
-        Write::Entries("010102020904000000000904FFFFFFFF"),
+        ScheduleAttribute::ExecutionTime,
+        "010102030904000000000905FFFFFFFFFF00",
         Some(ScheduleFault::Unmatched),
     ),
     (
-        Write::Entries("010102021AFFFFFFFFFF0905FFFFFFFFFF"),
+        ScheduleAttribute::ExecutionTime,
+        "0101020209030000000905FFFFFFFFFF",
         Some(ScheduleFault::Unmatched),
     ),
     (
-        Write::Entries("010102020904000000001B00000000"),
+        ScheduleAttribute::ExecutionTime,
+        "010102020904000000000904FFFFFFFF",
         Some(ScheduleFault::Unmatched),
     ),
     (
-        Write::Entries("01010202190000000000000000000000000905FFFFFFFFFF"),
+        ScheduleAttribute::ExecutionTime,
+        "010102021AFFFFFFFFFF0905FFFFFFFFFF",
         Some(ScheduleFault::Unmatched),
     ),
     (
-        Write::Entries("010202020904180000000905FFFFFFFFFF02020904000000000A05FFFFFFFFFF"),
+        ScheduleAttribute::ExecutionTime,
+        "010102020904000000001B00000000",
+        Some(ScheduleFault::Unmatched),
+    ),
+    (
+        ScheduleAttribute::ExecutionTime,
+        "01010202190000000000000000000000000905FFFFFFFFFF",
+        Some(ScheduleFault::Unmatched),
+    ),
+    (
+        ScheduleAttribute::ExecutionTime,
+        "010202020904180000000905FFFFFFFFFF02020904000000000A05FFFFFFFFFF",
         Some(ScheduleFault::Unmatched),
     ),
     // Entries with a value that isn't taken.
     (
-        Write::Entries("01010202090400003C000905FFFFFFFFFF"),
+        ScheduleAttribute::ExecutionTime,
+        "01010202090400003C000905FFFFFFFFFF",
         Some(ScheduleFault::Value),
     ),
     (
-        Write::Entries("010102020904000000000905FFFFFDFFFF"),
+        ScheduleAttribute::ExecutionTime,
+        "010102020904000000000905FFFFFDFFFF",
         Some(ScheduleFault::Value),
     ),
     (
-        Write::Entries("010102020904000000000905FFFFFF20FF"),
+        ScheduleAttribute::ExecutionTime,
+        "010102020904000000000905FFFFFF20FF",
         Some(ScheduleFault::Value),
     ),
     (
-        Write::Entries("010102021B000000011AFFFFFFFFFF"),
+        ScheduleAttribute::ExecutionTime,
+        "010102021B000000011AFFFFFFFFFF",
         Some(ScheduleFault::Value),
     ),
 ];
 
+/// The fault of a write to a new schedule, if it has one; none where there is no Data.
+fn new_fault(
+    alloc: Global,
+    attribute: ScheduleAttribute,
+    text: &str,
+) -> Option<Option<ScheduleFault>> {
+    let mut schedule = ActionSchedule::new(alloc);
+    let found = fault_of(alloc, &mut schedule, attribute, text);
+    drop(schedule);
+    found
+}
+
 #[test]
-fn what_is_not_taken_is_refused(rt: HostRuntime) -> Result<(), Fail> {
-    for (place, (write, expected)) in WRITES.iter().enumerate() {
-        let found = fault_of(rt.alloc(), &mut ActionSchedule::new(rt.alloc()), write)?;
-        assert!(rt; found == *expected, "at {place}");
+fn what_is_not_taken_is_refused(rt: HostRuntime) {
+    for (attribute, text, expected) in &WRITES {
+        let found = new_fault(rt.alloc(), *attribute, text);
+        assert!(rt; found == Some(*expected), "{text}");
     }
-    Ok(())
 }
 
 /// Each midnight.
@@ -409,34 +468,42 @@ fn midnights(alloc: Global, count: u8, last: &str) -> Result<String, AllocError>
     Ok(text)
 }
 
-/// The fault of so many entries of midnight, the last of which is another.
-fn midnights_fault(alloc: Global, count: u8, last: &str) -> Result<Option<ScheduleFault>, Fail> {
-    let entries = data(alloc, midnights(alloc, count, last)?.as_str())?;
-    Ok(set_entries(alloc, &mut ActionSchedule::new(alloc), &entries).err())
+/// Wants this fault of so many entries of midnight, the last of which is another.
+fn check_midnights(
+    rt: &impl Abort,
+    alloc: Global,
+    (count, last): (u8, &str),
+    expected: ScheduleFault,
+) -> Result<(), AllocError> {
+    let text = midnights(alloc, count, last)?;
+    let found = new_fault(alloc, ScheduleAttribute::ExecutionTime, text.as_str());
+    drop(text);
+    assert!(*rt; found == Some(Some(expected)), "{count} with {last}");
+    Ok(())
+}
+
+/// Wants that a schedule takes these entries of midnight, and is due at midnight.
+fn check_due(rt: &impl Abort, alloc: Global, entries: &str) {
+    let mut schedule = ActionSchedule::new(alloc);
+    assert!(*rt; is_prepared(alloc, &mut schedule, 5, entries));
+    assert!(*rt; is_written(alloc, &schedule, ScheduleAttribute::ExecutionTime, entries));
+    assert!(*rt; schedule.due(86_399, 86_400) && !schedule.due(86_400, 172_799));
+    drop(schedule);
 }
 
 #[test]
 fn sixteen_entries_are_taken(rt: HostRuntime) -> Result<(), Fail> {
     let text = midnights(rt.alloc(), 16, MIDNIGHT)?;
-    let schedule = schedule(rt.alloc(), 5, text.as_str())?;
-    let time = ScheduleAttribute::ExecutionTime;
-    assert!(rt; is_written(rt.alloc(), &schedule, time, text.as_str())?);
-    assert!(rt; schedule.due(86_399, 86_400) && !schedule.due(86_400, 172_799));
+    check_due(&rt, rt.alloc(), text.as_str());
+    drop(text);
     Ok(())
 }
 
 #[test]
 fn sixteen_entries_at_most(rt: HostRuntime) -> Result<(), Fail> {
-    for (last, expected) in [
-        (MIDNIGHT, ScheduleFault::Value),
-        // An entry of another type is told before their count.
-        ("00", ScheduleFault::Unmatched),
-    ] {
-        assert!(rt;
-            midnights_fault(rt.alloc(), 17, last)? == Some(expected),
-            "{last}"
-        );
-    }
+    check_midnights(&rt, rt.alloc(), (17, MIDNIGHT), ScheduleFault::Value)?;
+    // An entry of another type is told before their count.
+    check_midnights(&rt, rt.alloc(), (17, "00"), ScheduleFault::Unmatched)?;
     Ok(())
 }
 
@@ -445,6 +512,8 @@ fn a_schedule_without_entries_is_never_due(rt: HostRuntime) {
     let schedule = ActionSchedule::without_entries(rt.alloc(), 7, ScheduleType::Type2);
     assert!(rt; known(&schedule) == (7, ScheduleType::Type2));
     assert!(rt; schedule.fits() && !schedule.due(0, 86_400));
+    drop(schedule);
     let other = ActionSchedule::without_entries(rt.alloc(), 7, ScheduleType::Type1);
     assert!(rt; !other.fits());
+    drop(other);
 }

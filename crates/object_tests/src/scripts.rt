@@ -2,6 +2,7 @@
 use crate::texts::{data, is_text};
 use cosem_axdr::Data;
 use disconnect_control::ControlMode;
+use limiter_core::Profile;
 use script_steps::{
     NULL_SCRIPT, ScriptFault, ScriptTable, Step, Which, read_profile, write_profile,
     written_table_is_read,
@@ -28,18 +29,31 @@ fn written(alloc: Global, table: &ScriptTable) -> Result<Data, AllocError> {
 }
 
 /// The table of a hexadecimal text.
-fn table(alloc: Global, text: &str) -> Result<ScriptTable, Fail> {
-    Ok(read(alloc, &data(alloc, text)?)?)
+fn table(alloc: Global, text: &str) -> Option<ScriptTable> {
+    let value = data(alloc, text)?;
+    let table = read(alloc, &value).ok();
+    drop(value);
+    table
 }
 
 /// The fault of a hexadecimal text.
-fn fault(alloc: Global, text: &str) -> Result<Option<ScriptFault>, Fail> {
-    Ok(read(alloc, &data(alloc, text)?).err())
+fn fault(alloc: Global, text: &str) -> Option<ScriptFault> {
+    let value = data(alloc, text)?;
+    let fault = read(alloc, &value).err();
+    drop(value);
+    fault
 }
 
 /// Whether a table is written as the bytes of this text.
-fn is_written(alloc: Global, table: &ScriptTable, text: &str) -> Result<bool, Fail> {
-    is_text(alloc, &written(alloc, table)?, text)
+fn is_written(alloc: Global, table: &ScriptTable, text: &str) -> bool {
+    match written(alloc, table) {
+        Ok(value) => {
+            let found = is_text(alloc, &value, text);
+            drop(value);
+            found
+        }
+        Err(_) => false,
+    }
 }
 
 /// Step `i` of a script, if it has one.
@@ -52,28 +66,60 @@ fn step_of(table: &ScriptTable, selector: u16, i: u8) -> Option<Step> {
     }
 }
 
-/// The fault of a table with one step of this text.
-fn step_fault(alloc: Global, step: &str) -> Result<Option<ScriptFault>, Fail> {
-    let text = format!(in alloc; "{ONE_STEP}{step}")?;
-    fault(alloc, text.as_str())
+/// The text of a table with one step of this text.
+fn one_step_text(alloc: Global, step: &str) -> Option<String> {
+    format!(in alloc; "{ONE_STEP}{step}").ok()
 }
 
-/// A table of so many scripts of so many steps, each of them `step`, but the last step of the last script, which is `last`.
-fn long_text(
+/// The fault of a table with one step of this text.
+fn step_fault(alloc: Global, step: &str) -> Option<ScriptFault> {
+    let text = one_step_text(alloc, step)?;
+    let fault = fault(alloc, text.as_str());
+    drop(text);
+    fault
+}
+
+/// Adds so many steps, all of them `step` but the last one, which is `last`.
+fn push_steps(text: &mut String, steps: u8, step: &str, last: &str) -> Result<(), AllocError> {
+    for _ in 1..steps {
+        text.push_str(step)?;
+    }
+    text.push_str(last)
+}
+
+/// Adds the start of script `script`, which has so many steps.
+fn push_start(alloc: Global, text: &mut String, script: u8, steps: u8) -> Result<(), AllocError> {
+    let start = format!(in alloc; "020212{script:04X}01{steps:02X}")?;
+    let pushed = text.push_str(start.as_str());
+    drop(start);
+    pushed
+}
+
+/// Adds so many scripts of so many steps, each of them `step`, but the last step of the last script, which is `last`.
+fn push_scripts(
     alloc: Global,
-    scripts: u8,
-    steps: u8,
-    pair: (&str, &str),
-) -> Result<String, AllocError> {
-    let mut text = format!(in alloc; "01{scripts:02X}")?;
+    text: &mut String,
+    (scripts, steps): (u8, u8),
+    (step, last): (&str, &str),
+) -> Result<(), AllocError> {
     for script in 1..=scripts {
-        text.push_str(format!(in alloc; "020212{script:04X}01{steps:02X}")?.as_str())?;
-        for step in 1..=steps {
-            let is_last = script == scripts && step == steps;
-            text.push_str(if is_last { pair.1 } else { pair.0 })?;
+        let end = if script == scripts { last } else { step };
+        push_start(alloc, text, script, steps)?;
+        push_steps(text, steps, step, end)?;
+    }
+    Ok(())
+}
+
+/// A table of so many scripts of so many steps, each of them the first, but the last step of the last script, which is the second.
+fn long_text(alloc: Global, counts: (u8, u8), pair: (&str, &str)) -> Result<String, AllocError> {
+    let mut text = format!(in alloc; "01{:02X}", counts.0)?;
+    match push_scripts(alloc, &mut text, counts, pair) {
+        Ok(()) => Ok(text),
+        Err(fault) => {
+            drop(text);
+            Err(fault)
         }
     }
-    Ok(text)
 }
 
 const DISCONNECT: &str = "020516021200460906000060030AFF0F010F00";
@@ -82,7 +128,18 @@ const EXPORT_DURATION: &str = "0205160112004709060001110000FF0F07060000000F";
 
 /// Whether a step, or none, is the one that is expected, seen by what Debug writes of both.
 fn is_step(alloc: Global, found: Option<Step>, expected: Option<Step>) -> Result<bool, AllocError> {
-    Ok(format!(in alloc; "{found:?}")? == format!(in alloc; "{expected:?}")?)
+    let text = format!(in alloc; "{found:?}")?;
+    let is_same = is_debug(alloc, expected, text.as_str());
+    drop(text);
+    is_same
+}
+
+/// Whether Debug writes this of a step, or of none.
+fn is_debug(alloc: Global, step: Option<Step>, expected: &str) -> Result<bool, AllocError> {
+    let text = format!(in alloc; "{step:?}")?;
+    let is_same = text.as_str() == expected;
+    drop(text);
+    Ok(is_same)
 }
 
 /// Wants that scripts have so many steps, or aren't there.
@@ -98,26 +155,36 @@ fn check_steps(
     alloc: Global,
     table: &ScriptTable,
     steps: &[(u16, u8, Option<Step>)],
-) -> Result<(), AllocError> {
+) {
     for (selector, i, expected) in steps {
         let found = step_of(table, *selector, *i);
         assert!(*rt;
-            is_step(alloc, found, *expected)?,
+            is_step(alloc, found, *expected) == Ok(true),
             "step {i} of script {selector}"
         );
     }
-    Ok(())
 }
+
+/// A copy of a table of a text.
+fn copied(alloc: Global, text: &str) -> Option<ScriptTable> {
+    let table = table(alloc, text)?;
+    let copy = table.try_clone(alloc).ok();
+    drop(table);
+    copy
+}
+
+const COUNTS_OF_THE_TABLE: [(u16, Option<u8>); 3] = [
+    (3, Some(2)),
+    (NULL_SCRIPT, Some(0)),
+    (9, None),
+];
 
 #[test]
 fn a_table_is_read_and_written_back(rt: HostRuntime) -> Result<(), Fail> {
-    let table = table(rt.alloc(), TABLE)?.try_clone(rt.alloc())?;
-    check_counts(
-        &rt,
-        &table,
-        &[(3, Some(2)), (NULL_SCRIPT, Some(0)), (9, None)],
-    );
-    assert!(rt; is_written(rt.alloc(), &table, TABLE)?);
+    let table = copied(rt.alloc(), TABLE).ok_or("a table")?;
+    check_counts(&rt, &table, &COUNTS_OF_THE_TABLE);
+    assert!(rt; is_written(rt.alloc(), &table, TABLE));
+    drop(table);
     written_table_is_read();
     Ok(())
 }
@@ -130,15 +197,17 @@ const STEPS_OF_THE_TABLE: [(u16, u8, Option<Step>); 3] = [
 
 #[test]
 fn a_table_has_its_steps(rt: HostRuntime) -> Result<(), Fail> {
-    let table = table(rt.alloc(), TABLE)?.try_clone(rt.alloc())?;
-    check_steps(&rt, rt.alloc(), &table, &STEPS_OF_THE_TABLE)?;
+    let table = copied(rt.alloc(), TABLE).ok_or("a table")?;
+    check_steps(&rt, rt.alloc(), &table, &STEPS_OF_THE_TABLE);
+    drop(table);
     Ok(())
 }
 
 #[test]
-fn a_new_table_has_no_script(rt: HostRuntime) -> Result<(), Fail> {
-    assert!(rt; is_written(rt.alloc(), &ScriptTable::new(rt.alloc()), "0100")?);
-    Ok(())
+fn a_new_table_has_no_script(rt: HostRuntime) {
+    let table = ScriptTable::new(rt.alloc());
+    assert!(rt; is_written(rt.alloc(), &table, "0100"));
+    drop(table);
 }
 
 const STEPS_OF_A_FULL_TABLE: [(u16, u8, Option<Step>); 2] = [
@@ -147,19 +216,28 @@ const STEPS_OF_A_FULL_TABLE: [(u16, u8, Option<Step>); 2] = [
 ];
 
 /// Wants sixteen scripts of eight steps.
-fn check_full_table(rt: &impl Abort, alloc: Global, table: &ScriptTable) -> Result<(), AllocError> {
+fn check_full_table(rt: &impl Abort, alloc: Global, table: &ScriptTable) {
     for selector in 1..17u16 {
         assert!(*rt; table.step_count(selector) == Some(8), "script {selector}");
     }
-    check_steps(rt, alloc, table, &STEPS_OF_A_FULL_TABLE)
+    check_steps(rt, alloc, table, &STEPS_OF_A_FULL_TABLE);
+}
+
+/// Wants that a text is one of sixteen scripts of eight steps, and is written back.
+fn check_full_text(rt: &impl Abort, alloc: Global, text: &str) -> Option<()> {
+    let table = table(alloc, text)?;
+    check_full_table(rt, alloc, &table);
+    assert!(*rt; is_written(alloc, &table, text));
+    drop(table);
+    Some(())
 }
 
 #[test]
 fn a_full_table_is_read_and_written_back(rt: HostRuntime) -> Result<(), Fail> {
-    let text = long_text(rt.alloc(), 16, 8, (DISCONNECT, EXPORT_DURATION))?;
-    let table = table(rt.alloc(), text.as_str())?;
-    check_full_table(&rt, rt.alloc(), &table)?;
-    assert!(rt; is_written(rt.alloc(), &table, text.as_str())?);
+    let text = long_text(rt.alloc(), (16, 8), (DISCONNECT, EXPORT_DURATION))?;
+    let checked = check_full_text(&rt, rt.alloc(), text.as_str());
+    drop(text);
+    assert!(rt; checked.is_some());
     Ok(())
 }
 
@@ -176,14 +254,20 @@ const TOO_LONG: [(u8, u8, &str, ScriptFault); 3] = [
     ),
 ];
 
+/// The fault of a table of so many scripts of so many steps, the last of which is another.
+fn long_fault(alloc: Global, counts: (u8, u8), last: &str) -> Option<ScriptFault> {
+    let text = long_text(alloc, counts, (DISCONNECT, last)).ok()?;
+    let fault = fault(alloc, text.as_str());
+    drop(text);
+    fault
+}
+
 #[test]
-fn a_table_has_limits(rt: HostRuntime) -> Result<(), Fail> {
+fn a_table_has_limits(rt: HostRuntime) {
     for (scripts, steps, last, expected) in &TOO_LONG {
-        let text = long_text(rt.alloc(), *scripts, *steps, (DISCONNECT, last))?;
-        let found = fault(rt.alloc(), text.as_str())?;
+        let found = long_fault(rt.alloc(), (*scripts, *steps), last);
         assert!(rt; found == Some(*expected), "{scripts} of {steps}");
     }
-    Ok(())
 }
 
 const REFUSED_TABLES: [(&str, ScriptFault); 11] = [
@@ -210,11 +294,10 @@ const REFUSED_TABLES: [(&str, ScriptFault); 11] = [
 ];
 
 #[test]
-fn tables_that_are_refused(rt: HostRuntime) -> Result<(), Fail> {
+fn tables_that_are_refused(rt: HostRuntime) {
     for (text, expected) in &REFUSED_TABLES {
-        assert!(rt; fault(rt.alloc(), text)? == Some(*expected), "{text}");
+        assert!(rt; fault(rt.alloc(), text) == Some(*expected), "{text}");
     }
-    Ok(())
 }
 
 const REFUSED_STEPS: [(&str, ScriptFault); 31] = [
@@ -316,18 +399,26 @@ const REFUSED_STEPS: [(&str, ScriptFault); 31] = [
 ];
 
 #[test]
-fn steps_that_are_refused(rt: HostRuntime) -> Result<(), Fail> {
+fn steps_that_are_refused(rt: HostRuntime) {
     for (step, expected) in &REFUSED_STEPS {
-        assert!(rt; step_fault(rt.alloc(), step)? == Some(*expected), "{step}");
+        assert!(rt; step_fault(rt.alloc(), step) == Some(*expected), "{step}");
     }
-    Ok(())
+}
+
+/// The table with one step of this text.
+fn one_step_table(alloc: Global, step: &str) -> Option<ScriptTable> {
+    let text = one_step_text(alloc, step)?;
+    let table = table(alloc, text.as_str());
+    drop(text);
+    table
 }
 
 /// The step of a text.
-fn one_step(alloc: Global, step: &str) -> Result<Option<Step>, Fail> {
-    let text = format!(in alloc; "{ONE_STEP}{step}")?;
-    let table = table(alloc, text.as_str())?;
-    Ok(step_of(&table, 1, 0))
+fn one_step(alloc: Global, step: &str) -> Option<Step> {
+    let table = one_step_table(alloc, step)?;
+    let found = step_of(&table, 1, 0);
+    drop(table);
+    found
 }
 
 const READ_STEPS: [(&str, Step); 8] = [
@@ -361,50 +452,92 @@ const READ_STEPS: [(&str, Step); 8] = [
     ("020516021200460906000060030AFF0F020F7F", Step::Reconnect),
 ];
 
+/// Whether a text is of this step.
+fn is_step_text(alloc: Global, text: &str, step: Step) -> bool {
+    is_step(alloc, one_step(alloc, text), Some(step)) == Ok(true)
+}
+
 #[test]
-fn steps_are_read(rt: HostRuntime) -> Result<(), Fail> {
+fn steps_are_read(rt: HostRuntime) {
     for (text, step) in &READ_STEPS {
-        let found = one_step(rt.alloc(), text)?;
-        assert!(rt; is_step(rt.alloc(), found, Some(*step))?, "{text}");
+        assert!(rt; is_step_text(rt.alloc(), text, *step), "{text}");
     }
-    Ok(())
+}
+
+/// Whether a table is written as one with the step of this text.
+fn is_one_step(alloc: Global, table: &ScriptTable, step: &str) -> bool {
+    match one_step_text(alloc, step) {
+        Some(text) => {
+            let found = is_written(alloc, table, text.as_str());
+            drop(text);
+            found
+        }
+        None => false,
+    }
 }
 
 /// Whether a table with one step of the first text is written back with that of the second.
-fn is_written_back(alloc: Global, pair: (&str, &str)) -> Result<bool, Fail> {
-    let text = format!(in alloc; "{ONE_STEP}{}", pair.0)?;
-    let back = format!(in alloc; "{ONE_STEP}{}", pair.1)?;
-    is_written(alloc, &table(alloc, text.as_str())?, back.as_str())
+fn is_written_back(alloc: Global, step: &str, back: &str) -> bool {
+    match one_step_table(alloc, step) {
+        Some(table) => {
+            let found = is_one_step(alloc, &table, back);
+            drop(table);
+            found
+        }
+        None => false,
+    }
 }
 
+/// Steps, and the one form in which they are written.
+const OTHER_FORMS: [(&str, &str); 3] = [
+    (
+        "020516021200460906000060030AFF0F0200",
+        "020516021200460906000060030AFF0F020F00",
+    ),
+    (
+        "020516021200460906000060030AFF0F010F05",
+        "020516021200460906000060030AFF0F010F00",
+    ),
+    (
+        "0205160112004709060001110000FF0F0802031200071907D00101FF00012800800000060000000A",
+        "0205160112004709060001110000FF0F080203120007090C07D00101FF00012800800000060000000A",
+    ),
+];
+
 #[test]
-fn one_form_is_written_back(rt: HostRuntime) -> Result<(), Fail> {
-    let alloc = rt.alloc();
-    for pair in [
-        (
-            "020516021200460906000060030AFF0F0200",
-            "020516021200460906000060030AFF0F020F00",
-        ),
-        (
-            "020516021200460906000060030AFF0F010F05",
-            "020516021200460906000060030AFF0F010F00",
-        ),
-        (
-            "0205160112004709060001110000FF0F0802031200071907D00101FF00012800800000060000000A",
-            "0205160112004709060001110000FF0F080203120007090C07D00101FF00012800800000060000000A",
-        ),
-    ] {
-        assert!(rt; is_written_back(alloc, pair)?, "{}", pair.0);
+fn one_form_is_written_back(rt: HostRuntime) {
+    for (step, back) in &OTHER_FORMS {
+        assert!(rt; is_written_back(rt.alloc(), step, back), "{step}");
     }
-    Ok(())
+}
+
+/// Whether a profile is written as this Data.
+fn is_profile(alloc: Global, profile: &Profile, value: &Data) -> bool {
+    match write_profile(alloc, profile) {
+        Ok(written) => {
+            let is_same = written == *value;
+            drop(written);
+            is_same
+        }
+        Err(_) => false,
+    }
+}
+
+/// Whether a Data is profile 7 of ten seconds, and is written of it.
+fn is_profile_7(alloc: Global, value: &Data) -> bool {
+    match read_profile(value) {
+        Ok(profile) => {
+            profile.id == 7 && profile.duration == 10 && is_profile(alloc, &profile, value)
+        }
+        Err(_) => false,
+    }
 }
 
 #[test]
 fn a_profile_is_read_and_written(rt: HostRuntime) -> Result<(), Fail> {
-    let alloc = rt.alloc();
-    let value = data(alloc, "0203120007090C07D00101FF00012800800000060000000A")?;
-    let profile = read_profile(&value)?;
-    let is_same = write_profile(alloc, &profile)? == value;
-    assert!(rt; profile.id == 7 && profile.duration == 10 && is_same);
+    let text = "0203120007090C07D00101FF00012800800000060000000A";
+    let value = data(rt.alloc(), text).ok_or("a Data")?;
+    assert!(rt; is_profile_7(rt.alloc(), &value));
+    drop(value);
     Ok(())
 }

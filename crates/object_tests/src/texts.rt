@@ -1,28 +1,45 @@
 //! Data and their hexadecimal texts.
-use cosem_axdr::{Data, DataFault, Octets};
-use std::alloc::{AllocError, Global};
-use std::test::Fail;
+use cosem_axdr::{Data, Octets};
+use std::alloc::Global;
 
-// The calls of the codec, without their contracts: the proof of a test has little to look at then.
-fn read(alloc: Global, bytes: &[u8]) -> Result<(Data, usize), DataFault> {
-    cosem_axdr::read(alloc, bytes)
+/// The Data at the start of some bytes.
+fn read(alloc: Global, bytes: &[u8]) -> Option<Data> {
+    match cosem_axdr::read(alloc, bytes) {
+        Ok((value, _)) => Some(value),
+        Err(_) => None,
+    }
 }
 
-fn written(alloc: Global, value: &Data) -> Result<Octets, AllocError> {
-    let mut bytes = Octets::new(alloc);
-    cosem_axdr::write(alloc, value, &mut bytes)?;
-    Ok(bytes)
+/// The bytes of a hexadecimal text.
+fn bytes(alloc: Global, text: &str) -> Option<Vec<u8>> {
+    hex::decode(alloc, text).ok()
 }
 
-/// The Data of a hexadecimal text.
-pub(crate) fn data(alloc: Global, text: &str) -> Result<Data, Fail> {
-    let bytes = hex::decode(alloc, text)?;
-    let (value, _) = read(alloc, bytes.as_slice())?;
-    Ok(value)
+/// The Data of a hexadecimal text; none where memory is wanting.
+pub(crate) fn data(alloc: Global, text: &str) -> Option<Data> {
+    let bytes = bytes(alloc, text)?;
+    let value = read(alloc, bytes.as_slice());
+    drop(bytes);
+    value
+}
+
+/// Whether a Data is written as these bytes.
+fn is_written(alloc: Global, value: &Data, bytes: &[u8]) -> bool {
+    let mut written = Octets::new(alloc);
+    let is_done = cosem_axdr::write(alloc, value, &mut written).is_ok();
+    let found = is_done && written.as_slice() == bytes;
+    drop(written);
+    found
 }
 
 /// Whether a Data is written as the bytes of this text.
-pub(crate) fn is_text(alloc: Global, value: &Data, text: &str) -> Result<bool, Fail> {
-    let expected = hex::decode(alloc, text)?;
-    Ok(written(alloc, value)?.as_slice() == expected.as_slice())
+pub(crate) fn is_text(alloc: Global, value: &Data, text: &str) -> bool {
+    match bytes(alloc, text) {
+        Some(expected) => {
+            let found = is_written(alloc, value, expected.as_slice());
+            drop(expected);
+            found
+        }
+        None => false,
+    }
 }

@@ -1,86 +1,109 @@
 use cosem_names::ResultCode;
 use disconnect_control::{ControlMode, ControlState, DisconnectControl, Trigger};
+use std::process::Abort;
 
-fn in_mode(rt: &impl std::process::Abort, mode: ControlMode) -> DisconnectControl {
+/// A trigger, its result, and what the switch then shows: its state, the number of that, and whether it is closed.
+type Step = (Trigger, ResultCode, (ControlState, u8, bool));
+
+const DISCONNECTED: (ControlState, u8, bool) = (ControlState::Disconnected, 0, false);
+
+const CONNECTED: (ControlState, u8, bool) = (ControlState::Connected, 1, true);
+
+const READY: (ControlState, u8, bool) = (ControlState::ReadyForReconnection, 2, false);
+
+fn in_mode(rt: &impl Abort, mode: ControlMode) -> DisconnectControl {
     let mut control = DisconnectControl::new();
-    assert_eq!(rt; control.set_mode(mode), ResultCode::Success);
+    assert!(*rt; control.set_mode(mode) == ResultCode::Success, "{mode:?}");
     control
 }
 
+fn shown(control: &DisconnectControl) -> (ControlState, u8, bool) {
+    let state = control.state();
+    (state, state.number(), control.output())
+}
+
+/// Takes these steps with a new switch of a mode, and hands it back.
+fn check_steps(rt: &impl Abort, mode: ControlMode, steps: &[Step]) -> DisconnectControl {
+    let mut control = in_mode(rt, mode);
+    for (trigger, result, expected) in steps {
+        let found = control.apply(*trigger);
+        assert!(*rt; found == *result, "{mode:?}: {trigger:?}");
+        assert!(*rt; shown(&control) == *expected, "{mode:?}: {trigger:?}");
+    }
+    control
+}
+
+const WAITING_FOR_THE_BUTTON: [Step; 2] = [
+    (Trigger::ManualDisconnect, ResultCode::Success, READY),
+    (
+        Trigger::RemoteReconnect,
+        ResultCode::TemporaryFailure,
+        READY,
+    ),
+];
+
 #[test]
 fn a_remote_reconnection_does_not_close_a_switch_that_waits_for_its_button(rt: HostRuntime) {
-    let mut control = in_mode(&rt, ControlMode::Mode2);
-    assert_eq!(rt;
-        control.apply(Trigger::ManualDisconnect),
-        ResultCode::Success
-    );
-    assert_eq!(rt; control.state(), ControlState::ReadyForReconnection);
-    assert_eq!(rt;
-        control.apply(Trigger::RemoteReconnect),
-        ResultCode::TemporaryFailure
-    );
-    assert_eq!(rt; control.state(), ControlState::ReadyForReconnection);
+    check_steps(&rt, ControlMode::Mode2, &WAITING_FOR_THE_BUTTON);
 }
+
+const RELEASED_AND_RESTORED: [Step; 4] = [
+    (Trigger::RemoteDisconnect, ResultCode::Success, DISCONNECTED),
+    (Trigger::RemoteDisconnect, ResultCode::Success, DISCONNECTED),
+    (Trigger::RemoteReconnect, ResultCode::Success, READY),
+    (Trigger::ManualReconnect, ResultCode::Success, CONNECTED),
+];
 
 #[test]
 fn in_mode_1_a_person_restores_what_a_client_released(rt: HostRuntime) {
-    let mut control = in_mode(&rt, ControlMode::Mode1);
-    for (trigger, state, output) in [
-        (Trigger::RemoteDisconnect, 0, false),
-        (Trigger::RemoteDisconnect, 0, false),
-        (Trigger::RemoteReconnect, 2, false),
-        (Trigger::ManualReconnect, 1, true),
-    ] {
-        assert_eq!(rt; control.apply(trigger), ResultCode::Success, "{trigger:?}");
-        assert_eq!(rt; control.state().number(), state, "{trigger:?}");
-        assert_eq!(rt; control.output(), output, "{trigger:?}");
-    }
+    check_steps(&rt, ControlMode::Mode1, &RELEASED_AND_RESTORED);
 }
 
 #[test]
 fn mode_0_is_taken_in_connected_alone(rt: HostRuntime) {
-    let mut control = in_mode(&rt, ControlMode::Mode1);
-    assert_eq!(rt;
-        control.apply(Trigger::RemoteDisconnect),
-        ResultCode::Success
-    );
-    assert_eq!(rt;
-        control.set_mode(ControlMode::Mode0),
-        ResultCode::TemporaryFailure
-    );
-    assert_eq!(rt; control.mode(), ControlMode::Mode1);
-    assert_eq!(rt; control.state(), ControlState::Disconnected);
+    let mut control = check_steps(&rt, ControlMode::Mode1, &RELEASED_AND_RESTORED[..1]);
+    let refused = control.set_mode(ControlMode::Mode0);
+    assert!(rt; refused == ResultCode::TemporaryFailure && control.mode() == ControlMode::Mode1);
+    assert!(rt; control.state() == ControlState::Disconnected);
     assert!(rt; DisconnectControl::of(ControlState::Disconnected, ControlMode::Mode0).is_none());
     assert!(rt;
         DisconnectControl::of(ControlState::Disconnected, ControlMode::Mode1) == Some(control)
     );
 }
 
+/// A release by the meter itself, and its reconnection with that result.
+fn check_local(
+    rt: &impl Abort,
+    mode: ControlMode,
+    given: ResultCode,
+    behind: (ControlState, u8, bool),
+) {
+    let steps = [
+        (Trigger::LocalDisconnect, ResultCode::Success, READY),
+        (Trigger::LocalReconnect, given, behind),
+    ];
+    check_steps(rt, mode, &steps);
+}
+
 #[test]
 fn the_local_reconnection_is_of_modes_5_and_6(rt: HostRuntime) {
-    for (mode, result) in [
-        (ControlMode::Mode4, ResultCode::TemporaryFailure),
-        (ControlMode::Mode5, ResultCode::Success),
-        (ControlMode::Mode6, ResultCode::Success),
-    ] {
-        let mut control = in_mode(&rt, mode);
-        assert_eq!(rt;
-            control.apply(Trigger::LocalDisconnect),
-            ResultCode::Success
-        );
-        assert_eq!(rt; control.state(), ControlState::ReadyForReconnection);
-        assert_eq!(rt; control.apply(Trigger::LocalReconnect), result, "{mode:?}");
+    check_local(&rt, ControlMode::Mode4, ResultCode::TemporaryFailure, READY);
+    check_local(&rt, ControlMode::Mode5, ResultCode::Success, CONNECTED);
+    check_local(&rt, ControlMode::Mode6, ResultCode::Success, CONNECTED);
+}
+
+/// Whether a number is one of a mode, and the mode has it.
+fn has_its_mode(number: u8) -> bool {
+    match ControlMode::of_number(number) {
+        Some(mode) => mode.number() == number,
+        None => false,
     }
 }
 
 #[test]
 fn modes_have_their_numbers(rt: HostRuntime) {
     for number in 0..7u8 {
-        let mode = ControlMode::of_number(number);
-        assert!(rt;
-            mode.is_some_and(|mode| mode.number() == number),
-            "{number}"
-        );
+        assert!(rt; has_its_mode(number), "{number}");
     }
-    assert_eq!(rt; ControlMode::of_number(7), None);
+    assert!(rt; ControlMode::of_number(7).is_none());
 }

@@ -1,4 +1,6 @@
 use lane_sampler::{Block, BlockMade, Masks, Scan, Scans, classify, classify_plain, run_from};
+use std::alloc::Global;
+use std::process::Abort;
 use std::test::Fail;
 
 const NONE: [u64; 4] = [0; 4];
@@ -14,142 +16,239 @@ fn by_forties() -> [u32; 256] {
     values
 }
 
-#[test]
-fn an_equal_value_is_on_neither_side(rt: HostRuntime) {
-    let masks = classify(&[4999, 5000, 5001], 5000);
-    assert_eq!(rt; masks.over, [4, 0, 0, 0]);
-    assert_eq!(rt; masks.under, [1, 0, 0, 0]);
-    assert_eq!(rt; masks.len, 3);
-    let empty = classify(&[], 5000);
-    assert_eq!(rt; empty.over, NONE);
-    assert_eq!(rt; empty.under, NONE);
-    assert_eq!(rt; empty.len, 0);
+// The masks of so many values, up to 64.
+fn few(over: u64, under: u64, len: u16) -> Masks {
+    Masks {
+        over: [over, 0, 0, 0],
+        under: [under, 0, 0, 0],
+        len,
+    }
 }
 
 #[test]
+fn an_equal_value_is_on_neither_side(rt: HostRuntime) {
+    assert!(rt; classify(&[4999, 5000, 5001], 5000) == few(4, 1, 3));
+    assert!(rt; classify(&[], 5000) == few(0, 0, 0));
+}
+
+// A mask, a place in it, and how many of its 256 bits from there on are ones.
+const RUNS: [([u64; 4], u16, u16); 8] = [
+    (ALL, 0, 256),
+    (ALL, 64, 192),
+    (ALL, 255, 1),
+    (ALL, 256, 0),
+    (ALL, 257, 0),
+    (NONE, 0, 0),
+    ([0xF0, 0, 0, 0], 5, 3),
+    ([1 << 63, 3, 0, 0], 63, 3),
+];
+
+#[test]
 fn a_run_goes_on_over_the_words_to_the_last_value(rt: HostRuntime) {
-    let masks = classify(&[5001; 256], 5000);
-    assert_eq!(rt; masks.over, ALL);
-    assert_eq!(rt; masks.under, NONE);
-    assert_eq!(rt; masks.len, 256);
-    for (at, run) in [(0, 256), (64, 192), (255, 1), (256, 0), (257, 0)] {
-        assert_eq!(rt; run_from(&masks.over, 256, at), run, "from {at}");
+    let expected = Masks {
+        over: ALL,
+        under: NONE,
+        len: 256,
+    };
+    assert!(rt; classify(&[5001; 256], 5000) == expected);
+    for (mask, at, run) in &RUNS {
+        assert!(rt; run_from(mask, 256, *at) == *run, "{mask:?} from {at}");
     }
-    assert_eq!(rt; run_from(&masks.under, 256, 0), 0);
-    assert_eq!(rt; run_from(&ALL, 100, 40), 60);
-    assert_eq!(rt; run_from(&[0xF0, 0, 0, 0], 256, 5), 3);
-    assert_eq!(rt; run_from(&[1 << 63, 3, 0, 0], 256, 63), 3);
+    assert!(rt; run_from(&ALL, 100, 40) == 60);
+}
+
+// Whether both classifiers find the same masks, of as many values as there are.
+fn do_agree(values: &[u32]) -> bool {
+    if values.len() > 256 {
+        return false;
+    }
+    let masks = classify(values, 5000);
+    masks == classify_plain(values, 5000) && usize::from(masks.len) == values.len()
 }
 
 #[test]
 fn both_classifiers_agree_at_each_length(rt: HostRuntime) {
     let values = by_forties();
     for len in 0..257 {
-        let masks = classify(&values[..len], 5000);
-        assert_eq!(rt;
-            masks,
-            classify_plain(&values[..len], 5000),
-            "at {len} values"
-        );
-        assert_eq!(rt; usize::from(masks.len), len);
+        assert!(rt; do_agree(&values[..len]), "at {len} values");
     }
     let masks = classify_plain(&values, 5000);
-    assert_eq!(rt; masks.over, [0, 0xC000000000000000, u64::MAX, u64::MAX]);
-    assert_eq!(rt; masks.under, [u64::MAX, 0x1FFFFFFFFFFFFFFF, 0, 0]);
+    assert!(rt; masks.over == [0, 0xC000000000000000, u64::MAX, u64::MAX]);
+    assert!(rt; masks.under == [u64::MAX, 0x1FFFFFFFFFFFFFFF, 0, 0]);
+}
+
+// The scan of a block of values alone.
+fn scan_of(values: &[u32; 256], threshold: u32) -> Scans {
+    Scans {
+        import: Scan {
+            threshold,
+            masks: classify(values, threshold),
+        },
+        export: None,
+    }
+}
+
+// Whether a block has this scan.
+fn is_scanned(block: &Block, expected: &Scans) -> bool {
+    match block.scanned() {
+        Some(scans) => *scans == *expected,
+        None => false,
+    }
+}
+
+// Wants that a block of values alone keeps the scan that was made of it last.
+fn check_scans(rt: &impl Abort, block: &mut Block, values: &[u32; 256]) {
+    assert!(*rt; block.values() == values.as_slice());
+    assert!(*rt; block.export().is_none() && block.scanned().is_none());
+    for (threshold, ignored) in [(5000, 1), (4000, 0), (5000, u32::MAX)] {
+        block.scan(threshold, ignored);
+        assert!(*rt;
+            is_scanned(block, &scan_of(values, threshold)),
+            "at {threshold}"
+        );
+    }
 }
 
 #[test]
 fn the_last_scan_is_kept(rt: HostRuntime) -> Result<(), Fail> {
     let values = by_forties();
     let mut block = Block::from_slice(rt.alloc(), &values)?;
-    assert_eq!(rt; block.values(), values.as_slice());
-    assert_eq!(rt; block.export().is_none(), true);
-    assert_eq!(rt; block.scanned().is_none(), true);
-    for (threshold, ignored) in [(5000, 1), (4000, 0), (5000, u32::MAX)] {
-        block.scan(threshold, ignored);
-        let import = Scan {
-            threshold,
-            masks: classify(&values, threshold),
-        };
-        let scans = Scans {
-            import,
-            export: None,
-        };
-        assert_eq!(rt; block.scanned().copied(), Some(scans), "at {threshold}");
-    }
+    check_scans(&rt, &mut block, &values);
+    drop(block);
     Ok(())
+}
+
+const IMPORTED: [u32; 3] = [1, 2, 3];
+
+const EXPORTED: [u32; 3] = [30, 20, 10];
+
+// A threshold, and the values over and under it.
+type Sides = (u32, u64, u64);
+
+// The scan of so many pairs, up to 64.
+fn scan_of_pairs(len: u16, import: Sides, export: Sides) -> Scans {
+    Scans {
+        import: Scan {
+            threshold: import.0,
+            masks: few(import.1, import.2, len),
+        },
+        export: Some(Scan {
+            threshold: export.0,
+            masks: few(export.1, export.2, len),
+        }),
+    }
+}
+
+// The scan at thresholds 2 and 10.
+fn in_the_middle() -> Scans {
+    scan_of_pairs(3, (2, 4, 1), (10, 3, 0))
+}
+
+// The scan at thresholds 4 and 2.
+fn to_one_side() -> Scans {
+    scan_of_pairs(3, (4, 0, 7), (2, 7, 0))
+}
+
+// Whether a block has these pairs.
+fn has_pairs(block: &Block, import: &[u32], export: &[u32]) -> bool {
+    match block.export() {
+        Some(values) => block.values() == import && values == export,
+        None => false,
+    }
+}
+
+// Whether a copy of a block has the pairs and the scan.
+fn is_copied(alloc: Global, block: &Block) -> Result<bool, Fail> {
+    let same = block.try_clone(alloc)?;
+    let found = has_pairs(&same, &IMPORTED, &EXPORTED) && is_scanned(&same, &in_the_middle());
+    drop(same);
+    Ok(found)
+}
+
+// Whether a block of pairs has the scans that are made of it, and a copy too.
+fn are_kept(alloc: Global, block: &mut Block) -> Result<[bool; 4], Fail> {
+    let has_pairs = has_pairs(block, &IMPORTED, &EXPORTED);
+    block.scan(2, 10);
+    let is_in_the_middle = is_scanned(block, &in_the_middle());
+    let is_copied = is_copied(alloc, block)?;
+    block.scan(4, 2);
+    Ok([
+        has_pairs,
+        is_in_the_middle,
+        is_copied,
+        is_scanned(block, &to_one_side()),
+    ])
 }
 
 #[test]
 fn pairs_are_scanned_at_a_threshold_each(rt: HostRuntime) -> Result<(), Fail> {
-    let mut block = Block::from_pairs(rt.alloc(), &[1, 2, 3], &[30, 20, 10])?;
-    assert_eq!(rt; block.values(), [1, 2, 3].as_slice());
-    assert_eq!(rt; block.export().ok_or("pairs")?, [30, 20, 10].as_slice());
-    block.scan(2, 10);
-    let scans = block.scanned().copied().ok_or("scanned")?;
-    let export = scans.export.ok_or("an export scan")?;
-    assert_eq!(rt; scans.import.threshold, 2);
-    assert_eq!(rt; scans.import.masks, three(4, 1));
-    assert_eq!(rt; export.threshold, 10);
-    assert_eq!(rt; export.masks, three(3, 0));
-    let same = block.try_clone(rt.alloc())?;
-    assert_eq!(rt; same.values(), block.values());
-    assert_eq!(rt; same.export().ok_or("pairs")?, [30, 20, 10].as_slice());
-    assert_eq!(rt; same.scanned().copied(), Some(scans));
-    block.scan(4, 2);
-    let scans = block.scanned().copied().ok_or("scanned")?;
-    let export = scans.export.ok_or("an export scan")?;
-    assert_eq!(rt; scans.import.threshold, 4);
-    assert_eq!(rt; scans.import.masks, three(0, 7));
-    assert_eq!(rt; export.threshold, 2);
-    assert_eq!(rt; export.masks, three(7, 0));
+    let mut block = Block::from_pairs(rt.alloc(), &IMPORTED, &EXPORTED)?;
+    let found = are_kept(rt.alloc(), &mut block);
+    drop(block);
+    assert!(rt; found? == [true; 4]);
     Ok(())
 }
 
-fn three(over: u64, under: u64) -> Masks {
-    Masks {
-        over: [over, 0, 0, 0],
-        under: [under, 0, 0, 0],
-        len: 3,
-    }
+// Why no block is made of these values, or how many it has.
+fn made(alloc: Global, values: &[u32]) -> Result<usize, BlockMade> {
+    let block = Block::from_slice(alloc, values)?;
+    let len = block.values().len();
+    drop(block);
+    Ok(len)
 }
+
+// The same of pairs.
+fn made_of_pairs(alloc: Global, import: &[u32], export: &[u32]) -> Result<usize, BlockMade> {
+    let block = Block::from_pairs(alloc, import, export)?;
+    let len = block.values().len();
+    drop(block);
+    Ok(len)
+}
+
+const LONG: [u32; 257] = [0; 257];
+
+// Import values, export values, and what comes of them.
+const LENGTHS: [(&[u32], &[u32], Result<usize, BlockMade>); 5] = [
+    (&[0], &[0; 2], Err(BlockMade::Uneven)),
+    (&LONG, &[0; 256], Err(BlockMade::Uneven)),
+    (&[0; 256], &LONG, Err(BlockMade::Uneven)),
+    (&LONG, &LONG, Err(BlockMade::TooLong)),
+    (&[0; 256], &[0; 256], Ok(256)),
+];
 
 #[test]
-fn a_block_is_refused_by_its_lengths(rt: HostRuntime) -> Result<(), Fail> {
-    let long = [0; 257];
-    assert_eq!(rt;
-        Block::from_slice(rt.alloc(), &long).err(),
-        Some(BlockMade::TooLong)
-    );
-    assert_eq!(rt;
-        Block::from_slice(rt.alloc(), &long[..256])?.values().len(),
-        256
-    );
-    let cases = [
-        (1, 2, Some(BlockMade::Uneven)),
-        (257, 256, Some(BlockMade::Uneven)),
-        (256, 257, Some(BlockMade::Uneven)),
-        (257, 257, Some(BlockMade::TooLong)),
-        (256, 256, None),
-    ];
-    for (import, export, refused) in cases {
-        assert!(rt; import <= 257 && export <= 257);
-        let made = Block::from_pairs(rt.alloc(), &long[..import], &long[..export]);
-        assert_eq!(rt; made.err(), refused, "at {import} and {export}");
+fn a_block_is_refused_by_its_lengths(rt: HostRuntime) {
+    assert!(rt; made(rt.alloc(), &LONG) == Err(BlockMade::TooLong));
+    assert!(rt; made(rt.alloc(), &LONG[..256]) == Ok(256));
+    for (place, (import, export, expected)) in LENGTHS.iter().enumerate() {
+        assert!(rt;
+            made_of_pairs(rt.alloc(), import, export) == *expected,
+            "at {place}"
+        );
     }
-    Ok(())
+}
+
+// Whether a block of no pairs is scanned at both thresholds.
+fn is_of_pairs(block: &mut Block) -> bool {
+    let has_pairs = has_pairs(block, &[], &[]);
+    block.scan(1, 2);
+    let expected = scan_of_pairs(0, (1, 0, 0), (2, 0, 0));
+    has_pairs && is_scanned(block, &expected)
+}
+
+// Whether a block of no values alone has no pairs.
+fn is_of_values_alone(alloc: Global) -> Result<bool, BlockMade> {
+    let block = Block::from_slice(alloc, &[])?;
+    let has_none = block.export().is_none();
+    drop(block);
+    Ok(has_none)
 }
 
 #[test]
 fn no_pairs_are_a_block_of_pairs(rt: HostRuntime) -> Result<(), Fail> {
     let mut block = Block::from_pairs(rt.alloc(), &[], &[])?;
-    assert_eq!(rt; block.export().ok_or("pairs")?.len(), 0);
-    block.scan(1, 2);
-    let scans = block.scanned().copied().ok_or("scanned")?;
-    assert_eq!(rt; scans.export.ok_or("an export scan")?.threshold, 2);
-    assert_eq!(rt;
-        Block::from_slice(rt.alloc(), &[])?.export().is_none(),
-        true
-    );
+    let found = is_of_pairs(&mut block);
+    drop(block);
+    assert!(rt; found && is_of_values_alone(rt.alloc()) == Ok(true));
     Ok(())
 }

@@ -1,10 +1,12 @@
 //! The worked values: 5000 W held for a second is ten samples.
-use cosem_datetime::read_date_time;
+use cosem_datetime::{PatternFault, read_date_time};
 use limiter_core::{Actions, Count, Fire, Kind, Limiter, Profile, RUN_LIMIT, are_fit};
+use std::alloc::{AllocError, Global};
+use std::process::Abort;
 use std::test::Fail;
 
 /// A limiter of 5000 W that acts after that many seconds over the threshold.
-fn limiter(alloc: std::alloc::Global, seconds: u32) -> Limiter {
+fn limiter(alloc: Global, seconds: u32) -> Limiter {
     let mut limiter = Limiter::new(alloc);
     limiter.set_normal_threshold(5000);
     limiter.set_min_over_duration(seconds);
@@ -36,124 +38,231 @@ fn skip(limiter: &mut Limiter, kind: Kind, n: u64, last: u32) -> bool {
     true
 }
 
-#[test]
-fn the_tenth_sample_over_the_threshold_fires(rt: HostRuntime) -> Result<(), Fail> {
-    let mut limiter = limiter(rt.alloc(), 1);
-    assert!(rt; limiter.before_fire(Kind::Over) == 9);
-    assert!(rt; after_quiet(&mut limiter, 9, 5001) == Some(Fire::Quiet));
-    assert!(rt; limiter.sample(5001) == Fire::Over);
-    assert!(rt; limiter.value() == 5001);
-    limiter.closed();
-    assert!(rt; after_quiet(&mut limiter, 9, 5001) == Some(Fire::Quiet));
-    assert!(rt; limiter.sample(5001) == Fire::Over);
-    Ok(())
+/// What is done with a limiter, and what it then shows.
+enum Step {
+    /// So many samples of a value come, of which the last brings this, and those before it nothing.
+    Samples(u32, u32, Fire),
+    /// So many samples of a kind are skipped, the last of which has this value.
+    Skip(Kind, u64, u32),
+    /// The switch is closed.
+    Closed,
+    /// An action is to be due after so many seconds over the threshold.
+    MinOver(u32),
+    /// An action is to be due after so many seconds under the threshold.
+    MinUnder(u32),
+    /// So many samples of a kind bring nothing.
+    BeforeFire(Kind, u64),
+    /// The last sample was this.
+    Value(u32),
 }
 
-#[test]
-fn an_equal_value_is_not_over(rt: HostRuntime) -> Result<(), Fail> {
-    let mut limiter = limiter(rt.alloc(), 1);
-    assert!(rt; limiter.before_fire(Kind::Equal) == u64::MAX);
-    assert!(rt; after_quiet(&mut limiter, 10, 5000) == Some(Fire::Quiet));
-    Ok(())
+/// Takes a step, and says whether it went as it is to go.
+fn take(limiter: &mut Limiter, step: &Step) -> bool {
+    match step {
+        Step::Samples(samples, value, last) => {
+            after_quiet(limiter, *samples, *value) == Some(*last)
+        }
+        Step::Skip(kind, n, last) => skip(limiter, *kind, *n, *last),
+        Step::Closed => {
+            limiter.closed();
+            true
+        }
+        Step::MinOver(seconds) => {
+            limiter.set_min_over_duration(*seconds);
+            limiter.min_over_duration() == *seconds
+        }
+        Step::MinUnder(seconds) => {
+            limiter.set_min_under_duration(*seconds);
+            limiter.min_under_duration() == *seconds
+        }
+        Step::BeforeFire(kind, samples) => limiter.before_fire(*kind) == *samples,
+        Step::Value(value) => limiter.value() == *value,
+    }
 }
 
-#[test]
-fn a_shorter_duration_acts_at_once_and_a_run_fires_once(rt: HostRuntime) -> Result<(), Fail> {
-    let mut limiter = limiter(rt.alloc(), 10);
-    assert!(rt; after_quiet(&mut limiter, 70, 5001) == Some(Fire::Quiet));
-    limiter.set_min_over_duration(5);
-    assert!(rt; limiter.sample(5001) == Fire::Over);
-    assert!(rt; limiter.sample(5001) == Fire::Quiet);
-    limiter.set_min_over_duration(20);
-    assert!(rt; limiter.min_over_duration() == 20);
-    assert!(rt; after_quiet(&mut limiter, 200, 5001) == Some(Fire::Quiet));
-    assert!(rt; limiter.before_fire(Kind::Over) == u64::MAX);
-    Ok(())
+/// Takes these steps with a limiter that acts after that many seconds over the threshold.
+fn play(rt: &impl Abort, alloc: Global, seconds: u32, steps: &[Step]) {
+    let mut limiter = limiter(alloc, seconds);
+    for (place, step) in steps.iter().enumerate() {
+        assert!(*rt; take(&mut limiter, step), "at step {place}");
+    }
+    drop(limiter);
 }
 
-#[test]
-fn ten_samples_under_the_threshold_fire_once(rt: HostRuntime) -> Result<(), Fail> {
-    let mut limiter = limiter(rt.alloc(), 1);
-    limiter.set_min_under_duration(1);
-    assert!(rt; limiter.min_under_duration() == 1);
-    assert!(rt; skip(&mut limiter, Kind::Under, 9, 4999));
-    assert!(rt; limiter.value() == 4999);
-    assert!(rt; limiter.sample(4999) == Fire::Under);
-    assert!(rt; after_quiet(&mut limiter, 10, 4999) == Some(Fire::Quiet));
-    Ok(())
-}
+const TEN_OVER_TWICE: [Step; 7] = [
+    Step::BeforeFire(Kind::Over, 9),
+    Step::Samples(9, 5001, Fire::Quiet),
+    Step::Samples(1, 5001, Fire::Over),
+    Step::Value(5001),
+    Step::Closed,
+    Step::Samples(9, 5001, Fire::Quiet),
+    Step::Samples(1, 5001, Fire::Over),
+];
 
 #[test]
-fn a_fired_run_of_any_length_is_skipped(rt: HostRuntime) -> Result<(), Fail> {
-    let mut limiter = limiter(rt.alloc(), 0);
-    assert!(rt; limiter.sample(5001) == Fire::Over);
-    assert!(rt; skip(&mut limiter, Kind::Over, 42_949_672_950, 6000));
-    assert!(rt; limiter.value() == 6000);
-    assert!(rt; limiter.sample(5001) == Fire::Quiet);
-    assert!(rt; skip(&mut limiter, Kind::Equal, 1, 5000));
-    assert!(rt; limiter.sample(5001) == Fire::Over);
-    Ok(())
+fn the_tenth_sample_over_the_threshold_fires(rt: HostRuntime) {
+    play(&rt, rt.alloc(), 1, &TEN_OVER_TWICE);
+}
+
+const EQUAL: [Step; 2] = [
+    Step::BeforeFire(Kind::Equal, u64::MAX),
+    Step::Samples(10, 5000, Fire::Quiet),
+];
+
+#[test]
+fn an_equal_value_is_not_over(rt: HostRuntime) {
+    play(&rt, rt.alloc(), 1, &EQUAL);
+}
+
+const OTHER_DURATIONS: [Step; 7] = [
+    Step::Samples(70, 5001, Fire::Quiet),
+    Step::MinOver(5),
+    Step::Samples(1, 5001, Fire::Over),
+    Step::Samples(1, 5001, Fire::Quiet),
+    Step::MinOver(20),
+    Step::Samples(200, 5001, Fire::Quiet),
+    Step::BeforeFire(Kind::Over, u64::MAX),
+];
+
+#[test]
+fn a_shorter_duration_acts_at_once_and_a_run_fires_once(rt: HostRuntime) {
+    play(&rt, rt.alloc(), 10, &OTHER_DURATIONS);
+}
+
+const TEN_UNDER: [Step; 5] = [
+    Step::MinUnder(1),
+    Step::Skip(Kind::Under, 9, 4999),
+    Step::Value(4999),
+    Step::Samples(1, 4999, Fire::Under),
+    Step::Samples(10, 4999, Fire::Quiet),
+];
+
+#[test]
+fn ten_samples_under_the_threshold_fire_once(rt: HostRuntime) {
+    play(&rt, rt.alloc(), 1, &TEN_UNDER);
+}
+
+const A_FIRED_RUN: [Step; 6] = [
+    Step::Samples(1, 5001, Fire::Over),
+    Step::Skip(Kind::Over, 42_949_672_950, 6000),
+    Step::Value(6000),
+    Step::Samples(1, 5001, Fire::Quiet),
+    Step::Skip(Kind::Equal, 1, 5000),
+    Step::Samples(1, 5001, Fire::Over),
+];
+
+#[test]
+fn a_fired_run_of_any_length_is_skipped(rt: HostRuntime) {
+    play(&rt, rt.alloc(), 0, &A_FIRED_RUN);
+}
+
+/// Gives a limiter without groups group 7 of another, and says what both then have.
+fn trade_groups(limiter: &mut Limiter, other: &mut Limiter) -> [bool; 2] {
+    let has_group = other.groups() == [7].as_slice();
+    limiter.swap_groups(other);
+    [has_group, other.groups().is_empty()]
+}
+
+/// Gives a limiter group 7.
+fn give_group(alloc: Global, limiter: &mut Limiter) -> Result<[bool; 2], AllocError> {
+    let mut other = Limiter::new(alloc);
+    let given = other.set_groups(alloc, &[7]);
+    let found = trade_groups(limiter, &mut other);
+    drop(other);
+    given?;
+    Ok(found)
+}
+
+/// Profile 7, from 1 January 2000, 00:01:40, for ten seconds.
+fn profile() -> Result<Profile, PatternFault> {
+    let start = read_date_time(&[0x07, 0xD0, 1, 1, 0xFF, 0, 1, 40, 0, 0x80, 0, 0])?;
+    Ok(Profile {
+        id: 7,
+        start,
+        duration: 10,
+    })
+}
+
+/// Whether a limiter of 5000 W keeps an emergency threshold of 3000 W and a profile.
+fn is_prepared(limiter: &mut Limiter, profile: Profile) -> bool {
+    limiter.set_emergency_threshold(3000);
+    limiter.set_profile(profile);
+    limiter.normal_threshold() == 5000
+        && limiter.emergency_threshold() == 3000
+        && limiter.profile().id == 7
+        && limiter.profile().duration == 10
+}
+
+/// Wants the emergency threshold from start on, and no longer than the duration.
+fn check_moments(rt: &impl Abort, limiter: &mut Limiter) {
+    for (moment, active, threshold) in [
+        (99, false, 5000),
+        (100, true, 3000),
+        (109, true, 3000),
+        (110, false, 5000),
+    ] {
+        limiter.at(moment);
+        assert!(*rt; limiter.emergency_active() == active, "at {moment}");
+        assert!(*rt; limiter.threshold() == threshold, "at {moment}");
+    }
 }
 
 #[test]
 fn the_emergency_profile_ends_before_start_and_duration(rt: HostRuntime) -> Result<(), Fail> {
+    let profile = profile()?;
     let mut limiter = limiter(rt.alloc(), 0);
-    limiter.set_emergency_threshold(3000);
-    assert!(rt; limiter.normal_threshold() == 5000 && limiter.emergency_threshold() == 3000);
-    let start = read_date_time(&[0x07, 0xD0, 1, 1, 0xFF, 0, 1, 40, 0, 0x80, 0, 0])?;
-    limiter.set_profile(Profile {
-        id: 7,
-        start,
-        duration: 10,
-    });
-    assert!(rt; limiter.profile().id == 7 && limiter.profile().duration == 10);
-    let mut other = Limiter::new(rt.alloc());
-    other.set_groups(rt.alloc(), &[7])?;
-    assert!(rt; other.groups() == [7].as_slice());
-    limiter.swap_groups(&mut other);
-    assert!(rt; other.groups().is_empty());
-    for (moment, active) in [(99, false), (100, true), (109, true), (110, false)] {
-        limiter.at(moment);
-        assert!(rt; limiter.emergency_active() == active);
-        let threshold = if active { 3000 } else { 5000 };
-        assert!(rt; limiter.threshold() == threshold);
+    assert!(rt; is_prepared(&mut limiter, profile));
+    assert!(rt; give_group(rt.alloc(), &mut limiter) == Ok([true; 2]));
+    assert!(rt; limiter.groups() == [7].as_slice());
+    check_moments(&rt, &mut limiter);
+    drop(limiter);
+    Ok(())
+}
+
+/// What the next sample of 5001 W brings a new limiter with such runs; none where they don't fit.
+fn next_fire(alloc: Global, last: u32, over: Count, under: Count) -> Option<Fire> {
+    match limiter(alloc, 1).with_runs(last, over, under) {
+        Some(mut limiter) => {
+            let fire = limiter.sample(5001);
+            drop(limiter);
+            Some(fire)
+        }
+        None => None,
     }
-    Ok(())
+}
+
+/// The last sample and the runs of a limiter that had nine samples over the threshold.
+fn runs_of_nine(rt: &impl Abort, alloc: Global) -> (u32, Count, Count) {
+    let mut limiter = limiter(alloc, 1);
+    assert!(*rt; after_quiet(&mut limiter, 9, 5001) == Some(Fire::Quiet));
+    let runs = (limiter.value(), limiter.over_run(), limiter.under_run());
+    drop(limiter);
+    runs
 }
 
 #[test]
-fn runs_are_written_down_and_read_back(rt: HostRuntime) -> Result<(), Fail> {
-    let mut first = limiter(rt.alloc(), 1);
-    assert!(rt; after_quiet(&mut first, 9, 5001) == Some(Fire::Quiet));
-    let (over, under) = (first.over_run(), first.under_run());
-    assert!(rt;
-        over == Count {
-            run: 9,
-            fired: false
-        } && under
-            == Count {
-                run: 0,
-                fired: false
-            }
-    );
-    let second = limiter(rt.alloc(), 1).with_runs(first.value(), over, under);
-    let Some(mut second) = second else {
-        return Err(Fail::from(std::alloc::AllocError));
-    };
-    assert!(rt; second.sample(5001) == Fire::Over);
-    assert!(rt; limiter(rt.alloc(), 1).with_runs(0, over, under).is_none());
-    assert!(rt; limiter(rt.alloc(), 1).with_runs(5001, over, over).is_none());
-    Ok(())
+fn runs_are_written_down_and_read_back(rt: HostRuntime) {
+    let (last, over, under) = runs_of_nine(&rt, rt.alloc());
+    assert!(rt; over == run(9, false) && under == run(0, false));
+    assert!(rt; next_fire(rt.alloc(), last, over, under) == Some(Fire::Over));
+    assert!(rt; next_fire(rt.alloc(), 0, over, under).is_none());
+    assert!(rt; next_fire(rt.alloc(), 5001, over, over).is_none());
 }
 
-#[test]
-fn the_actions_are_kept(rt: HostRuntime) -> Result<(), Fail> {
-    let mut limiter = Limiter::new(rt.alloc());
-    assert!(rt; limiter.threshold() == 4_294_967_295 && limiter.value() == 0);
-    assert!(rt; limiter.actions() == Actions { over: 0, under: 0 });
+/// Whether a new limiter has no threshold and no actions, and keeps those that are set.
+fn keeps_actions(limiter: &mut Limiter) -> [bool; 3] {
+    let is_new = limiter.threshold() == 4_294_967_295 && limiter.value() == 0;
+    let has_none = limiter.actions() == Actions { over: 0, under: 0 };
     limiter.set_actions(Actions { over: 1, under: 2 });
-    assert!(rt; limiter.actions() == Actions { over: 1, under: 2 });
-    Ok(())
+    let has_both = limiter.actions() == Actions { over: 1, under: 2 };
+    [is_new, has_none, has_both]
+}
+
+#[test]
+fn the_actions_are_kept(rt: HostRuntime) {
+    let mut limiter = Limiter::new(rt.alloc());
+    assert!(rt; keeps_actions(&mut limiter) == [true; 3]);
+    drop(limiter);
 }
 
 /// A run of so many samples.
