@@ -2,16 +2,15 @@
 ghost use Rattle.std.specs.Prelude.{◌≡◌, ◌<◌, ◌≤◌, [], IfOk};
 
 use crate::RefusedAndStood;
-use crate::recorders::event_of;
-use cosem_axdr::{Data, Octets};
+use crate::recorders::{event_of, new_recorder};
+use cosem_axdr::Data;
 use kept_meter::Kept;
-use relay_core::{Event, Reply};
-use relay_recorder::Recorder;
+use relay_core::Reply;
 use std::alloc::{AllocError, Global};
 use std::process::Abort;
 use std::sync::Wait;
 use std::test::Fail;
-use turn_lock::{CallFault, Port, Shared};
+use turn_lock::{CallFault, Port, Shared, Turned};
 
 /// The public client's GET of the device name.
 const READ_NAME: &[u8] = b"get 16 1 00002A0000FF 2 0";
@@ -20,12 +19,21 @@ const READ_NAME: &[u8] = b"get 16 1 00002A0000FF 2 0";
 fn new_lock(rt: &impl Abort, alloc: Global) -> Result<(Shared<Kept>, Port<Kept>), AllocError>
     ensures { IfOk result (λ r. r.1.lock ≡ r.0) }
 {
-    let device = Octets::from_slice(alloc, b"RELAY1")?;
-    assert!(rt; device.len() == 6);
-    let recorder = Recorder::new(alloc, &device, 9)?;
-    match Shared::new(alloc, Kept::new(recorder), 2) {
+    let recorder = new_recorder(rt, alloc, 9)?;
+    lock_over(alloc, Kept::new(recorder))
+}
+
+/// A lock over a value, which takes two calls, and its first port.
+fn lock_over<T: Turned>(alloc: Global, value: T) -> Result<(Shared<T>, Port<T>), AllocError>
+    requires { T.stands value [] }
+    ensures { IfOk result (λ r. r.1.lock ≡ r.0) }
+{
+    match Shared::new(alloc, value, 2) {
         Ok(made) => Ok(made),
-        Err((error, _)) => Err(error),
+        Err((error, value)) => {
+            drop(value);
+            Err(error)
+        }
     }
 }
 
@@ -37,17 +45,23 @@ fn is_name(reply: &Reply) -> bool {
     }
 }
 
-/// Calls, and says whether the reply tells the device name.
+/// Asks for the name, and says whether the reply tells it. The outer error is of memory that was refused beside the call.
 fn ask<W: Wait>(
     rt: &W,
     alloc: Global,
     port: &mut Port<Kept>,
-    event: Event,
-) -> Result<bool, CallFault>
+) -> Result<Result<bool, CallFault>, AllocError>
     ensures { port.new.lock ≡ port.old.lock }
 {
-    let reply = port.call(rt, alloc, event)?;
-    Ok(is_name(&reply))
+    let event = event_of(alloc, READ_NAME)?;
+    match port.call(rt, alloc, event) {
+        Ok(reply) => {
+            let is_name = is_name(&reply);
+            drop(reply);
+            Ok(Ok(is_name))
+        }
+        Err(fault) => Ok(Err(fault)),
+    }
 }
 
 /// How many events a meter has kept whose lock is closed, or None where it is busy.
@@ -55,20 +69,27 @@ fn kept(shared: Shared<Kept>, port: Port<Kept>) -> Option<u16>
     requires { port.lock ≡ shared }
 {
     match shared.close(port) {
-        Ok(kept) => Some(kept.recorder().count()),
-        Err(_) => None,
+        Ok(kept) => {
+            let count = kept.recorder().count();
+            drop(kept);
+            Some(count)
+        }
+        Err((_, shared, port)) => {
+            drop(shared);
+            drop(port);
+            None
+        }
     }
 }
 
 #[test]
 fn call_reads_the_name(rt: HostRuntime) -> Result<(), Fail> {
     let alloc = rt.alloc();
-    let event = event_of(alloc, READ_NAME)?;
-    let again = event_of(alloc, READ_NAME)?;
     let (shared, mut port) = new_lock(&rt, alloc)?;
-    let first = ask(&rt, alloc, &mut port, event);
-    let second = ask(&rt, alloc, &mut port, again);
+    let first = ask(&rt, alloc, &mut port);
+    let second = ask(&rt, alloc, &mut port);
     let calls = kept(shared, port);
+    let (first, second) = (first?, second?);
     if (first, second, calls) == (Ok(true), Ok(true), Some(2)) {
         return Ok(());
     }

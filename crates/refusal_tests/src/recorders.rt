@@ -1,5 +1,5 @@
 //! A recorder that is refused memory is as it was.
-ghost use Rattle.std.specs.Prelude.{◌≡◌, ◌≤◌, IfOk};
+ghost use Rattle.std.specs.Prelude.{◌≡◌, ◌≤◌, [], IfOk};
 
 use crate::RefusedAndStood;
 use cosem_axdr::Octets;
@@ -28,48 +28,80 @@ fn code(reply: &Reply) -> u8 {
     }
 }
 
-/// The recorder of a new meter, which keeps an event.
-fn new_recorder(rt: &impl Abort, alloc: Global) -> Result<Recorder, AllocError> {
+/// The recorder of a new meter, which keeps so many events.
+pub(crate) fn new_recorder(
+    rt: &impl Abort,
+    alloc: Global,
+    capacity: u16,
+) -> Result<Recorder, AllocError>
+    requires { (1 ≤ capacity) × (capacity ≤ 1024) }
+    ensures { IfOk result (λ recorder. recorder.events ≡ []) }
+{
     let device = Octets::from_slice(alloc, b"RELAY1")?;
     assert!(rt; device.len() == 6);
-    Recorder::new(alloc, &device, 1)
+    let recorder = Recorder::new(alloc, &device, capacity);
+    drop(device);
+    recorder
 }
 
 /// The text of a recorder's trace.
 fn exported(alloc: Global, recorder: &Recorder) -> Result<Octets, AllocError> {
     let trace = recorder.export(alloc)?;
-    write_trace(alloc, &trace)
+    let text = write_trace(alloc, &trace);
+    drop(trace);
+    text
 }
 
-/// Lets a recorder take an event, and tells the code of the reply.
-fn code_of(recorder: &mut Recorder, alloc: Global, event: Event) -> Result<u8, AllocError> {
-    let reply = recorder.apply(alloc, event)?;
-    Ok(code(&reply))
+/// Whether that is this one.
+fn is_exported(alloc: Global, recorder: &Recorder, text: &[u8]) -> Result<bool, AllocError> {
+    let now = exported(alloc, recorder)?;
+    let same = now.as_slice() == text;
+    drop(now);
+    Ok(same)
 }
 
-/// Has a table written, and where memory was refused looks at the recorder and has it written again.
-fn take_table(rt: &impl Abort, recorder: &mut Recorder, alloc: Global) -> Result<(), Fail> {
+/// Has the table written, and tells the code of the reply, or None where the recorder was refused memory. The error is of memory that was refused beside it.
+fn write_table(alloc: Global, recorder: &mut Recorder) -> Result<Option<u8>, AllocError> {
     let event = event_of(alloc, WRITE_TABLE)?;
-    let again = event_of(alloc, WRITE_TABLE)?;
-    let before = exported(alloc, recorder)?;
-    match code_of(recorder, alloc, event) {
-        Ok(code) => {
-            assert!(rt; code == 0);
-            Ok(())
+    match recorder.apply(alloc, event) {
+        Ok(reply) => {
+            let code = code(&reply);
+            drop(reply);
+            Ok(Some(code))
         }
-        Err(_) => {
-            let after = exported(alloc, recorder)?;
-            assert!(rt; after.as_slice() == before.as_slice());
-            assert_eq!(rt; code_of(recorder, alloc, again)?, 0);
-            Err(RefusedAndStood)?
-        }
+        Err(_) => Ok(None),
     }
+}
+
+/// Has the table written, and where memory was refused looks whether the recorder's trace is this one as before, and has it written again.
+fn take_table(
+    rt: &impl Abort,
+    alloc: Global,
+    recorder: &mut Recorder,
+    before: &[u8],
+) -> Result<(), Fail> {
+    if let Some(code) = write_table(alloc, recorder)? {
+        assert!(rt; code == 0);
+        return Ok(());
+    }
+    assert!(rt; is_exported(alloc, recorder, before)?);
+    assert!(rt; write_table(alloc, recorder)? == Some(0));
+    Err(RefusedAndStood)?
+}
+
+/// The same of a recorder as it is.
+fn look_and_take(rt: &impl Abort, alloc: Global, recorder: &mut Recorder) -> Result<(), Fail> {
+    let before = exported(alloc, recorder)?;
+    let taken = take_table(rt, alloc, recorder, before.as_slice());
+    drop(before);
+    taken
 }
 
 #[test]
 fn apply_takes_a_table(rt: HostRuntime) -> Result<(), Fail> {
     let alloc = rt.alloc();
-    let mut recorder = new_recorder(&rt, alloc)?;
-    let taken = take_table(&rt, &mut recorder, alloc);
+    let mut recorder = new_recorder(&rt, alloc, 1)?;
+    let taken = look_and_take(&rt, alloc, &mut recorder);
+    drop(recorder);
     taken
 }

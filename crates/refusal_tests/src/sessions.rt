@@ -72,14 +72,28 @@ fn serve_twice(
 fn new_core(rt: &impl Abort, alloc: Global) -> Result<RelayCore, AllocError> {
     let device = Octets::from_slice(alloc, b"RELAY1")?;
     assert!(rt; device.len() == 6);
-    RelayCore::new(alloc, &device)
+    let core = RelayCore::new(alloc, &device);
+    drop(device);
+    core
+}
+
+/// The same two sessions with a new meter.
+fn serve_new(rt: &impl Abort, alloc: Global, input: &[u8], password: &Octets) -> Result<(), Fail>
+    requires { IsPassword password.now }
+{
+    let mut core = new_core(rt, alloc)?;
+    let served = serve_twice(rt, alloc, &mut core, input, password);
+    drop(core);
+    served
 }
 
 #[test]
 fn serve_session_reads_and_lists(rt: HostRuntime) -> Result<(), Fail> {
     let alloc = rt.alloc();
-    let password = Octets::from_slice(alloc, b"12345678")?;
     let input = hex::decode(alloc, ASKED)?;
-    let mut core = new_core(&rt, alloc)?;
-    serve_twice(&rt, alloc, &mut core, input.as_slice(), &password)
+    let password = Octets::from_slice(alloc, b"12345678")?;
+    let served = serve_new(&rt, alloc, input.as_slice(), &password);
+    drop(input);
+    drop(password);
+    served
 }

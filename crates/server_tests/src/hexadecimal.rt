@@ -9,6 +9,7 @@ use meter_server::{HexFault, run_hex};
 use std::alloc::{AllocError, Global};
 use std::io;
 use std::io::Read;
+use std::process::Abort;
 use std::test::Fail;
 
 /// What came of a text.
@@ -35,6 +36,7 @@ fn play(alloc: Global, text: &str, failing: (u32, u32), device: &Octets, passwor
         failing: failing.1,
     });
     let result = run_hex(alloc, &mut reader, &mut writer, device, password);
+    drop(reader);
     Ran {
         lines: writer.into_inner().bytes,
         result,
@@ -45,7 +47,10 @@ fn play(alloc: Global, text: &str, failing: (u32, u32), device: &Octets, passwor
 fn run(alloc: Global, text: &str, failing: (u32, u32)) -> Result<Ran, AllocError> {
     let device = Octets::from_slice(alloc, b"RELAY1")?;
     let password = Octets::from_slice(alloc, b"12345678")?;
-    Ok(play(alloc, text, failing, &device, &password))
+    let ran = play(alloc, text, failing, &device, &password);
+    drop(device);
+    drop(password);
+    Ok(ran)
 }
 
 /// Whether a text gives these lines and this result.
@@ -56,7 +61,9 @@ fn gives(
     expected: Result<(), HexFault>,
 ) -> Result<bool, AllocError> {
     let ran = run(alloc, text, (0, 0))?;
-    Ok(ran.result == expected && ran.lines.as_slice() == lines.as_bytes())
+    let is_so = ran.result == expected && ran.lines.as_slice() == lines.as_bytes();
+    drop(ran);
+    Ok(is_so)
 }
 
 /// A text, the lines that are written to it, and what comes of it.
@@ -103,21 +110,35 @@ fn opened(alloc: Global) -> Result<String, AllocError> {
     format!(in alloc; "{PUBLIC_AARQ}{PUBLIC_GET}")
 }
 
+/// Whether a text gives the lines of the answers to them.
+fn gives_both_lines(alloc: Global, text: &str) -> Result<bool, AllocError> {
+    let lines = format!(in alloc; "{PUBLIC_AARE}\n{PUBLIC_STATE}\n")?;
+    let is_so = gives(alloc, text, lines.as_str(), Ok(()));
+    drop(lines);
+    is_so
+}
+
 #[test]
 fn each_frame_is_a_line(rt: HostRuntime) -> Result<(), Fail> {
     let text = opened(rt.alloc())?;
-    let lines = format!(in rt.alloc(); "{PUBLIC_AARE}\n{PUBLIC_STATE}\n")?;
-    assert!(rt; gives(rt.alloc(), text.as_str(), lines.as_str(), Ok(()))?);
+    let is_so = gives_both_lines(rt.alloc(), text.as_str());
+    drop(text);
+    assert!(rt; is_so?);
     Ok(())
 }
 
 /// What so many blanks give.
-fn run_blanks(alloc: Global, count: u64) -> Result<Result<(), HexFault>, Fail> {
+fn run_blanks(alloc: Global, count: u64) -> Result<Result<(), HexFault>, AllocError> {
     let device = Octets::from_slice(alloc, b"RELAY1")?;
     let password = Octets::from_slice(alloc, b"12345678")?;
     let mut reader = Counted::new(io::repeat(b' ').take(count));
     let mut writer = Counted::new(Vec::new(alloc));
-    Ok(run_hex(alloc, &mut reader, &mut writer, &device, &password))
+    let result = run_hex(alloc, &mut reader, &mut writer, &device, &password);
+    drop(reader);
+    drop(writer);
+    drop(device);
+    drop(password);
+    Ok(result)
 }
 
 #[test]
@@ -145,15 +166,24 @@ fn fails(
     size: usize,
 ) -> Result<bool, AllocError> {
     let ran = run(alloc, text, failing)?;
-    Ok(ran.result == Err(fault) && ran.lines.len() == size)
+    let is_so = ran.result == Err(fault) && ran.lines.len() == size;
+    drop(ran);
+    Ok(is_so)
+}
+
+fn check_failing(rt: &impl Abort, alloc: Global, text: &str) -> Result<(), AllocError> {
+    for (failing, fault, size) in &FAILING {
+        let is_so = fails(alloc, text, *failing, *fault, *size)?;
+        assert!(rt; is_so, "at {failing:?}");
+    }
+    Ok(())
 }
 
 #[test]
 fn a_read_or_a_write_fails(rt: HostRuntime) -> Result<(), Fail> {
     let text = opened(rt.alloc())?;
-    for (failing, fault, size) in &FAILING {
-        let is_so = fails(rt.alloc(), text.as_str(), *failing, *fault, *size)?;
-        assert!(rt; is_so, "at {failing:?}");
-    }
+    let checked = check_failing(&rt, rt.alloc(), text.as_str());
+    drop(text);
+    checked?;
     Ok(())
 }

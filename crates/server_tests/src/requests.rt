@@ -8,20 +8,38 @@ use std::test::Fail;
 fn new_core(rt: &impl Abort, alloc: Global) -> Result<RelayCore, AllocError> {
     let device = Octets::from_slice(alloc, b"RELAY1")?;
     assert!(rt; device.len() == 6);
-    RelayCore::new(alloc, &device)
+    let core = RelayCore::new(alloc, &device);
+    drop(device);
+    core
 }
 
-// The call under test, without its contract: a test is run for what no clause says, and its own proof then has little to look at.
-fn answer(alloc: Global, core: &mut RelayCore, request: &[u8]) -> Result<Octets, AllocError> {
-    answer_apdu(core, alloc, request)
+/// Whether bytes are those of a text in hexadecimal.
+fn are_of(alloc: Global, bytes: &[u8], text: &str) -> Result<bool, Fail> {
+    let expected = hex::decode(alloc, text)?;
+    let same = bytes == expected.as_slice();
+    drop(expected);
+    Ok(same)
+}
+
+/// Whether a core answers a request with the bytes of a text in hexadecimal.
+fn answers(
+    alloc: Global,
+    core: &mut RelayCore,
+    request: &[u8],
+    expected: &str,
+) -> Result<bool, Fail> {
+    let answer = answer_apdu(core, alloc, request)?;
+    let same = are_of(alloc, answer.as_slice(), expected);
+    drop(answer);
+    same
 }
 
 /// Whether a core answers the request of the first text as the second says. Both are hexadecimal.
 fn is_answered(alloc: Global, core: &mut RelayCore, pair: &(&str, &str)) -> Result<bool, Fail> {
     let request = hex::decode(alloc, pair.0)?;
-    let expected = hex::decode(alloc, pair.1)?;
-    let answer = answer(alloc, core, request.as_slice())?;
-    Ok(answer.as_slice() == expected.as_slice())
+    let is_so = answers(alloc, core, request.as_slice(), pair.1);
+    drop(request);
+    is_so
 }
 
 /// Asks a core for all requests, in order.
@@ -114,11 +132,18 @@ const REQUESTS: [Asked; 6] = [
     ),
 ];
 
+/// Asks a new meter.
+fn ask_new(rt: &impl Abort, alloc: Global, (what, pairs): &Asked) -> Result<(), Fail> {
+    let mut core = new_core(rt, alloc)?;
+    let asked = ask_all(rt, alloc, &mut core, what, pairs);
+    drop(core);
+    asked
+}
+
 #[test]
 fn requests_are_answered(rt: HostRuntime) -> Result<(), Fail> {
-    for (what, pairs) in &REQUESTS {
-        let mut core = new_core(&rt, rt.alloc())?;
-        ask_all(&rt, rt.alloc(), &mut core, what, pairs)?;
+    for asked in &REQUESTS {
+        ask_new(&rt, rt.alloc(), asked)?;
     }
     Ok(())
 }

@@ -9,6 +9,7 @@ use session_core::SessionEnd;
 use std::alloc::{AllocError, Global};
 use std::io;
 use std::io::{ErrorKind, Read, Write};
+use std::process::Abort;
 use std::test::Fail;
 use turn_lock::CallFault;
 
@@ -144,6 +145,7 @@ fn serve(alloc: Global, plan: &Plan, input: &[u8], meter: &mut Limited, password
         failing: plan.failing_write,
     });
     let result = serve_session(alloc, &mut reader, &mut writer, meter, password);
+    drop(reader);
     Ran {
         bytes: writer.into_inner().bytes,
         result,
@@ -153,10 +155,12 @@ fn serve(alloc: Global, plan: &Plan, input: &[u8], meter: &mut Limited, password
 /// A new meter that takes so many events.
 fn new_meter(alloc: Global, events: u32) -> Result<Limited, AllocError> {
     let device = Octets::from_slice(alloc, b"RELAY1")?;
-    Ok(Limited {
-        core: RelayCore::new(alloc, &device)?,
-        left: events,
-    })
+    let core = RelayCore::new(alloc, &device);
+    drop(device);
+    match core {
+        Ok(core) => Ok(Limited { core, left: events }),
+        Err(error) => Err(error),
+    }
 }
 
 /// A password of 1 to 32 bytes.
@@ -170,11 +174,22 @@ fn password_of(alloc: Global, text: &str) -> Result<Octets, AllocError>
     Octets::from_slice(alloc, bytes)
 }
 
+/// A session of a new meter with this password.
+fn serve_new(alloc: Global, plan: &Plan, input: &[u8], password: &Octets) -> Result<Ran, AllocError>
+    requires { IsPassword password.now }
+{
+    let mut meter = new_meter(alloc, plan.events)?;
+    let ran = serve(alloc, plan, input, &mut meter, password);
+    drop(meter);
+    Ok(ran)
+}
+
 /// A session of a new meter.
 pub(crate) fn run(alloc: Global, plan: &Plan, input: &[u8]) -> Result<Ran, AllocError> {
     let password = password_of(alloc, plan.password)?;
-    let mut meter = new_meter(alloc, plan.events)?;
-    Ok(serve(alloc, plan, input, &mut meter, &password))
+    let ran = serve_new(alloc, plan, input, &password);
+    drop(password);
+    ran
 }
 
 /// Whether a session on the input gives this output and this end.
@@ -186,7 +201,9 @@ pub(crate) fn gives(
     end: Result<SessionEnd, ServeFault>,
 ) -> Result<bool, AllocError> {
     let ran = run(alloc, plan, input)?;
-    Ok(ran.result == end && ran.bytes.as_slice() == output)
+    let is_so = ran.result == end && ran.bytes.as_slice() == output;
+    drop(ran);
+    Ok(is_so)
 }
 
 /// The same with the input whole and byte by byte, and an end that is no fault.
@@ -228,23 +245,70 @@ fn push_frame(
     ports: (u8, u8),
     payload: &str,
 ) -> Result<(), Fail> {
-    push_payload(text, ports, hex::decode(alloc, payload)?.as_slice())
+    let payload = hex::decode(alloc, payload)?;
+    let pushed = push_payload(text, ports, payload.as_slice());
+    drop(payload);
+    pushed
 }
 
-/// The texts of a talk: an opening and its answer, and then the payloads of requests from a port and of their answers.
-pub(crate) fn talk(
-    alloc: Global,
-    opening: (&str, &str),
+/// Whether a talk's requests or its answers are wanted.
+#[derive(Clone, Copy, PartialEq, Eq)]
+enum Side {
+    Asked,
+    Answered,
+}
+
+/// A talk: an opening and its answer, and then the payloads of requests from a port and of their answers.
+#[derive(Clone, Copy)]
+struct Talk {
+    opening: (&'static str, &'static str),
     port: u8,
-    pairs: &[(&str, &str)],
-) -> Result<(Vec<u8>, Vec<u8>), Fail> {
-    let mut input = hex::decode(alloc, opening.0)?;
-    let mut output = hex::decode(alloc, opening.1)?;
-    for (request, answer) in pairs {
-        push_frame(alloc, &mut input, (port, 1), request)?;
-        push_frame(alloc, &mut output, (1, port), answer)?;
+    pairs: &'static [(&'static str, &'static str)],
+}
+
+/// Puts the frames of a side of a talk behind its opening.
+fn push_frames(alloc: Global, text: &mut Vec<u8>, talk: &Talk, side: Side) -> Result<(), Fail> {
+    for (request, answer) in talk.pairs {
+        match side {
+            Side::Asked => push_frame(alloc, text, (talk.port, 1), request)?,
+            Side::Answered => push_frame(alloc, text, (1, talk.port), answer)?,
+        }
     }
-    Ok((input, output))
+    Ok(())
+}
+
+/// The bytes of a side of a talk.
+fn bytes_of(alloc: Global, talk: &Talk, side: Side) -> Result<Vec<u8>, Fail> {
+    let opening = match side {
+        Side::Asked => talk.opening.0,
+        Side::Answered => talk.opening.1,
+    };
+    let mut text = hex::decode(alloc, opening)?;
+    match push_frames(alloc, &mut text, talk, side) {
+        Ok(()) => Ok(text),
+        Err(fail) => {
+            drop(text);
+            Err(fail)
+        }
+    }
+}
+
+/// The bytes of both sides of a talk.
+#[derive(Drop)]
+struct Texts {
+    asked: Vec<u8>,
+    answered: Vec<u8>,
+}
+
+fn texts_of(alloc: Global, talk: &Talk) -> Result<Texts, Fail> {
+    let asked = bytes_of(alloc, talk, Side::Asked)?;
+    match bytes_of(alloc, talk, Side::Answered) {
+        Ok(answered) => Ok(Texts { asked, answered }),
+        Err(fail) => {
+            drop(asked);
+            Err(fail)
+        }
+    }
 }
 
 pub(crate) const PUBLIC: (&str, &str) = (PUBLIC_AARQ, PUBLIC_AARE);
@@ -372,9 +436,31 @@ const SESSIONS: [Session; 14] = [
 /// Whether a session is answered as it is to be, whole and byte by byte.
 fn is_answered(alloc: Global, session: &Session) -> Result<bool, Fail> {
     let (_, password, pair, end) = session;
-    let input = hex::decode(alloc, pair.0)?;
-    let output = hex::decode(alloc, pair.1)?;
-    Ok(gives_both(alloc, password, input.as_slice(), output.as_slice(), *end)?)
+    let talk = Talk {
+        opening: *pair,
+        port: 0,
+        pairs: &[],
+    };
+    is_talked(alloc, &talk, password, *end)
+}
+
+/// Whether a talk goes as it is to go, whole and byte by byte.
+fn is_talked(
+    alloc: Global,
+    talk: &Talk,
+    password: &'static str,
+    end: SessionEnd,
+) -> Result<bool, Fail> {
+    let texts = texts_of(alloc, talk)?;
+    let is_so = gives_both(
+        alloc,
+        password,
+        texts.asked.as_slice(),
+        texts.answered.as_slice(),
+        end,
+    );
+    drop(texts);
+    Ok(is_so?)
 }
 
 #[test]
@@ -391,14 +477,6 @@ pub(crate) const SMALL: (&str, &str) = (
     PUBLIC_AARE,
 );
 
-/// What a talk shows, its opening, the client's port, and the requests and their answers.
-type Talked = (
-    &'static str,
-    (&'static str, &'static str),
-    u8,
-    &'static [(&'static str, &'static str)],
-);
-
 /// Ten times the logical name of the switch is asked for: 91 bytes are to be answered.
 const TEN_NAMES: &str =
     "C003C10A0046000060030AFF01000046000060030AFF01000046000060030AFF01000046000060030AFF01000046000060030AFF01000046000060030AFF01000046000060030AFF01000046000060030AFF01000046000060030AFF01000046000060030AFF0100";
@@ -410,93 +488,105 @@ const FIRST_BLOCK: &str =
 const SECOND_BLOCK: &str =
     "C402C101000000020027030AFF000906000060030AFF000906000060030AFF000906000060030AFF000906000060030AFF";
 
-const TALKS: [Talked; 8] = [
+/// What a talk shows, and the talk.
+const TALKS: [(&str, Talk); 8] = [
     (
         "a public client reads",
-        PUBLIC,
-        16,
-        &[("C001C10046000060030AFF0300", "C401C1001601")],
+        Talk {
+            opening: PUBLIC,
+            port: 16,
+            pairs: &[("C001C10046000060030AFF0300", "C401C1001601")],
+        },
     ),
     (
         "the public client does not write the mode",
-        PUBLIC,
-        16,
-        &[("C101C10046000060030AFF04001602", "C501C103")],
+        Talk {
+            opening: PUBLIC,
+            port: 16,
+            pairs: &[("C101C10046000060030AFF04001602", "C501C103")],
+        },
     ),
     (
         "the management client writes the mode",
-        MANAGEMENT,
-        1,
-        &[("C101C10046000060030AFF04001602", "C501C100")],
+        Talk {
+            opening: MANAGEMENT,
+            port: 1,
+            pairs: &[("C101C10046000060030AFF04001602", "C501C100")],
+        },
     ),
     (
         "a body that nests too deep is unreadable",
-        PUBLIC,
-        16,
-        &[(
-            "C101C10046000060030AFF040002010201020102010201020102010201020100",
-            "D80103",
-        )],
+        Talk {
+            opening: PUBLIC,
+            port: 16,
+            pairs: &[(
+                "C101C10046000060030AFF040002010201020102010201020102010201020100",
+                "D80103",
+            )],
+        },
     ),
     (
         "an action comes in blocks",
-        MANAGEMENT,
-        1,
-        &[
-            ("C101C10046000060030AFF04001601", "C501C100"),
-            ("C304C10046000060030AFF010000000001010F", "C704C100000001"),
-            ("C306C101000000020100", "C701C10000"),
-            ("C001C10046000060030AFF0300", "C401C1001600"),
-            ("C306C101000000020100", "C701C11000"),
-        ],
+        Talk {
+            opening: MANAGEMENT,
+            port: 1,
+            pairs: &[
+                ("C101C10046000060030AFF04001601", "C501C100"),
+                ("C304C10046000060030AFF010000000001010F", "C704C100000001"),
+                ("C306C101000000020100", "C701C10000"),
+                ("C001C10046000060030AFF0300", "C401C1001600"),
+                ("C306C101000000020100", "C701C11000"),
+            ],
+        },
     ),
     (
         "several attributes are read at once",
-        PUBLIC,
-        16,
-        &[
-            (
-                "C003C1020046000060030AFF03000046000060030BFF0300",
-                "C403C1020016010104",
-            ),
-            ("C003C100", "C403C100"),
-        ],
+        Talk {
+            opening: PUBLIC,
+            port: 16,
+            pairs: &[
+                (
+                    "C003C1020046000060030AFF03000046000060030BFF0300",
+                    "C403C1020016010104",
+                ),
+                ("C003C100", "C403C100"),
+            ],
+        },
     ),
     (
         "the management client reads no list",
-        MANAGEMENT,
-        1,
-        &[("C003C100", "D80202")],
+        Talk {
+            opening: MANAGEMENT,
+            port: 1,
+            pairs: &[("C003C100", "D80202")],
+        },
     ),
     (
         "a long answer goes in blocks",
-        SMALL,
-        16,
-        &[
-            (TEN_NAMES, FIRST_BLOCK),
-            ("C002C100000001", SECOND_BLOCK),
-            ("C002C100000002", "C402C101000000020110"),
-            (TEN_NAMES, FIRST_BLOCK),
-            ("C002C100000007", "C402C101000000070113"),
-            ("C002C100000001", "C402C101000000010110"),
-            ("C001C10046000060030AFF0300", "C401C1001601"),
-        ],
+        Talk {
+            opening: SMALL,
+            port: 16,
+            pairs: &[
+                (TEN_NAMES, FIRST_BLOCK),
+                ("C002C100000001", SECOND_BLOCK),
+                ("C002C100000002", "C402C101000000020110"),
+                (TEN_NAMES, FIRST_BLOCK),
+                ("C002C100000007", "C402C101000000070113"),
+                ("C002C100000001", "C402C101000000010110"),
+                ("C001C10046000060030AFF0300", "C401C1001601"),
+            ],
+        },
     ),
 ];
-
-/// Whether a talk goes as it is to go, whole and byte by byte.
-fn is_talked(alloc: Global, talked: &Talked) -> Result<bool, Fail> {
-    let (_, opening, port, pairs) = talked;
-    let (input, output) = talk(alloc, *opening, *port, pairs)?;
-    let end = SessionEnd::Closed;
-    Ok(gives_both(alloc, "12345678", input.as_slice(), output.as_slice(), end)?)
-}
 
 #[test]
 fn talks_go_on_until_the_input_ends(rt: HostRuntime) -> Result<(), Fail> {
     assert_eq!(rt; TEN_NAMES.len(), 8 + 10 * "0046000060030AFF0100".len());
-    for talked in &TALKS {
-        assert!(rt; is_talked(rt.alloc(), talked)?, "{}", talked.0);
+    for (what, talk) in &TALKS {
+        assert!(rt;
+            is_talked(rt.alloc(), talk, "12345678", SessionEnd::Closed)?,
+            "{what}"
+        );
     }
     Ok(())
 }
@@ -517,16 +607,20 @@ fn is_cut(alloc: Global, opening: &[u8], size: usize) -> Result<bool, AllocError
     )
 }
 
+fn check_cuts(rt: &impl Abort, alloc: Global, opening: &[u8]) -> Result<(), AllocError> {
+    assert!(rt; opening.len() == 39);
+    for size in 0..39 {
+        assert!(rt; is_cut(alloc, opening, size)?, "after {size} bytes");
+    }
+    Ok(())
+}
+
 #[test]
 fn a_cut_opening_is_not_answered(rt: HostRuntime) -> Result<(), Fail> {
     let opening = hex::decode(rt.alloc(), PUBLIC_AARQ)?;
-    assert_eq!(rt; opening.len(), 39);
-    for size in 0..39 {
-        assert!(rt;
-            is_cut(rt.alloc(), opening.as_slice(), size)?,
-            "after {size} bytes"
-        );
-    }
+    let checked = check_cuts(&rt, rt.alloc(), opening.as_slice());
+    drop(opening);
+    checked?;
     Ok(())
 }
 
@@ -535,70 +629,103 @@ pub(crate) fn front(text: &[u8], size: usize) -> &[u8] {
     &text[..size.min(text.len())]
 }
 
-/// The opening of the public client, a GET, and their answers.
-fn short_talk(alloc: Global) -> Result<(Vec<u8>, Vec<u8>), Fail> {
-    talk(
-        alloc,
-        PUBLIC,
-        16,
-        &[("C001C10046000060030AFF0300", "C401C1001601")],
-    )
-}
+const GET: (&str, &str) = ("C001C10046000060030AFF0300", "C401C1001601");
 
-/// Whether a session of a short talk fails so after it has written so many bytes.
+/// The opening of the public client, and a GET.
+const SHORT_TALK: Talk = Talk {
+    opening: PUBLIC,
+    port: 16,
+    pairs: &[GET],
+};
+
+/// Whether a session of a talk fails so after it has written so many bytes.
 fn fails_after(
     alloc: Global,
     plan: &Plan,
-    texts: &(Vec<u8>, Vec<u8>),
+    texts: &Texts,
     size: usize,
     fault: ServeFault,
 ) -> Result<bool, AllocError> {
-    let written = front(texts.1.as_slice(), size);
-    gives(alloc, plan, texts.0.as_slice(), written, Err(fault))
+    let written = front(texts.answered.as_slice(), size);
+    gives(alloc, plan, texts.asked.as_slice(), written, Err(fault))
 }
 
-#[test]
-fn a_read_fails(rt: HostRuntime) -> Result<(), Fail> {
-    let texts = short_talk(rt.alloc())?;
-    assert_eq!(rt; (texts.0.len(), texts.1.len()), (60, 65));
+/// How many bytes are written before the read of a number fails, byte by byte.
+fn written_before(read: u32) -> usize {
+    match read {
+        0..40 => 0,
+        40..61 => 51,
+        _ => 65,
+    }
+}
+
+fn check_reads(rt: &impl Abort, alloc: Global, texts: &Texts) -> Result<(), AllocError> {
+    assert!(rt; texts.asked.len() == 60 && texts.answered.len() == 65);
     for failing in 1..62 {
         let plan = Plan {
             failing_read: failing,
             ..BY_BYTES
         };
-        let size = match failing {
-            0..40 => 0,
-            40..61 => 51,
-            _ => 65,
-        };
-        let is_so = fails_after(rt.alloc(), &plan, &texts, size, ServeFault::Read)?;
+        let is_so = fails_after(
+            alloc,
+            &plan,
+            texts,
+            written_before(failing),
+            ServeFault::Read,
+        )?;
         assert!(rt; is_so, "at read {failing}");
     }
     Ok(())
 }
 
 #[test]
-fn a_write_fails(rt: HostRuntime) -> Result<(), Fail> {
-    let texts = short_talk(rt.alloc())?;
+fn a_read_fails(rt: HostRuntime) -> Result<(), Fail> {
+    let texts = texts_of(rt.alloc(), &SHORT_TALK)?;
+    let checked = check_reads(&rt, rt.alloc(), &texts);
+    drop(texts);
+    checked?;
+    Ok(())
+}
+
+fn check_writes(rt: &impl Abort, alloc: Global, texts: &Texts) -> Result<(), AllocError> {
     for (failing, piece, size) in [(1, 1, 0), (1, 1_024, 0), (2, 1, 51), (2, 1_024, 51)] {
         let plan = Plan {
             failing_write: failing,
             piece,
             ..AMPLE
         };
-        let is_so = fails_after(rt.alloc(), &plan, &texts, size, ServeFault::Write)?;
+        let is_so = fails_after(alloc, &plan, texts, size, ServeFault::Write)?;
         assert!(rt; is_so, "at write {failing}");
     }
     Ok(())
 }
 
 #[test]
-fn the_meter_takes_two_events(rt: HostRuntime) -> Result<(), Fail> {
-    let get = ("C001C10046000060030AFF0300", "C401C1001601");
-    let texts = talk(rt.alloc(), PUBLIC, 16, &[get, get, get, get])?;
-    assert_eq!(rt; texts.1.len(), 51 + 4 * 14);
+fn a_write_fails(rt: HostRuntime) -> Result<(), Fail> {
+    let texts = texts_of(rt.alloc(), &SHORT_TALK)?;
+    let checked = check_writes(&rt, rt.alloc(), &texts);
+    drop(texts);
+    checked?;
+    Ok(())
+}
+
+fn check_two_events(rt: &impl Abort, alloc: Global, texts: &Texts) -> Result<(), AllocError> {
+    assert!(rt; texts.answered.len() == 51 + 4 * 14);
     let plan = Plan { events: 2, ..AMPLE };
     let size = 51 + 2 * 14;
-    assert!(rt; fails_after(rt.alloc(), &plan, &texts, size, ServeFault::Exhausted)?);
+    assert!(rt; fails_after(alloc, &plan, texts, size, ServeFault::Exhausted)?);
+    Ok(())
+}
+
+#[test]
+fn the_meter_takes_two_events(rt: HostRuntime) -> Result<(), Fail> {
+    let talk = Talk {
+        pairs: &[GET, GET, GET, GET],
+        ..SHORT_TALK
+    };
+    let texts = texts_of(rt.alloc(), &talk)?;
+    let checked = check_two_events(&rt, rt.alloc(), &texts);
+    drop(texts);
+    checked?;
     Ok(())
 }

@@ -1,8 +1,9 @@
 use crate::sessions::{
-    AMPLE, BY_BYTES, MANAGEMENT, PUBLIC_AARQ, SMALL, front, gives_both, push_payload, run,
+    AMPLE, BY_BYTES, MANAGEMENT, PUBLIC_AARQ, SMALL, front, gives, gives_both, push_payload, run,
 };
 use session_core::SessionEnd;
 use std::alloc::{AllocError, Global};
+use std::process::Abort;
 use std::test::Fail;
 
 /// What the object list of a public client tells of each object: class, version, name, attributes and methods, with the rights to them.
@@ -27,13 +28,39 @@ const GET_LIST: &str = "C001C1000F0000280000FF0200";
 /// The public client's GET of the state of the switch, and its answer: the switch is connected.
 const GET_STATE: (&str, &str) = ("C001C10046000060030AFF0300", "C401C1001601");
 
+/// Puts the bytes of a text in hexadecimal behind others.
+fn push_hex(alloc: Global, bytes: &mut Vec<u8>, text: &str) -> Result<(), Fail> {
+    let decoded = hex::decode(alloc, text)?;
+    let pushed = bytes.extend_from_slice(decoded.as_slice());
+    drop(decoded);
+    Ok(pushed?)
+}
+
+/// The same of several.
+fn push_all(alloc: Global, bytes: &mut Vec<u8>, texts: &[&str]) -> Result<(), Fail> {
+    for text in texts {
+        push_hex(alloc, bytes, text)?;
+    }
+    Ok(())
+}
+
 /// The text of the object list of a public client.
 fn object_list(alloc: Global) -> Result<Vec<u8>, Fail> {
     let mut list = Vec::from_slice(alloc, &[0x01, 12])?;
-    for object in OBJECTS {
-        list.extend_from_slice(hex::decode(alloc, object)?.as_slice())?;
+    match push_all(alloc, &mut list, &OBJECTS) {
+        Ok(()) => Ok(list),
+        Err(fail) => {
+            drop(list);
+            Err(fail)
+        }
     }
-    Ok(list)
+}
+
+/// How long a text is.
+fn length_of(text: Vec<u8>) -> usize {
+    let length = text.len();
+    drop(text);
+    length
 }
 
 /// What a client sends and is sent.
@@ -51,12 +78,23 @@ impl Talk {
     fn new(alloc: Global, opening: (&str, &str), port: u8) -> Result<Talk, Fail> {
         let mut talk = Talk {
             port,
-            input: hex::decode(alloc, opening.0)?,
-            output: hex::decode(alloc, opening.1)?,
+            input: Vec::new(alloc),
+            output: Vec::new(alloc),
             ends: Vec::new(alloc),
         };
-        talk.note_end()?;
-        Ok(talk)
+        match talk.open(alloc, opening) {
+            Ok(()) => Ok(talk),
+            Err(fail) => {
+                drop(talk);
+                Err(fail)
+            }
+        }
+    }
+
+    fn open(&mut self, alloc: Global, opening: (&str, &str)) -> Result<(), Fail> {
+        push_hex(alloc, &mut self.input, opening.0)?;
+        push_hex(alloc, &mut self.output, opening.1)?;
+        self.note_end()
     }
 
     /// A request was sent and answered.
@@ -77,7 +115,10 @@ impl Talk {
     fn ask(&mut self, alloc: Global, pair: (&str, &str)) -> Result<(), Fail> {
         let request = hex::decode(alloc, pair.0)?;
         let answer = hex::decode(alloc, pair.1)?;
-        self.push(request.as_slice(), answer.as_slice())
+        let pushed = self.push(request.as_slice(), answer.as_slice());
+        drop(request);
+        drop(answer);
+        pushed
     }
 
     /// A GET whose value goes out in blocks of so many bytes, and the GET-next of each later block.
@@ -110,7 +151,10 @@ impl Talk {
         };
         let head = if is_last { "C402C101" } else { "C402C100" };
         let answer = block(alloc, head, before.saturating_add(1), &[0x00], piece)?;
-        self.push(asked.as_slice(), answer.as_slice())
+        let pushed = self.push(asked.as_slice(), answer.as_slice());
+        drop(asked);
+        drop(answer);
+        pushed
     }
 
     /// A SET of the script table in blocks of so many bytes.
@@ -143,7 +187,10 @@ impl Talk {
         };
         let request = block(alloc, head, number, &[], piece)?;
         let answer = numbered(alloc, answered, number)?;
-        self.push(request.as_slice(), answer.as_slice())
+        let pushed = self.push(request.as_slice(), answer.as_slice());
+        drop(request);
+        drop(answer);
+        pushed
     }
 
     /// The same of several.
@@ -179,7 +226,25 @@ impl Talk {
     /// Whether its answers end in the bytes of this text.
     fn ends_in(&self, alloc: Global, text: &str) -> Result<bool, Fail> {
         let last = hex::decode(alloc, text)?;
-        Ok(self.output.as_slice().ends_with(last.as_slice()))
+        let is_so = self.output.as_slice().ends_with(last.as_slice());
+        drop(last);
+        Ok(is_so)
+    }
+
+    /// Whether it goes so once this was done, which was answered so often, with this text at the end.
+    fn goes_after(
+        &self,
+        alloc: Global,
+        done: Result<(), Fail>,
+        answers: usize,
+        last: &str,
+    ) -> Result<bool, Fail> {
+        done?;
+        Ok(
+            self.ends.len().checked_sub(1) == Some(answers)
+                && self.ends_in(alloc, last)?
+                && self.goes(alloc)?,
+        )
     }
 }
 
@@ -196,9 +261,7 @@ fn last_end(ends: &[(usize, usize)], size: usize) -> (usize, usize) {
 
 /// A payload's head in hexadecimal, and a number behind it.
 fn numbered(alloc: Global, head: &str, number: usize) -> Result<Vec<u8>, Fail> {
-    let mut payload = hex::decode(alloc, head)?;
-    payload.extend_from_slice(&u32::try_from(number)?.to_be_bytes())?;
-    Ok(payload)
+    block_of(alloc, head, number, &[], None)
 }
 
 /// The same, with a mark behind it, and bytes with their length.
@@ -209,10 +272,38 @@ fn block(
     mark: &[u8],
     raw: &[u8],
 ) -> Result<Vec<u8>, Fail> {
-    let mut payload = numbered(alloc, head, number)?;
+    block_of(alloc, head, number, mark, Some(raw))
+}
+
+fn block_of(
+    alloc: Global,
+    head: &str,
+    number: usize,
+    mark: &[u8],
+    raw: Option<&[u8]>,
+) -> Result<Vec<u8>, Fail> {
+    let mut payload = hex::decode(alloc, head)?;
+    match push_block(&mut payload, number, mark, raw) {
+        Ok(()) => Ok(payload),
+        Err(fail) => {
+            drop(payload);
+            Err(fail)
+        }
+    }
+}
+
+fn push_block(
+    payload: &mut Vec<u8>,
+    number: usize,
+    mark: &[u8],
+    raw: Option<&[u8]>,
+) -> Result<(), Fail> {
+    payload.extend_from_slice(&u32::try_from(number)?.to_be_bytes())?;
     payload.extend_from_slice(mark)?;
-    push_raw(&mut payload, raw)?;
-    Ok(payload)
+    match raw {
+        Some(raw) => push_raw(payload, raw),
+        None => Ok(()),
+    }
 }
 
 /// Puts bytes and their length at the end of a payload.
@@ -233,29 +324,32 @@ fn push_raw(payload: &mut Vec<u8>, raw: &[u8]) -> Result<(), Fail> {
 /// Reads the object list in blocks of 52 bytes.
 fn read_list(alloc: Global, talk: &mut Talk) -> Result<(), Fail> {
     let list = object_list(alloc)?;
-    talk.read(alloc, GET_LIST, list.as_slice(), 52)
+    let read = talk.read(alloc, GET_LIST, list.as_slice(), 52);
+    drop(list);
+    read
 }
 
 #[test]
 fn the_object_list_goes_in_13_blocks(rt: HostRuntime) -> Result<(), Fail> {
     let alloc = rt.alloc();
-    assert_eq!(rt; object_list(alloc)?.len(), 650);
+    assert!(rt; length_of(object_list(alloc)?) == 650);
     let mut talk = Talk::new(alloc, SMALL, 16)?;
-    read_list(alloc, &mut talk)?;
-    assert_eq!(rt; talk.ends.len(), 1 + 13);
+    let read = read_list(alloc, &mut talk);
     let last =
         "0001000100100024C402C1010000000D001A16000002030F0916000002030F0A16000002030F0B1600000100";
-    assert!(rt; talk.ends_in(alloc, last)? && talk.goes(alloc)?);
+    let is_so = talk.goes_after(alloc, read, 13, last);
+    drop(talk);
+    assert!(rt; is_so?);
     Ok(())
 }
 
 /// Reads the first block of the object list, and then goes on with a block that isn't the next.
 fn read_wrong_block(alloc: Global, talk: &mut Talk) -> Result<(), Fail> {
     let list = object_list(alloc)?;
-    let request = hex::decode(alloc, GET_LIST)?;
-    let mut first = hex::decode(alloc, "C402C100000000010034")?;
-    first.extend_from_slice(front(list.as_slice(), 52))?;
-    talk.push(request.as_slice(), first.as_slice())
+    let read = talk.read_block(alloc, GET_LIST, 0, false, front(list.as_slice(), 52));
+    drop(list);
+    read?;
+    talk.ask_all(alloc, &AFTER_A_WRONG_BLOCK)
 }
 
 const AFTER_A_WRONG_BLOCK: [(&str, &str); 3] = [
@@ -268,38 +362,56 @@ const AFTER_A_WRONG_BLOCK: [(&str, &str); 3] = [
 fn a_wrong_block_number_ends_a_long_get(rt: HostRuntime) -> Result<(), Fail> {
     let alloc = rt.alloc();
     let mut talk = Talk::new(alloc, SMALL, 16)?;
-    read_wrong_block(alloc, &mut talk)?;
-    talk.ask_all(alloc, &AFTER_A_WRONG_BLOCK)?;
-    assert!(rt; talk.goes(alloc)?);
+    let read = read_wrong_block(alloc, &mut talk);
+    let is_so = talk.goes_after(alloc, read, 4, "");
+    drop(talk);
+    assert!(rt; is_so?);
     Ok(())
+}
+
+/// Puts two object lists behind others.
+fn push_two(alloc: Global, lists: &mut Vec<u8>) -> Result<(), Fail> {
+    let list = object_list(alloc)?;
+    let first = lists.extend_from_slice(list.as_slice());
+    let between = lists.push(0x00);
+    let second = lists.extend_from_slice(list.as_slice());
+    drop(list);
+    first?;
+    between?;
+    Ok(second?)
 }
 
 /// The text of two object lists.
 fn two_lists(alloc: Global) -> Result<Vec<u8>, Fail> {
-    let list = object_list(alloc)?;
     let mut lists = Vec::from_slice(alloc, &[0x02, 0x00])?;
-    lists.extend_from_slice(list.as_slice())?;
-    lists.push(0x00)?;
-    lists.extend_from_slice(list.as_slice())?;
-    Ok(lists)
+    match push_two(alloc, &mut lists) {
+        Ok(()) => Ok(lists),
+        Err(fail) => {
+            drop(lists);
+            Err(fail)
+        }
+    }
 }
 
 /// Reads two object lists in blocks of 52 bytes.
 fn read_two_lists(alloc: Global, talk: &mut Talk) -> Result<(), Fail> {
     let lists = two_lists(alloc)?;
     let request = "C003C102000F0000280000FF0200000F0000280000FF0200";
-    talk.read(alloc, request, lists.as_slice(), 52)
+    let read = talk.read(alloc, request, lists.as_slice(), 52);
+    drop(lists);
+    read
 }
 
 #[test]
 fn two_object_lists_go_in_26_blocks(rt: HostRuntime) -> Result<(), Fail> {
     let alloc = rt.alloc();
-    assert_eq!(rt; two_lists(alloc)?.len(), 1_303);
+    assert!(rt; length_of(two_lists(alloc)?) == 1_303);
     let mut talk = Talk::new(alloc, SMALL, 16)?;
-    read_two_lists(alloc, &mut talk)?;
-    assert_eq!(rt; talk.ends.len(), 1 + 26);
+    let read = read_two_lists(alloc, &mut talk);
     let last = "000100010010000DC402C1010000001A0003000100";
-    assert!(rt; talk.ends_in(alloc, last)? && talk.goes(alloc)?);
+    let is_so = talk.goes_after(alloc, read, 26, last);
+    drop(talk);
+    assert!(rt; is_so?);
     Ok(())
 }
 
@@ -317,11 +429,22 @@ const WITHOUT_BLOCKS: [(&str, &str); 4] = [
     GET_STATE,
 ];
 
+/// Whether requests are answered so, after an opening from a port.
+fn is_asked(
+    alloc: Global,
+    (opening, port): ((&str, &str), u8),
+    pairs: &[(&str, &str)],
+) -> Result<bool, Fail> {
+    let mut talk = Talk::new(alloc, opening, port)?;
+    let asked = talk.ask_all(alloc, pairs);
+    let is_so = talk.goes_after(alloc, asked, pairs.len(), "");
+    drop(talk);
+    is_so
+}
+
 #[test]
 fn a_client_without_block_transfer_reads_no_long_list(rt: HostRuntime) -> Result<(), Fail> {
-    let mut talk = Talk::new(rt.alloc(), ONLY_GET, 16)?;
-    talk.ask_all(rt.alloc(), &WITHOUT_BLOCKS)?;
-    assert!(rt; talk.goes(rt.alloc())?);
+    assert!(rt; is_asked(rt.alloc(), (ONLY_GET, 16), &WITHOUT_BLOCKS)?);
     Ok(())
 }
 
@@ -341,15 +464,22 @@ const IN_BLOCKS: [(&str, &str); 9] = [
     ("C306C101000000020100", "C701C11000"),
 ];
 
+/// Cuts a talk of these requests after each of its bytes.
+fn check_cuts(rt: &impl Abort, alloc: Global, talk: &mut Talk) -> Result<(), Fail> {
+    talk.ask_all(alloc, &IN_BLOCKS)?;
+    assert!(rt; talk.ends.len() == 1 + 9);
+    for size in 0..=talk.input.len() {
+        assert!(rt; talk.goes_so_far(alloc, size)?, "after {size} bytes");
+    }
+    Ok(())
+}
+
 #[test]
 fn a_cut_talk_is_answered_so_far(rt: HostRuntime) -> Result<(), Fail> {
     let mut talk = Talk::new(rt.alloc(), MANAGEMENT, 1)?;
-    talk.ask_all(rt.alloc(), &IN_BLOCKS)?;
-    assert_eq!(rt; talk.ends.len(), 1 + 9);
-    for size in 0..=talk.input.len() {
-        assert!(rt; talk.goes_so_far(rt.alloc(), size)?, "after {size} bytes");
-    }
-    Ok(())
+    let checked = check_cuts(&rt, rt.alloc(), &mut talk);
+    drop(talk);
+    checked
 }
 
 const NO_VALUES: [(&str, &str); 4] = [
@@ -371,38 +501,53 @@ const NO_VALUES: [(&str, &str); 4] = [
 
 #[test]
 fn joined_bytes_that_are_no_value_are_refused(rt: HostRuntime) -> Result<(), Fail> {
-    let mut talk = Talk::new(rt.alloc(), MANAGEMENT, 1)?;
-    talk.ask_all(rt.alloc(), &NO_VALUES)?;
-    assert!(rt; talk.goes(rt.alloc())?);
+    assert!(rt; is_asked(rt.alloc(), (MANAGEMENT, 1), &NO_VALUES)?);
     Ok(())
 }
 
-/// Whether a text whose byte is changed so is answered alike whole and byte by byte: somehow, and with no end before the input's.
-fn is_alike(alloc: Global, opening: &[u8], at: usize, change: u8) -> Result<bool, AllocError> {
+/// Whether a text is answered alike whole and byte by byte: somehow, and with no end before the input's.
+fn is_alike(alloc: Global, text: &[u8]) -> Result<bool, AllocError> {
+    let end = Ok(SessionEnd::Closed);
+    let whole = run(alloc, &AMPLE, text)?;
+    let is_answered = whole.result == end && !whole.bytes.is_empty();
+    let is_same = gives(alloc, &BY_BYTES, text, whole.bytes.as_slice(), end);
+    drop(whole);
+    Ok(is_same? && is_answered)
+}
+
+/// The same of a text whose byte is changed so.
+fn is_alike_changed(
+    alloc: Global,
+    opening: &[u8],
+    at: usize,
+    change: u8,
+) -> Result<bool, AllocError> {
     let mut changed = Vec::from_slice(alloc, opening)?;
     if let Some(byte) = changed.get_mut(at) {
         *byte ^= change;
     }
-    let whole = run(alloc, &AMPLE, changed.as_slice())?;
-    let cut = run(alloc, &BY_BYTES, changed.as_slice())?;
-    Ok(
-        whole.result == Ok(SessionEnd::Closed)
-            && cut.result == Ok(SessionEnd::Closed)
-            && !whole.bytes.is_empty()
-            && whole.bytes.as_slice() == cut.bytes.as_slice(),
-    )
+    let alike = is_alike(alloc, changed.as_slice());
+    drop(changed);
+    alike
+}
+
+fn check_changes(rt: &impl Abort, alloc: Global, opening: &[u8]) -> Result<(), AllocError> {
+    assert!(rt; opening.len() == 39);
+    for at in 8..39 {
+        for change in 1..=255u8 {
+            let alike = is_alike_changed(alloc, opening, at, change)?;
+            assert!(rt; alike, "at {at} by {change}");
+        }
+    }
+    Ok(())
 }
 
 #[test]
 fn an_opening_with_a_changed_byte(rt: HostRuntime) -> Result<(), Fail> {
     let opening = hex::decode(rt.alloc(), PUBLIC_AARQ)?;
-    assert_eq!(rt; opening.len(), 39);
-    for at in 8..39 {
-        for change in 1..=255u8 {
-            let alike = is_alike(rt.alloc(), opening.as_slice(), at, change)?;
-            assert!(rt; alike, "at {at} by {change}");
-        }
-    }
+    let checked = check_changes(&rt, rt.alloc(), opening.as_slice());
+    drop(opening);
+    checked?;
     Ok(())
 }
 
@@ -418,39 +563,65 @@ const STEPS: [&str; 8] = [
     "020516021200460906000060030AFF0F020F00",
 ];
 
-/// The text of 16 scripts of these eight steps, numbered from 1.
-fn full_table(alloc: Global) -> Result<Vec<u8>, Fail> {
-    let mut steps = Vec::new(alloc);
-    for step in STEPS {
-        steps.extend_from_slice(hex::decode(alloc, step)?.as_slice())?;
-    }
-    let mut table = Vec::from_slice(alloc, &[0x01, 16])?;
+/// Puts 16 scripts of these steps behind others, numbered from 1.
+fn push_scripts(table: &mut Vec<u8>, steps: &[u8]) -> Result<(), AllocError> {
     for number in 1..=16u8 {
         table.extend_from_slice(&[0x02, 0x02, 0x12, 0x00, number, 0x01, 8])?;
-        table.extend_from_slice(steps.as_slice())?;
+        table.extend_from_slice(steps)?;
     }
-    Ok(table)
+    Ok(())
 }
 
-/// Writes the full table in blocks of so many bytes, and reads it: the answer's PDUs have 1,024 bytes, of which 12 are the header's.
-fn write_and_read_table(alloc: Global, talk: &mut Talk, size: usize) -> Result<(), Fail> {
-    let table = full_table(alloc)?;
-    talk.write_scripts(alloc, table.as_slice(), size)?;
-    talk.read(alloc, "C001C1000900000A006AFF0200", table.as_slice(), 1_012)
+/// The same of the eight steps.
+fn push_table(alloc: Global, table: &mut Vec<u8>) -> Result<(), Fail> {
+    let mut steps = Vec::new(alloc);
+    let decoded = push_all(alloc, &mut steps, &STEPS);
+    let pushed = push_scripts(table, steps.as_slice());
+    drop(steps);
+    decoded?;
+    Ok(pushed?)
+}
+
+/// The text of 16 scripts of these eight steps.
+fn full_table(alloc: Global) -> Result<Vec<u8>, Fail> {
+    let mut table = Vec::from_slice(alloc, &[0x01, 16])?;
+    match push_table(alloc, &mut table) {
+        Ok(()) => Ok(table),
+        Err(fail) => {
+            drop(table);
+            Err(fail)
+        }
+    }
+}
+
+/// Writes a table in blocks of so many bytes, and reads it: the answer's PDUs have 1,024 bytes, of which 12 are the header's.
+fn write_and_read(alloc: Global, talk: &mut Talk, table: &[u8], size: usize) -> Result<(), Fail> {
+    talk.write_scripts(alloc, table, size)?;
+    talk.read(alloc, "C001C1000900000A006AFF0200", table, 1_012)
+}
+
+/// Whether the full table goes so in blocks of so many bytes, of which there are so many, and is read in four.
+fn goes_in_blocks(alloc: Global, table: &[u8], size: usize, blocks: usize) -> Result<bool, Fail> {
+    let mut talk = Talk::new(alloc, MANAGEMENT, 1)?;
+    let done = write_and_read(alloc, &mut talk, table, size);
+    let is_so = talk.goes_after(alloc, done, blocks.saturating_add(4), "");
+    drop(talk);
+    is_so
+}
+
+fn check_table(rt: &impl Abort, alloc: Global, table: &[u8]) -> Result<(), Fail> {
+    assert!(rt; table.len() == 2 + 16 * (7 + 186));
+    // Small blocks give the same: 31 of 100 bytes in place of 4.
+    for (size, blocks) in [(1_000, 4), (100, 31)] {
+        assert!(rt; goes_in_blocks(alloc, table, size, blocks)?, "{size} bytes");
+    }
+    Ok(())
 }
 
 #[test]
 fn a_full_table_is_written_and_read_in_blocks(rt: HostRuntime) -> Result<(), Fail> {
-    let alloc = rt.alloc();
-    assert_eq!(rt; full_table(alloc)?.len(), 2 + 16 * (7 + 186));
-    // Small blocks give the same: 31 of 100 bytes in place of 4.
-    for (size, blocks) in [(1_000, 4), (100, 31)] {
-        let mut talk = Talk::new(alloc, MANAGEMENT, 1)?;
-        write_and_read_table(alloc, &mut talk, size)?;
-        assert!(rt;
-            talk.ends.len() == 1 + blocks + 4 && talk.goes(alloc)?,
-            "{size} bytes"
-        );
-    }
-    Ok(())
+    let table = full_table(rt.alloc())?;
+    let checked = check_table(&rt, rt.alloc(), table.as_slice());
+    drop(table);
+    checked
 }

@@ -28,32 +28,49 @@ fn sending_104(alloc: Global) -> Result<GetBlocks, AllocError> {
     Ok(GetBlocks::new(Octets::from_slice(alloc, &text)?, 52))
 }
 
-/// The number of the block after that of a number.
-fn next_number(alloc: Global, sent: &mut GetBlocks, after: u32) -> Result<u32, BlockFault> {
-    let piece = sent.next(alloc, after)?;
-    let number = piece.number;
-    drop(piece);
-    Ok(number)
+/// What is asked of a text that goes out in blocks: after which number, and the block (whether it is the last, its number and its bytes) or why there is none.
+type Sending<'a> = (u32, Result<(bool, u32, &'a [u8]), BlockFault>);
+
+/// Whether a block is this one.
+fn is_block(piece: &Piece, (last, number, raw): (bool, u32, &[u8])) -> bool {
+    piece.last == last && piece.number == number && piece.raw.as_slice() == raw
 }
 
-/// Whether the block after that of a number is the last, has this number, and these bytes.
-fn gives(
+/// Whether it is answered so.
+fn sends(
     alloc: Global,
     sent: &mut GetBlocks,
-    after: u32,
-    block: (bool, u32, &[u8]),
+    (after, expected): &Sending<'_>,
 ) -> Result<bool, BlockFault> {
-    let (last, number, raw) = block;
-    let piece = sent.next(alloc, after)?;
-    let same = piece.last == last && piece.number == number && piece.raw.as_slice() == raw;
-    drop(piece);
-    Ok(same)
+    match (sent.next(alloc, *after), expected) {
+        (Ok(piece), Ok(block)) => {
+            let same = is_block(&piece, *block);
+            drop(piece);
+            Ok(same)
+        }
+        (Ok(piece), Err(_)) => {
+            drop(piece);
+            Ok(false)
+        }
+        (Err(fault), Err(expected)) => Ok(fault == *expected),
+        (Err(fault), Ok(_)) => Err(fault),
+    }
 }
 
-/// Why there is no block after that of a number.
-fn next_fault(alloc: Global, sent: &mut GetBlocks, after: u32) -> Option<BlockFault> {
-    sent.next(alloc, after).err()
+fn send_all(
+    rt: &impl Abort,
+    alloc: Global,
+    sent: &mut GetBlocks,
+    rows: &[Sending<'_>],
+) -> Result<(), BlockFault> {
+    for row in rows {
+        assert!(*rt; sends(alloc, sent, row)?, "after block {}", row.0);
+    }
+    Ok(())
 }
+
+/// A block that is added (whether it is the last, its number and its bytes), and the text that it completes, or none, or why it is not added.
+type Joining<'a> = ((bool, u32, &'a [u8]), Result<Option<&'a [u8]>, BlockFault>);
 
 /// Whether a text that was put together is this one, or is not there as it is not here.
 fn is_text(added: &Option<Octets>, text: Option<&[u8]>) -> bool {
@@ -64,22 +81,41 @@ fn is_text(added: &Option<Octets>, text: Option<&[u8]>) -> bool {
     }
 }
 
-/// Whether a block that is added gives this text, or none.
-fn adds(
-    joined: &mut JoinBlocks,
-    block: (bool, u32, &[u8]),
-    text: Option<&[u8]>,
-) -> Result<bool, BlockFault> {
-    let (last, number, raw) = block;
-    let added = joined.add(last, number, raw)?;
-    let same = is_text(&added, text);
-    drop(added);
-    Ok(same)
+/// Whether it gives that.
+fn joins(joined: &mut JoinBlocks, (block, expected): &Joining<'_>) -> Result<bool, BlockFault> {
+    let (last, number, raw) = *block;
+    match (joined.add(last, number, raw), expected) {
+        (Ok(added), Ok(text)) => {
+            let same = is_text(&added, *text);
+            drop(added);
+            Ok(same)
+        }
+        (Ok(added), Err(_)) => {
+            drop(added);
+            Ok(false)
+        }
+        (Err(fault), Err(expected)) => Ok(fault == *expected),
+        (Err(fault), Ok(_)) => Err(fault),
+    }
 }
 
-/// Why a block is not added.
-fn add_fault(joined: &mut JoinBlocks, last: bool, number: u32, raw: &[u8]) -> Option<BlockFault> {
-    joined.add(last, number, raw).err()
+fn join_all(
+    rt: &impl Abort,
+    joined: &mut JoinBlocks,
+    rows: &[Joining<'_>],
+) -> Result<(), BlockFault> {
+    for row in rows {
+        assert!(*rt; joins(joined, row)?, "at block {}", row.0.1);
+    }
+    Ok(())
+}
+
+/// Adds blocks to none.
+fn join(rt: &impl Abort, alloc: Global, rows: &[Joining<'_>]) -> Result<(), BlockFault> {
+    let mut joined = JoinBlocks::new(alloc);
+    let added = join_all(rt, &mut joined, rows);
+    drop(joined);
+    added
 }
 
 /// Whether this block comes next, and gives this text, or none, where it is added.
@@ -93,11 +129,13 @@ fn passes(
     let (last, number, len) = block;
     let piece = sent.next(alloc, number.saturating_sub(1))?;
     let same = piece.last == last && piece.number == number && piece.raw.len() == len;
-    let added = adds(joined, (last, number, piece.raw.as_slice()), text);
+    let joining = ((last, number, piece.raw.as_slice()), Ok(text));
+    let added = joins(joined, &joining);
     drop(piece);
     Ok(added? && same)
 }
 
+/// Passes 13 blocks of the text of 650 bytes, and no more.
 fn check_13_blocks(
     rt: &impl Abort,
     alloc: Global,
@@ -105,15 +143,24 @@ fn check_13_blocks(
     joined: &mut JoinBlocks,
 ) -> Result<(), Fail> {
     let text: [u8; 650] = counted();
-    for number in 1..13 {
-        assert!(*rt; passes(alloc, sent, joined, (false, number, 52), None)?);
+    for number in 1..=13 {
+        let (len, whole) = if number == 13 {
+            (26, Some(text.as_slice()))
+        } else {
+            (52, None)
+        };
+        let block = (number == 13, number, len);
+        assert!(*rt;
+            passes(alloc, sent, joined, block, whole)?,
+            "at block {number}"
+        );
     }
-    assert!(*rt; passes(alloc, sent, joined, (true, 13, 26), Some(&text))?);
-    assert_eq!(*rt; next_fault(alloc, sent, 13), Some(BlockFault::NoTransfer));
-    assert_eq!(*rt;
-        add_fault(joined, true, 14, &[]),
-        Some(BlockFault::NoTransfer)
-    );
+    send_all(rt, alloc, sent, &[(13, Err(BlockFault::NoTransfer))])?;
+    join_all(
+        rt,
+        joined,
+        &[((true, 14, &[]), Err(BlockFault::NoTransfer))],
+    )?;
     Ok(())
 }
 
@@ -127,141 +174,103 @@ fn a_text_of_650_bytes_has_13_blocks(rt: HostRuntime) -> Result<(), Fail> {
     checked
 }
 
-fn check_two_full_blocks(rt: &impl Abort, alloc: Global, sent: &mut GetBlocks) -> Result<(), Fail> {
+#[test]
+fn a_full_block_at_the_end_is_the_last(rt: HostRuntime) -> Result<(), Fail> {
     let text: [u8; 104] = counted();
-    let (first, second) = (&text[..52], &text[52..]);
-    assert!(*rt; gives(alloc, sent, 0, (false, 1, first))?);
-    assert!(*rt; gives(alloc, sent, 1, (true, 2, second))?);
+    let mut sent = sending_104(rt.alloc())?;
+    let rows = [
+        (0, Ok((false, 1, &text[..52]))),
+        (1, Ok((true, 2, &text[52..]))),
+    ];
+    let checked = send_all(&rt, rt.alloc(), &mut sent, &rows);
+    drop(sent);
+    checked?;
     Ok(())
 }
 
-#[test]
-fn a_full_block_at_the_end_is_the_last(rt: HostRuntime) -> Result<(), Fail> {
-    let mut sent = sending_104(rt.alloc())?;
-    let checked = check_two_full_blocks(&rt, rt.alloc(), &mut sent);
+/// Asks a text of 650 bytes for the block after the first by a wrong number, and then by the right one.
+fn check_wrong_number(rt: &impl Abort, alloc: Global, wrong: u32) -> Result<(), Fail> {
+    let text: [u8; 52] = counted();
+    let mut sent = sending_650(alloc)?;
+    let rows = [
+        (0, Ok((false, 1, text.as_slice()))),
+        (wrong, Err(BlockFault::WrongNumber)),
+        (1, Err(BlockFault::NoTransfer)),
+    ];
+    let checked = send_all(rt, alloc, &mut sent, &rows);
     drop(sent);
-    checked
-}
-
-/// Asks for the block after the first by a wrong number, and then by the right one.
-fn check_wrong_number(
-    rt: &impl Abort,
-    alloc: Global,
-    sent: &mut GetBlocks,
-    wrong: u32,
-) -> Result<(), Fail> {
-    assert_eq!(*rt; next_number(alloc, sent, 0)?, 1);
-    assert_eq!(*rt;
-        next_fault(alloc, sent, wrong),
-        Some(BlockFault::WrongNumber)
-    );
-    assert_eq!(*rt; next_fault(alloc, sent, 1), Some(BlockFault::NoTransfer));
+    checked?;
     Ok(())
 }
 
 #[test]
 fn another_number_ends_the_sending(rt: HostRuntime) -> Result<(), Fail> {
     for wrong in [7, 0] {
-        let mut sent = sending_650(rt.alloc())?;
-        let checked = check_wrong_number(&rt, rt.alloc(), &mut sent, wrong);
-        drop(sent);
-        checked?;
+        check_wrong_number(&rt, rt.alloc(), wrong)?;
     }
     Ok(())
 }
 
-fn check_three_blocks(rt: &impl Abort, joined: &mut JoinBlocks) -> Result<(), Fail> {
-    let text = [0x06, 0x00, 0x00, 0x1B, 0x58];
-    assert!(*rt; adds(joined, (false, 1, &[0x06, 0x00, 0x00]), None)?);
-    assert!(*rt; adds(joined, (false, 2, &[]), None)?);
-    assert!(*rt; adds(joined, (true, 3, &[0x1B, 0x58]), Some(&text))?);
-    assert_eq!(*rt;
-        add_fault(joined, true, 3, &[0x1B, 0x58]),
-        Some(BlockFault::NoTransfer)
-    );
-    Ok(())
-}
+const THREE: [Joining<'static>; 4] = [
+    ((false, 1, &[0x06, 0x00, 0x00]), Ok(None)),
+    ((false, 2, &[]), Ok(None)),
+    (
+        (true, 3, &[0x1B, 0x58]),
+        Ok(Some(&[0x06, 0x00, 0x00, 0x1B, 0x58])),
+    ),
+    ((true, 3, &[0x1B, 0x58]), Err(BlockFault::NoTransfer)),
+];
 
 #[test]
 fn three_blocks_give_one_text(rt: HostRuntime) -> Result<(), Fail> {
-    let mut joined = JoinBlocks::new(rt.alloc());
-    let checked = check_three_blocks(&rt, &mut joined);
-    drop(joined);
-    checked
+    Ok(join(&rt, rt.alloc(), &THREE)?)
 }
 
-/// Adds a first block of a wrong number, and then of the right one.
-fn check_wrong_first(rt: &impl Abort, joined: &mut JoinBlocks, first: u32) {
-    assert_eq!(*rt;
-        add_fault(joined, false, first, &[0x06]),
-        Some(BlockFault::WrongNumber),
-        "at {first}"
-    );
-    assert_eq!(*rt;
-        add_fault(joined, false, 1, &[0x06]),
-        Some(BlockFault::NoTransfer)
-    );
+/// A first block of a wrong number, and then of the right one.
+fn wrong_first(first: u32) -> [Joining<'static>; 2] {
+    [
+        ((false, first, &[0x06]), Err(BlockFault::WrongNumber)),
+        ((false, 1, &[0x06]), Err(BlockFault::NoTransfer)),
+    ]
 }
 
-/// Adds a first block, and a second of a wrong number.
-fn check_wrong_second(rt: &impl Abort, joined: &mut JoinBlocks, second: u32) -> Result<(), Fail> {
-    assert!(*rt; adds(joined, (false, 1, &[0x06]), None)?);
-    assert_eq!(*rt;
-        add_fault(joined, true, second, &[0x00]),
-        Some(BlockFault::WrongNumber),
-        "at {second}"
-    );
-    Ok(())
+/// A first block, and a second of a wrong number.
+fn wrong_second(second: u32) -> [Joining<'static>; 2] {
+    [
+        ((false, 1, &[0x06]), Ok(None)),
+        ((true, second, &[0x00]), Err(BlockFault::WrongNumber)),
+    ]
 }
 
 #[test]
 fn another_number_ends_the_joining(rt: HostRuntime) -> Result<(), Fail> {
     for first in [0, 2, 4_294_967_295] {
-        let mut joined = JoinBlocks::new(rt.alloc());
-        check_wrong_first(&rt, &mut joined, first);
-        drop(joined);
+        join(&rt, rt.alloc(), &wrong_first(first))?;
     }
     for second in [1, 3] {
-        let mut joined = JoinBlocks::new(rt.alloc());
-        let checked = check_wrong_second(&rt, &mut joined, second);
-        drop(joined);
-        checked?;
+        join(&rt, rt.alloc(), &wrong_second(second))?;
     }
     Ok(())
 }
 
-/// Adds 8,192 bytes in two blocks.
-fn check_longest(rt: &impl Abort, joined: &mut JoinBlocks) -> Result<(), Fail> {
-    let longest = [0xAB; 8192];
-    assert!(*rt; adds(joined, (false, 1, &longest[..8000]), None)?);
-    assert!(*rt; adds(joined, (true, 2, &longest[8000..]), Some(&longest))?);
-    Ok(())
-}
+const LONGEST: [u8; 8192] = [0xAB; 8192];
 
-/// Adds a byte to 8,192.
-fn check_longer(rt: &impl Abort, joined: &mut JoinBlocks) -> Result<(), Fail> {
-    assert!(*rt; adds(joined, (false, 1, &[0xAB; 8192]), None)?);
-    assert_eq!(*rt;
-        add_fault(joined, true, 2, &[0xAB]),
-        Some(BlockFault::TooLong)
-    );
-    assert_eq!(*rt;
-        add_fault(joined, true, 2, &[]),
-        Some(BlockFault::NoTransfer)
-    );
-    Ok(())
-}
+/// A byte is added to 8,192.
+const LONGER: [Joining<'static>; 3] = [
+    ((false, 1, &LONGEST), Ok(None)),
+    ((true, 2, &[0xAB]), Err(BlockFault::TooLong)),
+    ((true, 2, &[]), Err(BlockFault::NoTransfer)),
+];
 
 #[test]
 fn no_more_than_8192_bytes_are_joined(rt: HostRuntime) -> Result<(), Fail> {
-    let mut joined = JoinBlocks::new(rt.alloc());
-    let checked = check_longest(&rt, &mut joined);
-    drop(joined);
-    checked?;
-    let mut over = JoinBlocks::new(rt.alloc());
-    let checked = check_longer(&rt, &mut over);
-    drop(over);
-    checked
+    let two: [Joining<'_>; 2] = [
+        ((false, 1, &LONGEST[..8000]), Ok(None)),
+        ((true, 2, &LONGEST[8000..]), Ok(Some(&LONGEST))),
+    ];
+    join(&rt, rt.alloc(), &two)?;
+    join(&rt, rt.alloc(), &LONGER)?;
+    Ok(())
 }
 
 /// The block after that of a number, asked for again where memory runs out.
@@ -272,30 +281,17 @@ fn next_again(alloc: Global, sent: &mut GetBlocks, after: u32) -> Result<Piece, 
     }
 }
 
-/// Adds a block, again where memory runs out.
-fn add_again(
-    joined: &mut JoinBlocks,
-    last: bool,
-    number: u32,
-    raw: &[u8],
-) -> Result<Option<Octets>, BlockFault> {
-    match joined.add(last, number, raw) {
-        Err(BlockFault::Memory) => joined.add(last, number, raw),
-        first => first,
-    }
-}
-
-/// What `adds` tells, where the call is repeated.
+/// Adds a block, again where memory runs out, and tells whether it gives this text, or none.
 fn adds_again(
     joined: &mut JoinBlocks,
     block: (bool, u32, &[u8]),
     text: Option<&[u8]>,
 ) -> Result<bool, BlockFault> {
-    let (last, number, raw) = block;
-    let added = add_again(joined, last, number, raw)?;
-    let same = is_text(&added, text);
-    drop(added);
-    Ok(same)
+    let joining = (block, Ok(text));
+    match joins(joined, &joining) {
+        Err(BlockFault::Memory) => joins(joined, &joining),
+        first => first,
+    }
 }
 
 /// What `passes` tells, where the calls are repeated.

@@ -1,3 +1,5 @@
+ghost use Rattle.std.specs.Prelude.{◌≡◌, false};
+
 use byte_streams::{Counted, InputFault, Reader, StreamFault, Writer, read_to_end_within};
 use std::alloc::Global;
 use std::io;
@@ -56,63 +58,81 @@ impl Write for Scripted {
     }
 }
 
-#[test]
-fn a_slice_is_read_to_its_end(rt: HostRuntime) -> Result<(), Fail> {
+// Whether a slice is read to its end, three bytes at a time.
+fn reads_slice() -> Result<bool, StreamFault> {
     let bytes: &[u8] = &[1, 2, 3, 4, 5];
     let mut reader = Counted::new(bytes);
     let mut buffer = [0; 3];
-    assert_eq!(rt; reader.read(&mut buffer)?, 3);
-    assert_eq!(rt; buffer, [1, 2, 3]);
-    assert_eq!(rt; reader.read(&mut buffer)?, 2);
-    assert_eq!(rt; buffer, [4, 5, 3]);
-    assert_eq!(rt; reader.read(&mut buffer)?, 0);
-    assert!(rt; !reader.has_failed());
-    assert_eq!(rt; reader.reads(), 3);
-    assert!(rt; reader.into_inner().is_empty());
+    let first = (reader.read(&mut buffer)?, buffer);
+    let second = (reader.read(&mut buffer)?, buffer);
+    let third = reader.read(&mut buffer)?;
+    let told = (reader.has_failed(), reader.reads());
+    let is_read = first == (3, [1, 2, 3]) && second == (2, [4, 5, 3]) && third == 0;
+    Ok(is_read && told == (false, 3) && reader.into_inner().is_empty())
+}
+
+#[test]
+fn a_slice_is_read_to_its_end(rt: HostRuntime) -> Result<(), Fail> {
+    assert!(rt; reads_slice()?);
     Ok(())
+}
+
+// Writes three bytes in two pieces, and none between.
+fn write_three<W: Write>(writer: &mut Counted<W>) -> Result<(), StreamFault>
+    requires { writer.old.has_failed ≡ false }
+{
+    writer.write_all(&[1, 2])?;
+    writer.write_all(&[])?;
+    writer.write_all(&[3])
 }
 
 #[test]
 fn a_vector_takes_what_is_written(rt: HostRuntime) -> Result<(), Fail> {
     let mut writer = Counted::new(Vec::new(rt.alloc()));
-    writer.write_all(&[1, 2])?;
-    writer.write_all(&[])?;
-    writer.write_all(&[3])?;
-    assert!(rt; !writer.has_failed());
-    assert_eq!(rt; writer.into_inner().as_slice(), [1, 2, 3].as_slice());
+    let written = write_three(&mut writer);
+    let has_failed = writer.has_failed();
+    let bytes = writer.into_inner();
+    let same = bytes.as_slice() == [1, 2, 3].as_slice();
+    drop(bytes);
+    written?;
+    assert!(rt; !has_failed && same);
     Ok(())
+}
+
+// What is told of a stream that was read: whether it has failed, how many reads there were, and how many calls of the stream.
+fn told_of(reader: Counted<Scripted>) -> (bool, u64, u32) {
+    let (has_failed, reads) = (reader.has_failed(), reader.reads());
+    (has_failed, reads, reader.into_inner().calls)
 }
 
 #[test]
 fn a_read_that_fails_is_told(rt: HostRuntime) -> Result<(), Fail> {
     let mut reader = Counted::new(Scripted::new(2, ErrorKind::ConnectionReset));
     let mut buffer = [0; 4];
-    assert_eq!(rt; reader.read(&mut buffer)?, 1);
-    assert_eq!(rt; reader.read(&mut buffer), Err(StreamFault));
-    assert!(rt; reader.has_failed());
-    assert_eq!(rt; reader.reads(), 1);
-    assert_eq!(rt; reader.into_inner().calls, 2);
+    let first = reader.read(&mut buffer)?;
+    let second = reader.read(&mut buffer);
+    let told = told_of(reader);
+    assert!(rt; first == 1 && second == Err(StreamFault) && told == (true, 1, 2));
     Ok(())
 }
 
 #[test]
-fn a_read_that_is_interrupted_is_tried_again(rt: HostRuntime) -> Result<(), Fail> {
+fn a_read_that_is_interrupted_is_tried_again(rt: HostRuntime) {
     let mut reader = Counted::new(Scripted::new(1, ErrorKind::Interrupted));
     let mut buffer = [0; 4];
-    assert_eq!(rt; reader.read(&mut buffer)?, 1);
-    assert!(rt; !reader.has_failed());
-    assert_eq!(rt; reader.reads(), 1);
-    assert_eq!(rt; reader.into_inner().calls, 2);
-    Ok(())
+    let read = reader.read(&mut buffer);
+    let told = told_of(reader);
+    assert!(rt; read == Ok(1) && told == (false, 1, 2));
 }
 
 #[test]
 fn a_write_that_fails_is_told(rt: HostRuntime) -> Result<(), Fail> {
     let mut writer = Counted::new(Scripted::new(3, ErrorKind::BrokenPipe));
     writer.write_all(&[1, 2])?;
-    assert_eq!(rt; writer.write_all(&[3, 4]), Err(StreamFault));
-    assert!(rt; writer.has_failed());
-    assert_eq!(rt; writer.into_inner().calls, 3);
+    let second = writer.write_all(&[3, 4]);
+    let has_failed = writer.has_failed();
+    let calls = writer.into_inner().calls;
+    assert!(rt; second == Err(StreamFault) && has_failed && calls == 3);
     Ok(())
 }
 
@@ -129,18 +149,28 @@ fn read_failing(alloc: Global) -> Result<Vec<u8>, InputFault> {
     read_to_end_within(alloc, &mut reader, 100)
 }
 
-// How many bytes are read of this many, in several pieces.
-fn read_many(alloc: Global, count: usize) -> Result<usize, Fail> {
-    let bytes = Vec::from_elem(alloc, 7u8, count)?;
-    let mut reader = Counted::new(bytes.as_slice());
-    Ok(read_to_end_within(alloc, &mut reader, 10_000)?.len())
+// Whether five bytes are read within five.
+fn reads_five(alloc: Global) -> Result<bool, InputFault> {
+    let read = read_five(alloc, 5)?;
+    let same = read.as_slice() == [1, 2, 3, 4, 5].as_slice();
+    drop(read);
+    Ok(same)
+}
+
+// How many bytes are read of these, in several pieces.
+fn count_read(alloc: Global, bytes: &[u8]) -> Result<usize, InputFault> {
+    let mut reader = Counted::new(bytes);
+    let read = read_to_end_within(alloc, &mut reader, 10_000)?;
+    let count = read.len();
+    drop(read);
+    Ok(count)
 }
 
 #[test]
 fn bytes_are_read_to_their_end(rt: HostRuntime) -> Result<(), Fail> {
-    let alloc = rt.alloc();
-    assert_eq!(rt; read_five(alloc, 5)?.as_slice(), [1, 2, 3, 4, 5].as_slice());
-    assert_eq!(rt; read_many(alloc, 3_000)?, 3_000);
+    assert!(rt; reads_five(rt.alloc())?);
+    let many = [7; 3_000];
+    assert!(rt; count_read(rt.alloc(), &many)? == 3_000);
     Ok(())
 }
 

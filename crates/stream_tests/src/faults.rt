@@ -1,19 +1,36 @@
 use program_fault::Fault;
+use std::alloc::{AllocError, Global};
 use std::test::Fail;
+
+/// A fault, its word and its status.
+const FAULTS: [(Fault, &str, u8); 6] = [
+    (Fault::Input, "input", 2),
+    (Fault::Read, "read", 3),
+    (Fault::Write, "write", 3),
+    (Fault::Listen, "listen", 3),
+    (Fault::Memory, "memory", 4),
+    (Fault::Turns, "turns", 4),
+];
+
+/// Whether a fault is shown as a word.
+fn is_shown(alloc: Global, fault: Fault, word: &str) -> Result<bool, AllocError> {
+    let shown = format!(in alloc; "{fault}")?;
+    let same = shown.as_str() == word;
+    drop(shown);
+    Ok(same)
+}
 
 #[test]
 fn a_fault_is_shown_as_its_word(rt: HostRuntime) -> Result<(), Fail> {
-    let alloc = rt.alloc();
-    let words = format!(in alloc; "{} {} {}", Fault::Input, Fault::Read, Fault::Write)?;
-    assert!(rt; words.as_str() == "input read write");
-    let words = format!(in alloc; "{} {} {}", Fault::Listen, Fault::Memory, Fault::Turns)?;
-    assert!(rt; words.as_str() == "listen memory turns");
+    for (fault, word, _) in &FAULTS {
+        assert!(rt; is_shown(rt.alloc(), *fault, word)?, "{word}");
+    }
     Ok(())
 }
 
 #[test]
 fn a_fault_has_its_status(rt: HostRuntime) {
-    assert!(rt; Fault::Input.status() == 2 && Fault::Read.status() == 3);
-    assert!(rt; Fault::Write.status() == 3 && Fault::Listen.status() == 3);
-    assert!(rt; Fault::Memory.status() == 4 && Fault::Turns.status() == 4);
+    for (fault, word, status) in &FAULTS {
+        assert!(rt; fault.status() == *status, "{word}");
+    }
 }

@@ -47,15 +47,17 @@ fn feed_and_take(
     Ok(())
 }
 
-fn assert_both(rt: &impl Abort, frames: &[Frame]) {
-    assert_eq!(rt; frames.len(), 2);
-    assert_frame(rt, &frames[0], &ASSOCIATION);
-    assert_frame(rt, &frames[1], &GET);
+/// Whether these are the two frames of the stream.
+fn are_both(frames: &[Frame]) -> bool {
+    match frames {
+        [association, get] => is_frame(association, &ASSOCIATION) && is_frame(get, &GET),
+        _ => false,
+    }
 }
 
-fn assert_frame(rt: &impl Abort, frame: &Frame, payload: &[u8]) {
-    assert_eq!(rt; (frame.src, frame.dst), (16, 1));
-    assert_eq!(rt; frame.payload.as_slice(), payload);
+/// Whether a frame goes from port 16 to port 1 with this payload.
+fn is_frame(frame: &Frame, payload: &[u8]) -> bool {
+    frame.src == 16 && frame.dst == 1 && frame.payload.as_slice() == payload
 }
 
 /// Takes the two frames out of two pieces of the stream.
@@ -68,8 +70,7 @@ fn check_pieces(
 ) -> Result<(), Fail> {
     feed_and_take(deframer, alloc, pieces.0, frames)?;
     feed_and_take(deframer, alloc, pieces.1, frames)?;
-    assert_both(rt, frames.as_slice());
-    assert!(rt; deframer.is_empty());
+    assert!(rt; are_both(frames.as_slice()) && deframer.is_empty());
     Ok(())
 }
 
@@ -88,23 +89,18 @@ fn two_frames_come_out_of_every_cut(rt: HostRuntime) -> Result<(), Fail> {
     Ok(())
 }
 
-/// Feeds the byte of a place in the stream, and takes the frame that ends with it.
-fn feed_byte(
-    rt: &impl Abort,
+/// Feeds the byte of a place in the stream, and takes the frame that ends with it. Tells whether none was begun before, where none was to be, and none is whole
+/// but where one is.
+fn is_fed(
     alloc: Global,
     (at, byte): (usize, u8),
     deframer: &mut Deframer,
     frames: &mut Vec<Frame>,
-) -> Result<(), Fail> {
-    assert_eq!(rt;
-        deframer.is_empty(),
-        at == 0 || at == 39,
-        "before byte {at}"
-    );
+) -> Result<bool, Fail> {
+    let was_empty = deframer.is_empty();
     deframer.feed(&[byte])?;
     let is_taken = take_one(deframer, alloc, frames)?;
-    assert_eq!(rt; is_taken, at == 38 || at == 59, "at byte {at}");
-    Ok(())
+    Ok(was_empty == (at == 0 || at == 39) && is_taken == (at == 38 || at == 59))
 }
 
 fn check_bytes(
@@ -114,9 +110,12 @@ fn check_bytes(
     frames: &mut Vec<Frame>,
 ) -> Result<(), Fail> {
     for (at, byte) in STREAM.iter().enumerate() {
-        feed_byte(rt, alloc, (at, *byte), deframer, frames)?;
+        assert!(rt;
+            is_fed(alloc, (at, *byte), deframer, frames)?,
+            "at byte {at}"
+        );
     }
-    assert_both(rt, frames.as_slice());
+    assert!(rt; are_both(frames.as_slice()));
     Ok(())
 }
 
@@ -160,8 +159,8 @@ fn take_fault(deframer: &mut Deframer, alloc: Global) -> Option<WrapperFault> {
 /// Asks twice, and feeds more behind a wrong header.
 fn check_fault(rt: &impl Abort, alloc: Global, deframer: &mut Deframer, fault: WrapperFault) {
     for _ in 0..2 {
-        assert_eq!(rt; take_fault(deframer, alloc), Some(fault));
-        assert_eq!(rt; deframer.feed(&STREAM), Err(fault));
+        assert!(rt; take_fault(deframer, alloc) == Some(fault));
+        assert!(rt; deframer.feed(&STREAM) == Err(fault));
     }
     assert!(rt; !deframer.is_empty());
 }
@@ -212,8 +211,8 @@ fn check_before_wrong(
     for _ in 0..2 {
         take_one(deframer, alloc, frames)?;
     }
-    assert_both(rt, frames.as_slice());
-    assert_eq!(rt; take_fault(deframer, alloc), Some(WrapperFault::Version));
+    assert!(rt; are_both(frames.as_slice()));
+    assert!(rt; take_fault(deframer, alloc) == Some(WrapperFault::Version));
     Ok(())
 }
 
@@ -227,47 +226,44 @@ fn frames_before_a_wrong_header_come_first(rt: HostRuntime) -> Result<(), Fail> 
     checked
 }
 
-/// Wants a frame of this payload to be the first.
-fn check_first(
-    rt: &impl Abort,
-    alloc: Global,
-    deframer: &mut Deframer,
-    payload: &[u8],
-) -> Result<(), Fail> {
-    let frame = deframer.take(alloc)?.ok_or("no frame")?;
-    assert_frame(rt, &frame, payload);
-    drop(frame);
-    Ok(())
+/// Whether a frame of this payload was taken.
+fn is_of(taken: Result<Option<Frame>, WrapperFault>, payload: &[u8]) -> Result<bool, WrapperFault> {
+    let taken = taken?;
+    let is_so = matches!(&taken, Some(frame) if is_frame(frame, payload));
+    drop(taken);
+    Ok(is_so)
 }
 
-/// Wants the text of a frame, which has this payload.
-fn check_text(rt: &impl Abort, alloc: Global, text: &[u8], payload: &[u8]) -> Result<(), Fail> {
-    assert_eq!(rt;
-        text.get(..9),
-        Some([0x00, 0x01, 0x00, 0x10, 0x00, 0x01, 0x04, 0x00, 0xAB].as_slice())
-    );
-    assert_eq!(rt; text.len(), 1032);
+/// Whether a frame of this payload is taken out of a text.
+fn is_taken(alloc: Global, text: &[u8], payload: &[u8]) -> Result<bool, WrapperFault> {
     let mut deframer = Deframer::new(alloc);
-    let checked = match deframer.feed(text) {
-        Ok(()) => check_first(rt, alloc, &mut deframer, payload),
-        Err(fault) => Err(Fail::from(fault)),
+    let taken = match deframer.feed(text) {
+        Ok(()) => is_of(deframer.take(alloc), payload),
+        Err(fault) => Err(fault),
     };
     drop(deframer);
-    checked
+    taken
+}
+
+/// Whether a payload of 1,024 bytes has a text that begins so, out of which it is taken.
+fn is_written_and_taken(alloc: Global, longest: &[u8]) -> Result<bool, WrapperFault> {
+    let text = frame(alloc, 16, 1, longest)?;
+    let begins = text
+        .as_slice()
+        .starts_with(&[0x00, 0x01, 0x00, 0x10, 0x00, 0x01, 0x04, 0x00, 0xAB]);
+    let is_so = begins && text.len() == 1032;
+    let taken = is_taken(alloc, text.as_slice(), longest);
+    drop(text);
+    Ok(taken? && is_so)
 }
 
 #[test]
 fn the_longest_payload_is_written_and_taken(rt: HostRuntime) -> Result<(), Fail> {
     let payload = [0xAB; 1025];
-    let longest = &payload[1..];
-    let text = frame(rt.alloc(), 16, 1, longest)?;
-    let checked = check_text(&rt, rt.alloc(), text.as_slice(), longest);
-    drop(text);
-    assert_eq!(rt;
-        frame(rt.alloc(), 16, 1, &payload).err(),
-        Some(WrapperFault::TooLong)
-    );
-    checked
+    assert!(rt; is_written_and_taken(rt.alloc(), &payload[1..])?);
+    let fault = frame(rt.alloc(), 16, 1, &payload).err();
+    assert!(rt; fault == Some(WrapperFault::TooLong));
+    Ok(())
 }
 
 /// Whether the frame of a payload has this text.
@@ -312,23 +308,10 @@ fn take_again(deframer: &mut Deframer, alloc: Global) -> Result<Option<Frame>, W
     }
 }
 
-/// Wants a frame of this payload to be the first, where the call is repeated.
-fn check_first_again(
-    rt: &impl Abort,
-    alloc: Global,
-    deframer: &mut Deframer,
-    payload: &[u8],
-) -> Result<(), Fail> {
-    let frame = take_again(deframer, alloc)?.ok_or("no frame")?;
-    assert_frame(rt, &frame, payload);
-    drop(frame);
-    Ok(())
-}
-
 fn check_repeated(rt: &impl Abort, alloc: Global, deframer: &mut Deframer) -> Result<(), Fail> {
     feed_again(rt, deframer)?;
-    check_first_again(rt, alloc, deframer, &ASSOCIATION)?;
-    check_first_again(rt, alloc, deframer, &GET)?;
+    assert!(rt; is_of(take_again(deframer, alloc), &ASSOCIATION)?);
+    assert!(rt; is_of(take_again(deframer, alloc), &GET)?);
     assert!(rt; deframer.is_empty());
     Ok(())
 }

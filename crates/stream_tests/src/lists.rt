@@ -4,12 +4,11 @@ use std::test::Fail;
 
 /// Adds 7 and 9 to no items.
 fn add_two(rt: &impl Abort, list: &mut Listed<u32>) -> Result<(), Fail> {
-    assert!(*rt; list.is_empty());
+    let was_empty = list.is_empty();
     list.push(7)?;
     list.push(9)?;
-    assert!(*rt; !list.is_empty());
-    assert_eq!(*rt; list.len(), 2);
-    assert_eq!(*rt; list.as_slice(), [7, 9].as_slice());
+    assert!(*rt; was_empty && !list.is_empty());
+    assert!(*rt; list.len() == 2 && list.as_slice() == [7, 9].as_slice());
     Ok(())
 }
 

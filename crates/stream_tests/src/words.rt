@@ -1,5 +1,6 @@
 //! Words, lines and texts with the values that they stand for.
 use std::alloc::{AllocError, Global};
+use std::process::Abort;
 use std::test::Fail;
 use trace_text::{
     Lines, Words, add_hex, add_number, add_word, end_line, read_hex, read_number, split_line,
@@ -81,38 +82,53 @@ fn add_some_lines(alloc: Global, out: &mut Vec<u8>) -> Result<(), AllocError> {
     write_hex(alloc, out, &[0x0F, 0xA0])
 }
 
+// A word, the largest number that it may tell, and what it is read as.
+type Number = (&'static [u8], u64, Option<u64>);
+
+fn read_all(rt: &impl Abort, numbers: &[Number]) {
+    for (word, limit, number) in numbers {
+        assert!(*rt; read_number(word, *limit) == *number, "of {word:?}");
+    }
+}
+
+const NUMBERS: [Number; 4] = [
+    (b"0", 0, Some(0)),
+    (b"5", u64::MAX, Some(5)),
+    (b"4294967295", 4_294_967_295, Some(4_294_967_295)),
+    (b"18446744073709551615", u64::MAX, Some(u64::MAX)),
+];
+
 #[test]
 fn numbers_are_read(rt: HostRuntime) {
-    assert_eq!(rt; read_number(b"0", 0), Some(0));
-    assert_eq!(rt; read_number(b"5", u64::MAX), Some(5));
-    assert_eq!(rt;
-        read_number(b"4294967295", 4_294_967_295),
-        Some(4_294_967_295)
-    );
-    assert_eq!(rt;
-        read_number(b"18446744073709551615", u64::MAX),
-        Some(u64::MAX)
-    );
+    read_all(&rt, &NUMBERS);
 }
+
+const NO_NUMBERS: [Number; 9] = [
+    (b"18446744073709551616", u64::MAX, None),
+    (b"99999999999999999999999999", u64::MAX, None),
+    (b"007", u64::MAX, None),
+    (b"00", u64::MAX, None),
+    (b"+5", u64::MAX, None),
+    (b"-5", u64::MAX, None),
+    (b"", u64::MAX, None),
+    (b"5a", u64::MAX, None),
+    (b"\xC3\xA9", u64::MAX, None),
+];
 
 #[test]
 fn other_words_are_no_numbers(rt: HostRuntime) {
-    assert_eq!(rt; read_number(b"18446744073709551616", u64::MAX), None);
-    assert_eq!(rt; read_number(b"99999999999999999999999999", u64::MAX), None);
-    assert_eq!(rt; read_number(b"007", u64::MAX), None);
-    assert_eq!(rt; read_number(b"00", u64::MAX), None);
-    assert_eq!(rt; read_number(b"+5", u64::MAX), None);
-    assert_eq!(rt; read_number(b"-5", u64::MAX), None);
-    assert_eq!(rt; read_number(b"", u64::MAX), None);
-    assert_eq!(rt; read_number(b"5a", u64::MAX), None);
-    assert_eq!(rt; read_number(b"\xC3\xA9", u64::MAX), None);
+    read_all(&rt, &NO_NUMBERS);
 }
+
+const LIMITS: [Number; 3] = [
+    (b"255", 255, Some(255)),
+    (b"256", 255, None),
+    (b"4294967296", 4_294_967_295, None),
+];
 
 #[test]
 fn numbers_have_limits(rt: HostRuntime) {
-    assert_eq!(rt; read_number(b"255", 255), Some(255));
-    assert_eq!(rt; read_number(b"256", 255), None);
-    assert_eq!(rt; read_number(b"4294967296", 4_294_967_295), None);
+    read_all(&rt, &LIMITS);
 }
 
 #[test]
@@ -123,46 +139,65 @@ fn bytes_are_read(rt: HostRuntime) -> Result<(), Fail> {
     Ok(())
 }
 
+const NO_BYTES: [(&[u8], &str); 5] = [
+    (b"52454c", "lower case"),
+    (b"524", "an odd number of digits"),
+    (b"5G", "no digit"),
+    (b"-", "a dash"),
+    (b"", "no digits"),
+];
+
 #[test]
 fn other_words_are_no_bytes(rt: HostRuntime) -> Result<(), Fail> {
-    let alloc = rt.alloc();
-    assert!(rt; is_no_hex(alloc, b"52454c")?, "lower case");
-    assert!(rt; is_no_hex(alloc, b"524")?, "an odd number of digits");
-    assert!(rt; is_no_hex(alloc, b"5G")?, "no digit");
-    assert!(rt; is_no_hex(alloc, b"-")?);
-    assert!(rt; is_no_hex(alloc, b"")?, "no digits");
+    for (word, what) in &NO_BYTES {
+        assert!(rt; is_no_hex(rt.alloc(), word)?, "{what}");
+    }
     Ok(())
 }
+
+// A text, and its first line with what is behind it, or none.
+type Split = (&'static [u8], Option<(&'static [u8], &'static [u8])>);
+
+const SPLIT: [Split; 4] = [
+    (b"state 1\nmode 0\n", Some((b"state 1", b"mode 0\n"))),
+    (b"\n", Some((b"", b""))),
+    (b"mode 0", None),
+    (b"", None),
+];
 
 #[test]
 fn lines_are_split(rt: HostRuntime) {
-    assert!(rt;
-        matches!(
-            split_line(b"state 1\nmode 0\n"),
-            Some((b"state 1", b"mode 0\n"))
-        )
-    );
-    assert!(rt; matches!(split_line(b"\n"), Some((b"", b""))));
-    assert!(rt; split_line(b"mode 0").is_none());
-    assert!(rt; split_line(b"").is_none());
+    for (text, split) in &SPLIT {
+        assert!(rt; split_line(text) == *split, "{text:?}");
+    }
 }
+
+const LINES: [(&[u8], &[u8]); 3] = [
+    (b"state 1\nmode 0\n", b"|state 1|mode 0*"),
+    (b"state 1\n\nmode", b"|state 1|*mode"),
+    (b"", b"*"),
+];
 
 #[test]
 fn lines_are_read(rt: HostRuntime) -> Result<(), Fail> {
-    let alloc = rt.alloc();
-    assert!(rt; has_lines(alloc, b"state 1\nmode 0\n", b"|state 1|mode 0*")?);
-    assert!(rt; has_lines(alloc, b"state 1\n\nmode", b"|state 1|*mode")?);
-    assert!(rt; has_lines(alloc, b"", b"*")?);
+    for (text, barred) in &LINES {
+        assert!(rt; has_lines(rt.alloc(), text, barred)?, "{text:?}");
+    }
     Ok(())
 }
 
+const WORDS: [(&[u8], &[u8]); 4] = [
+    (b"get 16 70", b"|get|16|70"),
+    (b"button", b"|button"),
+    (b"get  16 ", b"|get||16|"),
+    (b"", b"|"),
+];
+
 #[test]
 fn words_are_read(rt: HostRuntime) -> Result<(), Fail> {
-    let alloc = rt.alloc();
-    assert!(rt; has_words(alloc, b"get 16 70", b"|get|16|70")?);
-    assert!(rt; has_words(alloc, b"button", b"|button")?);
-    assert!(rt; has_words(alloc, b"get  16 ", b"|get||16|")?);
-    assert!(rt; has_words(alloc, b"", b"|")?);
+    for (line, barred) in &WORDS {
+        assert!(rt; has_words(rt.alloc(), line, barred)?, "{line:?}");
+    }
     Ok(())
 }
 
