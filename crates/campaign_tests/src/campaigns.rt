@@ -1,12 +1,11 @@
-ghost use Rattle.std.specs.Prelude.{◌≤◌};
+ghost use Rattle.std.specs.Prelude.{◌≤◌, length};
 
-use crate::meters::{DONE, REJECTED, job, password};
+use crate::meters::{DONE, REJECTED, add_job, job, password};
 use crate::scripts::{Everywhere, Meters};
 use client_core::{Job, Outcome};
-use cosem_axdr::Octets;
 use head_end::{
-    Row, Watcher, jobs_may_be_cut, report, reports_stand_end_to_end, run_campaign, run_job,
-    run_watched_campaign,
+    Connector, Line, Row, Watcher, jobs_may_be_cut, report, reports_stand_end_to_end, run_campaign,
+    run_job, run_watched_campaign,
 };
 use listed::Listed;
 use std::alloc::{AllocError, Global};
@@ -16,77 +15,150 @@ use std::thread::Threads;
 
 const REPORT: &[u8] = b"m1 done 0\nm2 rejected 13\nm3 unknown\nm4 refused 2\nm5 unknown\n";
 
-/// Jobs at the four meters, and one where there is none.
-fn five_jobs(alloc: Global) -> Result<Listed<Job>, AllocError> {
-    let mut jobs = Listed::new(alloc);
+/// Puts jobs at the four meters, and one where there is none, behind others.
+fn add_five(alloc: Global, jobs: &mut Listed<Job>) -> Result<(), AllocError> {
     for name in [b"m1", b"m2", b"m3", b"m4", b"m5"] {
-        jobs.push(job(alloc, name, name)?).map_err(|_| AllocError)?;
+        add_job(alloc, jobs, name)?;
     }
-    Ok(jobs)
+    Ok(())
 }
 
-/// The report of the jobs.
-fn told<R: Threads + Sync>(
+/// The text of a report, where there is one.
+fn reported(alloc: Global, lines: &Listed<Line>, text: &[u8]) -> Result<bool, AllocError> {
+    let told = report(alloc, lines)?;
+    let same = told.as_slice() == text;
+    drop(told);
+    Ok(same)
+}
+
+/// The lines of the jobs.
+fn lines_of<R: Threads + Sync>(
     rt: &R,
     alloc: Global,
     jobs: &Listed<Job>,
     workers: u8,
     piece: usize,
-) -> Result<Octets, AllocError>
+) -> Result<Listed<Line>, AllocError>
     requires some { 1 ≤ workers }
     requires few { workers ≤ 16 }
 {
     let password = password(alloc)?;
-    let lines = run_campaign(rt, alloc, jobs, &Meters { piece }, &password, workers)?;
-    report(alloc, &lines)
+    let lines = run_campaign(rt, alloc, jobs, &Meters { piece }, &password, workers);
+    drop(password);
+    lines
+}
+
+/// Whether this is the report of the jobs.
+fn is_told<R: Threads + Sync>(
+    rt: &R,
+    alloc: Global,
+    jobs: &Listed<Job>,
+    workers: u8,
+    piece: usize,
+    text: &[u8],
+) -> Result<bool, AllocError>
+    requires some { 1 ≤ workers }
+    requires few { workers ≤ 16 }
+{
+    let lines = lines_of(rt, alloc, jobs, workers, piece)?;
+    let same = reported(alloc, &lines, text);
+    drop(lines);
+    same
+}
+
+/// Whether this is the report of the jobs, however many workers there are and whatever the cut.
+fn are_told<R: Threads + Sync>(
+    rt: &R,
+    alloc: Global,
+    jobs: &Listed<Job>,
+    text: &[u8],
+) -> Result<bool, AllocError> {
+    Ok(
+        is_told(rt, alloc, jobs, 1, 1, text)?
+            && is_told(rt, alloc, jobs, 2, 7, text)?
+            && is_told(rt, alloc, jobs, 16, 1_024, text)?,
+    )
+}
+
+/// Whether it is that of the five jobs.
+fn five_are_told<R: Threads + Sync>(rt: &R, alloc: Global) -> Result<bool, AllocError> {
+    let mut jobs = Listed::new(alloc);
+    let added = add_five(alloc, &mut jobs);
+    let told = are_told(rt, alloc, &jobs, REPORT);
+    drop(jobs);
+    added?;
+    told
+}
+
+/// Whether no job has an empty report.
+fn none_is_told<R: Threads + Sync>(rt: &R, alloc: Global) -> Result<bool, AllocError> {
+    let none = Listed::new(alloc);
+    let told = is_told(rt, alloc, &none, 4, 1_024, b"");
+    drop(none);
+    told
 }
 
 #[test]
 fn rows_stand_in_the_order_of_the_jobs(rt: HostRuntime) -> Result<(), Fail> {
     let alloc = rt.alloc();
-    let jobs = five_jobs(alloc)?;
-    assert_eq!(rt; told(&rt, alloc, &jobs, 1, 1)?.as_slice(), REPORT);
-    assert_eq!(rt; told(&rt, alloc, &jobs, 2, 7)?.as_slice(), REPORT);
-    assert_eq!(rt; told(&rt, alloc, &jobs, 16, 1_024)?.as_slice(), REPORT);
-    let none = Listed::new(alloc);
-    assert!(rt; told(&rt, alloc, &none, 4, 1_024)?.is_empty());
+    assert!(rt; five_are_told(&rt, alloc)?);
+    assert!(rt; none_is_told(&rt, alloc)?);
     Ok(())
 }
 
-/// The row of one job.
-fn row_of(alloc: Global, name: &[u8]) -> Result<Row, AllocError> {
+/// The row of a job, with the password 12345678.
+fn row_with<C: Connector>(alloc: Global, job: &Job, meters: &C) -> Result<Row, AllocError> {
     let password = password(alloc)?;
-    Ok(run_job(
-        alloc,
-        &job(alloc, name, name)?,
-        &Meters { piece: 9 },
-        &password,
-    ))
+    let row = run_job(alloc, job, meters, &password);
+    drop(password);
+    Ok(row)
+}
+
+/// The row of a disconnect job at one of the four meters.
+fn row_of(alloc: Global, name: &[u8]) -> Result<Row, AllocError> {
+    let job = job(alloc, name, name)?;
+    let row = row_with(alloc, &job, &Meters { piece: 9 });
+    drop(job);
+    row
+}
+
+const ROWS: &[(&[u8], Outcome)] = &[
+    (b"m1", Outcome::Done(0)),
+    (b"m2", Outcome::Rejected(13)),
+    (b"m3", Outcome::Unknown),
+    (b"m4", Outcome::Refused(2)),
+];
+
+fn are_rows(alloc: Global, rows: &[(&[u8], Outcome)]) -> Result<bool, AllocError> {
+    for (name, outcome) in rows {
+        if row_of(alloc, name)? != Row::Came(*outcome) {
+            return Ok(false);
+        }
+    }
+    Ok(true)
 }
 
 #[test]
 fn each_job_has_its_row(rt: HostRuntime) -> Result<(), Fail> {
-    let alloc = rt.alloc();
-    assert_eq!(rt; row_of(alloc, b"m1")?, Row::Came(Outcome::Done(0)));
-    assert_eq!(rt; row_of(alloc, b"m2")?, Row::Came(Outcome::Rejected(13)));
-    assert_eq!(rt; row_of(alloc, b"m3")?, Row::Came(Outcome::Unknown));
-    assert_eq!(rt; row_of(alloc, b"m4")?, Row::Came(Outcome::Refused(2)));
+    assert!(rt; are_rows(rt.alloc(), ROWS)?);
     Ok(())
+}
+
+/// The row of a job at a meter that tells these bytes.
+fn row_everywhere(alloc: Global, bytes: &'static [u8]) -> Result<Row, AllocError>
+    requires { length bytes.now ≤ 1024 }
+{
+    let job = job(alloc, b"m1", b"anywhere")?;
+    let row = row_with(alloc, &job, &Everywhere::new(bytes));
+    drop(job);
+    row
 }
 
 #[test]
 fn a_meter_that_tells_is_asked(rt: HostRuntime) -> Result<(), Fail> {
     let alloc = rt.alloc();
-    let password = password(alloc)?;
-    let job = job(alloc, b"m1", b"anywhere")?;
-    assert_eq!(rt;
-        run_job(alloc, &job, &Everywhere::new(&DONE), &password),
-        Row::Came(Outcome::Done(0))
-    );
-    assert_eq!(rt;
-        run_job(alloc, &job, &Everywhere::new(&REJECTED), &password),
-        Row::Came(Outcome::Rejected(13))
-    );
+    assert!(rt; row_everywhere(alloc, &DONE)? == Row::Came(Outcome::Done(0)));
+    assert!(rt; row_everywhere(alloc, &REJECTED)? == Row::Came(Outcome::Rejected(13)));
     reports_stand_end_to_end();
     jobs_may_be_cut();
     Ok(())
@@ -108,19 +180,45 @@ impl Watcher for Tally {
     }
 }
 
+/// The lines of the jobs, of which a tally is told.
+fn watched_lines<R: Threads + Sync>(
+    rt: &R,
+    alloc: Global,
+    jobs: &Listed<Job>,
+    tally: &Tally,
+) -> Result<Listed<Line>, AllocError> {
+    let password = password(alloc)?;
+    let meters = Meters { piece: 100 };
+    let lines = run_watched_campaign(rt, alloc, jobs, &meters, &password, 3, tally);
+    drop(password);
+    lines
+}
+
+/// How many lines the five jobs have, of which a tally is told.
+fn watched_count<R: Threads + Sync>(
+    rt: &R,
+    alloc: Global,
+    tally: &Tally,
+) -> Result<usize, AllocError> {
+    let mut jobs = Listed::new(alloc);
+    let added = add_five(alloc, &mut jobs);
+    let lines = watched_lines(rt, alloc, &jobs, tally);
+    drop(jobs);
+    added?;
+    let lines = lines?;
+    let count = lines.len();
+    drop(lines);
+    Ok(count)
+}
+
 #[test]
 fn a_watcher_is_told_of_each_job(rt: HostRuntime) -> Result<(), Fail> {
-    let alloc = rt.alloc();
-    let jobs = five_jobs(alloc)?;
-    let password = password(alloc)?;
     let tally = Tally {
         done: AtomicU64::new(0),
         unknown: AtomicU64::new(0),
     };
-    let meters = Meters { piece: 100 };
-    let lines = run_watched_campaign(&rt, alloc, &jobs, &meters, &password, 3, &tally)?;
-    assert_eq!(rt; lines.len(), 5);
-    assert_eq!(rt; tally.done.load(Ordering::SeqCst), 5);
-    assert_eq!(rt; tally.unknown.load(Ordering::SeqCst), 2);
+    assert!(rt; watched_count(&rt, rt.alloc(), &tally)? == 5);
+    assert!(rt; tally.done.load(Ordering::SeqCst) == 5);
+    assert!(rt; tally.unknown.load(Ordering::SeqCst) == 2);
     Ok(())
 }

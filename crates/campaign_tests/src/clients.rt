@@ -1,8 +1,6 @@
-ghost use Rattle.std.specs.Prelude.{IfOk};
-ghost use Rattle.acse_ber.specs.Password.{IsPassword};
-
+//! One client's side of a connection, step by step.
+use crate::meters::{OPENED, job_of, password};
 use client_core::{Client, Job, Outcome, Verb};
-use cosem_axdr::Octets;
 use std::alloc::{AllocError, Global};
 use std::test::Fail;
 use wrapper_frame::frame;
@@ -47,180 +45,273 @@ const REFUSING: [u8; 25] = [
     0x01, 0x01, 0xA3, 0x05, 0xA1, 0x03, 0x02, 0x01, 0x0D,
 ];
 
+/// The AARE that accepts, with the services 001E01, which lack the get service.
+const WITHOUT_GET: [u8; 43] = [
+    0x61, 0x29, 0xA1, 0x09, 0x06, 0x07, 0x60, 0x85, 0x74, 0x05, 0x08, 0x01, 0x01, 0xA2, 0x03, 0x02,
+    0x01, 0x00, 0xA3, 0x05, 0xA1, 0x03, 0x02, 0x01, 0x00, 0xBE, 0x10, 0x04, 0x0E, 0x08, 0x00, 0x06,
+    0x5F, 0x1F, 0x04, 0x00, 0x00, 0x1E, 0x01, 0x04, 0x00, 0x00, 0x07,
+];
+
+/// The answer to an action: 0.
+const DONE: [u8; 5] = [0xC7, 0x01, 0xC1, 0x00, 0x00];
+
+/// The answer to a read of the state: 2.
+const STATE_2: [u8; 6] = [0xC4, 0x01, 0xC1, 0x00, 0x16, 0x02];
+
+/// The answer to an action: 2, without the byte for what is returned. In its frame.
+const REFUSED: [u8; 12] = [
+    0x00, 0x01, 0x00, 0x01, 0x00, 0x01, 0x00, 0x04, 0xC7, 0x01, 0xC1, 0x02,
+];
+
+/// What a client is given, or how it is to stand.
+#[derive(Clone, Copy)]
+enum Step {
+    /// A payload comes from one port to port 1.
+    Comes(u16, &'static [u8]),
+    /// Bytes come at once.
+    Bytes(&'static [u8]),
+    /// Bytes come one by one, and before each of them there is no outcome.
+    EachByte(&'static [u8]),
+    /// The connection is over.
+    Ends,
+    /// These bytes, and no others, are given next.
+    Gives(&'static [u8]),
+    /// No bytes are given.
+    GivesNone,
+    /// The outcome is this one, or there is none.
+    Tells(Option<Outcome>),
+}
+
+fn client_for(alloc: Global, job: &Job) -> Result<Client, AllocError> {
+    let password = password(alloc)?;
+    let client = Client::start(alloc, job, &password);
+    drop(password);
+    client
+}
+
 /// A client of a verb and the password 12345678.
-fn client_of(alloc: Global, verb: Verb) -> Result<Client, Fail> {
-    let job = Job {
-        id: Octets::from_slice(alloc, b"m1")?,
-        address: Octets::from_slice(alloc, b"127.0.0.1:4059")?,
-        verb,
-    };
-    Ok(Client::start(alloc, &job, &password(alloc)?)?)
+fn client_of(alloc: Global, verb: Verb) -> Result<Client, AllocError> {
+    let job = job_of(alloc, b"m1", b"127.0.0.1:4059", verb)?;
+    let client = client_for(alloc, &job);
+    drop(job);
+    client
 }
 
-fn password(alloc: Global) -> Result<Octets, AllocError>
-    ensures { IfOk result IsPassword }
-{
-    Octets::from_slice(alloc, b"12345678")
-}
-
-/// Feeds a payload from one port to port 1, again where memory runs out.
-fn feed(alloc: Global, client: &mut Client, from: u16, payload: &[u8]) -> Result<(), Fail> {
-    let text = frame(alloc, from, 1, payload)?;
-    if client.feed(alloc, text.as_slice()).is_err() {
-        client.feed(alloc, text.as_slice())?;
+/// Feeds bytes, again where memory runs out.
+fn feed_again(alloc: Global, client: &mut Client, bytes: &[u8]) -> Result<(), AllocError> {
+    if client.feed(alloc, bytes).is_err() {
+        client.feed(alloc, bytes)
+    } else {
+        Ok(())
     }
-    Ok(())
+}
+
+/// Feeds a payload from one port to port 1.
+fn feed(alloc: Global, client: &mut Client, from: u16, payload: &[u8]) -> Result<(), AllocError> {
+    let Ok(text) = frame(alloc, from, 1, payload) else {
+        return Err(AllocError);
+    };
+    let fed = feed_again(alloc, client, text.as_slice());
+    drop(text);
+    fed
+}
+
+/// Feeds bytes one by one, and tells whether there is no outcome before each of them.
+fn feed_each(alloc: Global, client: &mut Client, bytes: &[u8]) -> Result<bool, AllocError> {
+    for byte in bytes {
+        if client.outcome().is_some() {
+            return Ok(false);
+        }
+        client.feed(alloc, &[*byte])?;
+    }
+    Ok(true)
 }
 
 /// Whether these bytes, and no others, are given next.
 fn gives(client: &mut Client, bytes: &[u8]) -> bool {
     match client.to_send() {
-        Some(text) => text.as_slice() == bytes,
+        Some(text) => {
+            let same = text.as_slice() == bytes;
+            drop(text);
+            same
+        }
         None => false,
     }
 }
 
+/// Whether no bytes are given.
+fn gives_none(client: &mut Client) -> bool {
+    match client.to_send() {
+        Some(text) => {
+            drop(text);
+            false
+        }
+        None => true,
+    }
+}
+
+/// Gives a client what a step gives, and tells whether it stands so.
+fn takes(alloc: Global, client: &mut Client, step: Step) -> Result<bool, AllocError> {
+    match step {
+        Step::Comes(from, payload) => feed(alloc, client, from, payload)?,
+        Step::Bytes(bytes) => client.feed(alloc, bytes)?,
+        Step::EachByte(bytes) => return feed_each(alloc, client, bytes),
+        Step::Ends => client.ended(),
+        Step::Gives(bytes) => return Ok(gives(client, bytes)),
+        Step::GivesNone => return Ok(gives_none(client)),
+        Step::Tells(outcome) => return Ok(client.outcome() == outcome),
+    }
+    Ok(true)
+}
+
+/// Whether a client takes all the steps.
+fn takes_all(alloc: Global, client: &mut Client, steps: &[Step]) -> Result<bool, AllocError> {
+    for step in steps {
+        if !takes(alloc, client, *step)? {
+            return Ok(false);
+        }
+    }
+    Ok(true)
+}
+
+/// Whether a new client of a verb takes all the steps.
+fn goes(alloc: Global, verb: Verb, steps: &[Step]) -> Result<bool, AllocError> {
+    let mut client = client_of(alloc, verb)?;
+    let taken = takes_all(alloc, &mut client, steps);
+    drop(client);
+    taken
+}
+
+const EACH_TEXT: &[Step] = &[
+    Step::Gives(&AARQ),
+    Step::GivesNone,
+    Step::Comes(1, &ACCEPTING),
+    Step::Gives(&DISCONNECT),
+    Step::GivesNone,
+    Step::Tells(None),
+    Step::Comes(1, &DONE),
+    Step::Gives(&RELEASE),
+    Step::GivesNone,
+    Step::Tells(Some(Outcome::Done(0))),
+    Step::Ends,
+    Step::Tells(Some(Outcome::Done(0))),
+];
+
 #[test]
 fn each_text_is_given_once(rt: HostRuntime) -> Result<(), Fail> {
-    let alloc = rt.alloc();
-    let mut client = client_of(alloc, Verb::Disconnect)?;
-    assert!(rt; gives(&mut client, &AARQ));
-    assert!(rt; client.to_send().is_none());
-    feed(alloc, &mut client, 1, &ACCEPTING)?;
-    assert!(rt; gives(&mut client, &DISCONNECT));
-    assert!(rt; client.to_send().is_none() && client.outcome().is_none());
-    feed(alloc, &mut client, 1, &[0xC7, 0x01, 0xC1, 0x00, 0x00])?;
-    assert!(rt; gives(&mut client, &RELEASE));
-    assert!(rt; client.to_send().is_none());
-    assert_eq!(rt; client.outcome(), Some(Outcome::Done(0)));
-    client.ended();
-    assert_eq!(rt; client.outcome(), Some(Outcome::Done(0)));
+    assert!(rt; goes(rt.alloc(), Verb::Disconnect, EACH_TEXT)?);
     Ok(())
 }
 
-/// Whether this is the request, and this outcome what an answer means.
-fn is_asked(
-    alloc: Global,
-    verb: Verb,
-    request: &[u8],
-    answer: &[u8],
-    outcome: Outcome,
-) -> Result<bool, Fail> {
-    let mut client = client_of(alloc, verb)?;
-    feed(alloc, &mut client, 1, &ACCEPTING)?;
-    feed(alloc, &mut client, 1, answer)?;
-    let aarq = gives(&mut client, &AARQ);
-    Ok(aarq && gives(&mut client, request) && client.outcome() == Some(outcome))
+/// A verb, its request, an answer, and what the answer means.
+type Asked = (Verb, &'static [u8], &'static [u8], Outcome);
+
+const EACH_VERB: &[Asked] = &[
+    (
+        Verb::Disconnect,
+        &DISCONNECT,
+        &[0xC7, 0x01, 0xC1, 0x02, 0x00],
+        Outcome::Refused(2),
+    ),
+    (Verb::Reconnect, &RECONNECT, &DONE, Outcome::Done(0)),
+    (Verb::ReadState, &READ_STATE, &STATE_2, Outcome::Done(2)),
+    (
+        Verb::ReadState,
+        &READ_STATE,
+        &[0xC4, 0x01, 0xC1, 0x00, 0x16, 0x03],
+        Outcome::Unknown,
+    ),
+    (
+        Verb::ReadState,
+        &READ_STATE,
+        &[0xC4, 0x01, 0xC1, 0x01, 0x03],
+        Outcome::Refused(3),
+    ),
+    (Verb::Disconnect, &DISCONNECT, &STATE_2, Outcome::Unknown),
+];
+
+/// Whether this is the request of a verb, and this outcome what an answer means.
+fn is_asked(alloc: Global, asked: &Asked) -> Result<bool, AllocError> {
+    let (verb, request, answer, outcome) = *asked;
+    let steps = [
+        Step::Comes(1, &ACCEPTING),
+        Step::Comes(1, answer),
+        Step::Gives(&AARQ),
+        Step::Gives(request),
+        Step::Tells(Some(outcome)),
+    ];
+    goes(alloc, verb, steps.as_slice())
+}
+
+fn are_asked(alloc: Global, rows: &[Asked]) -> Result<bool, AllocError> {
+    for row in rows {
+        if !is_asked(alloc, row)? {
+            return Ok(false);
+        }
+    }
+    Ok(true)
 }
 
 #[test]
 fn each_verb_has_its_request(rt: HostRuntime) -> Result<(), Fail> {
-    let alloc = rt.alloc();
-    let refused = [0xC7, 0x01, 0xC1, 0x02, 0x00];
-    let done = [0xC7, 0x01, 0xC1, 0x00, 0x00];
-    let state = [0xC4, 0x01, 0xC1, 0x00, 0x16, 0x02];
-    let other_state = [0xC4, 0x01, 0xC1, 0x00, 0x16, 0x03];
-    let no_right = [0xC4, 0x01, 0xC1, 0x01, 0x03];
-    assert!(rt;
-        is_asked(
-            alloc,
-            Verb::Disconnect,
-            &DISCONNECT,
-            &refused,
-            Outcome::Refused(2)
-        )?
-    );
-    assert!(rt; is_asked(alloc, Verb::Reconnect, &RECONNECT, &done, Outcome::Done(0))?);
-    assert!(rt;
-        is_asked(
-            alloc,
-            Verb::ReadState,
-            &READ_STATE,
-            &state,
-            Outcome::Done(2)
-        )?
-    );
-    assert!(rt;
-        is_asked(
-            alloc,
-            Verb::ReadState,
-            &READ_STATE,
-            &other_state,
-            Outcome::Unknown
-        )?
-    );
-    assert!(rt;
-        is_asked(
-            alloc,
-            Verb::ReadState,
-            &READ_STATE,
-            &no_right,
-            Outcome::Refused(3)
-        )?
-    );
-    assert!(rt;
-        is_asked(
-            alloc,
-            Verb::Disconnect,
-            &DISCONNECT,
-            &state,
-            Outcome::Unknown
-        )?
-    );
+    assert!(rt; are_asked(rt.alloc(), EACH_VERB)?);
     Ok(())
 }
+
+const REJECTION: &[Step] = &[
+    Step::Gives(&AARQ),
+    Step::Comes(1, &REFUSING),
+    Step::GivesNone,
+    Step::Tells(Some(Outcome::Rejected(13))),
+];
+
+const NO_GET: &[Step] = &[
+    Step::Comes(1, &WITHOUT_GET),
+    Step::Tells(Some(Outcome::Rejected(0))),
+];
 
 #[test]
 fn a_rejection_has_no_request(rt: HostRuntime) -> Result<(), Fail> {
-    let alloc = rt.alloc();
-    let mut client = client_of(alloc, Verb::Disconnect)?;
-    assert!(rt; gives(&mut client, &AARQ));
-    feed(alloc, &mut client, 1, &REFUSING)?;
-    assert!(rt; client.to_send().is_none());
-    assert_eq!(rt; client.outcome(), Some(Outcome::Rejected(13)));
-
-    // An association without the get service.
-    let mut client = client_of(alloc, Verb::ReadState)?;
-    let mut action_only = ACCEPTING;
-    action_only[38] = 0x01;
-    feed(alloc, &mut client, 1, &action_only)?;
-    assert_eq!(rt; client.outcome(), Some(Outcome::Rejected(0)));
+    assert!(rt; goes(rt.alloc(), Verb::Disconnect, REJECTION)?);
+    assert!(rt; goes(rt.alloc(), Verb::ReadState, NO_GET)?);
     Ok(())
 }
+
+const OTHER_PORTS: &[Step] = &[
+    Step::Comes(16, &REFUSING),
+    Step::Comes(1, &ACCEPTING),
+    Step::Comes(16, &DONE),
+    Step::Tells(None),
+    Step::Ends,
+    Step::Tells(Some(Outcome::Unknown)),
+];
 
 #[test]
 fn frames_of_other_ports_are_skipped(rt: HostRuntime) -> Result<(), Fail> {
-    let alloc = rt.alloc();
-    let mut client = client_of(alloc, Verb::Disconnect)?;
-    feed(alloc, &mut client, 16, &REFUSING)?;
-    feed(alloc, &mut client, 1, &ACCEPTING)?;
-    feed(alloc, &mut client, 16, &[0xC7, 0x01, 0xC1, 0x00, 0x00])?;
-    assert!(rt; client.outcome().is_none());
-    client.ended();
-    assert_eq!(rt; client.outcome(), Some(Outcome::Unknown));
+    assert!(rt; goes(rt.alloc(), Verb::Disconnect, OTHER_PORTS)?);
     Ok(())
 }
+
+const BYTE_BY_BYTE: &[Step] = &[
+    Step::EachByte(&OPENED),
+    Step::EachByte(&REFUSED),
+    Step::Tells(Some(Outcome::Refused(2))),
+];
 
 #[test]
 fn answers_come_in_any_cut(rt: HostRuntime) -> Result<(), Fail> {
-    let alloc = rt.alloc();
-    let mut client = client_of(alloc, Verb::Disconnect)?;
-    let mut text = frame(alloc, 1, 1, &ACCEPTING)?;
-    text.extend_from_slice(frame(alloc, 1, 1, &[0xC7, 0x01, 0xC1, 0x02])?.as_slice())?;
-    for byte in text.as_slice() {
-        assert!(rt; client.outcome().is_none());
-        client.feed(alloc, &[*byte])?;
-    }
-    assert_eq!(rt; client.outcome(), Some(Outcome::Refused(2)));
+    assert!(rt; goes(rt.alloc(), Verb::Disconnect, BYTE_BY_BYTE)?);
     Ok(())
 }
 
+const WRONG_HEADER: &[Step] = &[
+    Step::Comes(1, &ACCEPTING),
+    Step::Bytes(&[0x00, 0x02, 0x00, 0x01, 0x00, 0x01, 0x00, 0x00]),
+    Step::Tells(Some(Outcome::Unknown)),
+];
+
 #[test]
 fn a_wrong_header_ends_all(rt: HostRuntime) -> Result<(), Fail> {
-    let alloc = rt.alloc();
-    let mut client = client_of(alloc, Verb::Disconnect)?;
-    feed(alloc, &mut client, 1, &ACCEPTING)?;
-    client.feed(alloc, &[0x00, 0x02, 0x00, 0x01, 0x00, 0x01, 0x00, 0x00])?;
-    assert_eq!(rt; client.outcome(), Some(Outcome::Unknown));
+    assert!(rt; goes(rt.alloc(), Verb::Disconnect, WRONG_HEADER)?);
     Ok(())
 }

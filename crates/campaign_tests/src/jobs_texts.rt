@@ -1,63 +1,128 @@
-use client_core::Verb;
+//! Lists of jobs, read.
+use client_core::{Job, Verb};
 use head_end::{JobsFault, read_jobs};
-use std::alloc::Global;
+use std::alloc::{AllocError, Global};
 use std::test::Fail;
 
+/// Whether a job has this name, this address and this verb.
+fn is_job(job: &Job, name: &[u8], address: &[u8], verb: Verb) -> bool {
+    job.id.as_slice() == name && job.address.as_slice() == address && job.verb == verb
+}
+
+/// Whether these are the two jobs of the text.
+fn are_both(jobs: &[Job]) -> bool {
+    match jobs {
+        [first, second] => {
+            is_job(first, b"m1", b"127.0.0.1:4059", Verb::Disconnect)
+                && is_job(second, b"m2", b"127.0.0.1:4060", Verb::ReadState)
+        }
+        _ => false,
+    }
+}
+
+/// Whether a text is read as the two jobs.
+fn reads_both(alloc: Global, text: &[u8]) -> bool {
+    match read_jobs(alloc, text) {
+        Ok(jobs) => {
+            let both = are_both(jobs.as_slice());
+            drop(jobs);
+            both
+        }
+        Err(_) => false,
+    }
+}
+
+/// How many jobs a text has.
+fn count_of(alloc: Global, text: &[u8]) -> Option<usize> {
+    match read_jobs(alloc, text) {
+        Ok(jobs) => {
+            let count = jobs.len();
+            drop(jobs);
+            Some(count)
+        }
+        Err(_) => None,
+    }
+}
+
 #[test]
-fn jobs_are_read(rt: HostRuntime) -> Result<(), Fail> {
-    let alloc = rt.alloc();
-    let jobs = read_jobs(
-        alloc,
-        b"m1 127.0.0.1:4059 disconnect\n\nm2 127.0.0.1:4060 state",
-    )?;
-    let [first, second] = jobs.as_slice() else {
-        return Err(Fail::from("not two jobs"));
-    };
-    assert_eq!(rt; first.id.as_slice(), b"m1".as_slice());
-    assert_eq!(rt; first.address.as_slice(), b"127.0.0.1:4059".as_slice());
-    assert_eq!(rt; first.verb, Verb::Disconnect);
-    assert_eq!(rt; second.id.as_slice(), b"m2".as_slice());
-    assert_eq!(rt; second.verb, Verb::ReadState);
-    assert!(rt; read_jobs(alloc, b"")?.is_empty());
-    Ok(())
+fn jobs_are_read(rt: HostRuntime) {
+    let text = b"m1 127.0.0.1:4059 disconnect\n\nm2 127.0.0.1:4060 state";
+    assert!(rt; reads_both(rt.alloc(), text));
+    assert!(rt; count_of(rt.alloc(), b"") == Some(0));
 }
 
 /// Why a text is no list of jobs.
 fn fault_of(alloc: Global, text: &[u8]) -> Option<JobsFault> {
-    read_jobs(alloc, text).err()
+    match read_jobs(alloc, text) {
+        Ok(jobs) => {
+            drop(jobs);
+            None
+        }
+        Err(fault) => Some(fault),
+    }
+}
+
+const WRONG: &[(&[u8], u32)] = &[
+    (b"m1 127.0.0.1:4059 close", 1),
+    (b"m1  127.0.0.1:4059 state", 1),
+    (b"m1 127.0.0.1:4059 state ", 1),
+    (b"m1 127.0.0.1:4059\tstate", 1),
+    (b"m1 127.0.0.1:4059 state\r\n", 1),
+    (b"\nm1 a state\nm2 b stat\nm3 c stat\n", 3),
+];
+
+/// Whether each text is refused at its line.
+fn are_wrong(alloc: Global, texts: &[(&[u8], u32)]) -> bool {
+    for (text, line) in texts {
+        if fault_of(alloc, text) != Some(JobsFault::Line(*line)) {
+            return false;
+        }
+    }
+    true
 }
 
 #[test]
 fn the_first_wrong_line_is_told(rt: HostRuntime) {
-    let alloc = rt.alloc();
-    let wrong = Some(JobsFault::Line(1));
-    assert_eq!(rt; fault_of(alloc, b"m1 127.0.0.1:4059 close"), wrong);
-    assert_eq!(rt; fault_of(alloc, b"m1  127.0.0.1:4059 state"), wrong);
-    assert_eq!(rt; fault_of(alloc, b"m1 127.0.0.1:4059 state "), wrong);
-    assert_eq!(rt; fault_of(alloc, b"m1 127.0.0.1:4059\tstate"), wrong);
-    assert_eq!(rt; fault_of(alloc, b"m1 127.0.0.1:4059 state\r\n"), wrong);
-    assert_eq!(rt;
-        fault_of(alloc, b"\nm1 a state\nm2 b stat\nm3 c stat\n"),
-        Some(JobsFault::Line(3))
-    );
+    assert!(rt; are_wrong(rt.alloc(), WRONG));
+}
+
+/// A thousand jobs, one more, and a wrong line behind them.
+fn adds_up_to_the_limit(alloc: Global, text: &mut Vec<u8>) -> Result<bool, AllocError> {
+    for _ in 0..1_000 {
+        text.extend_from_slice(b"m a state\n")?;
+    }
+    let most = count_of(alloc, text.as_slice());
+    text.extend_from_slice(b"m a state\n")?;
+    let one_more = fault_of(alloc, text.as_slice());
+    text.extend_from_slice(b"m a\n")?;
+    let wrong = fault_of(alloc, text.as_slice());
+    Ok(
+        most == Some(1_000)
+            && one_more == Some(JobsFault::TooMany)
+            && wrong == Some(JobsFault::Line(1_002)),
+    )
+}
+
+/// Whether a thousand jobs are read, and no more.
+fn a_thousand_are_read(alloc: Global) -> Result<bool, AllocError> {
+    let mut text = Vec::new(alloc);
+    let read = adds_up_to_the_limit(alloc, &mut text);
+    drop(text);
+    read
+}
+
+/// Why 1,048,577 empty lines are no list of jobs.
+fn fault_of_a_long_text(alloc: Global) -> Result<Option<JobsFault>, AllocError> {
+    let long = vec![in alloc; b'\n'; 1_048_577]?;
+    let fault = fault_of(alloc, long.as_slice());
+    drop(long);
+    Ok(fault)
 }
 
 #[test]
 fn there_are_limits(rt: HostRuntime) -> Result<(), Fail> {
     let alloc = rt.alloc();
-    let mut text = Vec::new(alloc);
-    for _ in 0..1_000 {
-        text.extend_from_slice(b"m a state\n")?;
-    }
-    assert_eq!(rt; read_jobs(alloc, text.as_slice())?.len(), 1_000);
-    text.extend_from_slice(b"m a state\n")?;
-    assert_eq!(rt; fault_of(alloc, text.as_slice()), Some(JobsFault::TooMany));
-    text.extend_from_slice(b"m a\n")?;
-    assert_eq!(rt;
-        fault_of(alloc, text.as_slice()),
-        Some(JobsFault::Line(1_002))
-    );
-    let long = vec![in alloc; b'\n'; 1_048_577]?;
-    assert_eq!(rt; fault_of(alloc, long.as_slice()), Some(JobsFault::TooLong));
+    assert!(rt; a_thousand_are_read(alloc)?);
+    assert!(rt; fault_of_a_long_text(alloc)? == Some(JobsFault::TooLong));
     Ok(())
 }

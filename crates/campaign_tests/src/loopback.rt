@@ -1,6 +1,6 @@
 //! Meters that are reached over TCP on this machine.
 use crate::meters::{DONE, SENT, job, password};
-use client_core::Outcome;
+use client_core::{Job, Outcome};
 use head_end::{Connector, Row, TcpConnector, run_job};
 use std::alloc::{AllocError, Global};
 use std::io::{Read, Write};
@@ -24,11 +24,27 @@ fn within<R>(rt: R, millis: u64) -> TcpConnector<R> {
     TcpConnector::new(rt, limit, limit)
 }
 
+fn row_of<C: Connector>(alloc: Global, connector: &C, job: &Job) -> Result<Row, AllocError> {
+    let password = password(alloc)?;
+    let row = run_job(alloc, job, connector, &password);
+    drop(password);
+    Ok(row)
+}
+
 /// The row of a job at an address.
 fn row_at<C: Connector>(alloc: Global, connector: &C, address: &[u8]) -> Result<Row, AllocError> {
-    let password = password(alloc)?;
     let job = job(alloc, b"m1", address)?;
-    Ok(run_job(alloc, &job, connector, &password))
+    let row = row_of(alloc, connector, &job);
+    drop(job);
+    row
+}
+
+/// The row of a job at a port of this machine.
+fn row_at_port<C: Connector>(alloc: Global, connector: &C, port: u16) -> Result<Row, AllocError> {
+    let address = format!(in alloc; "127.0.0.1:{port}")?;
+    let row = row_at(alloc, connector, address.as_bytes());
+    drop(address);
+    row
 }
 
 #[test]
@@ -37,12 +53,17 @@ fn each_text_goes_out_once(rt: HostRuntime) -> Result<(), Fail> {
     let listener = TcpListener::bind(&rt, "127.0.0.1:0")?;
     let port = listener.local_addr()?.port();
     let meter = thread::spawn(&rt, move || answer(alloc, &listener)).map_err(|_| AllocError)?;
-    let address = format!(in alloc; "127.0.0.1:{port}")?;
-    let row = row_at(alloc, &within(rt, 10_000), address.as_bytes())?;
-    assert_eq!(rt; row, Row::Came(Outcome::Done(0)));
+    let row = row_at_port(alloc, &within(rt, 10_000), port);
     let heard = meter.join(&rt)?;
-    assert_eq!(rt; heard.as_slice(), SENT.as_slice());
+    assert!(rt; heard.as_slice() == SENT.as_slice());
+    drop(heard);
+    assert!(rt; row? == Row::Came(Outcome::Done(0)));
     Ok(())
+}
+
+/// Whether the row of a job at a port is unknown.
+fn is_unknown<C: Connector>(alloc: Global, connector: &C, port: u16) -> Result<bool, AllocError> {
+    Ok(row_at_port(alloc, connector, port)? == Row::Came(Outcome::Unknown))
 }
 
 #[test]
@@ -50,17 +71,10 @@ fn a_silent_meter_does_not_hold_its_worker(rt: HostRuntime) -> Result<(), Fail> 
     let alloc = rt.alloc();
     let listener = TcpListener::bind(&rt, "127.0.0.1:0")?;
     let port = listener.local_addr()?.port();
-    let address = format!(in alloc; "127.0.0.1:{port}")?;
-    let unknown = Row::Came(Outcome::Unknown);
-    assert_eq!(rt;
-        row_at(alloc, &within(rt, 200), address.as_bytes())?,
-        unknown
-    );
+    assert!(rt; is_unknown(alloc, &within(rt, 200), port)?);
     drop(listener);
-    assert_eq!(rt;
-        row_at(alloc, &within(rt, 10_000), address.as_bytes())?,
-        unknown
-    );
-    assert_eq!(rt; row_at(alloc, &within(rt, 10_000), b"no address")?, unknown);
+    assert!(rt; is_unknown(alloc, &within(rt, 10_000), port)?);
+    let nowhere = row_at(alloc, &within(rt, 10_000), b"no address")?;
+    assert!(rt; nowhere == Row::Came(Outcome::Unknown));
     Ok(())
 }

@@ -4,6 +4,7 @@ ghost use Rattle.acse_ber.specs.Password.{IsPassword};
 
 use client_core::{Job, Verb};
 use cosem_axdr::Octets;
+use listed::Listed;
 use std::alloc::{AllocError, Global};
 
 /// A meter that opens the association, and then is silent.
@@ -48,13 +49,36 @@ pub(crate) const SENT: [u8; 100] = [
     0x03, 0x80, 0x01, 0x00,
 ];
 
-/// A disconnect job of this name, at this address.
-pub(crate) fn job(alloc: Global, name: &[u8], address: &[u8]) -> Result<Job, AllocError> {
+/// A job of this name, at this address.
+pub(crate) fn job_of(
+    alloc: Global,
+    name: &[u8],
+    address: &[u8],
+    verb: Verb,
+) -> Result<Job, AllocError> {
     Ok(Job {
         id: Octets::from_slice(alloc, name)?,
         address: Octets::from_slice(alloc, address)?,
-        verb: Verb::Disconnect,
+        verb,
     })
+}
+
+/// A disconnect job of this name, at this address.
+pub(crate) fn job(alloc: Global, name: &[u8], address: &[u8]) -> Result<Job, AllocError> {
+    job_of(alloc, name, address, Verb::Disconnect)
+}
+
+/// Puts a disconnect job of this name at the address of the same name behind others.
+pub(crate) fn add_job(
+    alloc: Global,
+    jobs: &mut Listed<Job>,
+    name: &[u8],
+) -> Result<(), AllocError> {
+    let job = job(alloc, name, name)?;
+    match jobs.push(job) {
+        Ok(()) => Ok(()),
+        Err(_) => Err(AllocError),
+    }
 }
 
 /// The password 12345678.

@@ -1,159 +1,158 @@
-//! What no clause says: that sessions run side by side, and who is served.
+//! What no clause says of a connection and of a work for which no thread is had. The tests of what is public stand in `thread_tests`.
 ghost use Rattle.std.specs.Prelude.{◌≡◌, IfOk};
 
-mod bumper;
 mod counter;
-mod guests;
 
 use crate::flags::Flags;
 use crate::session::attend;
 use crate::worker::do_work;
-use crate::{Accepted, join_worker, serve_connections, start_worker};
-use bumper::Bumper;
-use counter::Counter;
-use guests::{Door, Guest, Hall};
+use crate::{Connection, Worker};
+use counter::{Bump, Counter};
 use std::alloc::{AllocError, Global};
-use std::sync::atomic::AtomicBool;
+use std::sync::atomic::{AtomicBool, Ordering};
 use std::sync::{Arc, Wait};
 use std::test::Fail;
-use std::thread::Threads;
 use turn_lock::{CallFault, Port, Shared};
 
-/// What a test looks at: what was accepted, and the count that the calls of the sessions left.
-type Evening = (Accepted, u64);
+fn start(alloc: Global) -> Result<(Shared<Counter>, Port<Counter>), AllocError>
+    ensures { IfOk result (λ r. r.1.lock ≡ r.0) }
+{
+    Shared::new(alloc, Counter::new(), 100).map_err(|_| AllocError)
+}
 
-/// How a worker ended, if its work was begun.
-type Work = Option<Result<(), CallFault>>;
-
-fn told(served: u64, turned_away: u64, has_failed: bool, has_starved: bool) -> Accepted {
-    Accepted {
-        served,
-        turned_away,
-        has_failed,
-        has_starved,
+/// The count at the close, if the lock isn't busy.
+fn close(shared: Shared<Counter>, port: Port<Counter>) -> Option<u64>
+    requires { port.lock ≡ shared }
+{
+    match shared.close(port) {
+        Ok(counter) => {
+            let count = counter.count;
+            drop(counter);
+            Some(count)
+        }
+        Err(refusal) => {
+            drop(refusal);
+            None
+        }
     }
 }
 
-fn serve<R: Threads + Wait + Copy + Send + 'static>(
-    rt: &R,
+/// A connection that makes one call, and tells that it was closed.
+struct Guest {
+    closed: Arc<AtomicBool, Global>,
+}
+
+impl Drop for Guest {
+    fn drop(self) {
+        let Guest { closed } = self;
+        closed.store(true, Ordering::SeqCst);
+    }
+}
+
+impl Connection<Port<Counter>> for Guest {
+    ghost use Rattle.turn_lock.specs.Shown.{IsSame};
+
+    ghost hands_back = { IsSame };
+
+    fn serve<W: Wait>(self, rt: &W, alloc: Global, port: Port<Counter>) -> Port<Counter> {
+        let mut port = port;
+        let _ = port.call(rt, alloc, Bump);
+        port
+    }
+}
+
+/// The count at the close once a guest was attended to with these flags.
+fn attend_with<W: Wait + Copy>(
+    rt: W,
     alloc: Global,
-    door: &mut Door,
-    limit: u64,
-) -> Result<Evening, AllocError> {
-    let (shared, mut port) = Shared::new(alloc, Counter::new(), 100).map_err(|_| AllocError)?;
-    let accepted = serve_connections(rt, alloc, door, &mut port, limit)?;
-    let counter = shared.close(port).map_err(|_| AllocError)?;
-    Ok((accepted, counter.count))
+    flags: Arc<Flags, Global>,
+    guest: Guest,
+) -> Result<Option<u64>, AllocError> {
+    match start(alloc) {
+        Ok((shared, port)) => {
+            let port = attend(rt, alloc, flags, 7, guest, port);
+            Ok(close(shared, port))
+        }
+        Err(fault) => {
+            drop(guest);
+            drop(flags);
+            Err(fault)
+        }
+    }
 }
 
-#[test]
-fn serves_two_that_wait_for_one_another(rt: HostRuntime) -> Result<(), Fail> {
-    let alloc = rt.alloc();
-    let hall = Arc::new(alloc, Hall::new(2))?;
-    let mut door = Door::new(Arc::try_clone(&hall)?, 2);
-    let (accepted, count) = serve(&rt, alloc, &mut door, 2)?;
-    assert_eq!(rt; accepted, told(2, 0, false, false));
-    assert_eq!(rt; hall.content(), 2);
-    assert_eq!(rt; count, 2);
-    Ok(())
-}
-
-#[test]
-fn turns_the_ninth_away(rt: HostRuntime) -> Result<(), Fail> {
-    let alloc = rt.alloc();
-    let hall = Arc::new(alloc, Hall::new(9))?;
-    let mut door = Door::new(Arc::try_clone(&hall)?, 9);
-    let (accepted, count) = serve(&rt, alloc, &mut door, 9)?;
-    assert_eq!(rt; accepted, told(8, 1, false, false));
-    assert_eq!(rt; hall.content(), 8);
-    assert_eq!(rt; count, 8);
-    Ok(())
-}
-
-#[test]
-fn ends_where_the_listener_fails(rt: HostRuntime) -> Result<(), Fail> {
-    let alloc = rt.alloc();
-    let hall = Arc::new(alloc, Hall::new(1))?;
-    let mut door = Door::new(Arc::try_clone(&hall)?, 1);
-    let (accepted, count) = serve(&rt, alloc, &mut door, 0)?;
-    assert_eq!(rt; accepted, told(1, 0, true, false));
-    assert_eq!(rt; count, 1);
-    Ok(())
-}
-
-#[test]
-fn counts_what_was_closed_for_want_of_memory(rt: HostRuntime) -> Result<(), Fail> {
-    let alloc = rt.alloc();
-    let hall = Arc::new(alloc, Hall::new(1))?;
-    let mut door = Door::new(Arc::try_clone(&hall)?, 1);
-    door.hunger(2);
-    let (accepted, count) = serve(&rt, alloc, &mut door, 3)?;
-    assert_eq!(rt; accepted, told(1, 2, false, true));
-    assert_eq!(rt; count, 1);
-    Ok(())
-}
-
-// A guest for whom no thread was had.
+/// The count at the close once a guest came for whom no thread was had.
 fn attend_refused<W: Wait + Copy>(
     rt: W,
     alloc: Global,
-    hall: &Arc<Hall, Global>,
-    port: Port<Counter>,
-) -> Result<Port<Counter>, AllocError>
-    ensures { IfOk result (λ back. back.lock ≡ port.lock) }
-{
-    let flags = Arc::new(alloc, Flags::new())?;
-    let guest = Guest::new(Arc::try_clone(hall)?);
-    flags.refuse(7);
-    Ok(attend(rt, alloc, flags, 7, guest, port))
+    closed: &Arc<AtomicBool, Global>,
+) -> Result<Option<u64>, AllocError> {
+    let closed = Arc::try_clone(closed)?;
+    let guest = Guest { closed };
+    match Arc::new(alloc, Flags::new()) {
+        Ok(flags) => {
+            flags.refuse(7);
+            attend_with(rt, alloc, flags, guest)
+        }
+        Err(_) => {
+            drop(guest);
+            Err(AllocError)
+        }
+    }
 }
 
 #[test]
 fn closes_a_connection_for_which_no_thread_is_had(rt: HostRuntime) -> Result<(), Fail> {
-    let alloc = rt.alloc();
-    let hall = Arc::new(alloc, Hall::new(1))?;
-    let (shared, port) = Shared::new(alloc, Counter::new(), 100).map_err(|_| AllocError)?;
-    let port = attend_refused(rt, alloc, &hall, port)?;
-    let counter = shared.close(port).map_err(|_| "busy")?;
-    assert!(rt; hall.has_closed());
-    assert_eq!(rt; counter.count, 0);
+    let closed = Arc::new(rt.alloc(), AtomicBool::new(false))?;
+    let count = attend_refused(rt, rt.alloc(), &closed);
+    let has_closed = closed.load(Ordering::SeqCst);
+    drop(closed);
+    assert!(rt; has_closed);
+    assert!(rt; count? == Some(0));
     Ok(())
 }
 
-// What two workers came to, who work at once, or nothing where a thread is not had.
-fn work_together<R: Threads + Wait + Copy + Send + 'static>(
-    rt: &R,
-    alloc: Global,
-    port: &mut Port<Counter>,
-) -> Option<(Work, Work)>
-    ensures { port.new.lock ≡ port.old.lock }
-{
-    let one = start_worker(rt, alloc, Bumper { times: 30 }, port)?;
-    let two = start_worker(rt, alloc, Bumper { times: 12 }, port)?;
-    let two = join_worker(rt, two, port);
-    let one = join_worker(rt, one, port);
-    Some((one, two))
+/// It calls once.
+#[derive(Drop)]
+struct Bumper;
+
+impl Worker<Port<Counter>> for Bumper {
+    ghost use Rattle.turn_lock.specs.Shown.{IsSame};
+
+    ghost did = { λ _ p q _. IsSame p q };
+
+    fn work<W: Wait>(
+        self,
+        rt: &W,
+        alloc: Global,
+        port: Port<Counter>,
+    ) -> (Port<Counter>, Result<(), CallFault>) {
+        let mut port = port;
+        match port.call(rt, alloc, Bump) {
+            Ok(_) => (port, Ok(())),
+            Err(fault) => (port, Err(fault)),
+        }
+    }
 }
 
-#[test]
-fn joins_two_workers(rt: HostRuntime) -> Result<(), Fail> {
-    let alloc = rt.alloc();
-    let (shared, mut port) = Shared::new(alloc, Counter::new(), 100).map_err(|_| AllocError)?;
-    let ends = work_together(&rt, alloc, &mut port);
-    assert_eq!(rt; ends, Some((Some(Ok(())), Some(Ok(())))));
-    let counter = shared.close(port).map_err(|_| "busy")?;
-    assert_eq!(rt; counter.count, 42);
-    Ok(())
+/// Whether a work for which no thread is had is not begun, and leaves the count at 0.
+fn is_not_begun<W: Wait + Copy>(rt: W, alloc: Global) -> Result<bool, AllocError> {
+    let (shared, port) = start(alloc)?;
+    match Arc::new(alloc, AtomicBool::new(true)) {
+        Ok(refused) => {
+            let (port, end) = do_work(rt, alloc, refused, Bumper, port);
+            Ok(end.is_none() && close(shared, port) == Some(0))
+        }
+        Err(_) => {
+            drop(port);
+            drop(shared);
+            Err(AllocError)
+        }
+    }
 }
 
 #[test]
 fn does_not_begin_a_work_for_which_no_thread_is_had(rt: HostRuntime) -> Result<(), Fail> {
-    let alloc = rt.alloc();
-    let refused = Arc::new(alloc, AtomicBool::new(true))?;
-    let (shared, port) = Shared::new(alloc, Counter::new(), 100).map_err(|_| AllocError)?;
-    let (port, end) = do_work(rt, alloc, refused, Bumper { times: 5 }, port);
-    assert_eq!(rt; end, None);
-    let counter = shared.close(port).map_err(|_| "busy")?;
-    assert_eq!(rt; counter.count, 0);
+    assert!(rt; is_not_begun(rt, rt.alloc())?);
     Ok(())
 }

@@ -3,7 +3,7 @@ ghost use Rattle.std.specs.Prelude.{◌≡◌, ◌<◌, ◌≤◌, IfOk, IfSome}
 ghost use Rattle.turn_lock.specs.Rule.{most_turns};
 ghost use Rattle.turn_lock.specs.Trials.{StandsBehind};
 
-mod counter;
+pub(crate) mod counter;
 
 use counter::{Bump, Counter, Gate, Gated, Moody, Wish};
 use std::alloc::{AllocError, Global};
@@ -15,21 +15,31 @@ use turn_lock::{Busy, CallFault, Port, Shared, Turned};
 // What a call of a test's value answered.
 type Answer = Result<u64, CallFault>;
 
-// A lock over a new counter.
-fn start(alloc: Global, bound: u64) -> Result<(Shared<Counter>, Port<Counter>), AllocError>
+/// A lock over a new counter.
+pub(crate) fn start(
+    alloc: Global,
+    bound: u64,
+) -> Result<(Shared<Counter>, Port<Counter>), AllocError>
     requires { (0 < bound) × (bound ≤ most_turns) }
     ensures { IfOk result (λ r. r.1.lock ≡ r.0) }
 {
     Shared::new(alloc, Counter::new(), bound).map_err(|_| AllocError)
 }
 
-// The count at the close, if the lock isn't busy.
-fn close(shared: Shared<Counter>, port: Port<Counter>) -> Option<u64>
+/// The count at the close, if the lock isn't busy.
+pub(crate) fn close(shared: Shared<Counter>, port: Port<Counter>) -> Option<u64>
     requires { port.lock ≡ shared }
 {
     match shared.close(port) {
-        Ok(value) => Some(value.count),
-        Err(_) => None,
+        Ok(value) => {
+            let count = value.count;
+            drop(value);
+            Some(count)
+        }
+        Err(refusal) => {
+            drop(refusal);
+            None
+        }
     }
 }
 
@@ -37,7 +47,7 @@ fn close(shared: Shared<Counter>, port: Port<Counter>) -> Option<u64>
 fn closes_at_once(rt: HostRuntime) -> Result<(), Fail> {
     let (shared, port) = start(rt.alloc(), 1)?;
     let count = close(shared, port);
-    assert_eq!(rt; count, Some(0));
+    assert!(rt; count == Some(0));
     Ok(())
 }
 
@@ -59,8 +69,8 @@ fn exhausts_one_port(rt: HostRuntime) -> Result<(), Fail> {
     let answers = bump_four_times(&rt, alloc, &mut port);
     let count = close(shared, port);
     let over = Err(CallFault::Exhausted);
-    assert_eq!(rt; answers, [Ok(1), Ok(2), over, over]);
-    assert_eq!(rt; count, Some(2));
+    assert!(rt; answers == [Ok(1), Ok(2), over, over]);
+    assert!(rt; count == Some(2));
     Ok(())
 }
 
@@ -105,9 +115,9 @@ fn exhausts_three_ports(rt: HostRuntime) -> Result<(), Fail> {
     let first = bump_three(&rt, alloc, &mut ports);
     let second = bump_three(&rt, alloc, &mut ports);
     let count = close(shared, join_three(ports));
-    assert_eq!(rt; first, [Ok(1), Ok(2), Ok(3)]);
-    assert_eq!(rt; second, [Err(CallFault::Exhausted); 3]);
-    assert_eq!(rt; count, Some(3));
+    assert!(rt; first == [Ok(1), Ok(2), Ok(3)]);
+    assert!(rt; second == [Err(CallFault::Exhausted); 3]);
+    assert!(rt; count == Some(3));
     Ok(())
 }
 
@@ -126,16 +136,25 @@ fn ask_moody<W: Wait>(rt: &W, alloc: Global, port: &mut Port<Moody>) -> [Answer;
 fn call_moody<W: Wait>(rt: &W, alloc: Global) -> Result<([Answer; 4], Option<u64>), AllocError> {
     let (shared, mut port) = Shared::new(alloc, Moody::new(), 3).map_err(|_| AllocError)?;
     let answers = ask_moody(rt, alloc, &mut port);
-    let count = shared.close(port).ok().map(|value| value.count);
-    Ok((answers, count))
+    match shared.close(port) {
+        Ok(value) => {
+            let count = value.count;
+            drop(value);
+            Ok((answers, Some(count)))
+        }
+        Err(refusal) => {
+            drop(refusal);
+            Ok((answers, None))
+        }
+    }
 }
 
 #[test]
 fn leaves_the_value_for_want_of_memory(rt: HostRuntime) -> Result<(), Fail> {
     let (answers, count) = call_moody(&rt, rt.alloc())?;
     let (none, over) = (Err(CallFault::Memory), Err(CallFault::Exhausted));
-    assert_eq!(rt; answers, [Ok(1), none, Ok(2), over]);
-    assert_eq!(rt; count, Some(2));
+    assert!(rt; answers == [Ok(1), none, Ok(2), over]);
+    assert!(rt; count == Some(2));
     Ok(())
 }
 
@@ -152,11 +171,23 @@ fn call_when_told<T: Turned, W: Wait>(
     ensures lock { (one.new.lock ≡ one.old.lock) × (two.new.lock ≡ two.old.lock) }
     ensures behind { IfOk result (λ r. StandsBehind T.legal one.old.known.number two.old.known.number first r.0 second r.1 two.new.known) }
 {
-    let a = one.call(rt, alloc, first)?;
-    let note = one.tell();
-    two.meet(note);
-    let b = two.call(rt, alloc, second)?;
-    Ok((a, b))
+    match one.call(rt, alloc, first) {
+        Ok(a) => {
+            let note = one.tell();
+            two.meet(note);
+            match two.call(rt, alloc, second) {
+                Ok(b) => Ok((a, b)),
+                Err(fault) => {
+                    drop(a);
+                    Err(fault)
+                }
+            }
+        }
+        Err(fault) => {
+            drop(second);
+            Err(fault)
+        }
+    }
 }
 
 #[test]
@@ -167,8 +198,8 @@ fn tells_and_meets(rt: HostRuntime) -> Result<(), Fail> {
     let told = call_when_told(&rt, alloc, &mut one, &mut two, Bump, Bump);
     one.join(two);
     let count = close(shared, one);
-    assert_eq!(rt; told, Ok((1, 2)));
-    assert_eq!(rt; count, Some(2));
+    assert!(rt; told == Ok((1, 2)));
+    assert!(rt; count == Some(2));
     Ok(())
 }
 
@@ -229,31 +260,73 @@ fn call_through<W: Wait>(rt: &W, alloc: Global, port: &mut Port<Gated>, gate: &G
     answer
 }
 
-// What a busy close said, and the count at the close once the caller is joined.
-fn close_again(refusal: Refusal, caller: Port<Gated>) -> Option<(Busy, u64)>
+// How many turns were drawn and served by a busy close, and the count at the close once the caller is joined.
+fn close_again(refusal: Refusal, caller: Port<Gated>) -> Option<(u64, u64, u64)>
     requires { (refusal.2.lock ≡ refusal.1) × (caller.lock ≡ refusal.1) }
 {
     let (busy, shared, mut closer) = refusal;
     closer.join(caller);
     match shared.close(closer) {
-        Ok(value) => Some((busy, value.count)),
-        Err(_) => None,
+        Ok(value) => {
+            let count = value.count;
+            drop(value);
+            Some((busy.drawn, busy.served, count))
+        }
+        Err(refusal) => {
+            drop(refusal);
+            None
+        }
+    }
+}
+
+// The same where the caller's turn is held up at the gate, and served then.
+fn close_twice<R: Threads + Wait + Sync>(
+    rt: &R,
+    alloc: Global,
+    shared: Shared<Gated>,
+    caller: Port<Gated>,
+    closer: Port<Gated>,
+    gate: &Gate,
+) -> Option<(u64, u64, u64)>
+    requires { (caller.lock ≡ shared) × (closer.lock ≡ shared) }
+{
+    let (called, caller, refusal) = close_while_busy(rt, alloc, shared, caller, closer, gate);
+    match refusal {
+        Some(refusal) => {
+            let closed = close_again(refusal, caller);
+            if called { closed } else { None }
+        }
+        None => {
+            drop(caller);
+            None
+        }
+    }
+}
+
+// The answer of a call before, and the same.
+fn hold_up<R: Threads + Wait + Sync>(
+    rt: &R,
+    alloc: Global,
+    gate: &Arc<Gate, Global>,
+) -> Result<(Answer, Option<(u64, u64, u64)>), AllocError> {
+    let (shared, mut caller) = start_gated(alloc, Arc::try_clone(gate)?)?;
+    let first = call_through(rt, alloc, &mut caller, gate);
+    match caller.split() {
+        Ok(closer) => Ok((first, close_twice(rt, alloc, shared, caller, closer, gate))),
+        Err(fault) => {
+            drop(caller);
+            drop(shared);
+            Err(fault)
+        }
     }
 }
 
 #[test]
 fn is_busy_while_a_turn_is_held(rt: HostRuntime) -> Result<(), Fail> {
-    let alloc = rt.alloc();
-    let gate = Arc::new(alloc, Gate::new())?;
-    let (shared, mut caller) = start_gated(alloc, Arc::try_clone(&gate)?)?;
-    let first = call_through(&rt, alloc, &mut caller, &gate);
-    let closer = caller.split()?;
-    let (called, caller, refusal) = close_while_busy(&rt, alloc, shared, caller, closer, &gate);
-    let (busy, count) = close_again(refusal.ok_or("closed")?, caller).ok_or("busy")?;
-    assert_eq!(rt; first, Ok(1));
-    assert!(rt; called);
-    assert_eq!(rt; (busy.drawn, busy.served), (2, 1));
-    assert_eq!(rt; count, 2);
+    let gate = Arc::new(rt.alloc(), Gate::new())?;
+    let held = hold_up(&rt, rt.alloc(), &gate);
+    drop(gate);
+    assert!(rt; held? == (Ok(1), Some((2, 1, 2))));
     Ok(())
 }
 
@@ -346,12 +419,16 @@ fn make_ring(port: Port<Counter>) -> Result<Ring, AllocError>
 
 // True where the replies are 1 to `count`, each once.
 fn are_one_to(alloc: Global, mut replies: Vec<u64>, count: u64) -> Result<bool, AllocError> {
-    replies.sort()?;
-    let mut want = Vec::new(alloc);
-    for n in 1..=count {
-        want.push(n)?;
+    let sorted = replies.sort();
+    let mut want = 1;
+    let mut each = true;
+    for reply in replies.as_slice() {
+        each = each && *reply == want;
+        want = want.wrapping_add(1);
     }
-    Ok(replies == want)
+    drop(replies);
+    sorted?;
+    Ok(each && want == count.wrapping_add(1))
 }
 
 #[test]
@@ -360,7 +437,7 @@ fn counts_for_four_threads(rt: HostRuntime) -> Result<(), Fail> {
     let (shared, port) = start(alloc, 40_000)?;
     let (one, replies) = bump_all(&rt, alloc, make_ring(port)?, 10_000);
     let count = close(shared, one);
-    assert_eq!(rt; count, Some(40_000));
+    assert!(rt; count == Some(40_000));
     assert!(rt; are_one_to(alloc, replies, 40_000)?);
     Ok(())
 }
@@ -372,7 +449,7 @@ fn exhausts_two_threads(rt: HostRuntime) -> Result<(), Fail> {
     let two = one.split()?;
     let (one, replies) = bump_both(&rt, alloc, one, two, 5);
     let count = close(shared, one);
-    assert_eq!(rt; count, Some(7));
+    assert!(rt; count == Some(7));
     assert!(rt; are_one_to(alloc, replies, 7)?);
     Ok(())
 }

@@ -7,7 +7,7 @@ use disconnect_control::ControlState;
 use lane_sampler::Block;
 use listed::Listed;
 use relay_core::{Event, Line, Reply};
-use std::alloc::Global;
+use std::alloc::{AllocError, Global};
 use std::test::Fail;
 use trace_lines::{RowFault, Version, read_event, write_event, write_line};
 use trace_text::Lines;
@@ -60,7 +60,7 @@ fn execute(number: u8, parameter: Option<Data>) -> Event {
 }
 
 // A read of two attributes, of the second a part.
-fn get_two(alloc: Global) -> Result<Event, Fail> {
+fn get_two(alloc: Global) -> Result<Event, AllocError> {
     let mut items = Vec::new(alloc);
     items.push(AttributeSelection {
         attr: attribute(CONTROL, 3),
@@ -76,15 +76,25 @@ fn get_two(alloc: Global) -> Result<Event, Fail> {
     })
 }
 
-// Whether an event is written as this line.
-fn is_written(alloc: Global, event: Event, line: &[u8]) -> Result<bool, Fail> {
+// Whether this is the line of an event.
+fn is_line_of(alloc: Global, event: &Event, line: &[u8]) -> Result<bool, AllocError> {
     let mut out = Vec::new(alloc);
-    write_event(alloc, &mut out, &event)?;
-    Ok(out.as_slice() == line)
+    let written = write_event(alloc, &mut out, event);
+    let same = out.as_slice() == line;
+    drop(out);
+    written?;
+    Ok(same)
+}
+
+// The same of an event that is let go.
+fn is_written(alloc: Global, event: Event, line: &[u8]) -> Result<bool, AllocError> {
+    let same = is_line_of(alloc, &event, line);
+    drop(event);
+    same
 }
 
 // Whether samples are written as this line.
-fn are_samples(alloc: Global, values: &[u32], line: &[u8]) -> Result<bool, Fail> {
+fn are_samples(alloc: Global, values: &[u32], line: &[u8]) -> Result<bool, AllocError> {
     match Block::from_slice(alloc, values) {
         Ok(block) => is_written(alloc, Event::Samples(block), line),
         Err(_) => Ok(false),
@@ -92,7 +102,12 @@ fn are_samples(alloc: Global, values: &[u32], line: &[u8]) -> Result<bool, Fail>
 }
 
 // Whether pairs of samples are written as this line.
-fn are_pairs(alloc: Global, imports: &[u32], exports: &[u32], line: &[u8]) -> Result<bool, Fail> {
+fn are_pairs(
+    alloc: Global,
+    imports: &[u32],
+    exports: &[u32],
+    line: &[u8],
+) -> Result<bool, AllocError> {
     match Block::from_pairs(alloc, imports, exports) {
         Ok(block) => is_written(alloc, Event::Samples(block), line),
         Err(_) => Ok(false),
@@ -100,7 +115,7 @@ fn are_pairs(alloc: Global, imports: &[u32], exports: &[u32], line: &[u8]) -> Re
 }
 
 // Whether a line is read, and the event written as the same line.
-fn is_read_again(alloc: Global, version: Version, line: &[u8]) -> Result<bool, Fail> {
+fn is_read_again(alloc: Global, version: Version, line: &[u8]) -> Result<bool, AllocError> {
     match read_event(alloc, version, line) {
         Ok(event) => is_written(alloc, event, line),
         Err(_) => Ok(false),
@@ -108,7 +123,7 @@ fn is_read_again(alloc: Global, version: Version, line: &[u8]) -> Result<bool, F
 }
 
 // Whether this holds of each line of a text.
-fn are_read_again(alloc: Global, version: Version, text: &[u8]) -> Result<bool, Fail> {
+fn are_read_again(alloc: Global, version: Version, text: &[u8]) -> Result<bool, AllocError> {
     for line in Lines::new(text) {
         if !is_read_again(alloc, version, line)? {
             return Ok(false);
@@ -119,7 +134,13 @@ fn are_read_again(alloc: Global, version: Version, text: &[u8]) -> Result<bool, 
 
 // Whether a line is that of no event.
 fn is_wrong(alloc: Global, version: Version, line: &[u8]) -> bool {
-    matches!(read_event(alloc, version, line), Err(RowFault::Wrong))
+    match read_event(alloc, version, line) {
+        Ok(event) => {
+            drop(event);
+            false
+        }
+        Err(fault) => fault == RowFault::Wrong,
+    }
 }
 
 // Whether this holds of each line of a text.
@@ -132,19 +153,30 @@ fn are_wrong(alloc: Global, version: Version, text: &[u8]) -> bool {
     true
 }
 
-// A line of so many samples of 5.
-fn samples_line(alloc: Global, count: usize) -> Result<Vec<u8>, Fail> {
-    let mut line = Vec::from_slice(alloc, b"samples")?;
+// Whether a line is read that has so many samples of 5 behind what stands there.
+fn is_read_behind(alloc: Global, line: &mut Vec<u8>, count: usize) -> Result<bool, AllocError> {
     for _ in 0..count {
         line.extend_from_slice(b" 5")?;
     }
-    Ok(line)
+    is_read_again(alloc, Version::Two, line.as_slice())
 }
 
 // Whether a line of so many samples is read.
-fn is_read_with(alloc: Global, count: usize) -> Result<bool, Fail> {
-    let line = samples_line(alloc, count)?;
-    is_read_again(alloc, Version::Two, line.as_slice())
+fn is_read_with(alloc: Global, count: usize) -> Result<bool, AllocError> {
+    let mut line = Vec::from_slice(alloc, b"samples")?;
+    let read = is_read_behind(alloc, &mut line, count);
+    drop(line);
+    read
+}
+
+// Whether this is the text of a line.
+fn is_text_of(alloc: Global, number: u64, line: &Line, text: &[u8]) -> Result<bool, AllocError> {
+    let mut out = Vec::new(alloc);
+    let written = write_line(alloc, &mut out, number, line);
+    let same = out.as_slice() == text;
+    drop(out);
+    written?;
+    Ok(same)
 }
 
 // Whether this is the line of a reply, with the switch as told.
@@ -155,24 +187,24 @@ fn is_line(
     state: ControlState,
     output: bool,
     text: &[u8],
-) -> Result<bool, Fail> {
+) -> Result<bool, AllocError> {
     let line = Line {
         reply,
         state,
         output,
     };
-    let mut out = Vec::new(alloc);
-    write_line(alloc, &mut out, number, &line)?;
-    Ok(out.as_slice() == text)
+    let same = is_text_of(alloc, number, &line, text);
+    drop(line);
+    same
 }
 
 // Whether this is the line of a reply, the switch connected.
-fn is_line_on(alloc: Global, number: u64, reply: Reply, text: &[u8]) -> Result<bool, Fail> {
+fn is_line_on(alloc: Global, number: u64, reply: Reply, text: &[u8]) -> Result<bool, AllocError> {
     is_line(alloc, number, reply, ControlState::Connected, true, text)
 }
 
 // What a read of two attributes gives, of which the second is not there.
-fn two_values(alloc: Global) -> Result<Reply, Fail> {
+fn two_values(alloc: Global) -> Result<Reply, AllocError> {
     let mut items = Vec::new(alloc);
     items.push(GetResult::Value(Data::Enum(1)))?;
     items.push(GetResult::Code(ResultCode::ObjectUndefined))?;
@@ -180,20 +212,38 @@ fn two_values(alloc: Global) -> Result<Reply, Fail> {
 }
 
 #[test]
-fn calls_are_written(rt: HostRuntime) -> Result<(), Fail> {
+fn calls_are_written(rt: HostRuntime) {
     let alloc = rt.alloc();
-    assert!(rt; is_written(alloc, set_mode(1), b"set 1 70 000060030AFF 4 0 1601")?);
-    assert!(rt; is_written(alloc, get_state(), b"get 16 70 000060030AFF 2 0")?);
-    Ok(())
+    assert!(rt;
+        matches!(
+            is_written(alloc, set_mode(1), b"set 1 70 000060030AFF 4 0 1601"),
+            Ok(true)
+        )
+    );
+    assert!(rt;
+        matches!(
+            is_written(alloc, get_state(), b"get 16 70 000060030AFF 2 0"),
+            Ok(true)
+        )
+    );
 }
 
 #[test]
-fn calls_of_methods_are_written(rt: HostRuntime) -> Result<(), Fail> {
+fn calls_of_methods_are_written(rt: HostRuntime) {
     let alloc = rt.alloc();
     let disconnect = execute(1, Some(Data::Integer(0)));
-    assert!(rt; is_written(alloc, disconnect, b"execute 1 70 000060030AFF 1 0F00")?);
-    assert!(rt; is_written(alloc, execute(2, None), b"execute 1 70 000060030AFF 2 -")?);
-    Ok(())
+    assert!(rt;
+        matches!(
+            is_written(alloc, disconnect, b"execute 1 70 000060030AFF 1 0F00"),
+            Ok(true)
+        )
+    );
+    assert!(rt;
+        matches!(
+            is_written(alloc, execute(2, None), b"execute 1 70 000060030AFF 2 -"),
+            Ok(true)
+        )
+    );
 }
 
 #[test]
@@ -205,51 +255,55 @@ fn a_list_is_written(rt: HostRuntime) -> Result<(), Fail> {
 }
 
 #[test]
-fn what_comes_by_itself_is_written(rt: HostRuntime) -> Result<(), Fail> {
+fn what_comes_by_itself_is_written(rt: HostRuntime) {
     let alloc = rt.alloc();
-    assert!(rt; is_written(alloc, Event::Button, b"button")?);
-    assert!(rt; is_written(alloc, Event::Moment(5), b"moment 5")?);
-    assert!(rt; are_samples(alloc, &[10, 20], b"samples 10 20")?);
+    assert!(rt; matches!(is_written(alloc, Event::Button, b"button"), Ok(true)));
+    assert!(rt; matches!(is_written(alloc, Event::Moment(5), b"moment 5"), Ok(true)));
+    assert!(rt; matches!(are_samples(alloc, &[10, 20], b"samples 10 20"), Ok(true)));
     assert!(rt;
-        are_pairs(
-            alloc,
-            &[0, 60],
-            &[51, 4_294_967_295],
-            b"pairs 0 51 60 4294967295"
-        )?
+        matches!(
+            are_pairs(
+                alloc,
+                &[0, 60],
+                &[51, 4_294_967_295],
+                b"pairs 0 51 60 4294967295"
+            ),
+            Ok(true)
+        )
     );
-    Ok(())
 }
 
 #[test]
-fn calls_are_read(rt: HostRuntime) -> Result<(), Fail> {
+fn calls_are_read(rt: HostRuntime) {
     let alloc = rt.alloc();
     let calls = b"set 1 70 000060030AFF 4 0 1601\n\
           execute 1 70 000060030AFF 1 0F00\n\
           execute 1 70 000060030AFF 2 -\n\
           get 16 70 000060030AFF 2 0\n";
-    assert!(rt; are_read_again(alloc, Version::One, calls)?);
+    assert!(rt; matches!(are_read_again(alloc, Version::One, calls), Ok(true)));
     let lists = b"getlist 1 0\ngetlist 1 2 70 000060030AFF 3 0 70 000060030BFF 3 1\n";
-    assert!(rt; are_read_again(alloc, Version::One, lists)?);
-    Ok(())
+    assert!(rt; matches!(are_read_again(alloc, Version::One, lists), Ok(true)));
 }
 
 #[test]
-fn what_comes_by_itself_is_read(rt: HostRuntime) -> Result<(), Fail> {
+fn what_comes_by_itself_is_read(rt: HostRuntime) {
     let alloc = rt.alloc();
     let events = b"button\nsamples 10 20\nsamples\nmoment 5\nmoment 4294967295\n";
-    assert!(rt; are_read_again(alloc, Version::One, events)?);
-    assert!(rt; are_read_again(alloc, Version::Two, b"pairs 0 5001\npairs\n")?);
+    assert!(rt; matches!(are_read_again(alloc, Version::One, events), Ok(true)));
+    assert!(rt;
+        matches!(
+            are_read_again(alloc, Version::Two, b"pairs 0 5001\npairs\n"),
+            Ok(true)
+        )
+    );
     assert!(rt; are_wrong(alloc, Version::One, b"pairs 0 5001\npairs\n"));
-    Ok(())
 }
 
 #[test]
-fn samples_are_read_up_to_256(rt: HostRuntime) -> Result<(), Fail> {
+fn samples_are_read_up_to_256(rt: HostRuntime) {
     let alloc = rt.alloc();
-    assert!(rt; is_read_with(alloc, 256)?);
-    assert!(rt; !is_read_with(alloc, 257)?);
-    Ok(())
+    assert!(rt; matches!(is_read_with(alloc, 256), Ok(true)));
+    assert!(rt; matches!(is_read_with(alloc, 257), Ok(false)));
 }
 
 #[test]
@@ -281,86 +335,108 @@ fn other_lines_are_wrong(rt: HostRuntime) {
 
 // A longer length, another true, a byte more, a byte less and no value are wrong.
 #[test]
-fn data_is_read_in_its_written_spelling_alone(rt: HostRuntime) -> Result<(), Fail> {
+fn data_is_read_in_its_written_spelling_alone(rt: HostRuntime) {
     let alloc = rt.alloc();
     let written = b"set 1 70 000060030AFF 4 0 0100\nset 1 70 000060030AFF 4 0 0301\n";
-    assert!(rt; are_read_again(alloc, Version::Two, written)?);
+    assert!(rt; matches!(are_read_again(alloc, Version::Two, written), Ok(true)));
     let others = b"set 1 70 000060030AFF 4 0 018100\n\
           set 1 70 000060030AFF 4 0 0302\n\
           set 1 70 000060030AFF 4 0 160100\n\
           set 1 70 000060030AFF 4 0 16\n\
           set 1 70 000060030AFF 4 0 -\n";
     assert!(rt; are_wrong(alloc, Version::Two, others));
-    Ok(())
+}
+
+// A line of a code: its number, the code, the state of the switch, whether the supply is on, and the text.
+type CodeLine = (u64, ResultCode, ControlState, bool, &'static [u8]);
+
+const CODE_LINES: &[CodeLine] = &[
+    (
+        1,
+        ResultCode::Success,
+        ControlState::Connected,
+        true,
+        b"1: code 0; state 1; supply on",
+    ),
+    (
+        2,
+        ResultCode::Success,
+        ControlState::Disconnected,
+        false,
+        b"2: code 0; state 0; supply off",
+    ),
+    (
+        3,
+        ResultCode::TemporaryFailure,
+        ControlState::Disconnected,
+        false,
+        b"3: code 2; state 0; supply off",
+    ),
+    (
+        4,
+        ResultCode::Success,
+        ControlState::ReadyForReconnection,
+        false,
+        b"4: code 0; state 2; supply off",
+    ),
+    (
+        5,
+        ResultCode::Success,
+        ControlState::Connected,
+        true,
+        b"5: code 0; state 1; supply on",
+    ),
+];
+
+fn is_code_line(alloc: Global, row: &CodeLine) -> Result<bool, AllocError> {
+    let (number, code, state, output, text) = *row;
+    is_line(alloc, number, Reply::Code(code), state, output, text)
+}
+
+fn are_code_lines(alloc: Global, rows: &[CodeLine]) -> Result<bool, AllocError> {
+    for row in rows {
+        if !is_code_line(alloc, row)? {
+            return Ok(false);
+        }
+    }
+    Ok(true)
 }
 
 #[test]
-fn codes_are_written(rt: HostRuntime) -> Result<(), Fail> {
-    let alloc = rt.alloc();
-    let off = ControlState::Disconnected;
-    let ready = ControlState::ReadyForReconnection;
-    let success = ResultCode::Success;
-    let failure = ResultCode::TemporaryFailure;
-    assert!(rt;
-        is_line_on(
-            alloc,
-            1,
-            Reply::Code(success),
-            b"1: code 0; state 1; supply on"
-        )?
-    );
-    assert!(rt;
-        is_line(
-            alloc,
-            2,
-            Reply::Code(success),
-            off,
-            false,
-            b"2: code 0; state 0; supply off"
-        )?
-    );
-    assert!(rt;
-        is_line(
-            alloc,
-            3,
-            Reply::Code(failure),
-            off,
-            false,
-            b"3: code 2; state 0; supply off"
-        )?
-    );
-    assert!(rt;
-        is_line(
-            alloc,
-            4,
-            Reply::Code(success),
-            ready,
-            false,
-            b"4: code 0; state 2; supply off"
-        )?
-    );
-    assert!(rt;
-        is_line_on(
-            alloc,
-            5,
-            Reply::Code(success),
-            b"5: code 0; state 1; supply on"
-        )?
-    );
-    Ok(())
+fn codes_are_written(rt: HostRuntime) {
+    assert!(rt; matches!(are_code_lines(rt.alloc(), CODE_LINES), Ok(true)));
 }
 
 #[test]
-fn other_replies_are_written(rt: HostRuntime) -> Result<(), Fail> {
+fn other_replies_are_written(rt: HostRuntime) {
     let alloc = rt.alloc();
     let value = Reply::Value(Data::Boolean(true));
-    assert!(rt; is_line_on(alloc, 6, value, b"6: value 0301; state 1; supply on")?);
+    assert!(rt;
+        matches!(
+            is_line_on(alloc, 6, value, b"6: value 0301; state 1; supply on"),
+            Ok(true)
+        )
+    );
     let sampled = Reply::Sampled { over: 0, under: 1 };
-    assert!(rt; is_line_on(alloc, 7, sampled, b"7: sampled 0 1; state 1; supply on")?);
-    assert!(rt; is_line_on(alloc, 8, Reply::Ran(0), b"8: ran 0; state 1; supply on")?);
+    assert!(rt;
+        matches!(
+            is_line_on(alloc, 7, sampled, b"7: sampled 0 1; state 1; supply on"),
+            Ok(true)
+        )
+    );
+    assert!(rt;
+        matches!(
+            is_line_on(alloc, 8, Reply::Ran(0), b"8: ran 0; state 1; supply on"),
+            Ok(true)
+        )
+    );
     let stale = Reply::Stale { last: 5 };
-    assert!(rt; is_line_on(alloc, 9, stale, b"9: stale 5; state 1; supply on")?);
-    Ok(())
+    assert!(rt;
+        matches!(
+            is_line_on(alloc, 9, stale, b"9: stale 5; state 1; supply on"),
+            Ok(true)
+        )
+    );
 }
 
 #[test]

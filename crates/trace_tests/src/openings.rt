@@ -3,7 +3,7 @@ use cosem_axdr::Octets;
 use disconnect_control::{ControlMode, ControlState};
 use limiter_core::Count;
 use relay_core::{LimiterOpening, Opening};
-use std::alloc::Global;
+use std::alloc::{AllocError, Global};
 use std::test::Fail;
 use trace_lines::{TraceFault, TraceLines, Version, next_event, read_event_count, read_opening};
 use trace_text::Lines;
@@ -62,21 +62,24 @@ const SET_METER: &[u8] = b"RELAYTRACE 2\n\
       schedule 2 0 2 0100\n\
       schedule 3 65535 4 0100\n";
 
-// A text with another line in the place of one.
-fn with_line(alloc: Global, text: &[u8], number: u64, other: &[u8]) -> Result<Vec<u8>, Fail> {
-    let mut changed = Vec::new(alloc);
+// Puts a text with another line in the place of one behind what is there.
+fn add_with_line(
+    changed: &mut Vec<u8>,
+    text: &[u8],
+    number: u64,
+    other: &[u8],
+) -> Result<(), AllocError> {
     let mut at: u64 = 0;
     for line in Lines::new(text) {
         at = at.wrapping_add(1);
         changed.extend_from_slice(if at == number { other } else { line })?;
         changed.push(b'\n')?;
     }
-    Ok(changed)
+    Ok(())
 }
 
-// A text without one of its lines.
-fn without_line(alloc: Global, text: &[u8], number: u64) -> Result<Vec<u8>, Fail> {
-    let mut changed = Vec::new(alloc);
+// Puts a text without one of its lines behind what is there.
+fn add_without_line(changed: &mut Vec<u8>, text: &[u8], number: u64) -> Result<(), AllocError> {
     let mut at: u64 = 0;
     for line in Lines::new(text) {
         at = at.wrapping_add(1);
@@ -85,7 +88,7 @@ fn without_line(alloc: Global, text: &[u8], number: u64) -> Result<Vec<u8>, Fail
             changed.push(b'\n')?;
         }
     }
-    Ok(changed)
+    Ok(())
 }
 
 // What is asked of an opening that is read.
@@ -107,8 +110,14 @@ fn is_as_asked(version: Version, opening: &Opening, asked: Asked) -> bool {
 
 // Whether the opening that is read from lines is as asked. Openings are let go here alone: that one may be is long to prove.
 fn opened(alloc: Global, lines: &mut TraceLines, asked: Asked) -> Result<bool, TraceFault> {
-    let (version, opening) = read_opening(alloc, lines)?;
-    Ok(is_as_asked(version, &opening, asked))
+    match read_opening(alloc, lines) {
+        Ok((version, opening)) => {
+            let is_so = is_as_asked(version, &opening, asked);
+            drop(opening);
+            Ok(is_so)
+        }
+        Err(fault) => Err(fault),
+    }
 }
 
 // The number of the line for which an opening is refused.
@@ -130,40 +139,85 @@ fn is_whole(alloc: Global, text: &[u8], asked: Asked) -> Result<bool, TraceFault
     Ok(opened(alloc, &mut lines, asked)? && lines.end().is_ok())
 }
 
-// Whether an opening with another line is refused for it.
-fn is_wrong_with(alloc: Global, text: &[u8], number: u64, other: &[u8]) -> Result<bool, Fail> {
-    let changed = with_line(alloc, text, number, other)?;
-    Ok(wrong_line(alloc, changed.as_slice()) == Some(number))
-}
-
-// Whether this holds of each of several lines.
-fn are_wrong_with(alloc: Global, text: &[u8], number: u64, others: &[u8]) -> Result<bool, Fail> {
-    for other in Lines::new(others) {
-        if !is_wrong_with(alloc, text, number, other)? {
-            return Ok(false);
-        }
-    }
-    Ok(true)
-}
-
-// Whether this holds of lines by their numbers.
-fn are_wrong(alloc: Global, text: &[u8], places: &[(u64, &[u8])]) -> Result<bool, Fail> {
-    for place in places {
-        if !are_wrong_with(alloc, text, place.0, place.1)? {
-            return Ok(false);
-        }
-    }
-    Ok(true)
+// The number of the line for which an opening with another line is refused.
+fn wrong_line_with(
+    alloc: Global,
+    text: &[u8],
+    number: u64,
+    other: &[u8],
+) -> Result<Option<u64>, AllocError> {
+    let mut changed = Vec::new(alloc);
+    let added = add_with_line(&mut changed, text, number, other);
+    let wrong = wrong_line(alloc, changed.as_slice());
+    drop(changed);
+    added?;
+    Ok(wrong)
 }
 
 // Whether an opening with another line is read.
-fn is_read_with(alloc: Global, text: &[u8], number: u64, other: &[u8]) -> Result<bool, Fail> {
-    let changed = with_line(alloc, text, number, other)?;
-    Ok(is_read(alloc, changed.as_slice()))
+fn is_read_with(alloc: Global, text: &[u8], number: u64, other: &[u8]) -> Result<bool, AllocError> {
+    let mut changed = Vec::new(alloc);
+    let added = add_with_line(&mut changed, text, number, other);
+    let read = is_read(alloc, changed.as_slice());
+    drop(changed);
+    added?;
+    Ok(read)
 }
 
-// Whether this holds of each of several lines.
-fn are_read_with(alloc: Global, text: &[u8], number: u64, others: &[u8]) -> Result<bool, Fail> {
+// The number of the line for which an opening without one of its lines is refused.
+fn wrong_line_without(alloc: Global, text: &[u8], number: u64) -> Result<Option<u64>, AllocError> {
+    let mut changed = Vec::new(alloc);
+    let added = add_without_line(&mut changed, text, number);
+    let wrong = wrong_line(alloc, changed.as_slice());
+    drop(changed);
+    added?;
+    Ok(wrong)
+}
+
+// Whether each of a text's lines is missed where it is left out.
+fn are_missed(alloc: Global, text: &[u8], count: u64) -> Result<bool, AllocError> {
+    for number in 0..count {
+        let number = number.wrapping_add(1);
+        if wrong_line_without(alloc, text, number)? != Some(number) {
+            return Ok(false);
+        }
+    }
+    Ok(true)
+}
+
+// What holds of an opening with each of several other lines in the place of the line of a number.
+#[derive(Clone, Copy)]
+enum Other {
+    // It is refused for that line.
+    Wrong(u64, &'static [u8]),
+    // It is read.
+    Read(u64, &'static [u8]),
+    // It is refused for this line, the first number, once the line of the second number is another one.
+    WrongAt(u64, u64, &'static [u8]),
+}
+
+// Whether an opening with another line is refused for the line of a number.
+fn are_wrong_at(
+    alloc: Global,
+    text: &[u8],
+    at: u64,
+    number: u64,
+    others: &[u8],
+) -> Result<bool, AllocError> {
+    for other in Lines::new(others) {
+        if wrong_line_with(alloc, text, number, other)? != Some(at) {
+            return Ok(false);
+        }
+    }
+    Ok(true)
+}
+
+fn are_read_with(
+    alloc: Global,
+    text: &[u8],
+    number: u64,
+    others: &[u8],
+) -> Result<bool, AllocError> {
     for other in Lines::new(others) {
         if !is_read_with(alloc, text, number, other)? {
             return Ok(false);
@@ -172,12 +226,18 @@ fn are_read_with(alloc: Global, text: &[u8], number: u64, others: &[u8]) -> Resu
     Ok(true)
 }
 
-// Whether each of a text's lines is missed where it is left out.
-fn are_missed(alloc: Global, text: &[u8], count: u64) -> Result<bool, Fail> {
-    for number in 0..count {
-        let number = number.wrapping_add(1);
-        let changed = without_line(alloc, text, number)?;
-        if wrong_line(alloc, changed.as_slice()) != Some(number) {
+fn holds(alloc: Global, text: &[u8], other: Other) -> Result<bool, AllocError> {
+    match other {
+        Other::Wrong(number, others) => are_wrong_at(alloc, text, number, number, others),
+        Other::WrongAt(at, number, others) => are_wrong_at(alloc, text, at, number, others),
+        Other::Read(number, others) => are_read_with(alloc, text, number, others),
+    }
+}
+
+// Whether all of these hold of a text.
+fn hold(alloc: Global, text: &[u8], rows: &[Other]) -> Result<bool, AllocError> {
+    for row in rows {
+        if !holds(alloc, text, *row)? {
             return Ok(false);
         }
     }
@@ -283,108 +343,133 @@ fn event_count(text: &[u8]) -> Option<u32> {
     read_event_count(&mut TraceLines::new(text)).ok()
 }
 
-// The fault of the second line of a text, whose first is read as a button.
-fn second_fault(alloc: Global, version: Version, text: &[u8]) -> Result<Option<TraceFault>, Fail> {
+// Reads a line as that of an event, which is let go.
+fn skip_event(alloc: Global, version: Version, lines: &mut TraceLines) -> Result<(), TraceFault> {
+    match next_event(alloc, version, lines) {
+        Ok(event) => {
+            drop(event);
+            Ok(())
+        }
+        Err(fault) => Err(fault),
+    }
+}
+
+// What comes of the second line of a text, if the first is that of an event.
+fn second(alloc: Global, version: Version, text: &[u8]) -> Option<Result<(), TraceFault>> {
     let mut lines = TraceLines::new(text);
-    next_event(alloc, version, &mut lines)?;
-    Ok(next_event(alloc, version, &mut lines).err())
+    match skip_event(alloc, version, &mut lines) {
+        Ok(()) => Some(skip_event(alloc, version, &mut lines)),
+        Err(_) => None,
+    }
 }
 
 #[test]
-fn an_opening_of_version_1_is_read(rt: HostRuntime) -> Result<(), Fail> {
-    assert!(rt; is_whole(rt.alloc(), NEW_METER, Asked::IsNewMeter)?);
-    Ok(())
+fn an_opening_of_version_1_is_read(rt: HostRuntime) {
+    assert!(rt; matches!(is_whole(rt.alloc(), NEW_METER, Asked::IsNewMeter), Ok(true)));
 }
 
 #[test]
-fn an_opening_of_version_2_is_read(rt: HostRuntime) -> Result<(), Fail> {
-    assert!(rt; is_whole(rt.alloc(), SET_METER, Asked::IsSetMeter)?);
-    Ok(())
+fn an_opening_of_version_2_is_read(rt: HostRuntime) {
+    assert!(rt; matches!(is_whole(rt.alloc(), SET_METER, Asked::IsSetMeter), Ok(true)));
+}
+
+// Texts, and the lines for which they are refused as openings.
+const SHORT: &[(&[u8], u64)] = &[(b"", 1), (b"RELAYTRACE 1", 1), (b"RELAYTRACE 1\n", 2)];
+
+// Whether each text is refused for its line.
+fn are_short(alloc: Global, texts: &[(&[u8], u64)]) -> bool {
+    for (text, line) in texts {
+        if wrong_line(alloc, text) != Some(*line) {
+            return false;
+        }
+    }
+    true
 }
 
 #[test]
 fn a_line_that_is_missing_is_told(rt: HostRuntime) -> Result<(), Fail> {
     let alloc = rt.alloc();
-    assert!(rt; are_missed(alloc, NEW_METER, 20)?);
-    assert!(rt; are_missed(alloc, SET_METER, 30)?);
-    assert!(rt; wrong_line(alloc, b"") == Some(1));
-    assert!(rt; wrong_line(alloc, b"RELAYTRACE 1") == Some(1));
-    assert!(rt; wrong_line(alloc, b"RELAYTRACE 1\n") == Some(2));
+    assert!(rt; are_missed(alloc, NEW_METER, 20)? && are_missed(alloc, SET_METER, 30)?);
+    assert!(rt; are_short(alloc, SHORT));
     Ok(())
 }
 
-#[test]
-fn the_version_is_1_or_2(rt: HostRuntime) -> Result<(), Fail> {
-    let alloc = rt.alloc();
-    let others =
-        b"\nRELAYTRACE\nRELAYTRACE 0\nRELAYTRACE 3\nRELAYTRACE 01\nRELAYTRACE 1 1\nRELAYTRACE  1\nrelaytrace 1\nRELAYTRACE 1 \nRELAYTRACE\t1\nRELAYTRACE 1\r\n";
-    assert!(rt; are_wrong_with(alloc, NEW_METER, 1, others)?);
-    // The line behind the import limiter is one of the export limiter in version 2 alone.
-    let newer = with_line(alloc, NEW_METER, 1, b"RELAYTRACE 2")?;
-    assert!(rt; wrong_line(alloc, newer.as_slice()) == Some(16));
-    let older = with_line(alloc, SET_METER, 1, b"RELAYTRACE 1")?;
-    assert!(rt; wrong_line(alloc, older.as_slice()) == Some(16));
-    Ok(())
-}
+// The line behind the import limiter is one of the export limiter in version 2 alone.
+const VERSIONS: &[Other] = &[
+    Other::Wrong(
+        1,
+        b"\nRELAYTRACE\nRELAYTRACE 0\nRELAYTRACE 3\nRELAYTRACE 01\nRELAYTRACE 1 1\nRELAYTRACE  1\nrelaytrace 1\nRELAYTRACE 1 \nRELAYTRACE\t1\nRELAYTRACE 1\r\n",
+    ),
+    Other::WrongAt(16, 1, b"RELAYTRACE 2\n"),
+];
+
+const OLDER: &[Other] = &[Other::WrongAt(16, 1, b"RELAYTRACE 1\n")];
 
 #[test]
-fn a_device_name_has_1_to_16_bytes(rt: HostRuntime) -> Result<(), Fail> {
-    let alloc = rt.alloc();
-    let names = b"device 00\ndevice 000102030405060708090A0B0C0D0E0F\n";
-    assert!(rt; are_read_with(alloc, NEW_METER, 2, names)?);
-    let others = b"device\n\
+fn the_version_is_1_or_2(rt: HostRuntime) {
+    assert!(rt; matches!(hold(rt.alloc(), NEW_METER, VERSIONS), Ok(true)));
+    assert!(rt; matches!(hold(rt.alloc(), SET_METER, OLDER), Ok(true)));
+}
+
+const DEVICES: &[Other] = &[
+    Other::Read(2, b"device 00\ndevice 000102030405060708090A0B0C0D0E0F\n"),
+    Other::Wrong(
+        2,
+        b"device\n\
           device \n\
           device 000102030405060708090A0B0C0D0E0F10\n\
           device 0a\n\
           device 0A0\n\
           device 0A 0B\n\
-          Device 0A\n";
-    assert!(rt; are_wrong_with(alloc, NEW_METER, 2, others)?);
-    Ok(())
-}
+          Device 0A\n",
+    ),
+];
 
 #[test]
-fn mode_0_goes_with_state_1_alone(rt: HostRuntime) -> Result<(), Fail> {
-    let alloc = rt.alloc();
-    let others: [(u64, &[u8]); 2] = [
-        (3, b"state\nstate 3\nstate 01\nstate 1 1\nstate -\n"),
-        (4, b"mode\nmode 7\nmode 00\nmode 0 0\nmode\t0\n"),
-    ];
-    assert!(rt; are_wrong(alloc, NEW_METER, &others)?);
-    assert!(rt; are_read_with(alloc, NEW_METER, 4, b"mode 0\nmode 3\nmode 6\n")?);
-    // In state 2 mode 0 is wrong, and in state 0 too.
-    assert!(rt; is_wrong_with(alloc, SET_METER, 4, b"mode 0")?);
-    let off = with_line(alloc, NEW_METER, 3, b"state 0")?;
-    assert!(rt; wrong_line(alloc, off.as_slice()) == Some(4));
-    Ok(())
+fn a_device_name_has_1_to_16_bytes(rt: HostRuntime) {
+    assert!(rt; matches!(hold(rt.alloc(), NEW_METER, DEVICES), Ok(true)));
 }
 
-#[test]
-fn values_are_of_32_bits(rt: HostRuntime) -> Result<(), Fail> {
-    let alloc = rt.alloc();
-    let values =
-        b"value\nvalue 4294967296\nvalue 00\nvalue 0 0\nvalue  0\nvalue -\nvalue\t0\nvalue 0\r\nxvalue 0\n";
-    let moments = b"now\nnow --\nnow - -\nnow 4294967296\nnow 05\n";
-    let others: [(u64, &[u8]); 6] = [
-        (5, values),
-        (6, moments),
-        (7, b"normal\nnormal 4294967296\nxnormal 1\nnormal 1 1\n"),
-        (8, b"emergency\nemergency 01\nxemergency 1\n"),
-        (9, b"minover\nminover 4294967296\nminunder 0\n"),
-        (10, b"minunder\nminunder 0 \nminover 0\n"),
-    ];
-    assert!(rt; are_wrong(alloc, NEW_METER, &others)?);
-    assert!(rt; are_read_with(alloc, NEW_METER, 6, b"now 0\nnow 4294967295\n")?);
-    Ok(())
-}
+// In state 2 mode 0 is wrong, and in state 0 too.
+const MODES: &[Other] = &[
+    Other::Wrong(3, b"state\nstate 3\nstate 01\nstate 1 1\nstate -\n"),
+    Other::Wrong(4, b"mode\nmode 7\nmode 00\nmode 0 0\nmode\t0\n"),
+    Other::Read(4, b"mode 0\nmode 3\nmode 6\n"),
+    Other::WrongAt(4, 3, b"state 0\n"),
+];
+
+const MODE_IN_STATE_2: &[Other] = &[Other::Wrong(4, b"mode 0\n")];
 
 #[test]
-fn an_emergency_profile_has_three_words(rt: HostRuntime) -> Result<(), Fail> {
-    let alloc = rt.alloc();
-    let profiles = b"profile 65535 07D00101FF00012800800000 4294967295\n";
-    assert!(rt; are_read_with(alloc, NEW_METER, 11, profiles)?);
-    // Eleven bytes, thirteen, the month FD, and the id, the start or the duration is another.
-    let others = b"profile 0 FFFFFFFFFFFFFFFFFF8000 0\n\
+fn mode_0_goes_with_state_1_alone(rt: HostRuntime) {
+    assert!(rt; matches!(hold(rt.alloc(), NEW_METER, MODES), Ok(true)));
+    assert!(rt; matches!(hold(rt.alloc(), SET_METER, MODE_IN_STATE_2), Ok(true)));
+}
+
+const VALUES: &[Other] = &[
+    Other::Wrong(
+        5,
+        b"value\nvalue 4294967296\nvalue 00\nvalue 0 0\nvalue  0\nvalue -\nvalue\t0\nvalue 0\r\nxvalue 0\n",
+    ),
+    Other::Wrong(6, b"now\nnow --\nnow - -\nnow 4294967296\nnow 05\n"),
+    Other::Wrong(7, b"normal\nnormal 4294967296\nxnormal 1\nnormal 1 1\n"),
+    Other::Wrong(8, b"emergency\nemergency 01\nxemergency 1\n"),
+    Other::Wrong(9, b"minover\nminover 4294967296\nminunder 0\n"),
+    Other::Wrong(10, b"minunder\nminunder 0 \nminover 0\n"),
+    Other::Read(6, b"now 0\nnow 4294967295\n"),
+];
+
+#[test]
+fn values_are_of_32_bits(rt: HostRuntime) {
+    assert!(rt; matches!(hold(rt.alloc(), NEW_METER, VALUES), Ok(true)));
+}
+
+// Wrong are eleven bytes, thirteen, the month FD, and another form of the id, the start or the duration.
+const PROFILES: &[Other] = &[
+    Other::Read(11, b"profile 65535 07D00101FF00012800800000 4294967295\n"),
+    Other::Wrong(
+        11,
+        b"profile 0 FFFFFFFFFFFFFFFFFF8000 0\n\
           profile 0 FFFFFFFFFFFFFFFFFF8000FFFF 0\n\
           profile 0 FFFFFDFFFFFFFFFFFF8000FF 0\n\
           profile 65536 FFFFFFFFFFFFFFFFFF8000FF 0\n\
@@ -392,75 +477,98 @@ fn an_emergency_profile_has_three_words(rt: HostRuntime) -> Result<(), Fail> {
           profile 0 FFFFFFFFFFFFFFFFFF8000FF 4294967296\n\
           profile 0 FFFFFFFFFFFFFFFFFF8000FF\n\
           profile 0 FFFFFFFFFFFFFFFFFF8000FF 0 0\n\
-          xprofile 0 FFFFFFFFFFFFFFFFFF8000FF 0\n";
-    assert!(rt; are_wrong_with(alloc, NEW_METER, 11, others)?);
-    Ok(())
-}
+          xprofile 0 FFFFFFFFFFFFFFFFFF8000FF 0\n",
+    ),
+];
 
 #[test]
-fn a_limiter_has_up_to_32_groups(rt: HostRuntime) -> Result<(), Fail> {
-    let alloc = rt.alloc();
-    let most = b"groups 1 1 1 1 1 1 1 1 1 1 1 1 1 1 1 1 1 1 1 1 1 1 1 1 1 1 1 1 1 1 1 1";
-    assert!(rt; is_read_with(alloc, NEW_METER, 12, most)?);
-    let others = b"groups 1 1 1 1 1 1 1 1 1 1 1 1 1 1 1 1 1 1 1 1 1 1 1 1 1 1 1 1 1 1 1 1 1\n\
+fn an_emergency_profile_has_three_words(rt: HostRuntime) {
+    assert!(rt; matches!(hold(rt.alloc(), NEW_METER, PROFILES), Ok(true)));
+}
+
+const GROUPS: &[Other] = &[
+    Other::Read(
+        12,
+        b"groups 1 1 1 1 1 1 1 1 1 1 1 1 1 1 1 1 1 1 1 1 1 1 1 1 1 1 1 1 1 1 1 1\n",
+    ),
+    Other::Wrong(
+        12,
+        b"groups 1 1 1 1 1 1 1 1 1 1 1 1 1 1 1 1 1 1 1 1 1 1 1 1 1 1 1 1 1 1 1 1 1\n\
           groups 65536\n\
           groups 1 01\n\
           groups \n\
           groups  1\n\
-          xgroups\n";
-    assert!(rt; are_wrong_with(alloc, NEW_METER, 12, others)?);
-    assert!(rt; are_read_with(alloc, NEW_METER, 13, b"actions 65535 1\n")?);
-    let actions =
-        b"actions\nactions 0\nactions 0 65536\nactions 0 0 0\nactions 00 0\nxactions 0 0\n";
-    assert!(rt; are_wrong_with(alloc, NEW_METER, 13, actions)?);
-    Ok(())
+          xgroups\n",
+    ),
+    Other::Read(13, b"actions 65535 1\n"),
+    Other::Wrong(
+        13,
+        b"actions\nactions 0\nactions 0 65536\nactions 0 0 0\nactions 00 0\nxactions 0 0\n",
+    ),
+];
+
+#[test]
+fn a_limiter_has_up_to_32_groups(rt: HostRuntime) {
+    assert!(rt; matches!(hold(rt.alloc(), NEW_METER, GROUPS), Ok(true)));
+}
+
+// The last sample of the new meter is 0.
+const NEW_RUNS: &[Other] = &[
+    Other::Wrong(
+        14,
+        b"over\nover 0\nover 0 1\nover 1 0\nover 0 2\nover 0 0 0\nover 42949672950 0\nover 42949672951 1\nxover 0 0\n",
+    ),
+    Other::Wrong(
+        15,
+        b"under\nunder 0\nunder 0 1\nunder 42949672950 0\nunder 42949672951 1\nxunder 0 0\n",
+    ),
+    Other::Read(15, b"under 1 0\nunder 42949672949 1\n"),
+];
+
+// That of the other meter is 10. Beside a run over the threshold there is none under it.
+const SET_RUNS: &[Other] = &[
+    Other::Read(14, b"over 1 0\nover 1 1\nover 42949672950 1\nover 0 0\n"),
+    Other::Wrong(14, b"over 0 1\nover 42949672950 0\nover 42949672951 1\n"),
+    Other::Wrong(15, b"under 1 0\nunder 1 1\n"),
+];
+
+#[test]
+fn runs_are_such_as_samples_give(rt: HostRuntime) {
+    assert!(rt; matches!(hold(rt.alloc(), NEW_METER, NEW_RUNS), Ok(true)));
+    assert!(rt; matches!(hold(rt.alloc(), SET_METER, SET_RUNS), Ok(true)));
+}
+
+// The lines of a limiter whose last sample is the greatest.
+const GREATEST_RUNS: &[Other] = &[
+    Other::Wrong(15, b"under 1 0\n"),
+    Other::Read(14, b"over 1 0\n"),
+];
+
+const GREATEST_EXPORT: &[Other] = &[Other::WrongAt(25, 16, b"xvalue 4294967295\n")];
+
+// Whether a new meter with the greatest value is read, and these lines hold of it.
+fn greatest_holds(alloc: Global, rows: &[Other]) -> Result<bool, AllocError> {
+    let mut greatest = Vec::new(alloc);
+    let added = add_with_line(&mut greatest, NEW_METER, 5, b"value 4294967295");
+    let read = is_read(alloc, greatest.as_slice());
+    let held = hold(alloc, greatest.as_slice(), rows);
+    drop(greatest);
+    added?;
+    Ok(read && held?)
 }
 
 #[test]
-fn runs_are_such_as_samples_give(rt: HostRuntime) -> Result<(), Fail> {
-    let alloc = rt.alloc();
-    // The last sample of the new meter is 0, that of the other is 10.
-    let overs =
-        b"over\nover 0\nover 0 1\nover 1 0\nover 0 2\nover 0 0 0\nover 42949672950 0\nover 42949672951 1\nxover 0 0\n";
-    let unders =
-        b"under\nunder 0\nunder 0 1\nunder 42949672950 0\nunder 42949672951 1\nxunder 0 0\n";
-    assert!(rt; are_wrong(alloc, NEW_METER, &[(14, overs), (15, unders)])?);
-    assert!(rt; are_read_with(alloc, NEW_METER, 15, b"under 1 0\nunder 42949672949 1\n")?);
-    assert!(rt;
-        are_read_with(
-            alloc,
-            SET_METER,
-            14,
-            b"over 1 0\nover 1 1\nover 42949672950 1\nover 0 0\n"
-        )?
-    );
-    // Beside a run over the threshold there is none under it.
-    let others: [(u64, &[u8]); 2] = [
-        (14, b"over 0 1\nover 42949672950 0\nover 42949672951 1\n"),
-        (15, b"under 1 0\nunder 1 1\n"),
-    ];
-    assert!(rt; are_wrong(alloc, SET_METER, &others)?);
-    Ok(())
+fn the_greatest_value_lies_under_no_threshold(rt: HostRuntime) {
+    assert!(rt; matches!(greatest_holds(rt.alloc(), GREATEST_RUNS), Ok(true)));
+    assert!(rt; matches!(hold(rt.alloc(), SET_METER, GREATEST_EXPORT), Ok(true)));
 }
 
-#[test]
-fn the_greatest_value_lies_under_no_threshold(rt: HostRuntime) -> Result<(), Fail> {
-    let alloc = rt.alloc();
-    let greatest = with_line(alloc, NEW_METER, 5, b"value 4294967295")?;
-    assert!(rt; is_read(alloc, greatest.as_slice()));
-    assert!(rt; is_wrong_with(alloc, greatest.as_slice(), 15, b"under 1 0")?);
-    assert!(rt; is_read_with(alloc, greatest.as_slice(), 14, b"over 1 0")?);
-    let exported = with_line(alloc, SET_METER, 16, b"xvalue 4294967295")?;
-    assert!(rt; wrong_line(alloc, exported.as_slice()) == Some(25));
-    Ok(())
-}
-
-#[test]
-fn a_script_table_is_read_as_it_is_written(rt: HostRuntime) -> Result<(), Fail> {
-    let alloc = rt.alloc();
-    assert!(rt; are_read_with(alloc, NEW_METER, 16, b"scripts 0101020212FFFF0100\n")?);
-    // Another spelling, a byte more, a byte less, no array, no table in it, a script 0, and no word.
-    let others = b"scripts 018100\n\
+// Wrong are another spelling, a byte more, a byte less, no array, no table in it, a script 0, and no word.
+const SCRIPTS: &[Other] = &[
+    Other::Read(16, b"scripts 0101020212FFFF0100\n"),
+    Other::Wrong(
+        16,
+        b"scripts 018100\n\
           scripts 010000\n\
           scripts 01\n\
           scripts 0301\n\
@@ -469,14 +577,19 @@ fn a_script_table_is_read_as_it_is_written(rt: HostRuntime) -> Result<(), Fail> 
           scripts\n\
           scripts -\n\
           scripts 0100 0100\n\
-          xscripts 0100\n";
-    assert!(rt; are_wrong_with(alloc, NEW_METER, 16, others)?);
-    Ok(())
-}
+          xscripts 0100\n",
+    ),
+];
 
 #[test]
-fn schedules_come_in_their_order(rt: HostRuntime) -> Result<(), Fail> {
-    let fields = b"schedule 1 0 5 0100\n\
+fn a_script_table_is_read_as_it_is_written(rt: HostRuntime) {
+    assert!(rt; matches!(hold(rt.alloc(), NEW_METER, SCRIPTS), Ok(true)));
+}
+
+const SCHEDULES: &[Other] = &[
+    Other::Wrong(
+        17,
+        b"schedule 1 0 5 0100\n\
           schedule 4 0 5 0100\n\
           schedule 00 0 5 0100\n\
           schedule 0 65536 5 0100\n\
@@ -487,64 +600,111 @@ fn schedules_come_in_their_order(rt: HostRuntime) -> Result<(), Fail> {
           schedule 0 0 5 01010100\n\
           schedule 0 0 5 010102020904183B3B000905FFFFFFFEFF\n\
           schedule 0 0 5\n\
-          schedule 0 0 5 0100 0\n";
-    let others: [(u64, &[u8]); 4] = [
-        (17, fields),
-        (18, b"schedule 0 0 5 0100\nschedule 2 0 5 0100\n"),
-        (19, b"schedule 1 0 5 0100\nschedule 3 0 5 0100\n"),
-        (20, b"schedule 2 0 5 0100\nevents 0\n"),
-    ];
-    assert!(rt; are_wrong(rt.alloc(), NEW_METER, &others)?);
-    Ok(())
-}
+          schedule 0 0 5 0100 0\n",
+    ),
+    Other::Wrong(18, b"schedule 0 0 5 0100\nschedule 2 0 5 0100\n"),
+    Other::Wrong(19, b"schedule 1 0 5 0100\nschedule 3 0 5 0100\n"),
+    Other::Wrong(20, b"schedule 2 0 5 0100\nevents 0\n"),
+];
 
 #[test]
-fn lines_of_the_export_limiter_begin_with_an_x(rt: HostRuntime) -> Result<(), Fail> {
-    let profiles = b"profile 0 FFFFFFFFFFFFFFFFFF8000FF 0\nxprofile 0 FFFFFFFFFFFFFFFFFF8000 0\n";
-    // The last exported sample is 0, whatever was imported last.
-    let overs = b"over 0 0\nxover 1 0\nxover 0 1\n";
-    let others: [(u64, &[u8]); 10] = [
-        (16, b"value 0\nxxvalue 0\nxvalue 00\nxvalue\n"),
-        (17, b"normal 9\nxnormal 4294967296\n"),
-        (18, b"emergency 8\nXemergency 8\n"),
-        (19, b"minover 7\nxminover 07\n"),
-        (20, b"minunder 6\nxminunder 6 6\n"),
-        (21, profiles),
-        (22, b"groups\nxgroups 65536\nx groups\n"),
-        (23, b"actions 3 4\nxactions 3\n"),
-        (24, overs),
-        (25, b"under 0 0\nxunder 42949672950 0\nxunder 0 1\n"),
-    ];
-    assert!(rt; are_wrong(rt.alloc(), SET_METER, &others)?);
-    Ok(())
+fn schedules_come_in_their_order(rt: HostRuntime) {
+    assert!(rt; matches!(hold(rt.alloc(), NEW_METER, SCHEDULES), Ok(true)));
+}
+
+// The last exported sample is 0, whatever was imported last.
+const EXPORTS: &[Other] = &[
+    Other::Wrong(16, b"value 0\nxxvalue 0\nxvalue 00\nxvalue\n"),
+    Other::Wrong(17, b"normal 9\nxnormal 4294967296\n"),
+    Other::Wrong(18, b"emergency 8\nXemergency 8\n"),
+    Other::Wrong(19, b"minover 7\nxminover 07\n"),
+    Other::Wrong(20, b"minunder 6\nxminunder 6 6\n"),
+    Other::Wrong(
+        21,
+        b"profile 0 FFFFFFFFFFFFFFFFFF8000FF 0\nxprofile 0 FFFFFFFFFFFFFFFFFF8000 0\n",
+    ),
+    Other::Wrong(22, b"groups\nxgroups 65536\nx groups\n"),
+    Other::Wrong(23, b"actions 3 4\nxactions 3\n"),
+    Other::Wrong(24, b"over 0 0\nxover 1 0\nxover 0 1\n"),
+    Other::Wrong(25, b"under 0 0\nxunder 42949672950 0\nxunder 0 1\n"),
+];
+
+#[test]
+fn lines_of_the_export_limiter_begin_with_an_x(rt: HostRuntime) {
+    assert!(rt; matches!(hold(rt.alloc(), SET_METER, EXPORTS), Ok(true)));
+}
+
+const EVENT_COUNTS: &[(&[u8], Option<u32>)] = &[
+    (b"events 0\n", Some(0)),
+    (b"events 65536\n", Some(65_536)),
+    (b"events 65537\n", None),
+    (b"events 1", None),
+    (b"events\n", None),
+    (b"event 1\n", None),
+];
+
+// Whether each text tells so many events.
+fn are_counts(texts: &[(&[u8], Option<u32>)]) -> bool {
+    for (text, count) in texts {
+        if event_count(text) != *count {
+            return false;
+        }
+    }
+    true
 }
 
 #[test]
 fn there_are_up_to_65536_events(rt: HostRuntime) {
-    assert!(rt; event_count(b"events 0\n") == Some(0));
-    assert!(rt; event_count(b"events 65536\n") == Some(65_536));
-    assert!(rt; event_count(b"events 65537\n").is_none());
-    assert!(rt; event_count(b"events 1").is_none());
-    assert!(rt; event_count(b"events\n").is_none());
-    assert!(rt; event_count(b"event 1\n").is_none());
+    assert!(rt; are_counts(EVENT_COUNTS));
+}
+
+// What comes of the second line of two events.
+type Second = (Version, &'static [u8], Result<(), TraceFault>);
+
+const SECONDS: &[Second] = &[
+    (Version::Two, b"button\npairs 1 2\n", Ok(())),
+    (
+        Version::One,
+        b"button\npairs 1 2\n",
+        Err(TraceFault::Line(2)),
+    ),
+    (Version::Two, b"button\nbuttons\n", Err(TraceFault::Line(2))),
+    (Version::Two, b"button\nbutton", Err(TraceFault::Line(2))),
+    (Version::Two, b"button\n", Err(TraceFault::Line(2))),
+];
+
+fn are_seconds(alloc: Global, rows: &[Second]) -> bool {
+    for (version, text, wanted) in rows {
+        if second(alloc, *version, text) != Some(*wanted) {
+            return false;
+        }
+    }
+    true
 }
 
 #[test]
-fn events_are_read_line_by_line(rt: HostRuntime) -> Result<(), Fail> {
-    let alloc = rt.alloc();
-    let second = Some(TraceFault::Line(2));
-    assert!(rt; second_fault(alloc, Version::Two, b"button\npairs 1 2\n")?.is_none());
-    assert!(rt; second_fault(alloc, Version::One, b"button\npairs 1 2\n")? == second);
-    assert!(rt; second_fault(alloc, Version::Two, b"button\nbuttons\n")? == second);
-    assert!(rt; second_fault(alloc, Version::Two, b"button\nbutton")? == second);
-    assert!(rt; second_fault(alloc, Version::Two, b"button\n")? == second);
-    Ok(())
+fn events_are_read_line_by_line(rt: HostRuntime) {
+    assert!(rt; are_seconds(rt.alloc(), SECONDS));
+}
+
+const ENDS: &[(&[u8], Result<(), TraceFault>)] = &[
+    (b"", Ok(())),
+    (b"\n", Err(TraceFault::Line(1))),
+    (b" ", Err(TraceFault::Line(1))),
+    (b"button\n", Err(TraceFault::Line(1))),
+];
+
+// Whether each text is taken so where a trace is to end.
+fn are_ends(texts: &[(&[u8], Result<(), TraceFault>)]) -> bool {
+    for (text, wanted) in texts {
+        if TraceLines::new(text).end() != *wanted {
+            return false;
+        }
+    }
+    true
 }
 
 #[test]
 fn a_trace_ends_with_its_last_line(rt: HostRuntime) {
-    assert!(rt; TraceLines::new(b"").end().is_ok());
-    assert!(rt; TraceLines::new(b"\n").end() == Err(TraceFault::Line(1)));
-    assert!(rt; TraceLines::new(b" ").end() == Err(TraceFault::Line(1)));
-    assert!(rt; TraceLines::new(b"button\n").end() == Err(TraceFault::Line(1)));
+    assert!(rt; are_ends(ENDS));
 }

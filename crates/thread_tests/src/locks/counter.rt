@@ -60,16 +60,16 @@ impl Gate {
 
 /// The one event of a counter.
 #[derive(Clone, Copy)]
-pub(super) struct Bump;
+pub(crate) struct Bump;
 
 /// It counts its turns, and answers the count.
 #[derive(Drop)]
-pub(super) struct Counter {
-    pub(super) count: u64,
+pub(crate) struct Counter {
+    pub(crate) count: u64,
 }
 
 impl Counter {
-    pub(super) fn new() -> Counter
+    pub(crate) fn new() -> Counter
         ensures { result.count ≡ 0 }
     {
         Counter { count: 0 }

@@ -1,6 +1,6 @@
 //! Connections and a listener in memory.
-use super::counter::{Bump, Counter};
-use crate::{Connection, ListenFault, Listener};
+use crate::locks::counter::{Bump, Counter};
+use session_threads::{Connection, ListenFault, Listener};
 use std::alloc::Global;
 use std::sync::atomic::{AtomicBool, AtomicU64, Ordering};
 use std::sync::{Arc, Wait};
@@ -35,8 +35,8 @@ impl Hall {
         self.content.load(Ordering::SeqCst)
     }
 
-    /// Whether a guest was closed.
-    pub(super) fn has_closed(&self) -> bool {
+    // Whether a guest was closed.
+    fn has_closed(&self) -> bool {
         self.closed.load(Ordering::SeqCst)
     }
 
@@ -65,7 +65,7 @@ pub(super) struct Guest {
 }
 
 impl Guest {
-    pub(super) fn new(hall: Arc<Hall, Global>) -> Guest {
+    fn new(hall: Arc<Hall, Global>) -> Guest {
         Guest { hall }
     }
 }
@@ -99,17 +99,13 @@ pub(super) struct Door {
 }
 
 impl Door {
-    pub(super) fn new(hall: Arc<Hall, Global>, guests: u64) -> Door {
+    /// A listener of so many guests. So many connections are closed for want of memory first.
+    pub(super) fn new(hall: Arc<Hall, Global>, guests: u64, hungry: u64) -> Door {
         Door {
             hall,
             guests,
-            hungry: 0,
+            hungry,
         }
-    }
-
-    /// So many connections are closed for want of memory first.
-    pub(super) fn hunger(&mut self, hungry: u64) {
-        self.hungry = hungry;
     }
 }
 

@@ -1,0 +1,92 @@
+//! What no clause of `session_threads` says: that sessions run side by side, and who is served.
+mod guests;
+
+use crate::locks::{close, start};
+use guests::{Door, Hall};
+use session_threads::{Accepted, serve_connections};
+use std::alloc::{AllocError, Global};
+use std::sync::{Arc, Wait};
+use std::test::Fail;
+use std::thread::Threads;
+
+/// What a test looks at: what was accepted, how many guests waited with success, and the count that the calls of the sessions left.
+type Evening = (Accepted, u64, Option<u64>);
+
+fn told(served: u64, turned_away: u64, has_failed: bool, has_starved: bool) -> Accepted {
+    Accepted {
+        served,
+        turned_away,
+        has_failed,
+        has_starved,
+    }
+}
+
+fn serve<R: Threads + Wait + Copy + Send + 'static>(
+    rt: &R,
+    alloc: Global,
+    door: &mut Door,
+    limit: u64,
+) -> Result<(Accepted, Option<u64>), AllocError> {
+    let (shared, mut port) = start(alloc, 100)?;
+    let accepted = serve_connections(rt, alloc, door, &mut port, limit);
+    let count = close(shared, port);
+    Ok((accepted?, count))
+}
+
+/// An evening in a hall at whose door so many guests come.
+fn spend<R: Threads + Wait + Copy + Send + 'static>(
+    rt: &R,
+    alloc: Global,
+    hall: &Arc<Hall, Global>,
+    guests: u64,
+    hungry: u64,
+    limit: u64,
+) -> Result<Evening, AllocError> {
+    let mut door = Door::new(Arc::try_clone(hall)?, guests, hungry);
+    let served = serve(rt, alloc, &mut door, limit);
+    drop(door);
+    let (accepted, count) = served?;
+    Ok((accepted, hall.content(), count))
+}
+
+/// An evening of so many guests, who wait for one another, behind so many connections that are closed for want of memory, with this limit.
+fn evening<R: Threads + Wait + Copy + Send + 'static>(
+    rt: &R,
+    alloc: Global,
+    guests: u64,
+    hungry: u64,
+    limit: u64,
+) -> Result<Evening, AllocError> {
+    let hall = Arc::new(alloc, Hall::new(guests))?;
+    let spent = spend(rt, alloc, &hall, guests, hungry, limit);
+    drop(hall);
+    spent
+}
+
+#[test]
+fn serves_two_that_wait_for_one_another(rt: HostRuntime) -> Result<(), Fail> {
+    let spent = evening(&rt, rt.alloc(), 2, 0, 2)?;
+    assert!(rt; spent == (told(2, 0, false, false), 2, Some(2)));
+    Ok(())
+}
+
+#[test]
+fn turns_the_ninth_away(rt: HostRuntime) -> Result<(), Fail> {
+    let spent = evening(&rt, rt.alloc(), 9, 0, 9)?;
+    assert!(rt; spent == (told(8, 1, false, false), 8, Some(8)));
+    Ok(())
+}
+
+#[test]
+fn ends_where_the_listener_fails(rt: HostRuntime) -> Result<(), Fail> {
+    let spent = evening(&rt, rt.alloc(), 1, 0, 0)?;
+    assert!(rt; spent == (told(1, 0, true, false), 1, Some(1)));
+    Ok(())
+}
+
+#[test]
+fn counts_what_was_closed_for_want_of_memory(rt: HostRuntime) -> Result<(), Fail> {
+    let spent = evening(&rt, rt.alloc(), 1, 2, 3)?;
+    assert!(rt; spent == (told(1, 2, false, true), 1, Some(1)));
+    Ok(())
+}
