@@ -68,19 +68,26 @@ fn changed(alloc: Global, example: &[u8], changes: &[(usize, u8)]) -> Result<Vec
     Ok(bytes)
 }
 
-// Wants that an AARQ is the management client's.
-fn check_parts(rt: &impl Abort, aarq: &Aarq) {
-    assert!(*rt; aarq.context.as_slice() == LN_CONTEXT.as_slice());
-    assert!(*rt; aarq.mechanism.as_slice() == LOW_LEVEL.as_slice());
-    assert!(*rt; matches!(&aarq.password, Some(password) if password.as_slice() == PASSWORD));
-    assert!(*rt; aarq.user.as_slice() == &MANAGEMENT_AARQ[42..]);
+// Whether an AARQ's context, mechanism and password, and its user information are the management client's.
+fn parts_found(aarq: &Aarq) -> [bool; 4] {
+    let has_password = match &aarq.password {
+        Some(password) => password.as_slice() == PASSWORD,
+        None => false,
+    };
+    [
+        aarq.context.as_slice() == LN_CONTEXT.as_slice(),
+        aarq.mechanism.as_slice() == LOW_LEVEL.as_slice(),
+        has_password,
+        aarq.user.as_slice() == &MANAGEMENT_AARQ[42..],
+    ]
 }
 
 #[test]
 fn an_aarq_is_read_into_its_parts(rt: HostRuntime) -> Result<(), Fail> {
     let aarq = read_aarq(rt.alloc(), &MANAGEMENT_AARQ)?;
-    check_parts(&rt, &aarq);
+    let found = parts_found(&aarq);
     drop(aarq);
+    assert!(rt; found == [true; 4], "{found:?}");
     Ok(())
 }
 
@@ -462,14 +469,33 @@ fn releases_are_known(rt: HostRuntime) {
     }
 }
 
+// Puts in the parts of the management client's AARQ, but its password.
+fn push_parts(aarq: &mut Aarq) -> Result<(), AllocError> {
+    aarq.context.extend_from_slice(&LN_CONTEXT)?;
+    aarq.mechanism.extend_from_slice(&LOW_LEVEL)?;
+    aarq.user.extend_from_slice(&MANAGEMENT_AARQ[42..])
+}
+
+// An AARQ of no parts but the password.
+fn of_password(alloc: Global, password: Octets) -> Aarq {
+    Aarq {
+        context: Octets::new(alloc),
+        mechanism: Octets::new(alloc),
+        password: Some(password),
+        user: Octets::new(alloc),
+    }
+}
+
 // The management client's AARQ, of its parts.
 fn management_aarq(alloc: Global) -> Result<Aarq, AllocError> {
-    Ok(Aarq {
-        context: Octets::from_slice(alloc, &LN_CONTEXT)?,
-        mechanism: Octets::from_slice(alloc, &LOW_LEVEL)?,
-        password: Some(Octets::from_slice(alloc, PASSWORD)?),
-        user: Octets::from_slice(alloc, &MANAGEMENT_AARQ[42..])?,
-    })
+    let mut aarq = of_password(alloc, Octets::from_slice(alloc, PASSWORD)?);
+    match push_parts(&mut aarq) {
+        Ok(()) => Ok(aarq),
+        Err(fault) => {
+            drop(aarq);
+            Err(fault)
+        }
+    }
 }
 
 fn is_written_as(alloc: Global, aarq: &Aarq, bytes: &[u8]) -> Result<bool, AllocError> {

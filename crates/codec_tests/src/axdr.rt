@@ -42,19 +42,26 @@ const TIME: [u8; 4] = [0x0C, 0x1E, 0x00, 0x00];
 // What the text at that place of the table spells.
 fn value_at(alloc: Global, place: usize) -> Result<Data, AllocError> {
     Ok(match place {
-        0 => Data::Null,
         1 => Data::Array(Items::from_vec(vec![in alloc; Data::Unsigned(1), Data::Unsigned(2)]?)),
         2 => Data::Structure(Items::from_vec(vec![in alloc; Data::Null, Data::Boolean(true)]?)),
-        3 => Data::Boolean(true),
         4 => Data::BitString {
             bits: 5,
             bytes: Octets::from_slice(alloc, &[0xB8])?,
         },
-        5 => Data::DoubleLong(-2),
-        6 => Data::DoubleLongUnsigned(7000),
         7 => Data::OctetString(Octets::from_slice(alloc, &[0xAB, 0xCD])?),
         8 => Data::VisibleString(Octets::from_slice(alloc, b"HI")?),
         9 => Data::Utf8String(Octets::from_slice(alloc, &[0xC3, 0xA9])?),
+        _ => plain_value_at(place),
+    })
+}
+
+// The same of the texts of values that take no memory.
+fn plain_value_at(place: usize) -> Data {
+    match place {
+        0 => Data::Null,
+        3 => Data::Boolean(true),
+        5 => Data::DoubleLong(-2),
+        6 => Data::DoubleLongUnsigned(7000),
         10 => Data::Integer(-2),
         11 => Data::Long(-2),
         12 => Data::Unsigned(7),
@@ -65,7 +72,7 @@ fn value_at(alloc: Global, place: usize) -> Result<Data, AllocError> {
         17 => Data::DateTime(DATE_TIME),
         18 => Data::Date(DATE),
         _ => Data::Time(TIME),
-    })
+    }
 }
 
 // The calls under test, without their contracts: a test is run for what no clause says, and its own proof then has little to look at.
@@ -428,15 +435,18 @@ fn items_given(value: &Data) -> (Option<usize>, Option<usize>) {
     (array, structure)
 }
 
+// The same of the value at that place.
+fn items_at(alloc: Global, place: usize) -> Result<(Option<usize>, Option<usize>), AllocError> {
+    let value = value_at(alloc, place)?;
+    let given = items_given(&value);
+    drop(value);
+    Ok(given)
+}
+
 #[test]
-fn accessors_give_items(rt: HostRuntime) -> Result<(), Fail> {
-    for (place, given) in [(1, (Some(2), None)), (2, (None, Some(2)))] {
-        let value = value_at(rt.alloc(), place)?;
-        let found = items_given(&value);
-        drop(value);
-        assert!(rt; found == given, "at {place}");
-    }
-    Ok(())
+fn accessors_give_items(rt: HostRuntime) {
+    assert!(rt; items_at(rt.alloc(), 1) == Ok((Some(2), None)));
+    assert!(rt; items_at(rt.alloc(), 2) == Ok((None, Some(2))));
 }
 
 // Whether a value is equal to the one at that place.
