@@ -97,11 +97,16 @@ const TEXTS: [Played; 10] = [
     ("0001001000010001CA\t", "", Err(HexFault::Digits)),
 ];
 
+fn play_all(rt: &impl Abort, alloc: Global, texts: &[Played]) -> Result<(), AllocError> {
+    for (text, lines, expected) in texts {
+        assert!(rt; gives(alloc, text, lines, *expected)?, "to {text}");
+    }
+    Ok(())
+}
+
 #[test]
 fn texts_are_played(rt: HostRuntime) -> Result<(), Fail> {
-    for (text, lines, expected) in &TEXTS {
-        assert!(rt; gives(rt.alloc(), text, lines, *expected)?, "to {text}");
-    }
+    play_all(&rt, rt.alloc(), &TEXTS)?;
     Ok(())
 }
 

@@ -140,10 +140,14 @@ fn ask_new(rt: &impl Abort, alloc: Global, (what, pairs): &Asked) -> Result<(), 
     asked
 }
 
-#[test]
-fn requests_are_answered(rt: HostRuntime) -> Result<(), Fail> {
-    for asked in &REQUESTS {
-        ask_new(&rt, rt.alloc(), asked)?;
+fn ask_each_new(rt: &impl Abort, alloc: Global, rows: &[Asked]) -> Result<(), Fail> {
+    for asked in rows {
+        ask_new(rt, alloc, asked)?;
     }
     Ok(())
+}
+
+#[test]
+fn requests_are_answered(rt: HostRuntime) -> Result<(), Fail> {
+    ask_each_new(&rt, rt.alloc(), &REQUESTS)
 }

@@ -463,12 +463,16 @@ fn is_talked(
     Ok(is_so?)
 }
 
-#[test]
-fn sessions_are_answered_to_their_end(rt: HostRuntime) -> Result<(), Fail> {
-    for session in &SESSIONS {
-        assert!(rt; is_answered(rt.alloc(), session)?, "{}", session.0);
+fn answer_all(rt: &impl Abort, alloc: Global, sessions: &[Session]) -> Result<(), Fail> {
+    for session in sessions {
+        assert!(rt; is_answered(alloc, session)?, "{}", session.0);
     }
     Ok(())
+}
+
+#[test]
+fn sessions_are_answered_to_their_end(rt: HostRuntime) -> Result<(), Fail> {
+    answer_all(&rt, rt.alloc(), &SESSIONS)
 }
 
 /// The opening of a public client whose PDU size is 64, and its answer.
@@ -579,16 +583,18 @@ const TALKS: [(&str, Talk); 8] = [
     ),
 ];
 
-#[test]
-fn talks_go_on_until_the_input_ends(rt: HostRuntime) -> Result<(), Fail> {
-    assert_eq!(rt; TEN_NAMES.len(), 8 + 10 * "0046000060030AFF0100".len());
-    for (what, talk) in &TALKS {
-        assert!(rt;
-            is_talked(rt.alloc(), talk, "12345678", SessionEnd::Closed)?,
-            "{what}"
-        );
+fn talk_all(rt: &impl Abort, alloc: Global, talks: &[(&str, Talk)]) -> Result<(), Fail> {
+    for (what, talk) in talks {
+        let is_so = is_talked(alloc, talk, "12345678", SessionEnd::Closed)?;
+        assert!(rt; is_so, "{what}");
     }
     Ok(())
+}
+
+#[test]
+fn talks_go_on_until_the_input_ends(rt: HostRuntime) -> Result<(), Fail> {
+    assert!(rt; TEN_NAMES.len() == 8 + 10 * "0046000060030AFF0100".len());
+    talk_all(&rt, rt.alloc(), &TALKS)
 }
 
 /// Whether the first bytes of an opening, so many, end a session that answers nothing.
@@ -638,6 +644,10 @@ const SHORT_TALK: Talk = Talk {
     pairs: &[GET],
 };
 
+fn short_texts(alloc: Global) -> Result<Texts, Fail> {
+    texts_of(alloc, &SHORT_TALK)
+}
+
 /// Whether a session of a talk fails so after it has written so many bytes.
 fn fails_after(
     alloc: Global,
@@ -680,7 +690,7 @@ fn check_reads(rt: &impl Abort, alloc: Global, texts: &Texts) -> Result<(), Allo
 
 #[test]
 fn a_read_fails(rt: HostRuntime) -> Result<(), Fail> {
-    let texts = texts_of(rt.alloc(), &SHORT_TALK)?;
+    let texts = short_texts(rt.alloc())?;
     let checked = check_reads(&rt, rt.alloc(), &texts);
     drop(texts);
     checked?;
@@ -702,7 +712,7 @@ fn check_writes(rt: &impl Abort, alloc: Global, texts: &Texts) -> Result<(), All
 
 #[test]
 fn a_write_fails(rt: HostRuntime) -> Result<(), Fail> {
-    let texts = texts_of(rt.alloc(), &SHORT_TALK)?;
+    let texts = short_texts(rt.alloc())?;
     let checked = check_writes(&rt, rt.alloc(), &texts);
     drop(texts);
     checked?;

@@ -59,16 +59,22 @@ fn brought(alloc: Global, line: &[u8]) -> Result<char, AllocError> {
     }
 }
 
+/// A line, and the letter of the event that it brings.
+const LINES: [(&[u8], char); 7] = [
+    (b"button", 'b'),
+    (b"moment 5", 'm'),
+    (b"samples 1 2", 's'),
+    (b"pairs 1 2", 's'),
+    (b"get 16 70 000060030AFF 3 0", ' '),
+    (b"moment 5\r", ' '),
+    (b"", ' '),
+];
+
 #[test]
 fn lines_bring_events(rt: HostRuntime) -> Result<(), Fail> {
-    let alloc = rt.alloc();
-    assert!(rt; brought(alloc, b"button")? == 'b');
-    assert!(rt; brought(alloc, b"moment 5")? == 'm');
-    assert!(rt; brought(alloc, b"samples 1 2")? == 's');
-    assert!(rt; brought(alloc, b"pairs 1 2")? == 's');
-    assert!(rt; brought(alloc, b"get 16 70 000060030AFF 3 0")? == ' ');
-    assert!(rt; brought(alloc, b"moment 5\r")? == ' ');
-    assert!(rt; brought(alloc, b"")? == ' ');
+    for (line, letter) in &LINES {
+        assert!(rt; brought(rt.alloc(), line)? == *letter, "{line:?}");
+    }
     Ok(())
 }
 

@@ -2,7 +2,7 @@
 ghost use Rattle.std.specs.Prelude.{◌≡◌, ◌<◌, ◌≤◌, [], IfOk};
 ghost use Rattle.acse_ber.specs.Password.{IsPassword};
 
-use crate::talks::{MANAGEMENT, talk};
+use crate::talks::{MANAGEMENT, Texts, talk};
 use byte_streams::Counted;
 use cosem_axdr::Octets;
 use kept_meter::Kept;
@@ -51,8 +51,12 @@ pub(crate) fn new_lock(
 {
     let device = Octets::from_slice(alloc, b"RELAY1")?;
     assert!(rt; device.len() == 6);
-    let recorder = Recorder::new(alloc, &device, 256)?;
-    lock_over(alloc, Kept::new(recorder), bound)
+    let recorder = Recorder::new(alloc, &device, 256);
+    drop(device);
+    match recorder {
+        Ok(recorder) => lock_over(alloc, Kept::new(recorder), bound),
+        Err(error) => Err(error),
+    }
 }
 
 /// How many events a meter has kept whose lock is closed, or None where it is busy.
@@ -88,6 +92,7 @@ fn gives<W: Wait>(
     let mut reader = Counted::new(texts.0);
     let mut writer = Counted::new(Vec::new(alloc));
     let (port, result) = serve_port(rt, alloc, &mut reader, &mut writer, port, password);
+    drop(reader);
     let output = writer.into_inner();
     let is_so = result == end && output.as_slice() == texts.1;
     drop(output);
@@ -99,29 +104,52 @@ fn serve_two<R: Wait + Abort>(
     rt: &R,
     alloc: Global,
     password: &Octets,
-    first: &(Vec<u8>, Vec<u8>),
-    second: &(Vec<u8>, Vec<u8>),
+    first: &Texts,
+    second: &Texts,
 ) -> Result<(bool, bool, Option<u16>), AllocError>
     requires { IsPassword password.now }
 {
     let (shared, mut one) = new_lock(rt, alloc, 9)?;
-    let two = one.split()?;
-    let end = Ok(SessionEnd::Closed);
-    let texts = (first.0.as_slice(), first.1.as_slice());
-    let (mut one, is_first_so) = gives(rt, alloc, one, texts, password, end);
-    let texts = (second.0.as_slice(), second.1.as_slice());
-    let (two, is_second_so) = gives(rt, alloc, two, texts, password, end);
-    one.join(two);
-    Ok((is_first_so, is_second_so, kept(shared, one)))
+    match one.split() {
+        Ok(two) => {
+            let end = Ok(SessionEnd::Closed);
+            let texts = (first.asked.as_slice(), first.answered.as_slice());
+            let (mut one, is_first_so) = gives(rt, alloc, one, texts, password, end);
+            let texts = (second.asked.as_slice(), second.answered.as_slice());
+            let (two, is_second_so) = gives(rt, alloc, two, texts, password, end);
+            one.join(two);
+            Ok((is_first_so, is_second_so, kept(shared, one)))
+        }
+        Err(error) => {
+            drop(shared);
+            drop(one);
+            Err(error)
+        }
+    }
+}
+
+/// The same of a write of the mode, and a read of it by another client.
+fn write_and_read<R: Wait + Abort>(
+    rt: &R,
+    alloc: Global,
+    password: &Octets,
+) -> Result<(bool, bool, Option<u16>), Fail>
+    requires { IsPassword password.now }
+{
+    let writing = talk(alloc, MANAGEMENT, 1, &[WRITE_MODE])?;
+    let reading = talk(alloc, MANAGEMENT, 1, &[READ_MODE])?;
+    let came = serve_two(rt, alloc, password, &writing, &reading);
+    drop(writing);
+    drop(reading);
+    Ok(came?)
 }
 
 #[test]
 fn two_sessions_reach_one_meter(rt: HostRuntime) -> Result<(), Fail> {
-    let alloc = rt.alloc();
-    let password = Octets::from_slice(alloc, b"12345678")?;
-    let writing = talk(alloc, MANAGEMENT, 1, &[WRITE_MODE])?;
-    let reading = talk(alloc, MANAGEMENT, 1, &[READ_MODE])?;
-    let (is_written, is_told, kept) = serve_two(&rt, alloc, &password, &writing, &reading)?;
+    let password = Octets::from_slice(rt.alloc(), b"12345678")?;
+    let came = write_and_read(&rt, rt.alloc(), &password);
+    drop(password);
+    let (is_written, is_told, kept) = came?;
     assert!(rt; is_written);
     assert!(rt; is_told);
     assert!(rt; kept == Some(2));
@@ -143,14 +171,29 @@ fn serve_one_turn<R: Wait + Abort>(
     Ok((has_stopped, kept(shared, port)))
 }
 
+/// The same of a write of the mode and a read of it, where the write's answer is the last.
+fn write_alone<R: Wait + Abort>(
+    rt: &R,
+    alloc: Global,
+    password: &Octets,
+) -> Result<(bool, Option<u16>), Fail>
+    requires { IsPassword password.now }
+{
+    let both = talk(alloc, MANAGEMENT, 1, &[WRITE_MODE, READ_MODE])?;
+    let one = talk(alloc, MANAGEMENT, 1, &[WRITE_MODE])?;
+    let texts = (both.asked.as_slice(), one.answered.as_slice());
+    let came = serve_one_turn(rt, alloc, password, texts);
+    drop(both);
+    drop(one);
+    Ok(came?)
+}
+
 #[test]
 fn a_session_stops_where_every_turn_was_drawn(rt: HostRuntime) -> Result<(), Fail> {
-    let alloc = rt.alloc();
-    let password = Octets::from_slice(alloc, b"12345678")?;
-    let (asked, _) = talk(alloc, MANAGEMENT, 1, &[WRITE_MODE, READ_MODE])?;
-    let (_, answered) = talk(alloc, MANAGEMENT, 1, &[WRITE_MODE])?;
-    let texts = (asked.as_slice(), answered.as_slice());
-    let (has_stopped, kept) = serve_one_turn(&rt, alloc, &password, texts)?;
+    let password = Octets::from_slice(rt.alloc(), b"12345678")?;
+    let came = write_alone(&rt, rt.alloc(), &password);
+    drop(password);
+    let (has_stopped, kept) = came?;
     assert!(rt; has_stopped);
     assert!(rt; kept == Some(1));
     Ok(())

@@ -7,7 +7,7 @@ mod loopback;
 mod sources;
 
 use crate::ports::{WRITE_MODE, new_lock};
-use crate::talks::{MANAGEMENT, PUBLIC, talk};
+use crate::talks::{MANAGEMENT, PUBLIC, Texts, talk};
 use callers::{Caller, Door, Line};
 use cosem_axdr::Octets;
 use kept_meter::Kept;
@@ -172,7 +172,30 @@ fn serve_by<L: Listener, R: Threads + Wait + Copy + Send + 'static>(
     }
 }
 
-/// Serves these callers over a new meter, whose management client has the password 12345678.
+/// Serves these callers over a new meter, whose management client has this password.
+fn serve_new<L: Listener, R: Threads + Wait + Abort + Copy + Send + 'static>(
+    rt: &R,
+    alloc: Global,
+    listener: &mut L,
+    given: Given,
+    password: &Octets,
+    limit: u64,
+) -> Result<Evening, AllocError>
+    requires { IsPassword password.now }
+{
+    match new_lock(rt, alloc, 1000) {
+        Ok((shared, port)) => {
+            let (port, served) = serve_by(rt, alloc, listener, given, port, password, limit);
+            Ok((served, kept(shared, port)))
+        }
+        Err(error) => {
+            drop(given);
+            Err(error)
+        }
+    }
+}
+
+/// The same where the password is 12345678.
 fn serve<L: Listener, R: Threads + Wait + Abort + Copy + Send + 'static>(
     rt: &R,
     alloc: Global,
@@ -180,11 +203,18 @@ fn serve<L: Listener, R: Threads + Wait + Abort + Copy + Send + 'static>(
     given: Given,
     limit: u64,
 ) -> Result<Evening, AllocError> {
-    let password = Octets::from_slice(alloc, b"12345678")?;
-    assert!(*rt; password.len() == 8);
-    let (shared, port) = new_lock(rt, alloc, 1000)?;
-    let (port, served) = serve_by(rt, alloc, listener, given, port, &password, limit);
-    Ok((served, kept(shared, port)))
+    match Octets::from_slice(alloc, b"12345678") {
+        Ok(password) => {
+            assert!(*rt; password.len() == 8);
+            let evening = serve_new(rt, alloc, listener, given, &password, limit);
+            drop(password);
+            evening
+        }
+        Err(error) => {
+            drop(given);
+            Err(error)
+        }
+    }
 }
 
 fn told(served: u64, turned_away: u64) -> Result<Served, ServeFault> {
@@ -194,62 +224,118 @@ fn told(served: u64, turned_away: u64) -> Result<Served, ServeFault> {
     })
 }
 
+/// A client of these texts. It waits for nothing.
+fn client(line: &Arc<Line, Global>, texts: Texts) -> Result<Caller, AllocError> {
+    match (Arc::try_clone(line), Arc::try_clone(line)) {
+        (Ok(line), Ok(other)) => {
+            let Texts { asked, answered } = texts;
+            Ok(Caller {
+                line,
+                asks: asked,
+                answers: answered,
+                waits_at: usize::MAX,
+                other,
+                other_sent: 0,
+            })
+        }
+        (one, two) => {
+            drop(one);
+            drop(two);
+            drop(texts);
+            Err(AllocError)
+        }
+    }
+}
+
 /// A client that opens a session and asks for the state so often. It waits for nothing.
 fn caller(alloc: Global, line: &Arc<Line, Global>, reads: usize) -> Result<Caller, Fail> {
-    let (asks, answers) = talk(alloc, PUBLIC, 16, &[READ_STATE, READ_STATE][..reads.min(2)])?;
-    Ok(Caller {
-        line: Arc::try_clone(line)?,
-        asks,
-        answers,
-        waits_at: usize::MAX,
-        other: Arc::try_clone(line)?,
-        other_sent: 0,
-    })
+    let texts = talk(alloc, PUBLIC, 16, &[READ_STATE, READ_STATE][..reads.min(2)])?;
+    Ok(client(line, texts)?)
 }
 
 /// The same. At a place of what it sends it waits until another line was sent so many bytes or is closed.
 fn waiting_caller(
     alloc: Global,
     line: &Arc<Line, Global>,
-    reads: usize,
-    waits_at: usize,
+    (reads, waits_at): (usize, usize),
     other: &Arc<Line, Global>,
     other_sent: u64,
 ) -> Result<Caller, Fail> {
-    Ok(Caller {
-        waits_at,
-        other: Arc::try_clone(other)?,
-        other_sent,
-        ..caller(alloc, line, reads)?
-    })
+    let other = Arc::try_clone(other)?;
+    match caller(alloc, line, reads) {
+        Ok(mut waiting) => {
+            waiting.waits_at = waits_at;
+            waiting.other = other;
+            waiting.other_sent = other_sent;
+            Ok(waiting)
+        }
+        Err(fail) => {
+            drop(other);
+            Err(fail)
+        }
+    }
 }
 
-/// A listener of one client.
-fn door_of(alloc: Global, line: &Arc<Line, Global>, only: Caller) -> Result<Door, Fail> {
-    let mut callers = Vec::new(alloc);
-    callers.push(only).map_err(|_| AllocError)?;
+/// A listener of no client yet.
+fn new_door(alloc: Global, line: &Arc<Line, Global>) -> Result<Door, AllocError> {
+    let line = Arc::try_clone(line)?;
     Ok(Door {
-        callers,
-        line: Arc::try_clone(line)?,
+        callers: Vec::new(alloc),
+        line,
         sent: 0,
     })
 }
 
+/// Puts a client, if there is one, behind a listener's others.
+fn add(door: &mut Door, caller: Result<Caller, Fail>) -> Result<(), Fail> {
+    match door.callers.push(caller?) {
+        Ok(()) => Ok(()),
+        Err(refused) => {
+            drop(refused);
+            Err(AllocError)?
+        }
+    }
+}
+
+/// What came of serving a listener's clients, once they stand there.
+fn serve_door<R: Threads + Wait + Abort + Copy + Send + 'static>(
+    rt: &R,
+    alloc: Global,
+    mut door: Door,
+    added: Result<(), Fail>,
+    given: Given,
+    limit: u64,
+) -> Result<Evening, Fail> {
+    if let Err(fail) = added {
+        drop(door);
+        drop(given);
+        return Err(fail);
+    }
+    let evening = serve(rt, alloc, &mut door, given, limit);
+    drop(door);
+    Ok(evening?)
+}
+
 /// Two clients: one asks again once the other was answered, and the other asks once the one was answered.
-fn two_that_wait(
+fn add_two_that_wait(
+    alloc: Global,
+    door: &mut Door,
+    one: &Arc<Line, Global>,
+    two: &Arc<Line, Global>,
+) -> Result<(), Fail> {
+    add(door, waiting_caller(alloc, one, (2, 60), two, READ_ONCE))?;
+    add(door, waiting_caller(alloc, two, (1, 39), one, READ_ONCE))
+}
+
+fn serve_two_that_wait<R: Threads + Wait + Abort + Copy + Send + 'static>(
+    rt: &R,
     alloc: Global,
     one: &Arc<Line, Global>,
     two: &Arc<Line, Global>,
-) -> Result<Door, Fail> {
-    let mut door = door_of(
-        alloc,
-        one,
-        waiting_caller(alloc, one, 2, 60, two, READ_ONCE)?,
-    )?;
-    door.callers
-        .push(waiting_caller(alloc, two, 1, 39, one, READ_ONCE)?)
-        .map_err(|_| AllocError)?;
-    Ok(door)
+) -> Result<Evening, Fail> {
+    let mut door = new_door(alloc, one)?;
+    let added = add_two_that_wait(alloc, &mut door, one, two);
+    serve_door(rt, alloc, door, added, NOTHING, 2)
 }
 
 #[test]
@@ -257,28 +343,42 @@ fn serves_two_sessions_side_by_side(rt: HostRuntime) -> Result<(), Fail> {
     let alloc = rt.alloc();
     let one = Arc::new(alloc, Line::new())?;
     let two = Arc::new(alloc, Line::new())?;
-    let mut door = two_that_wait(alloc, &one, &two)?;
-    let (served, _) = serve(&rt, alloc, &mut door, NOTHING, 2)?;
-    assert_eq!(rt; served, told(2, 0));
-    assert_eq!(rt; one.outcome(), Some((READ_ONCE + 14, 1)));
-    assert_eq!(rt; two.outcome(), Some((READ_ONCE, 1)));
+    let came = serve_two_that_wait(&rt, alloc, &one, &two);
+    let outcomes = (one.outcome(), two.outcome());
+    drop(one);
+    drop(two);
+    let (served, _) = came?;
+    assert!(rt; served == told(2, 0));
+    assert!(rt; outcomes == (Some((READ_ONCE + 14, 1)), Some((READ_ONCE, 1))));
     Ok(())
 }
 
 /// Eight clients that end once a ninth was turned away, who comes once they were answered and is to be sent nothing.
-fn nine(alloc: Global, eight: &Arc<Line, Global>, ninth: &Arc<Line, Global>) -> Result<Door, Fail> {
-    let last = Caller {
-        answers: Vec::new(alloc),
-        ..caller(alloc, ninth, 0)?
-    };
-    let mut door = door_of(alloc, eight, last)?;
+fn add_nine(
+    alloc: Global,
+    door: &mut Door,
+    eight: &Arc<Line, Global>,
+    ninth: &Arc<Line, Global>,
+) -> Result<(), Fail> {
+    let mut last = caller(alloc, ninth, 0)?;
+    last.answers = Vec::new(alloc);
+    add(door, Ok(last))?;
     for _ in 0..8 {
-        door.callers
-            .push(waiting_caller(alloc, eight, 0, 39, ninth, u64::MAX)?)
-            .map_err(|_| AllocError)?;
+        add(door, waiting_caller(alloc, eight, (0, 39), ninth, u64::MAX))?;
     }
     door.sent = 8 * OPENED;
-    Ok(door)
+    Ok(())
+}
+
+fn serve_nine<R: Threads + Wait + Abort + Copy + Send + 'static>(
+    rt: &R,
+    alloc: Global,
+    eight: &Arc<Line, Global>,
+    ninth: &Arc<Line, Global>,
+) -> Result<Evening, Fail> {
+    let mut door = new_door(alloc, eight)?;
+    let added = add_nine(alloc, &mut door, eight, ninth);
+    serve_door(rt, alloc, door, added, NOTHING, 9)
 }
 
 #[test]
@@ -286,48 +386,100 @@ fn turns_the_ninth_away(rt: HostRuntime) -> Result<(), Fail> {
     let alloc = rt.alloc();
     let eight = Arc::new(alloc, Line::new())?;
     let ninth = Arc::new(alloc, Line::new())?;
-    let mut door = nine(alloc, &eight, &ninth)?;
-    let (served, _) = serve(&rt, alloc, &mut door, NOTHING, 9)?;
-    assert_eq!(rt; served, told(8, 1));
-    assert_eq!(rt; eight.outcome(), Some((8 * OPENED, 8)));
-    assert_eq!(rt; ninth.outcome(), Some((0, 0)));
+    let came = serve_nine(&rt, alloc, &eight, &ninth);
+    let outcomes = (eight.outcome(), ninth.outcome());
+    drop(eight);
+    drop(ninth);
+    let (served, _) = came?;
+    assert!(rt; served == told(8, 1));
+    assert!(rt; outcomes == (Some((8 * OPENED, 8)), Some((0, 0))));
     Ok(())
+}
+
+/// Serves one client, where the listener then may fail.
+fn serve_one<R: Threads + Wait + Abort + Copy + Send + 'static>(
+    rt: &R,
+    alloc: Global,
+    line: &Arc<Line, Global>,
+    only: Caller,
+    given: Given,
+    limit: u64,
+) -> Result<Evening, Fail> {
+    match new_door(alloc, line) {
+        Ok(mut door) => {
+            let added = add(&mut door, Ok(only));
+            serve_door(rt, alloc, door, added, given, limit)
+        }
+        Err(error) => {
+            drop(only);
+            drop(given);
+            Err(error)?
+        }
+    }
+}
+
+/// Serves a client that only opens a session, behind whom the listener fails.
+fn serve_opening<R: Threads + Wait + Abort + Copy + Send + 'static>(
+    rt: &R,
+    alloc: Global,
+    line: &Arc<Line, Global>,
+) -> Result<Evening, Fail> {
+    let only = caller(alloc, line, 0)?;
+    serve_one(rt, alloc, line, only, NOTHING, 2)
 }
 
 #[test]
 fn ends_where_the_listener_fails(rt: HostRuntime) -> Result<(), Fail> {
     let alloc = rt.alloc();
     let line = Arc::new(alloc, Line::new())?;
-    let mut door = door_of(alloc, &line, caller(alloc, &line, 0)?)?;
-    let (served, _) = serve(&rt, alloc, &mut door, NOTHING, 2)?;
-    assert_eq!(rt; served.map_err(|fault| fault as u8), Err(5));
-    assert_eq!(rt; line.outcome(), Some((OPENED, 1)));
+    let came = serve_opening(&rt, alloc, &line);
+    let outcome = line.outcome();
+    drop(line);
+    let (served, _) = came?;
+    assert!(rt; matches!(served, Err(fault) if fault as u8 == 5));
+    assert!(rt; outcome == Some((OPENED, 1)));
     Ok(())
 }
 
 /// The management client, who writes mode 2.
 fn writing_caller(alloc: Global, line: &Arc<Line, Global>) -> Result<Caller, Fail> {
-    let (asks, answers) = talk(alloc, MANAGEMENT, 1, &[WRITE_MODE])?;
-    Ok(Caller {
-        asks,
-        answers,
-        ..caller(alloc, line, 0)?
-    })
+    let texts = talk(alloc, MANAGEMENT, 1, &[WRITE_MODE])?;
+    Ok(client(line, texts)?)
+}
+
+/// Serves it, with a block, a moment and a press of the button.
+fn serve_all_actors<R: Threads + Wait + Abort + Copy + Send + 'static>(
+    rt: &R,
+    alloc: Global,
+    line: &Arc<Line, Global>,
+) -> Result<Evening, Fail> {
+    let only = writing_caller(alloc, line)?;
+    match Block::from_slice(alloc, &[10, 20]) {
+        Ok(block) => {
+            let given = Given {
+                block: Some(block),
+                moment: Some(5),
+                press: Some(()),
+            };
+            serve_one(rt, alloc, line, only, given, 1)
+        }
+        Err(error) => {
+            drop(only);
+            Err(error)?
+        }
+    }
 }
 
 #[test]
 fn hands_all_to_one_meter(rt: HostRuntime) -> Result<(), Fail> {
     let alloc = rt.alloc();
     let line = Arc::new(alloc, Line::new())?;
-    let mut door = door_of(alloc, &line, writing_caller(alloc, &line)?)?;
-    let given = Given {
-        block: Some(Block::from_slice(alloc, &[10, 20])?),
-        moment: Some(5),
-        press: Some(()),
-    };
-    let (served, kinds) = serve(&rt, alloc, &mut door, given, 1)?;
-    assert_eq!(rt; served, told(1, 0));
-    assert_eq!(rt; line.outcome(), Some((OPENED + 12, 1)));
+    let came = serve_all_actors(&rt, alloc, &line);
+    let outcome = line.outcome();
+    drop(line);
+    let (served, kinds) = came?;
+    assert!(rt; served == told(1, 0));
+    assert!(rt; outcome == Some((OPENED + 12, 1)));
     let all = Kinds {
         writes: 1,
         blocks: 1,
@@ -336,7 +488,7 @@ fn hands_all_to_one_meter(rt: HostRuntime) -> Result<(), Fail> {
         lists: 1,
         others: 0,
     };
-    assert_eq!(rt; kinds, Some(all));
+    assert!(rt; kinds == Some(all));
     Ok(())
 }
 
@@ -357,35 +509,45 @@ fn receives(alloc: Global, client: &mut TcpStream, text: &[u8]) -> Result<bool, 
     Ok(is_so)
 }
 
-/// What came of serving a client that sends the first text, and whether it receives the second.
+/// What came of serving a client that sends what is asked, and whether it receives what is answered.
 fn serve_client<R: Threads + Wait + Abort + Copy + Send + 'static>(
     rt: &R,
     alloc: Global,
     door: &mut Loopback,
     client: &mut TcpStream,
-    texts: (&[u8], &[u8]),
+    texts: &Texts,
 ) -> Result<(Result<Served, ServeFault>, bool), Fail> {
-    send(client, texts.0)?;
+    send(client, texts.asked.as_slice())?;
     let (served, _) = serve(rt, alloc, door, NOTHING, 1)?;
-    let is_answered = receives(alloc, client, texts.1)?;
+    let is_answered = receives(alloc, client, texts.answered.as_slice())?;
     Ok((served, is_answered))
+}
+
+/// The same of the public client's read of the state.
+fn serve_reading<R: Threads + Wait + Abort + Copy + Send + 'static>(
+    rt: &R,
+    alloc: Global,
+    door: &mut Loopback,
+    client: &mut TcpStream,
+) -> Result<(Result<Served, ServeFault>, bool), Fail> {
+    let texts = talk(alloc, PUBLIC, 16, &[READ_STATE])?;
+    let came = serve_client(rt, alloc, door, client, &texts);
+    drop(texts);
+    came
 }
 
 #[test]
 fn serves_over_the_network(rt: HostRuntime) -> Result<(), Fail> {
     let alloc = rt.alloc();
-    let mut door = Loopback {
-        listener: TcpListener::bind(&rt, "127.0.0.1:0")?,
-        line: Arc::new(alloc, Line::new())?,
-    };
+    let line = Arc::new(alloc, Line::new())?;
+    let listener = TcpListener::bind(&rt, "127.0.0.1:0")?;
+    let mut door = Loopback { listener, line };
     let mut client = TcpStream::connect(&rt, door.listener.local_addr()?)?;
-    let (asks, answers) = talk(alloc, PUBLIC, 16, &[READ_STATE])?;
-    let texts = (asks.as_slice(), answers.as_slice());
-    let came = serve_client(&rt, alloc, &mut door, &mut client, texts);
-    drop(asks);
-    drop(answers);
+    let came = serve_reading(&rt, alloc, &mut door, &mut client);
+    drop(client);
+    drop(door);
     let (served, is_answered) = came?;
-    assert_eq!(rt; served, told(1, 0));
+    assert!(rt; served == told(1, 0));
     assert!(rt; is_answered);
     Ok(())
 }

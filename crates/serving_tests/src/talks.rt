@@ -14,7 +14,24 @@ pub(crate) const MANAGEMENT: (&str, &str) = (
     "000100010001002B6129A109060760857405080101A203020100A305A103020100BE10040E0800065F1F0400001C1904000007",
 );
 
-/// Puts a frame from one port to another at the end of a text. Its payload is hexadecimal.
+/// Puts the bytes of a text in hexadecimal behind others.
+fn push_hex(alloc: Global, bytes: &mut Vec<u8>, text: &str) -> Result<(), Fail> {
+    let decoded = hex::decode(alloc, text)?;
+    let pushed = bytes.extend_from_slice(decoded.as_slice());
+    drop(decoded);
+    Ok(pushed?)
+}
+
+/// Puts a frame from one port to another at the end of a text.
+fn push_payload(text: &mut Vec<u8>, ports: (u8, u8), payload: &[u8]) -> Result<(), Fail> {
+    let size = u16::try_from(payload.len())?;
+    text.extend_from_slice(&[0, 1, 0, ports.0, 0, ports.1])?;
+    text.extend_from_slice(&size.to_be_bytes())?;
+    text.extend_from_slice(payload)?;
+    Ok(())
+}
+
+/// The same of a payload in hexadecimal.
 fn push_frame(
     alloc: Global,
     text: &mut Vec<u8>,
@@ -22,11 +39,35 @@ fn push_frame(
     payload: &str,
 ) -> Result<(), Fail> {
     let payload = hex::decode(alloc, payload)?;
-    let size = u16::try_from(payload.len())?;
-    text.extend_from_slice(&[0, 1, 0, ports.0, 0, ports.1])?;
-    text.extend_from_slice(&size.to_be_bytes())?;
-    text.extend_from_slice(payload.as_slice())?;
-    Ok(())
+    let pushed = push_payload(text, ports, payload.as_slice());
+    drop(payload);
+    pushed
+}
+
+/// The texts of both sides of a talk.
+#[derive(Drop)]
+pub(crate) struct Texts {
+    pub(crate) asked: Vec<u8>,
+    pub(crate) answered: Vec<u8>,
+}
+
+impl Texts {
+    /// An opening and its answer, and then frames.
+    fn fill(
+        &mut self,
+        alloc: Global,
+        opening: (&str, &str),
+        port: u8,
+        pairs: &[(&str, &str)],
+    ) -> Result<(), Fail> {
+        push_hex(alloc, &mut self.asked, opening.0)?;
+        push_hex(alloc, &mut self.answered, opening.1)?;
+        for (request, answer) in pairs {
+            push_frame(alloc, &mut self.asked, (port, 1), request)?;
+            push_frame(alloc, &mut self.answered, (1, port), answer)?;
+        }
+        Ok(())
+    }
 }
 
 /// The texts of a talk: an opening and its answer, and then the payloads of requests from a port and of their answers.
@@ -35,12 +76,16 @@ pub(crate) fn talk(
     opening: (&str, &str),
     port: u8,
     pairs: &[(&str, &str)],
-) -> Result<(Vec<u8>, Vec<u8>), Fail> {
-    let mut input = hex::decode(alloc, opening.0)?;
-    let mut output = hex::decode(alloc, opening.1)?;
-    for (request, answer) in pairs {
-        push_frame(alloc, &mut input, (port, 1), request)?;
-        push_frame(alloc, &mut output, (1, port), answer)?;
+) -> Result<Texts, Fail> {
+    let mut texts = Texts {
+        asked: Vec::new(alloc),
+        answered: Vec::new(alloc),
+    };
+    match texts.fill(alloc, opening, port, pairs) {
+        Ok(()) => Ok(texts),
+        Err(fail) => {
+            drop(texts);
+            Err(fail)
+        }
     }
-    Ok((input, output))
 }

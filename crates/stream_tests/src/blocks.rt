@@ -118,19 +118,20 @@ fn join(rt: &impl Abort, alloc: Global, rows: &[Joining<'_>]) -> Result<(), Bloc
     added
 }
 
-/// Whether this block comes next, and gives this text, or none, where it is added.
+/// Whether a block is this one, and gives this text, or none, where it is added. Where `is_patient`, it is added again where memory runs out.
 fn passes(
-    alloc: Global,
-    sent: &mut GetBlocks,
     joined: &mut JoinBlocks,
-    block: Block,
+    piece: Piece,
+    (last, number, len): Block,
     text: Option<&[u8]>,
+    is_patient: bool,
 ) -> Result<bool, BlockFault> {
-    let (last, number, len) = block;
-    let piece = sent.next(alloc, number.saturating_sub(1))?;
     let same = piece.last == last && piece.number == number && piece.raw.len() == len;
     let joining = ((last, number, piece.raw.as_slice()), Ok(text));
-    let added = joins(joined, &joining);
+    let added = match joins(joined, &joining) {
+        Err(BlockFault::Memory) if is_patient => joins(joined, &joining),
+        first => first,
+    };
     drop(piece);
     Ok(added? && same)
 }
@@ -143,17 +144,17 @@ fn check_13_blocks(
     joined: &mut JoinBlocks,
 ) -> Result<(), Fail> {
     let text: [u8; 650] = counted();
-    for number in 1..=13 {
+    for before in 0..13u32 {
+        let number = before.saturating_add(1);
         let (len, whole) = if number == 13 {
             (26, Some(text.as_slice()))
         } else {
             (52, None)
         };
         let block = (number == 13, number, len);
-        assert!(*rt;
-            passes(alloc, sent, joined, block, whole)?,
-            "at block {number}"
-        );
+        let piece = sent.next(alloc, before)?;
+        let is_so = passes(joined, piece, block, whole, false)?;
+        assert!(*rt; is_so, "at block {number}");
     }
     send_all(rt, alloc, sent, &[(13, Err(BlockFault::NoTransfer))])?;
     join_all(
@@ -281,35 +282,6 @@ fn next_again(alloc: Global, sent: &mut GetBlocks, after: u32) -> Result<Piece, 
     }
 }
 
-/// Adds a block, again where memory runs out, and tells whether it gives this text, or none.
-fn adds_again(
-    joined: &mut JoinBlocks,
-    block: (bool, u32, &[u8]),
-    text: Option<&[u8]>,
-) -> Result<bool, BlockFault> {
-    let joining = (block, Ok(text));
-    match joins(joined, &joining) {
-        Err(BlockFault::Memory) => joins(joined, &joining),
-        first => first,
-    }
-}
-
-/// What `passes` tells, where the calls are repeated.
-fn passes_again(
-    alloc: Global,
-    sent: &mut GetBlocks,
-    joined: &mut JoinBlocks,
-    block: Block,
-    text: Option<&[u8]>,
-) -> Result<bool, BlockFault> {
-    let (last, number, len) = block;
-    let piece = next_again(alloc, sent, number.saturating_sub(1))?;
-    let same = piece.last == last && piece.number == number && piece.raw.len() == len;
-    let added = adds_again(joined, (last, number, piece.raw.as_slice()), text);
-    drop(piece);
-    Ok(added? && same)
-}
-
 fn check_repeated(
     rt: &impl Abort,
     alloc: Global,
@@ -317,8 +289,11 @@ fn check_repeated(
     joined: &mut JoinBlocks,
 ) -> Result<(), Fail> {
     let text: [u8; 104] = counted();
-    assert!(*rt; passes_again(alloc, sent, joined, (false, 1, 52), None)?);
-    assert!(*rt; passes_again(alloc, sent, joined, (true, 2, 52), Some(&text))?);
+    let piece = next_again(alloc, sent, 0)?;
+    let is_first_so = passes(joined, piece, (false, 1, 52), None, true)?;
+    let piece = next_again(alloc, sent, 1)?;
+    let is_second_so = passes(joined, piece, (true, 2, 52), Some(&text), true)?;
+    assert!(*rt; is_first_so && is_second_so);
     Ok(())
 }
 

@@ -137,18 +137,14 @@ fn takes_none(deframer: &mut Deframer, alloc: Global) -> Result<bool, Fail> {
     Ok(is_none)
 }
 
-/// Feeds eight bytes one by one. There is no frame and no fault before the last.
-fn feed_header(
-    rt: &impl Abort,
-    alloc: Global,
-    deframer: &mut Deframer,
-    header: [u8; 8],
-) -> Result<(), Fail> {
+/// Feeds eight bytes one by one, and tells whether there is no frame and no fault before the last.
+fn is_header_fed(deframer: &mut Deframer, alloc: Global, header: [u8; 8]) -> Result<bool, Fail> {
+    let mut is_none = true;
     for byte in header.iter() {
-        assert!(rt; takes_none(deframer, alloc)?);
+        is_none = takes_none(deframer, alloc)? && is_none;
         deframer.feed(&[*byte])?;
     }
-    Ok(())
+    Ok(is_none)
 }
 
 /// Why no frame is taken.
@@ -156,46 +152,53 @@ fn take_fault(deframer: &mut Deframer, alloc: Global) -> Option<WrapperFault> {
     deframer.take(alloc).err()
 }
 
-/// Asks twice, and feeds more behind a wrong header.
-fn check_fault(rt: &impl Abort, alloc: Global, deframer: &mut Deframer, fault: WrapperFault) {
+/// Asks twice, and feeds more behind a wrong header. Tells whether each answer is this fault.
+fn stays_wrong(deframer: &mut Deframer, alloc: Global, fault: WrapperFault) -> bool {
+    let mut is_so = true;
     for _ in 0..2 {
-        assert!(rt; take_fault(deframer, alloc) == Some(fault));
-        assert!(rt; deframer.feed(&STREAM) == Err(fault));
+        let taken = take_fault(deframer, alloc);
+        let fed = deframer.feed(&STREAM);
+        is_so = is_so && taken == Some(fault) && fed == Err(fault);
     }
-    assert!(rt; !deframer.is_empty());
+    is_so && !deframer.is_empty()
 }
+
+/// Whether a wrong header is answered with this fault for good.
+fn is_wrong(alloc: Global, header: [u8; 8], fault: WrapperFault) -> Result<bool, Fail> {
+    let mut deframer = Deframer::new(alloc);
+    let fed = is_header_fed(&mut deframer, alloc, header);
+    let is_so = stays_wrong(&mut deframer, alloc, fault);
+    drop(deframer);
+    Ok(fed? && is_so)
+}
+
+const WRONG: [([u8; 8], WrapperFault); 5] = [
+    (
+        [0x00, 0x02, 0x00, 0x10, 0x00, 0x01, 0x00, 0x00],
+        WrapperFault::Version,
+    ),
+    (
+        [0x01, 0x01, 0x00, 0x10, 0x00, 0x01, 0x00, 0x00],
+        WrapperFault::Version,
+    ),
+    (
+        [0x00, 0x02, 0x00, 0x10, 0x00, 0x01, 0xFF, 0xFF],
+        WrapperFault::Version,
+    ),
+    (
+        [0x00, 0x01, 0x00, 0x10, 0x00, 0x01, 0x04, 0x01],
+        WrapperFault::TooLong,
+    ),
+    (
+        [0x00, 0x01, 0x00, 0x10, 0x00, 0x01, 0xFF, 0xFF],
+        WrapperFault::TooLong,
+    ),
+];
 
 #[test]
 fn a_wrong_header_is_answered_for_good(rt: HostRuntime) -> Result<(), Fail> {
-    for (header, fault) in [
-        (
-            [0x00, 0x02, 0x00, 0x10, 0x00, 0x01, 0x00, 0x00],
-            WrapperFault::Version,
-        ),
-        (
-            [0x01, 0x01, 0x00, 0x10, 0x00, 0x01, 0x00, 0x00],
-            WrapperFault::Version,
-        ),
-        (
-            [0x00, 0x02, 0x00, 0x10, 0x00, 0x01, 0xFF, 0xFF],
-            WrapperFault::Version,
-        ),
-        (
-            [0x00, 0x01, 0x00, 0x10, 0x00, 0x01, 0x04, 0x01],
-            WrapperFault::TooLong,
-        ),
-        (
-            [0x00, 0x01, 0x00, 0x10, 0x00, 0x01, 0xFF, 0xFF],
-            WrapperFault::TooLong,
-        ),
-    ] {
-        let mut deframer = Deframer::new(rt.alloc());
-        let fed = feed_header(&rt, rt.alloc(), &mut deframer, header);
-        if fed.is_ok() {
-            check_fault(&rt, rt.alloc(), &mut deframer, fault);
-        }
-        drop(deframer);
-        fed?;
+    for (header, fault) in WRONG {
+        assert!(rt; is_wrong(rt.alloc(), header, fault)?, "{header:?}");
     }
     Ok(())
 }
@@ -211,8 +214,8 @@ fn check_before_wrong(
     for _ in 0..2 {
         take_one(deframer, alloc, frames)?;
     }
-    assert!(rt; are_both(frames.as_slice()));
-    assert!(rt; take_fault(deframer, alloc) == Some(WrapperFault::Version));
+    let fault = take_fault(deframer, alloc);
+    assert!(rt; are_both(frames.as_slice()) && fault == Some(WrapperFault::Version));
     Ok(())
 }
 
@@ -310,9 +313,9 @@ fn take_again(deframer: &mut Deframer, alloc: Global) -> Result<Option<Frame>, W
 
 fn check_repeated(rt: &impl Abort, alloc: Global, deframer: &mut Deframer) -> Result<(), Fail> {
     feed_again(rt, deframer)?;
-    assert!(rt; is_of(take_again(deframer, alloc), &ASSOCIATION)?);
-    assert!(rt; is_of(take_again(deframer, alloc), &GET)?);
-    assert!(rt; deframer.is_empty());
+    let is_first_so = is_of(take_again(deframer, alloc), &ASSOCIATION)?;
+    let is_second_so = is_of(take_again(deframer, alloc), &GET)?;
+    assert!(rt; is_first_so && is_second_so && deframer.is_empty());
     Ok(())
 }
 
