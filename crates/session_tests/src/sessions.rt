@@ -3,7 +3,7 @@ ghost use Rattle.std.specs.Prelude.{◌≡◌, true};
 ghost use Rattle.session_core.specs.Remaining.{is_asking};
 
 use cosem_axdr::Octets;
-use relay_core::{Event, RelayCore};
+use relay_core::{Event, RelayCore, Reply};
 use session_core::{Next, Session, SessionEnd};
 use std::alloc::{AllocError, Global};
 
@@ -30,6 +30,19 @@ enum Left {
     Nothing(SessionEnd),
 }
 
+/// Gives the session a reply.
+fn give(alloc: Global, session: &mut Session, reply: Reply) -> Result<Left, AllocError>
+    requires { is_asking session.old ≡ true }
+{
+    match session.answer(alloc, reply) {
+        Ok(()) => Ok(Left::More),
+        Err(failed) => {
+            drop(failed);
+            Err(AllocError)
+        }
+    }
+}
+
 /// Gives the session the meter's reply to an event.
 fn answer(
     alloc: Global,
@@ -39,13 +52,9 @@ fn answer(
 ) -> Result<Left, AllocError>
     requires { is_asking session.old ≡ true }
 {
-    let reply = core.step(alloc, event)?;
-    match session.answer(alloc, reply) {
-        Ok(()) => Ok(Left::More),
-        Err(failed) => {
-            drop(failed);
-            Err(AllocError)
-        }
+    match core.step(alloc, event) {
+        Ok(reply) => give(alloc, session, reply),
+        Err(_) => Err(AllocError),
     }
 }
 
