@@ -5,7 +5,6 @@ use relay_core::{Event, Events, Line, RelayCore, run};
 use relay_recorder::{Recorder, Trace};
 use std::alloc::{AllocError, Global};
 use std::process::Abort;
-use std::test::Fail;
 
 /// A management client's reconnect.
 fn reconnect() -> Event {
@@ -113,20 +112,37 @@ pub(crate) fn plays_again(
 }
 
 #[test]
-fn an_export_of_one_event_plays_again(rt: HostRuntime) -> Result<(), Fail> {
-    with_recorder(&rt, rt.alloc(), 1, Scenario::Export { count: 4 })?;
-    Ok(())
+fn an_export_of_one_event_plays_again(rt: HostRuntime) {
+    assert!(rt;
+        matches!(
+            with_recorder(&rt, rt.alloc(), 1, Scenario::Export { count: 4 }),
+            Ok(())
+        )
+    );
 }
 
 #[test]
-fn an_export_of_1024_events_plays_again(rt: HostRuntime) -> Result<(), Fail> {
-    with_recorder(&rt, rt.alloc(), 1024, Scenario::Export { count: 3077 })?;
-    Ok(())
+fn an_export_of_1024_events_plays_again(rt: HostRuntime) {
+    assert!(rt;
+        matches!(
+            with_recorder(&rt, rt.alloc(), 1024, Scenario::Export { count: 3077 }),
+            Ok(())
+        )
+    );
 }
 
 #[test]
-fn an_export_of_a_part_plays_again(rt: HostRuntime) -> Result<(), Fail> {
-    with_recorder(&rt, rt.alloc(), 7, Scenario::Export { count: 24 })?;
-    with_recorder(&rt, rt.alloc(), 7, Scenario::Export { count: 3 })?;
-    Ok(())
+fn an_export_of_a_part_plays_again(rt: HostRuntime) {
+    assert!(rt;
+        matches!(
+            with_recorder(&rt, rt.alloc(), 7, Scenario::Export { count: 24 }),
+            Ok(())
+        )
+    );
+    assert!(rt;
+        matches!(
+            with_recorder(&rt, rt.alloc(), 7, Scenario::Export { count: 3 }),
+            Ok(())
+        )
+    );
 }

@@ -45,12 +45,19 @@ fn event(alloc: Global, line: &[u8]) -> Result<Event, AllocError> {
     read_event(alloc, Version::Two, line).map_err(|_| AllocError)
 }
 
-// Lets a recorder take the event of a line.
-fn take_line(recorder: &mut Recorder, alloc: Global, line: &[u8]) -> Result<(), AllocError> {
-    let event = event(alloc, line)?;
+// Lets a recorder take an event.
+fn take_event(recorder: &mut Recorder, alloc: Global, event: Event) -> Result<(), AllocError> {
     let reply = recorder.apply(alloc, event)?;
     drop(reply);
     Ok(())
+}
+
+// Lets a recorder take the event of a line.
+fn take_line(recorder: &mut Recorder, alloc: Global, line: &[u8]) -> Result<(), AllocError> {
+    match read_event(alloc, Version::Two, line) {
+        Ok(event) => take_event(recorder, alloc, event),
+        Err(_) => Err(AllocError),
+    }
 }
 
 // Lets a recorder take the event of each line of a text.

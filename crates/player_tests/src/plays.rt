@@ -1,9 +1,9 @@
 //! Traces and what they print.
 use byte_streams::Counted;
-use std::alloc::Global;
+use cosem_axdr::Octets;
+use std::alloc::{AllocError, Global};
 use std::io;
 use std::io::{ErrorKind, Read, Write};
-use std::test::Fail;
 use trace_player::{PlayFault, play, read_trace, write_trace};
 use trace_text::{Lines, end_line};
 
@@ -178,118 +178,172 @@ impl Read for Endless {
     }
 }
 
-// Whether a text plays to this output, of so many lines.
-fn prints(alloc: Global, text: &[u8], count: u64, output: &[u8]) -> bool {
-    let mut reader = Counted::new(text);
+// What comes of the text of a reader that is played, and what is written.
+fn played<R: Read + Drop>(alloc: Global, from: R) -> (Result<u64, PlayFault>, Vec<u8>) {
+    let mut reader = Counted::new(from);
     let mut writer = Counted::new(Vec::new(alloc));
-    let played = play(alloc, &mut reader, &mut writer);
-    matches!(played, Ok(lines) if lines == count) && writer.into_inner().as_slice() == output
+    let count = play(alloc, &mut reader, &mut writer);
+    drop(reader);
+    (count, writer.into_inner())
+}
+
+// Whether a text plays to this output, of so many lines.
+fn prints(alloc: Global, text: &[u8], lines: u64, output: &[u8]) -> bool {
+    let (count, written) = played(alloc, text);
+    let same = written.as_slice() == output;
+    drop(written);
+    same && count == Ok(lines)
+}
+
+// What comes of what is played, if nothing is written.
+fn fault_of<R: Read + Drop>(alloc: Global, from: R) -> Option<PlayFault> {
+    let (count, written) = played(alloc, from);
+    let is_silent = written.is_empty();
+    drop(written);
+    match count {
+        Err(fault) if is_silent => Some(fault),
+        _ => None,
+    }
 }
 
 // Whether a text is refused at this line, and nothing is written.
 fn is_wrong_at(alloc: Global, text: &[u8], line: u64) -> bool {
-    let mut reader = Counted::new(text);
-    let mut writer = Counted::new(Vec::new(alloc));
-    let played = play(alloc, &mut reader, &mut writer);
-    matches!(played, Err(PlayFault::Line(number)) if number == line)
-        && writer.into_inner().is_empty()
+    fault_of(alloc, text) == Some(PlayFault::Line(line))
 }
 
-// A text with another line in place of one, counted from 1.
-fn with_line(alloc: Global, text: &[u8], at: u64, other: &[u8]) -> Result<Vec<u8>, Fail> {
-    let mut out = Vec::new(alloc);
+// Adds a text with another line in place of one, counted from 1.
+fn add_with_line(out: &mut Vec<u8>, text: &[u8], at: u64, other: &[u8]) -> Result<(), AllocError> {
     let mut number: u64 = 0;
     for line in Lines::new(text) {
         number = number.saturating_add(1);
         out.extend_from_slice(if number == at { other } else { line })?;
-        end_line(&mut out)?;
+        end_line(out)?;
     }
-    Ok(out)
+    Ok(())
 }
 
-// A text without one of its lines, counted from 1.
-fn without_line(alloc: Global, text: &[u8], at: u64) -> Result<Vec<u8>, Fail> {
-    let mut out = Vec::new(alloc);
+// Adds a text without one of its lines, counted from 1.
+fn add_without_line(out: &mut Vec<u8>, text: &[u8], at: u64) -> Result<(), AllocError> {
     let mut number: u64 = 0;
     for line in Lines::new(text) {
         number = number.saturating_add(1);
         if number != at {
             out.extend_from_slice(line)?;
-            end_line(&mut out)?;
+            end_line(out)?;
         }
     }
-    Ok(out)
+    Ok(())
 }
 
-// Whether the trace is refused at this line once its line `at` is another.
-fn is_wrong_with(
-    alloc: Global,
-    text: &[u8],
-    at: u64,
-    other: &[u8],
-    line: u64,
-) -> Result<bool, Fail> {
-    let changed = with_line(alloc, text, at, other)?;
-    Ok(is_wrong_at(alloc, changed.as_slice(), line))
+// What is asked of a text.
+#[derive(Clone, Copy)]
+enum Asked {
+    // It is refused at this line.
+    WrongAt(u64),
+    // It plays to this one line.
+    Prints(&'static [u8]),
+}
+
+fn is_as_asked(alloc: Global, text: &[u8], asked: Asked) -> bool {
+    match asked {
+        Asked::WrongAt(line) => is_wrong_at(alloc, text, line),
+        Asked::Prints(line) => prints(alloc, text, 1, line),
+    }
+}
+
+// Whether a text is as asked once its line `at` is another.
+fn is_so_with(alloc: Global, text: &[u8], at: u64, other: &[u8], asked: Asked) -> bool {
+    let mut changed = Vec::new(alloc);
+    let added = add_with_line(&mut changed, text, at, other);
+    let is_so = is_as_asked(alloc, changed.as_slice(), asked);
+    drop(changed);
+    added.is_ok() && is_so
+}
+
+// A text, the number of a line of it, another line in its place, and the line at which the trace is refused then.
+type Wrong = (&'static [u8], u64, &'static [u8], u64);
+
+fn are_wrong(alloc: Global, rows: &[Wrong]) -> bool {
+    for (text, at, other, line) in rows {
+        if !is_so_with(alloc, text, *at, other, Asked::WrongAt(*line)) {
+            return false;
+        }
+    }
+    true
 }
 
 // Whether the trace is refused at this line once its line `at` is missing.
-fn is_wrong_without(alloc: Global, at: u64, line: u64) -> Result<bool, Fail> {
-    let changed = without_line(alloc, TRACE, at)?;
-    Ok(is_wrong_at(alloc, changed.as_slice(), line))
+fn is_wrong_without(alloc: Global, at: u64, line: u64) -> bool {
+    let mut changed = Vec::new(alloc);
+    let added = add_without_line(&mut changed, TRACE, at);
+    let is_so = is_wrong_at(alloc, changed.as_slice(), line);
+    drop(changed);
+    added.is_ok() && is_so
 }
 
 // Whether the trace is refused at each line of its opening that is missing.
-fn is_wrong_without_each(alloc: Global) -> Result<bool, Fail> {
+fn is_wrong_without_each(alloc: Global) -> bool {
     for at in 1..22 {
-        if !is_wrong_without(alloc, at, at)? {
-            return Ok(false);
+        if !is_wrong_without(alloc, at, at) {
+            return false;
         }
     }
-    Ok(true)
+    true
 }
 
 // A text that was read as a trace and written again.
-fn written_again(alloc: Global, text: &[u8]) -> Result<Vec<u8>, Fail> {
-    let trace = read_trace(alloc, text)?;
-    Ok(write_trace(alloc, &trace)?.into_vec())
-}
-
-// The long run with another line for the run, and a block of one sample.
-fn with_run(alloc: Global, run: &[u8]) -> Result<Vec<u8>, Fail> {
-    let changed = with_line(alloc, LONG_RUN, 14, run)?;
-    with_line(alloc, changed.as_slice(), 22, b"samples 5001")
-}
-
-// What comes of a read that fails, and whether nothing was written.
-fn fault_of_reader(alloc: Global, failing: u32) -> Option<PlayFault> {
-    let mut reader = Counted::new(Scripted::new(failing));
-    let mut writer = Counted::new(Vec::new(alloc));
-    let played = play(alloc, &mut reader, &mut writer);
-    if writer.into_inner().is_empty() {
-        played.err()
-    } else {
-        None
+fn written_again(alloc: Global, text: &[u8]) -> Option<Octets> {
+    match read_trace(alloc, text) {
+        Ok(trace) => {
+            let again = write_trace(alloc, &trace);
+            drop(trace);
+            again.ok()
+        }
+        Err(_) => None,
     }
 }
 
-// What comes of a text without an end, and whether nothing was written.
-fn fault_of_endless(alloc: Global) -> Option<PlayFault> {
-    let mut reader = Counted::new(Endless);
-    let mut writer = Counted::new(Vec::new(alloc));
-    let played = play(alloc, &mut reader, &mut writer);
-    if writer.into_inner().is_empty() {
-        played.err()
-    } else {
-        None
+// Whether it is of version 2, and plays to this output, of so many lines.
+fn prints_again(alloc: Global, text: &[u8], lines: u64, output: &[u8]) -> bool {
+    match written_again(alloc, text) {
+        Some(again) => {
+            let is_so = again.as_slice().starts_with(b"RELAYTRACE 2\n")
+                && prints(alloc, again.as_slice(), lines, output);
+            drop(again);
+            is_so
+        }
+        None => false,
     }
+}
+
+// Whether it is the same text.
+fn is_the_same_again(alloc: Global, text: &[u8]) -> bool {
+    match written_again(alloc, text) {
+        Some(again) => {
+            let same = again.as_slice() == text;
+            drop(again);
+            same
+        }
+        None => false,
+    }
+}
+
+// Whether the long run is as asked with another line for the run, and a block of one sample.
+fn is_so_with_run(alloc: Global, run: &[u8], asked: Asked) -> bool {
+    let mut changed = Vec::new(alloc);
+    let added = add_with_line(&mut changed, LONG_RUN, 14, run);
+    let is_so = is_so_with(alloc, changed.as_slice(), 22, b"samples 5001", asked);
+    drop(changed);
+    added.is_ok() && is_so
 }
 
 // What comes of a write that fails.
 fn fault_of_writer(alloc: Global, failing: u32) -> Option<PlayFault> {
     let mut reader = Counted::new(TRACE);
     let mut writer = Counted::new(Scripted::new(failing));
-    play(alloc, &mut reader, &mut writer).err()
+    let count = play(alloc, &mut reader, &mut writer);
+    drop(writer);
+    count.err()
 }
 
 #[test]
@@ -298,89 +352,78 @@ fn a_trace_is_played(rt: HostRuntime) {
     assert!(rt; prints(rt.alloc(), PAIRS, 3, PAIRS_OUTPUT));
 }
 
+const FIRED: Asked = Asked::Prints(b"1: sampled 0 0; state 1; supply on\n");
+
 #[test]
-fn a_run_is_taken_up(rt: HostRuntime) -> Result<(), Fail> {
+fn a_run_is_taken_up(rt: HostRuntime) {
     let alloc = rt.alloc();
     assert!(rt; prints(alloc, LONG_RUN, 1, b"1: sampled 1 0; state 1; supply on\n"));
-    let fired = with_run(alloc, b"over 42949672950 1")?;
-    assert!(rt;
-        prints(
-            alloc,
-            fired.as_slice(),
-            1,
-            b"1: sampled 0 0; state 1; supply on\n"
-        )
-    );
-    let unfired = with_run(alloc, b"over 42949672950 0")?;
-    assert!(rt; is_wrong_at(alloc, unfired.as_slice(), 14));
-    Ok(())
+    assert!(rt; is_so_with_run(alloc, b"over 42949672950 1", FIRED));
+    assert!(rt; is_so_with_run(alloc, b"over 42949672950 0", Asked::WrongAt(14)));
+}
+
+const LIST: &[u8] = b"getlist 1 2 70 000060030AFF 3 0 70 000060030BFF 3 0";
+
+const VALUES: Asked = Asked::Prints(b"1: values 2 value 1601 code 4; state 1; supply on\n");
+
+#[test]
+fn a_read_of_a_list_is_played(rt: HostRuntime) {
+    assert!(rt; is_so_with(rt.alloc(), LONG_RUN, 22, LIST, VALUES));
 }
 
 #[test]
-fn a_read_of_a_list_is_played(rt: HostRuntime) -> Result<(), Fail> {
+fn a_line_that_is_missing_is_told(rt: HostRuntime) {
     let alloc = rt.alloc();
-    let list = b"getlist 1 2 70 000060030AFF 3 0 70 000060030BFF 3 0";
-    let counted = with_line(alloc, LONG_RUN, 22, list)?;
-    let line = b"1: values 2 value 1601 code 4; state 1; supply on\n";
-    assert!(rt; prints(alloc, counted.as_slice(), 1, line));
-    Ok(())
-}
-
-#[test]
-fn a_line_that_is_missing_is_told(rt: HostRuntime) -> Result<(), Fail> {
-    let alloc = rt.alloc();
-    assert!(rt; is_wrong_without_each(alloc)?);
-    assert!(rt; is_wrong_without(alloc, 22, 30)?);
-    assert!(rt; is_wrong_without(alloc, 30, 30)?);
+    assert!(rt; is_wrong_without_each(alloc));
+    assert!(rt; is_wrong_without(alloc, 22, 30));
+    assert!(rt; is_wrong_without(alloc, 30, 30));
     assert!(rt; is_wrong_at(alloc, b"", 1));
-    Ok(())
 }
 
-#[test]
-fn another_number_of_events_is_told(rt: HostRuntime) -> Result<(), Fail> {
-    let alloc = rt.alloc();
-    assert!(rt; is_wrong_with(alloc, TRACE, 21, b"events 8", 30)?);
-    assert!(rt; is_wrong_with(alloc, TRACE, 21, b"events 10", 31)?);
-    assert!(rt; is_wrong_with(alloc, TRACE, 21, b"events 65537", 21)?);
-    Ok(())
-}
+const EVENT_COUNTS: &[Wrong] = &[
+    (TRACE, 21, b"events 8", 30),
+    (TRACE, 21, b"events 10", 31),
+    (TRACE, 21, b"events 65537", 21),
+];
 
 #[test]
-fn other_lines_are_told(rt: HostRuntime) -> Result<(), Fail> {
-    let alloc = rt.alloc();
-    assert!(rt; is_wrong_with(alloc, TRACE, 24, b"press", 24)?);
-    assert!(rt; is_wrong_with(alloc, TRACE, 28, b"pairs 0 5001", 28)?);
-    assert!(rt; is_wrong_with(alloc, PAIRS, 1, b"RELAYTRACE 1", 16)?);
-    Ok(())
+fn another_number_of_events_is_told(rt: HostRuntime) {
+    assert!(rt; are_wrong(rt.alloc(), EVENT_COUNTS));
+}
+
+const OTHER_LINES: &[Wrong] = &[
+    (TRACE, 24, b"press", 24),
+    (TRACE, 28, b"pairs 0 5001", 28),
+    (PAIRS, 1, b"RELAYTRACE 1", 16),
+];
+
+#[test]
+fn other_lines_are_told(rt: HostRuntime) {
+    assert!(rt; are_wrong(rt.alloc(), OTHER_LINES));
 }
 
 #[test]
 fn a_last_line_that_is_not_ended_is_told(rt: HostRuntime) {
-    let alloc = rt.alloc();
     let unended = TRACE.strip_suffix(b"\n").unwrap_or(b"");
-    assert!(rt; is_wrong_at(alloc, unended, 30));
+    assert!(rt; is_wrong_at(rt.alloc(), unended, 30));
 }
 
 #[test]
-fn a_trace_is_written_and_played_again(rt: HostRuntime) -> Result<(), Fail> {
-    let alloc = rt.alloc();
-    let again = written_again(alloc, TRACE)?;
-    assert!(rt; again.as_slice().starts_with(b"RELAYTRACE 2\n"));
-    assert!(rt; prints(alloc, again.as_slice(), 9, OUTPUT));
-    assert!(rt; written_again(alloc, PAIRS)?.as_slice() == PAIRS);
-    Ok(())
+fn a_trace_is_written_and_played_again(rt: HostRuntime) {
+    assert!(rt; prints_again(rt.alloc(), TRACE, 9, OUTPUT));
+    assert!(rt; is_the_same_again(rt.alloc(), PAIRS));
 }
 
 #[test]
 fn a_text_that_is_too_long_is_told(rt: HostRuntime) {
-    assert!(rt; fault_of_endless(rt.alloc()) == Some(PlayFault::TooLong));
+    assert!(rt; fault_of(rt.alloc(), Endless) == Some(PlayFault::TooLong));
 }
 
 #[test]
 fn a_stream_that_fails_is_told(rt: HostRuntime) {
     let alloc = rt.alloc();
-    assert!(rt; fault_of_reader(alloc, 1) == Some(PlayFault::Read));
-    assert!(rt; fault_of_reader(alloc, 3) == Some(PlayFault::Read));
+    assert!(rt; fault_of(alloc, Scripted::new(1)) == Some(PlayFault::Read));
+    assert!(rt; fault_of(alloc, Scripted::new(3)) == Some(PlayFault::Read));
     assert!(rt; fault_of_writer(alloc, 1) == Some(PlayFault::Write));
     assert!(rt; fault_of_writer(alloc, 3) == Some(PlayFault::Write));
 }

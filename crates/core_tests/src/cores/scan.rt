@@ -1,7 +1,6 @@
 //! What a block brings of scans changes nothing.
 
 use super::*;
-use std::test::Fail;
 
 /// Script 1: 9000 is written to threshold_normal of the import limiter.
 const RAISE_IMPORT: &[u8] = b"\x01\x01\x02\x02\x12\x00\x01\x01\x01\
@@ -62,9 +61,8 @@ pub(super) fn fires_with(
 }
 
 #[test]
-fn a_firing_raises_the_threshold_within_a_block(rt: HostRuntime) -> Result<(), Fail> {
-    assert!(rt; is_done(rt.alloc(), Scenario::Firing(None))?);
-    assert!(rt; is_done(rt.alloc(), Scenario::Firing(Some(5000)))?);
-    assert!(rt; is_done(rt.alloc(), Scenario::Firing(Some(4000)))?);
-    Ok(())
+fn a_firing_raises_the_threshold_within_a_block(rt: HostRuntime) {
+    assert!(rt; matches!(is_done(rt.alloc(), Scenario::Firing(None)), Ok(true)));
+    assert!(rt; matches!(is_done(rt.alloc(), Scenario::Firing(Some(5000))), Ok(true)));
+    assert!(rt; matches!(is_done(rt.alloc(), Scenario::Firing(Some(4000))), Ok(true)));
 }
