@@ -64,6 +64,14 @@ fn a_law()
     ensures { ⊤ }
 {}
 
+impl<'a, I: Read + Drop + Send> session_threads::Connection<
+    Port<Kept>,
+> for Client<'a, I> {
+    fn serve(self) -> u8 {
+        2
+    }
+}
+
 fn edited(page: &Page) -> u8 {
     page.lines()
 }
@@ -74,6 +82,7 @@ fn beside() -> u8 {
 }
 """
 KEPT = LEFT.replace("        self.lines\n", "loop {}\n").replace("    let one = 1;\n    one + 1\n", "loop {}\n\n")
+NAMES = ["Page::lines", "PageDefault::default", "page::least", "page::is_even", "page::a_law", "ClientConnectionPortKept::serve", "page::edited", "page::beside"]
 HOLES = {
     "proofs/page/Page/lines/Proof.antt": "use Rattle.book.proofs.page.Page.lines.Statement.{statement}\n\npub lines_spec : {M : Type 1} → statement M\nlines_spec = ?\n",
     "proofs/page/beside/Proof.antt": "use Rattle.book.proofs.page.beside.Statement.{statement}\n\npub beside_spec : {M : Type 1} → statement M\nbeside_spec = ?\n",
@@ -102,8 +111,10 @@ def bodies_are_left_out():
     """Whether the functions beside an edited one are left as they must be."""
     module = judge()
     edited = next(it for it in module.functions_of("src/page.rt", LEFT) if it.name == "page::edited")
+    names = [it.name for it in module.functions_of("src/page.rt", LEFT)]
     stubs, gone = module.without_bodies("book", {"src/page.rt": LEFT}, {(edited.path, edited.first)})
     return {
+        "functions have the names that a check tells": names == NAMES,
         "a body beside an edited one is left out, of the edited one, a trait, a constant, a cycle and a law none": stubs.pop("src/page.rt") == KEPT,
         "what is left out has a hole for its proof": stubs == HOLES,
         "and its own proof is left out": gone == [it.replace("Proof", part) for it in HOLES for part in ("Invariants", "Answers")],
