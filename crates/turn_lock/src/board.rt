@@ -3,6 +3,7 @@
 //! Word 0 counts the turns that were drawn, word 1 those that have ended. Slot 0 has the value,
 //! or nothing while a turn is held, and the event and reply of the last turn.
 use crate::known::View;
+use crate::lodged::Lodged;
 use crate::turned::Turned;
 use atomic_table::{Seat, Shared as Words, Table, TableRule};
 use std::alloc::Global;
@@ -25,7 +26,7 @@ pub const MOST_TURNS: u64 = 1 << 62;
 /// entry the turn adds to the history, if any.
 #[derive(Drop)]
 pub struct Slot<T, E, R> {
-    pub value: Option<T>,
+    pub value: Option<Lodged<T>>,
     pub last: Option<(Snapshot<E>, Snapshot<R>)>,
 }
 

@@ -5,6 +5,7 @@ mod board;
 mod faults;
 mod known;
 mod lock;
+mod lodged;
 mod plays;
 mod port;
 mod steps;

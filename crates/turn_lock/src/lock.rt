@@ -8,6 +8,7 @@ ghost use Rattle.turn_lock.specs.Plays.{IsSized};
 
 use crate::board::{Board, Place, Slot};
 use crate::faults::Busy;
+use crate::lodged::Lodged;
 use crate::port::Port;
 use crate::steps::{draw_last, settle};
 use crate::turned::Turned;
@@ -43,7 +44,7 @@ fn regain<T: Turned>(table: Board<T>, place: Place<T>) -> T
     let mut closed = table.close_with(place);
     let slot = closed.take(0);
     closed.free();
-    slot.value.unwrap()
+    slot.value.unwrap().into_value()
 }
 
 // The table with its first seat, or the value.
@@ -53,17 +54,21 @@ fn lay<T: Turned>(alloc: Global, value: T) -> Result<(Arc<Board<T>, Global>, Pla
     ensures err { IfErr result (λ x. x ≡ value) }
 {
     let key = Snapshot::of(&value);
+    let lodged = match Lodged::new(alloc, value) {
+        Ok(lodged) => lodged,
+        Err(AllocFailed { value }) => return Err(value),
+    };
     let slot = Slot {
-        value: Some(value),
+        value: Some(lodged),
         last: None,
     };
     let mut slots = Vec::new(alloc);
     if let Err(AllocFailed { value: slot }) = slots.push(slot) {
-        return Err(slot.value.unwrap());
+        return Err(slot.value.unwrap().into_value());
     }
     let (table, place) = match Table::new(alloc, &[0, 0], slots, &key) {
         Ok(laid) => laid,
-        Err(Refused { mut slots }) => return Err(slots.pop().unwrap().value.unwrap()),
+        Err(Refused { mut slots }) => return Err(slots.pop().unwrap().value.unwrap().into_value()),
     };
     match Arc::new(alloc, table) {
         Ok(table) => Ok((table, place)),

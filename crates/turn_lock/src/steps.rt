@@ -9,6 +9,7 @@ ghost use Rattle.turn_lock.specs.Plays.{IsSized, IsReady, hollow, posed, added, 
 
 use crate::board::{HOME, Place, SERVING, Slot, TICKET, Top};
 use crate::faults::{Busy, CallFault};
+use crate::lodged::Lodged;
 use crate::plays::{Close, Cut, Draw, End, Look, Merge, Reach, SeeServing, Settle, TakeIn, Tell};
 use crate::turned::Turned;
 use crossbeam_utils::Backoff;
@@ -111,7 +112,7 @@ fn try_reach<T: Turned>(top: &Top<T>, place: &mut Place<T>, turn: u64) -> bool
 }
 
 /// Takes the value out of the slot, which the seat holds.
-fn take_out<T: Turned>(top: &Top<T>, place: &mut Place<T>) -> T
+fn take_out<T: Turned>(top: &Top<T>, place: &mut Place<T>) -> Lodged<T>
     requires table { (place.old.table_id ≡ top.now.table_id) × IsSized top.now.table_id }
     requires holds { (x : T) × (l : Option (Snapshot T.Event × Snapshot T.Reply)) × (place.old.me.1 ≡ (0, full x l) ∷ []) }
     ensures seat { (place.new.table_id ≡ place.old.table_id) × (place.new.me ≡ (place.old.me.0, (0, hollow) ∷ [])) }
@@ -134,7 +135,12 @@ fn put_back<T: Turned>(top: &Top<T>, place: &mut Place<T>, slot: Slot<T, T::Even
 }
 
 /// Waits for the turn, and takes the value. A turn that `draw` drew has come at the first look.
-pub(crate) fn reach<T: Turned, W: Wait>(top: &Top<T>, place: &mut Place<T>, rt: &W, turn: u64) -> T
+pub(crate) fn reach<T: Turned, W: Wait>(
+    top: &Top<T>,
+    place: &mut Place<T>,
+    rt: &W,
+    turn: u64,
+) -> Lodged<T>
     requires table { (place.old.table_id ≡ top.now.table_id) × IsSized top.now.table_id }
     requires waiting { IsReady place.old (Waiting turn) [] }
     ensures seat { (place.new.table_id ≡ place.old.table_id) × IsReady place.new (Turn turn) ((0, hollow) ∷ []) }
@@ -156,7 +162,7 @@ pub(crate) fn end_turn<T: Turned>(
     top: &Top<T>,
     place: &mut Place<T>,
     turn: u64,
-    value: T,
+    value: Lodged<T>,
     last: Option<(Snapshot<T::Event>, Snapshot<T::Reply>)>,
 )
     requires table { (place.old.table_id ≡ top.now.table_id) × IsSized top.now.table_id }
@@ -253,7 +259,7 @@ pub(crate) fn draw_last<T: Turned>(top: &Top<T>, place: &mut Place<T>) -> Result
     let served = top.load::<SeeServing>(place, SERVING);
     let drawn = top.compare_exchange::<Close<T>>(place, TICKET, served, served + 1);
     if drawn == served {
-        Ok(take_out(top, place))
+        Ok(take_out(top, place).into_value())
     } else {
         Err(Busy { drawn, served })
     }
