@@ -12,7 +12,7 @@ use Rattle.acse_ber.specs.declared.aare.Info.TheVariants.{Absent, Response, Init
 abbrev pub IsFitAarq : Aarq → Type 0
 IsFitAarq aarq = length (aarq_body aarq) < 2 ^ 16
 
--- 24 bits, and a size that two bytes hold
+-- 24 bits, and a size that two bytes hold (IEC 62056-5-3, InitiateResponse)
 abbrev pub IsFitInfo : Info → Type 0
 IsFitInfo Absent = Unit {0}
 IsFitInfo (Response bits limit) = (bits < 2 ^ 24) × (limit < 2 ^ 16)

@@ -1,4 +1,4 @@
--- Reading the APDUs of the Association Control Service Element, in BER.
+-- Reading the APDUs of the Association Control Service Element (IEC 62056-5-3, AARQ, AARE and RLRQ), in BER (ISO/IEC 8825-1).
 --     Read, Reads                     what a step answers, and how code is compared with it
 --     byte_at .. contents_at          a byte, bytes, these very bytes, a length, contents behind their length
 --     whole                           a reading that takes all the bytes
@@ -158,7 +158,7 @@ inner_of tag inner body = do
   contents ← field_of tag body
   optional (tagged inner) contents
 
--- ---- user information
+-- ---- user information (IEC 62056-5-3, InitiateRequest, InitiateResponse and ConfirmedServiceError)
 
 -- a byte that says whether one more stands behind it, which is skipped
 unfoldable pub optional_byte_at : List ℕ → Read (Unit {0})

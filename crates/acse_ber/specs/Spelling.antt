@@ -1,4 +1,4 @@
--- What bytes spell which APDU.
+-- What bytes spell which APDU (IEC 62056-5-3, AARQ, AARE and RLRQ; BER: ISO/IEC 8825-1).
 --     IsLength, IsTagged              a length in any of its forms, and the contents of a tag
 --     IsField, AreFields, IsApdu      fields, in any order, that fill an APDU
 --     HasNone, HasOne, HasInner       which fields of a tag there are

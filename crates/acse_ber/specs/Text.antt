@@ -1,4 +1,4 @@
--- What is written: of each APDU one text, with the shortest lengths.
+-- What is written (IEC 62056-5-3, AARQ, AARE, RLRQ and RLRE; BER: ISO/IEC 8825-1): of each APDU one text, with the shortest lengths.
 --     tagged_text                     a tag, the length and the contents
 --     aarq_body, aare_body            the fields
 --     aarq_text, aare_text            whole APDUs
@@ -58,11 +58,11 @@ info_text Absent = []
 info_text (Response bits limit) = user_text (response_text bits limit)
 info_text (InitiateError e) = user_text (0x0E ∷ 0x01 ∷ 0x06 ∷ e ∷ [])
 
--- the application context without ciphering, by logical names
+-- the application context without ciphering, by logical names (Green Book, application context names)
 abbrev pub ln_context : List ℕ
 ln_context = 0x60 ∷ 0x85 ∷ 0x74 ∷ 0x05 ∷ 0x08 ∷ 0x01 ∷ 0x01 ∷ []
 
--- the mechanism of low-level security
+-- the mechanism of low-level security (Green Book, authentication mechanism names)
 abbrev pub low_level : List ℕ
 low_level = 0x60 ∷ 0x85 ∷ 0x74 ∷ 0x05 ∷ 0x08 ∷ 0x02 ∷ 0x01 ∷ []
 

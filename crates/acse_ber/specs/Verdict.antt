@@ -1,4 +1,4 @@
--- What a meter answers to an AARQ: the first of the checks that fails decides.
+-- What a meter answers to an AARQ (IEC 62056-5-3, AARE): the first of the checks that fails decides. Their order is this meter's.
 --     level_of                        the level of a client's port
 --     judged                          the checks in their order
 --     verdict_of                      the verdict
@@ -15,7 +15,7 @@ use Rattle.acse_ber.specs.declared.initiate.Proposal.{Proposal}
 use Rattle.acse_ber.specs.declared.verdict.Verdict.{Verdict}
 use Rattle.acse_ber.specs.declared.verdict.Verdict.TheVariants.{Accepted, Rejected, InitiateError}
 
--- the name of the authentication mechanism of lowest level
+-- the name of the authentication mechanism of lowest level (Green Book, authentication mechanism names)
 abbrev pub lowest_level : List ℕ
 lowest_level = 0x60 ∷ 0x85 ∷ 0x74 ∷ 0x05 ∷ 0x08 ∷ 0x02 ∷ 0x00 ∷ []
 
@@ -23,7 +23,7 @@ lowest_level = 0x60 ∷ 0x85 ∷ 0x74 ∷ 0x05 ∷ 0x08 ∷ 0x02 ∷ 0x00 ∷ []
 abbrev pub is_no_mechanism : List ℕ → Bool
 is_no_mechanism mechanism = bytes_eq mechanism [] || bytes_eq mechanism lowest_level
 
--- the level of a client's port: 1 is the management client, 16 the public one
+-- the level of a client's port: 1 is the management client, 16 the public one (IEC 62056-4-7, wPort)
 abbrev pub level_of : ℕ → Result Level Verdict
 level_of sap = if sap == 1 then Ok Management else if sap == 16 then Ok Public else Err (Rejected 1)
 
@@ -46,7 +46,7 @@ proposal_or_refusal (Err fault) = Err (Rejected 1)
 abbrev pub offered : ℕ
 offered = get_in_blocks + set_in_blocks + action_in_blocks + multiple_references + get_service + set_service + action_service
 
--- the checks of an InitiateRequest
+-- the checks of an InitiateRequest (IEC 62056-5-3, InitiateRequest; the refusals: ConfirmedServiceError)
 unfoldable pub agreed : Level → Proposal → Result Verdict Verdict
 agreed level proposal = do
   guard (nat_le 6 proposal.version) (InitiateError 1)

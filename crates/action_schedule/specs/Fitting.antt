@@ -1,4 +1,4 @@
--- When a schedule fits its type, and when it is due.
+-- When a schedule fits its type (IEC 62056-6-2, class 22, type and execution_time), and when it is due. How far back seconds count is this meter's.
 use Rattle.std.specs.Prelude.{◌≡◌, ℕ, ◌-◌, ◌<◌, ◌≤◌, max, Bool, true, false, ◌&&◌, ◌==◌, List, [], ◌∷◌, length, Option, Some, None}
 use Rattle.std.specs.List.{list_any, list_all}
 use Rattle.cosem_datetime.specs.Fields.{TimeFields}

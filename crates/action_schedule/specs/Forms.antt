@@ -1,4 +1,4 @@
--- The parts of an attribute of a schedule as they are written: nothing where the type is another.
+-- The parts of an attribute of a schedule as they are written (IEC 62056-6-2, class 22, executed_script and execution_time): nothing where the type is another.
 use Rattle.std.specs.Prelude.{ℕ, List, [], ◌∷◌, Option, Some, None, length, ◌==◌, if◌then◌else◌}
 use Rattle.cosem_axdr.specs.declared.value.Data.{Data}
 use Rattle.cosem_axdr.specs.declared.value.Data.TheVariants.{OctetString, Date, Time}

@@ -1,4 +1,4 @@
--- The numbers of a schedule's types.
+-- The numbers of a schedule's types (IEC 62056-6-2, class 22, type).
 use Rattle.std.specs.Prelude.{ℕ, Option, Some, None, ◌==◌, if◌then◌else◌}
 use Rattle.action_schedule.specs.declared.kind.ScheduleType.{ScheduleType}
 use Rattle.action_schedule.specs.declared.kind.ScheduleType.TheVariants.{Type1, Type2, Type3, Type4, Type5}

@@ -1,4 +1,4 @@
--- A Data as an attribute of a schedule, or why it is refused. Another type anywhere is told before any value.
+-- A Data as an attribute of a schedule (IEC 62056-6-2, class 22), or why it is refused. Another type anywhere is told before any value: that order is this meter's.
 use Rattle.std.specs.Prelude.{ℕ, Bool, true, false, nat_le, List, length, ok_or, Result, Ok, Err, is_err, if◌then◌else◌}
 use Rattle.std.specs.List.{list_any, filter_map}
 use Rattle.std.specs.Result.{result_ok}

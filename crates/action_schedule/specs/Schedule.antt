@@ -1,4 +1,4 @@
--- A schedule as its callers see it, and its writes.
+-- A schedule as its callers see it (IEC 62056-6-2, class 22), and its writes.
 use Rattle.std.specs.Prelude.{ℕ, ◌≤◌, List, [], length, Result, Ok, Err}
 use Rattle.std.specs.List.{All}
 use Rattle.cosem_datetime.specs.Fields.{IsTimeFields, IsDateFields}

@@ -1,4 +1,4 @@
--- The attributes of a schedule as they are read: times and dates are octet-strings.
+-- The attributes of a schedule as they are read (IEC 62056-6-2, class 22): times and dates are octet-strings.
 use Rattle.std.specs.Prelude.{◌≡◌, ℕ, List, [], ◌∷◌, map, Ok}
 use Rattle.cosem_axdr.specs.Tree.{trees_of}
 use Rattle.cosem_axdr.specs.View.{all_trees}

@@ -17,7 +17,7 @@ use Rattle.client_core.specs.declared.progress.Progress.{Progress}
 use Rattle.client_core.specs.Replies.{fresh, opened, replied}
 use Rattle.client_core.specs.Texts.{aarq_frame, request_frame, release_frame}
 
--- the payloads of the frames from port 1 to port 1, in order; the others are skipped
+-- the payloads of the frames from port 1 to port 1 (IEC 62056-4-7, wPort), in order; the others are skipped
 abbrev pub heard : List Frame → List (List ℕ)
 heard [] = []
 heard (frame ∷ frames) = if frame.src == 1 && frame.dst == 1 then frame.payload ∷ heard frames else heard frames
@@ -64,7 +64,7 @@ is_served (Some (Rejected diagnostic)) = false
 is_served (Some Unknown) = false
 is_served None = false
 
--- the AARQ, the request once the association is open, and the release once the meter has answered the request
+-- the AARQ, the request once the association is open, and the release once the meter has answered the request (IEC 62056-5-3, AARQ, ACTION and GET, RLRQ)
 abbrev pub due : Verb → List ℕ → Progress → List (List ℕ)
 due verb password progress =
     aarq_frame password ∷ (if progress.accepted then request_frame verb ∷ (if is_served progress.outcome then release_frame ∷ [] else []) else [])

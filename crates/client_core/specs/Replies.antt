@@ -14,7 +14,7 @@ use Rattle.client_core.specs.declared.job.Outcome.{Outcome}
 use Rattle.client_core.specs.declared.job.Outcome.TheVariants.{Done, Refused, Rejected, Unknown}
 use Rattle.client_core.specs.declared.progress.Progress.{Progress}
 
--- ---- the answer to the AARQ
+-- ---- the answer to the AARQ (IEC 62056-5-3, AARE)
 
 -- no answer yet; the association is open and the request due; all is settled before the request was due
 abbrev pub fresh : Progress
@@ -47,7 +47,7 @@ opened_by verb (Err fault) = settled Unknown
 unfoldable pub opened : Verb → List ℕ → Progress
 opened verb payload = opened_by verb (aare_of payload)
 
--- ---- the answer to the request
+-- ---- the answer to the request (IEC 62056-5-3, ACTION and GET; IEC 62056-6-2, class 70, control_state)
 
 -- Action-Response-Normal with the request's invoke-id C1: a result, and any tail
 abbrev pub action_reply : List ℕ → Outcome

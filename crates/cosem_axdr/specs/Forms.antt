@@ -1,4 +1,4 @@
--- What a Data of one type holds, and nothing for any other type: one level each, so that forms of several levels are made of them.
+-- What a Data of one type holds (IEC 62056-6-2, common data types), and nothing for any other type: one level each, so that forms of several levels are made of them.
 use Rattle.std.specs.Prelude.{ℕ, ℤ, Bool, List, Option, Some, None}
 use Rattle.cosem_axdr.specs.View.{list_of}
 use Rattle.cosem_axdr.specs.declared.value.Data.{Data}

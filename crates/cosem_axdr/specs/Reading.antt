@@ -1,4 +1,4 @@
--- Reading a Data from the front of bytes, with the fault that is met first.
+-- Reading a Data from the front of bytes (A-XDR: IEC 61334-6, IEC 62056-5-3), with the fault that is met first. The order of faults is this meter's.
 --     Place                    what is left of the bytes, and how many of them may still be wanted
 --     bytes_at                 the one rule of wanting: all of them at once, TooLong before Truncated
 --     length_at .. leaf_at     a length, a string, a number, a bit-string, a value with no items

@@ -1,4 +1,4 @@
--- What bytes spell which value, by cases on the value, and the one spelling that is written.
+-- What bytes spell which value (A-XDR: IEC 61334-6, IEC 62056-5-3), by cases on the value, and the one spelling that is written.
 --     IsLength, IsString, IsBits      a length in any of its forms, a string, a bit-string
 --     Spells                          the tag of a value and then its contents
 --     IsSpelling                      a spelling within the limits of nesting and of bytes
@@ -11,7 +11,7 @@ use Rattle.cosem_axdr.specs.Limits.{max_text, max_items, max_nesting, bytes_for,
 use Rattle.cosem_axdr.specs.Reading.{big_endian}
 use Rattle.cosem_axdr.specs.Tree.{Tree, Trees, count_of, nesting, null, array, structure, boolean, bit_string, double_long, double_long_unsigned, octet_string, visible_string, utf8_string, integer, long, unsigned, long_unsigned, long64, long64_unsigned, enumerated, date_time, date, time, no_trees, tree}
 
--- the tag of a value's type
+-- the tag of a value's type (IEC 62056-6-2, common data types)
 abbrev pub tag_of : Tree → ℕ
 tag_of null = 0x00
 tag_of (array ts) = 0x01

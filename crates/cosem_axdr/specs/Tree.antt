@@ -1,4 +1,4 @@
--- A value of DLMS/COSEM Data as a finite tree, without the memory that holds it.
+-- A value of DLMS/COSEM Data (IEC 62056-6-2, common data types) as a finite tree, without the memory that holds it.
 --     Tree, Trees     a value by its type, and the items of an array or structure
 --     trees_of        items from a list;  count_of: how many
 --     nesting         how many arrays and structures lie within one another in a value;  nests: in items

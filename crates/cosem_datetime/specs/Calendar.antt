@@ -55,6 +55,6 @@ unfoldable pub date_of_day : ℕ → CivilDate
 date_of_day zero = record { year = 0; month = 1; day = 1 }
 date_of_day (suc n) = next_date (date_of_day n)
 
--- the weekday of day n, from 1 for Monday to 7 for Sunday: 1 January 2000, day 7 * 104,355, is a Saturday
+-- the weekday of day n, from 1 for Monday to 7 for Sunday (IEC 62056-6-2, date and time formats): 1 January 2000, day 7 * 104,355, is a Saturday
 abbrev pub weekday : ℕ → ℕ
 weekday n = (n + 5) % 7 + 1

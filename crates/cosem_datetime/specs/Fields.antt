@@ -1,4 +1,5 @@
--- What a date, a time and a date-time say, with the ranges of their fields and the bytes that spell them.
+-- What a date, a time and a date-time say, with the ranges of their fields and the bytes that spell them (IEC 62056-6-2, date and time formats).
+-- That hundredths of a second are 0 or not specified is this meter's.
 use Rattle.std.specs.Prelude.{ℕ, ◌<◌, List, [], ◌∷◌, ◌++◌, Option, Some, None, IfSome, ℤ, pos, negsuc, ◌≤ℤ◌}
 use Rattle.std.specs.Int.{IsInRange, w16, to_be_bytes, cast_unsigned}
 use Rattle.cosem_datetime.specs.declared.date.DayOfMonth.{DayOfMonth}

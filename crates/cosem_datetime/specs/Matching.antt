@@ -1,4 +1,4 @@
--- Which seconds of the meter's time a time and a date match.
+-- Which seconds of the meter's time a time and a date match (IEC 62056-6-2, date and time formats). The readings of a weekday beside a day are this meter's.
 use Rattle.std.specs.Prelude.{◌==◌, ℕ, zero, suc, ◌+◌, ◌-◌, ◌/◌, ◌%◌, Bool, true, false, ◌&&◌, ◌||◌, nat_lt, Option, Some, None, is_some, if◌then◌else◌}
 use Rattle.cosem_datetime.specs.declared.calendar.CivilDate.{CivilDate}
 use Rattle.cosem_datetime.specs.declared.date.DayOfMonth.{DayOfMonth}
@@ -52,7 +52,7 @@ date_matches p n = holds p.weekday (weekday n) && month_day_holds p.day p.weekda
 unfoldable pub time_matches : TimeFields → ℕ → Bool
 time_matches t s = holds t.hour (s / 3600) && (holds t.minute (s / 60 % 60) && holds t.second (s % 60))
 
--- the entry matches a second of the meter's time
+-- the entry matches a second of the meter's time (IEC 62056-6-2, class 22, execution_time)
 unfoldable pub matches : EntryPattern → ℕ → Bool
 matches entry s =
     date_matches entry.date (first_day + s / 86400) && time_matches entry.time (s % 86400)
@@ -61,7 +61,7 @@ matches entry s =
 unfoldable pub matches_in : EntryPattern → ℕ → ℕ → Bool
 matches_in entry after upto = some_below (λ k. matches entry (after + 1 + k)) (upto - after)
 
--- year, month and day of the month are plain numbers
+-- year, month and day of the month are plain numbers, as types 2 and 4 want them (IEC 62056-6-2, class 22, type); that the weekday doesn't count is this meter's
 abbrev pub is_plain : DateFields → Bool
 is_plain p = is_some p.year && (is_some p.month && is_number p.day)
   where

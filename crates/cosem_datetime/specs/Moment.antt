@@ -1,4 +1,4 @@
--- The second that a date-time stands for.
+-- The second that a date-time stands for (IEC 62056-6-2, date and time formats).
 use Rattle.std.specs.Prelude.{ℕ, ◌+◌, ◌*◌, ◌^◌, Bool, ◌&&◌, nat_lt, Option, Some, None, unwrap_or, ℤ, pos, negsuc, ◌+ℤ◌, ◌-ℤ◌, ◌*ℤ◌, if◌then◌else◌}
 use Rattle.cosem_datetime.specs.declared.calendar.CivilDate.{CivilDate}
 use Rattle.cosem_datetime.specs.declared.date.DayOfMonth.{DayOfMonth}

@@ -1,4 +1,4 @@
--- Reading bytes field by field from left to right, up to the first fault.
+-- Reading bytes field by field (IEC 62056-6-2, date and time formats) from left to right, up to the first fault.
 use Rattle.std.specs.Prelude.{◌==◌, ℕ, List, length, slice_index, slice_range, Option, Some, None, Result, Ok, Err, ℤ, pos, negsuc, ◌&&◌, ◌||◌, nat_le, nat_lt, Bool, if◌then◌else◌}
 use Rattle.std.specs.Int.{w16, from_be_bytes, cast_signed}
 use Rattle.cosem_datetime.specs.declared.fault.PatternFault.{PatternFault}

@@ -1,3 +1,4 @@
+-- The rows of the table that a request names, and what a client may do there (IEC 62056-6-2, Association LN, access rights).
 use Rattle.std.specs.Prelude.{ℕ, Bool, true, false, Option, None, ◌==◌, ◌&&◌, find, option_map, unwrap_or, option_and_then, if◌then◌else◌}
 use Rattle.std.specs.Str.{bytes_eq}
 use Rattle.cosem_names.specs.declared.level.Level.{Level}

@@ -2,7 +2,7 @@ use Rattle.std.specs.Prelude.{ℕ, Option, Some, None, ◌==◌, if◌then◌els
 use Rattle.cosem_names.specs.declared.result_code.ResultCode.{ResultCode}
 use Rattle.cosem_names.specs.declared.result_code.ResultCode.TheVariants.{Success, HardwareFault, TemporaryFailure, ReadWriteDenied, ObjectUndefined, ObjectClassInconsistent, TypeUnmatched, ScopeOfAccessViolated, NoLongGetInProgress, NoLongSetInProgress, DataBlockNumberInvalid, OtherReason}
 
--- the number of a result in an APDU
+-- the number of a result in an APDU (IEC 62056-5-3, Data-Access-Result and Action-Result)
 abbrev pub code_of : ResultCode → ℕ
 code_of Success = 0
 code_of HardwareFault = 1

@@ -14,7 +14,7 @@ pub record Row : Type 0 where
   pub from : ControlState
   pub to : ControlState
 
--- the eight transitions, by the letters of the standard's figure of states and transitions
+-- the eight transitions, by the letters of the standard's figure of states and transitions (IEC 62056-6-2, class 70)
 abbrev pub a : Row
 a = record { trigger = RemoteReconnect; from = Disconnected; to = Connected }
 
@@ -39,7 +39,7 @@ g = record { trigger = LocalDisconnect; from = Connected; to = ReadyForReconnect
 abbrev pub h : Row
 h = record { trigger = LocalReconnect; from = ReadyForReconnection; to = Connected }
 
--- the transitions of each mode; mode 0 has none
+-- the transitions of each mode (IEC 62056-6-2, class 70, control_mode); mode 0 has none
 abbrev pub rows_of : ControlMode → List Row
 rows_of Mode0 = []
 rows_of Mode1 = b ∷ c ∷ f ∷ g ∷ d ∷ e ∷ []
@@ -49,13 +49,13 @@ rows_of Mode4 = b ∷ c ∷ g ∷ a ∷ e ∷ []
 rows_of Mode5 = b ∷ c ∷ f ∷ g ∷ d ∷ e ∷ h ∷ []
 rows_of Mode6 = b ∷ c ∷ g ∷ d ∷ e ∷ h ∷ []
 
--- the numbers of the states, as attribute 3 shows them
+-- the numbers of the states, as attribute 3 shows them (IEC 62056-6-2, class 70, control_state)
 abbrev pub state_number : ControlState → ℕ
 state_number Disconnected = 0
 state_number Connected = 1
 state_number ReadyForReconnection = 2
 
--- the numbers of the modes, as attribute 4 shows them
+-- the numbers of the modes, as attribute 4 shows them (IEC 62056-6-2, class 70, control_mode)
 abbrev pub mode_number : ControlMode → ℕ
 mode_number Mode0 = 0
 mode_number Mode1 = 1
@@ -110,6 +110,6 @@ is_target _ ManualReconnect state = is_state state Connected
 is_target _ LocalDisconnect state = is_state state Disconnected || is_state state ReadyForReconnection
 is_target _ LocalReconnect state = is_state state Connected
 
--- the result of a trigger: success where a transition is allowed or nothing is left to do
+-- the result of a trigger, which is this meter's: success where a transition is allowed or nothing is left to do
 unfoldable pub result_of : ControlMode → Trigger → ControlState → ResultCode
 result_of mode trigger state = if is_some (allowed mode trigger state) || is_target mode trigger state then Success else TemporaryFailure

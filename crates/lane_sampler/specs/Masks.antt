@@ -14,11 +14,11 @@ pub record IsMask (test : ℕ → Bool) (values words : List ℕ) : Type 0 where
   pub bits : (i : ℕ) → i < 256 →
       mask_bit words i ≡ (if nat_lt i (length values) && test (slice_index values i) then 1 else 0)
 
--- the value is greater than the threshold
+-- the value is greater than the threshold: over it, as a limiter has it (IEC 62056-6-2, class 71)
 abbrev pub is_over : ℕ → ℕ → Bool
 is_over threshold value = nat_lt threshold value
 
--- the value is less than the threshold
+-- the value is less than the threshold: under it, as a limiter has it (IEC 62056-6-2, class 71)
 abbrev pub is_under : ℕ → ℕ → Bool
 is_under threshold value = nat_lt value threshold
 

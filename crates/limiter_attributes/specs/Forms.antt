@@ -1,4 +1,4 @@
--- The parts of a limiter's actions as they are written: nothing where the type is another.
+-- The parts of a limiter's actions as they are written (IEC 62056-6-2, class 71, actions): nothing where the type is another.
 use Rattle.std.specs.Prelude.{List, [], ◌∷◌, Option, Some, None}
 use Rattle.cosem_axdr.specs.declared.value.Data.{Data}
 use Rattle.cosem_axdr.specs.Forms.{structure_of, long_unsigned_of}
@@ -7,7 +7,7 @@ use Rattle.cosem_names.specs.declared.name.Obis.{Obis}
 use Rattle.script_steps.specs.Forms.{◌>>=◌, name_of}
 use Rattle.limiter_attributes.specs.declared.forms.NamedScript.{NamedScript}
 
--- the script table, whose scripts the actions run
+-- the script table, whose scripts the actions run: 0.0.10.0.106.255 (IEC 62056-6-1, script table objects)
 abbrev pub script_table : Obis
 script_table = obis 0 0 10 0 106 255
 

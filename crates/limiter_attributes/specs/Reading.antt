@@ -1,4 +1,4 @@
--- A Data as an attribute of a limiter, or why it is refused. Another type anywhere is told before any value.
+-- A Data as an attribute of a limiter (IEC 62056-6-2, class 71), or why it is refused. Another type anywhere is told before any value: that order is this meter's.
 use Rattle.std.specs.Prelude.{ℕ, Bool, ◌&&◌, nat_le, List, length, Option, Some, None, is_some, ok_or, Result, Ok}
 use Rattle.std.specs.List.{list_all, filter_map}
 use Rattle.std.specs.Result.{result_map_both}

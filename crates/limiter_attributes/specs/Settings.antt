@@ -1,4 +1,4 @@
--- A limiter's settings by the attributes that set them.
+-- A limiter's settings by the attributes that set them (IEC 62056-6-2, class 71).
 use Rattle.std.specs.Prelude.{ℕ, List, Option, Some, None}
 use Rattle.limiter_core.specs.Counting.{no_run}
 use Rattle.limiter_core.specs.Settings.{new_settings}

@@ -1,4 +1,4 @@
--- The attributes of a limiter as they are read.
+-- The attributes of a limiter as they are read (IEC 62056-6-2, class 71).
 use Rattle.std.specs.Prelude.{ℕ, pos, List, [], ◌∷◌, map}
 use Rattle.cosem_axdr.specs.declared.value.Data.{Data}
 use Rattle.cosem_axdr.specs.declared.value.Data.TheVariants.{OctetString, Boolean, DoubleLongUnsigned, LongUnsigned, Integer}

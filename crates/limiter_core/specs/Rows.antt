@@ -1,4 +1,5 @@
--- What a limiter has met, and when it fires: rules over the list of all its samples.
+-- What a limiter has met, and when it fires (IEC 62056-6-2, class 71, min_over_threshold_duration and min_under_threshold_duration): rules over the list of all
+-- its samples. That an entry into Connected ends a run is this meter's.
 use Rattle.std.specs.Prelude.{ℕ, zero, suc, Bool, false, not, ◌&&◌, ◌||◌, List, [], ◌∷◌, drop, nat_lt, nat_le, if◌then◌else◌}
 use Rattle.std.specs.List.{prefix_len}
 use Rattle.limiter_core.specs.declared.kinds.Fire.{Fire}

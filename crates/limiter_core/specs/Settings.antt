@@ -1,4 +1,5 @@
--- The rules of a limiter's settings: the active threshold, the emergency profile and the needs.
+-- The rules of a limiter's settings (IEC 62056-6-2, class 71): the active threshold, the emergency profile and the needs. That the end of the profile's time is
+-- left out, and that a second has ten samples, is this meter's.
 use Rattle.std.specs.Prelude.{ℕ, ◌+◌, ◌*◌, max, Bool, false, ◌&&◌, nat_lt, nat_le, ◌==◌, if◌then◌else◌, Option, Some, None, List, []}
 use Rattle.std.specs.List.{list_any}
 use Rattle.cosem_datetime.specs.Fields.{unspecified}

@@ -1,4 +1,4 @@
--- The answer to one request that comes without a frame and without an association.
+-- The answer to one request (IEC 62056-5-3, GET, SET and ACTION) that comes without a frame and without an association, as this meter takes it too.
 use Rattle.std.specs.Prelude.{ℕ, List}
 use Rattle.relay_core.specs.Machine.{at_event}
 use Rattle.relay_core.specs.World.{World, Stepped}

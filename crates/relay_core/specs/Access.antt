@@ -7,7 +7,8 @@ use Rattle.cosem_names.specs.declared.result_code.ResultCode.{ResultCode}
 use Rattle.cosem_names.specs.declared.result_code.ResultCode.TheVariants.{ObjectUndefined, ObjectClassInconsistent, ReadWriteDenied, ScopeOfAccessViolated}
 use Rattle.cosem_names.specs.Objects.{object_of}
 
--- the order of refusals of a call on an object that was sought by its name
+-- the order of refusals of a call on an object that was sought by its name: the results are the standard's (IEC 62056-5-3, Data-Access-Result and Action-Result),
+-- the order is this meter's
 abbrev pub target_in : Option Object → ClassId → Bool → Bool → Result Instance ResultCode
 target_in None class allowed selected = Err ObjectUndefined
 target_in (Some object) class allowed selected =

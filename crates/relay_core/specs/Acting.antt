@@ -20,7 +20,7 @@ use Rattle.relay_core.specs.World.{World, Outcome}
 use Rattle.script_steps.specs.declared.step.Step.{Step}
 use Rattle.script_steps.specs.Table.{steps_at}
 
--- the trigger that a method of the switch pulls
+-- the trigger that a method of the switch pulls (IEC 62056-6-2, class 70, remote_disconnect and remote_reconnect)
 unfoldable pub switch_trigger : ℕ → Option Trigger
 switch_trigger number = if number == 1 then Some RemoteDisconnect else if number == 2 then Some RemoteReconnect else None
 
@@ -39,7 +39,7 @@ abbrev pub at_selected : Option ℕ → World → Outcome
 at_selected None w = record { world = w; code = TypeUnmatched }
 at_selected (Some selector) w = at_found (steps_at selector w.scripts) w
 
--- the script table's execute takes a long-unsigned, the selector
+-- the script table's execute takes a long-unsigned, the selector (IEC 62056-6-2, class 9, execute)
 unfoldable pub at_execution : Option Data → World → Outcome
 at_execution parameter w = at_selected (option_and_then long_unsigned_of parameter) w
 
@@ -63,6 +63,6 @@ unfoldable pub at_execute : Level → MethodRef → Option Data → World → Ou
 at_execute level method parameter w =
     execute_at (target_of method.name method.class (may_execute_of level method) false) method.number parameter w
 
--- a press of the button: it disconnects a connected switch and reconnects another
+-- a press of the button: it disconnects a connected switch and reconnects another, manually (IEC 62056-6-2, class 70, states and transitions)
 unfoldable pub at_button : World → Outcome
 at_button w = at_trigger (if is_state w.control.state Connected then ManualDisconnect else ManualReconnect) w

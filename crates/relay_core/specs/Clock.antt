@@ -12,7 +12,7 @@ use Rattle.relay_core.specs.Scripts.{at_script}
 use Rattle.relay_core.specs.World.{World, Stepped}
 use Rattle.script_steps.specs.Table.{running_steps}
 
--- a schedule that is due runs its script once, whatever the result
+-- a schedule that is due runs its script (IEC 62056-6-2, class 22, executed_script) once, whatever the result
 unfoldable pub after_schedule : ℕ → ℕ → Schedule → World → World
 after_schedule last now schedule w =
     if is_due schedule last now then (at_script Remote (running_steps schedule.selector w.scripts) w).world else w

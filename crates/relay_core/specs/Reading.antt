@@ -26,7 +26,7 @@ use Rattle.relay_core.specs.Limiters.{metered_of}
 use Rattle.relay_core.specs.World.{World, Metered}
 use Rattle.script_steps.specs.Writing.{data_of}
 
--- the attributes of the switch past its logical name
+-- the attributes of the switch past its logical name (IEC 62056-6-2, class 70)
 abbrev pub control_value : Control → ℕ → GetResult
 control_value control number =
     if number == 2 then Value (Boolean (is_state control.state Connected))
@@ -38,19 +38,19 @@ control_value control number =
 abbrev pub scaler_unit : Data
 scaler_unit = structure_with (Integer (pos 0) ∷ Enum 27 ∷ [])
 
--- the attributes of a register past its logical name
+-- the attributes of a register past its logical name (IEC 62056-6-2, class 3)
 abbrev pub register_value : Metered → ℕ → GetResult
 register_value m number =
     if number == 2 then Value (DoubleLongUnsigned m.last)
     else if number == 3 then Value scaler_unit
     else Code ReadWriteDenied
 
--- the attributes of a limiter past its logical name
+-- the attributes of a limiter past its logical name (IEC 62056-6-2, class 71)
 abbrev pub limiter_value : Which → Settings → Option LimiterAttribute → GetResult
 limiter_value which settings None = Code ReadWriteDenied
 limiter_value which settings (Some attribute) = Value (data_at which attribute settings)
 
--- the attributes of an object past its logical name, as a client of this level reads them
+-- the attributes of an object past its logical name, as a client of this level reads them (IEC 62056-6-2, classes 1, 3, 9, 15, 22, 70 and 71)
 abbrev pub own_value_in : Level → Instance → ℕ → World → GetResult
 own_value_in level Association number w = if number == 2 then Value (object_list_of level) else Code ReadWriteDenied
 own_value_in level DeviceName number w = if number == 2 then Value (OctetString w.device) else Code ReadWriteDenied
@@ -60,7 +60,7 @@ own_value_in level (Schedule which) number w = schedule_value (schedule_of which
 own_value_in level DisconnectControl number w = control_value w.control number
 own_value_in level (Limiter which) number w = limiter_value which (metered_of which w).settings (attribute_numbered number)
 
--- the value of an attribute: attribute 1 is the logical name
+-- the value of an attribute: attribute 1 is the logical name, in every class (IEC 62056-6-2)
 unfoldable pub value_in : Level → Instance → AttrRef → World → GetResult
 value_in level instance attr w = if attr.number == 1 then Value (OctetString attr.name.0) else own_value_in level instance attr.number w
 

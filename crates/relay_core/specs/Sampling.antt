@@ -49,7 +49,7 @@ with_sample value m = record m { last = value; rows = row_of m.settings value �
 unfoldable pub fire_at : Measurement → World → Fire
 fire_at x w = fire_of (with_sample x.value (metered_of x.which w)).rows
 
--- a side that fires runs the script of its action, as the meter itself does
+-- a side that fires runs the script of its action (IEC 62056-6-2, class 71, actions), as the meter itself does
 unfoldable pub after_fire : Fire → Actions → World → World
 after_fire Quiet actions w = w
 after_fire Over actions w = (at_script Local (running_steps actions.over w.scripts) w).world

@@ -1,4 +1,4 @@
--- The four single action schedules, and their attributes as they are read and written.
+-- The four single action schedules, and their attributes as they are read and written (IEC 62056-6-2, class 22).
 use Rattle.std.specs.Prelude.{ℕ, List, [], ◌∷◌, Result, Ok, Err, ◌==◌, if◌then◌else◌}
 use Rattle.action_schedule.specs.declared.attribute.ScheduleAttribute.TheVariants.{ExecutedScript, Kind, ExecutionTime}
 use Rattle.action_schedule.specs.declared.fault.ScheduleFault.{ScheduleFault}

@@ -1,4 +1,4 @@
--- What a script does: its steps in order, up to and with the first that is refused.
+-- What a script does (IEC 62056-6-2, class 9, scripts): its steps in order, up to and with the first that is refused.
 use Rattle.std.specs.Prelude.{Bool, true, false, List, [], ◌∷◌, if◌then◌else◌}
 use Rattle.cosem_names.specs.declared.result_code.ResultCode.{ResultCode}
 use Rattle.cosem_names.specs.declared.result_code.ResultCode.TheVariants.{Success}
@@ -14,7 +14,7 @@ use Rattle.script_steps.specs.declared.step.Step.{Step}
 use Rattle.script_steps.specs.declared.step.Step.TheVariants.{WriteMode, WriteNormal, WriteEmergency, WriteMinOver, WriteMinUnder, WriteProfile, Disconnect, Reconnect}
 
 -- the trigger that a step's method pulls: a remote one where a client or a schedule runs the script, a local one where the
--- meter itself does
+-- meter itself does (which is this meter's)
 abbrev pub disconnect_by : Origin → Trigger
 disconnect_by Remote = RemoteDisconnect
 disconnect_by Local = LocalDisconnect

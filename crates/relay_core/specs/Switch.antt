@@ -1,4 +1,4 @@
--- A trigger of the supply switch.
+-- A trigger of the supply switch (IEC 62056-6-2, class 70, states and transitions). That a limiter's runs end where the switch comes into Connected is this meter's.
 use Rattle.std.specs.Prelude.{Bool, not, ◌∷◌, ◌&&◌, if◌then◌else◌}
 use Rattle.disconnect_control.specs.declared.state.ControlState.TheVariants.{Connected}
 use Rattle.disconnect_control.specs.declared.state.Trigger.{Trigger}

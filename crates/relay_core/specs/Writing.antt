@@ -1,4 +1,4 @@
--- What a client's write does.
+-- What a client's write does (IEC 62056-5-3, SET; IEC 62056-6-2, classes 9, 22, 70 and 71).
 use Rattle.std.specs.Prelude.{ℕ, Bool, true, not, List, Option, Some, None, Result, Ok, Err, ◌==◌, if◌then◌else◌}
 use Rattle.cosem_axdr.specs.declared.value.Data.{Data}
 use Rattle.cosem_datetime.specs.declared.entry.EntryPattern.{EntryPattern}
@@ -36,7 +36,7 @@ use Rattle.script_steps.specs.Reading.{table_of}
 abbrev pub refused : ResultCode → World → Outcome
 refused code w = record { world = w; code = code }
 
--- a control_mode: an enum, 0 to 6
+-- a control_mode: an enum, 0 to 6 (IEC 62056-6-2, class 70)
 abbrev pub mode_numbered : Option ControlMode → Result ControlMode ResultCode
 mode_numbered None = Err OtherReason
 mode_numbered (Some mode) = Ok mode

@@ -1,4 +1,5 @@
--- The parts of a table, a script, a step and an emergency profile as they are written: nothing where the type is another.
+-- The parts of a table, a script and a step (IEC 62056-6-2, class 9, scripts), and of an emergency profile (class 71), as they are written: nothing where the type
+-- is another.
 use Rattle.std.specs.Prelude.{ℕ, List, [], ◌∷◌, Option, Some, None, length, ◌==◌, option_map, unwrap_or, if◌then◌else◌}
 use Rattle.cosem_axdr.specs.declared.value.Data.{Data}
 use Rattle.cosem_axdr.specs.declared.value.Data.TheVariants.{OctetString, DateTime}

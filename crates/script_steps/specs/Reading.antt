@@ -1,4 +1,5 @@
--- A Data as a script table: its scripts, or why it is refused. Another type anywhere is told before any value.
+-- A Data as a script table (IEC 62056-6-2, class 9, scripts): its scripts, or why it is refused. Another type anywhere is told before any value: that order is this
+-- meter's.
 use Rattle.std.specs.Prelude.{ℕ, Bool, true, false, not, ◌&&◌, ◌==◌, nat_le, List, [], ◌∷◌, length, ok_or, Result, Ok, Err, is_err, if◌then◌else◌}
 use Rattle.std.specs.List.{list_any, filter_map}
 use Rattle.std.specs.Result.{result_ok}
@@ -30,7 +31,7 @@ max_steps = 8
 abbrev pub number_of : Data → Result ℕ ScriptFault
 number_of value = ok_or (double_long_unsigned_of value) Unmatched
 
--- an emergency profile, whose start is a date-time without a fault
+-- an emergency profile (IEC 62056-6-2, class 71, emergency_profile), whose start is a date-time without a fault
 unfoldable pub profile_of : Data → Result Profile ScriptFault
 profile_of value = do
   parts ← ok_or (profile_parts_of value) Unmatched

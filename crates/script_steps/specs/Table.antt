@@ -25,7 +25,7 @@ pub record IsTable (scripts : List Script) : Type 0 where
   pub distinct : are_distinct (λ script. script.identifier) scripts ≡ true
   pub fit : All IsScript scripts
 
--- the selector of the null script, which has no steps
+-- the selector of the null script, which has no steps (IEC 62056-6-2, class 9)
 abbrev pub null_script : ℕ
 null_script = 0
 

@@ -1,4 +1,4 @@
--- A script table as it is read: an array of scripts, each a structure of its identifier and an array of its steps.
+-- A script table as it is read (IEC 62056-6-2, class 9, scripts): an array of scripts, each a structure of its identifier and an array of its steps.
 use Rattle.std.specs.Prelude.{pos, List, [], ◌∷◌, map}
 use Rattle.cosem_axdr.specs.Tree.{trees_of}
 use Rattle.cosem_axdr.specs.View.{all_trees}
@@ -19,7 +19,7 @@ array_with items = Array (trees_of (all_trees items))
 abbrev pub structure_with : List Data → Data
 structure_with items = Structure (trees_of (all_trees items))
 
--- an emergency profile: its start is an octet-string
+-- an emergency profile (IEC 62056-6-2, class 71, emergency_profile): its start is an octet-string
 abbrev pub profile_data : Profile → Data
 profile_data profile =
     structure_with (LongUnsigned profile.id ∷ OctetString (date_time_bytes profile.start) ∷ DoubleLongUnsigned profile.duration ∷ [])

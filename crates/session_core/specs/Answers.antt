@@ -10,13 +10,13 @@ use Rattle.xdlms_apdu.specs.Text.{response_text}
 use Rattle.xdlms_apdu.specs.declared.response.Response.{Response}
 use Rattle.xdlms_apdu.specs.declared.response.Response.TheVariants as response
 
--- the payload of an answer
+-- the payload of an answer (IEC 62056-5-3, AARE, RLRE and the responses of GET, SET and ACTION)
 unfoldable pub answer_text : Answer → List ℕ
 answer_text (Association aare) = aare_text aare
 answer_text Release = release_response
 answer_text (Service response) = response_text response
 
--- the frame in which a payload goes to a port
+-- the frame in which a payload goes to a port (IEC 62056-4-7)
 unfoldable pub due_text : ℕ → List ℕ → List ℕ
 due_text to payload = frame_text (record { src = management_device; dst = to; payload = payload })
 

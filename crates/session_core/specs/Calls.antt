@@ -1,4 +1,4 @@
--- What the payload of a frame asks for.
+-- What the payload of a frame asks for (IEC 62056-5-3, AARQ, RLRQ, GET, SET and ACTION).
 --     tag_is, is_opening, is_call     by its first byte
 --     is_negotiated                   by its form, which has to be known and negotiated
 --     call_of                         by all of it
@@ -30,7 +30,7 @@ is_call payload = tag_is rlrq_tag payload || tag_is get_tag payload || tag_is se
 unfoldable pub request_form : ℕ → ℕ → Option RequestForm
 request_form tag number = find (λ form. form.tag == tag && form.number == number) request_forms
 
--- the bits that a form needs were negotiated
+-- the bits that a form needs were negotiated (IEC 62056-5-3, conformance block)
 abbrev pub has_bits : ℕ → Option RequestForm → Bool
 has_bits conformance None = false
 has_bits conformance (Some form) = bit_and conformance form.needs == form.needs

@@ -1,4 +1,5 @@
--- What one frame does, given the association and the transfers before it. It is judged in this order: an AARQ opens an association anew; what is no release and
+-- What one frame does, given the association and the transfers before it (IEC 62056-5-3, association, GET, SET and ACTION, block transfer).
+-- It is judged in this order, which is this meter's: an AARQ opens an association anew; what is no release and
 -- no service is unknown; what comes from a port that has no association is not allowed; then the call decides.
 --     turn_of                                      what comes of the frame
 --     link_after, incoming_after, outgoing_after   the association, the long SET or ACTION and the long GET after it

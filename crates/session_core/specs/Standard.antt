@@ -49,7 +49,7 @@ request_forms =
 
 -- ---- an AARE
 
--- the association results accepted and rejected-permanent
+-- the association results accepted and rejected-permanent (IEC 62056-5-3, AARE)
 abbrev pub accepted : ℕ
 accepted = 0
 

@@ -1,4 +1,5 @@
--- Requests that come without a frame and without an association.
+-- Requests (IEC 62056-5-3, GET, SET and ACTION) that come without a frame and without an association, as this meter takes them too. What isn't taken so is answered
+-- by an exception (IEC 62056-5-3, ExceptionResponse).
 use Rattle.std.specs.Prelude.{ℕ, Bool, false, ◌==◌, ◌&&◌, ◌||◌, if◌then◌else◌, None, List, [], ◌∷◌}
 use Rattle.acse_ber.specs.Verdict.{offered}
 use Rattle.cosem_names.specs.declared.level.Level.TheVariants.{Management}

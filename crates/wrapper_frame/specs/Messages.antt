@@ -1,4 +1,4 @@
--- The frames of a text.
+-- The frames of a text (IEC 62056-4-7).
 --     frames_of, rest_of     the frames that bytes begin with, one after the other, and the bytes after them
 --     Messages               bytes are the texts of frames, and then a rest that begins with no frame
 use Rattle.std.specs.Prelude.{◌≡◌, ◌≢◌, ℕ, zero, suc, ◌+◌, ◌<◌, List, [], ◌∷◌, ◌++◌, length, take, drop, slice_index}

@@ -22,7 +22,7 @@ use Rattle.xdlms_apdu.specs.declared.response.Response.TheVariants as response
 abbrev pub IsFitData : Data → Type 0
 IsFitData value = IsFit (tree_of value)
 
--- a class that two bytes hold, and a logical name of six bytes: so it is of each that a program holds
+-- a class that two bytes hold, and a logical name of six bytes (IEC 62056-5-3, attribute and method descriptors): so it is of each that a program holds
 abbrev pub IsFitDescriptor : ClassId → Obis → Type 0
 IsFitDescriptor class name = (class.0 < 2 ^ 16) × (length name.0 ≡ 6)
 
@@ -36,7 +36,7 @@ IsFitMethod method = IsFitDescriptor method.class method.name
 abbrev pub IsFitTarget : AttributeSelection → Type 0
 IsFitTarget target = IsFitAttribute target.attr
 
--- the number of a block, which four bytes hold
+-- the number of a block, which four bytes hold (IEC 62056-5-3, block transfer)
 abbrev pub IsFitNumber : ℕ → Type 0
 IsFitNumber number = number < 2 ^ 32
 

@@ -1,4 +1,5 @@
--- How each APDU begins: the tag of the service, the number of the form, and the invoke-id-and-priority.
+-- How each APDU begins (IEC 62056-5-3, GET, SET, ACTION and ExceptionResponse): the tag of the service, the number of the form, and the
+-- invoke-id-and-priority.
 --     request_head       of a request
 --     response_head      of a response; of an exception the tag alone
 use Rattle.std.specs.Prelude.{ℕ, List, [], ◌∷◌}

@@ -1,4 +1,4 @@
--- Reading an APDU, with the fault that is met first.
+-- Reading an APDU (IEC 62056-5-3, GET, SET, ACTION and ExceptionResponse), with the fault that is met first. The order of faults is this meter's.
 --     Read, Reads                       what a step answers, and how code is compared with it
 --     one_at, two_at, three_at          fields one after the other, made into one value
 --     byte_at .. raw_at                 a byte, bytes, a number, a flag, a length, bytes behind their length

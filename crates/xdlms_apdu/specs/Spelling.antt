@@ -1,4 +1,4 @@
--- What bytes spell which APDU, by cases on the APDU.
+-- What bytes spell which APDU (IEC 62056-5-3, GET, SET, ACTION and ExceptionResponse), by cases on the APDU.
 --     IsByte .. IsList                        the parts of the services
 --     IsRequestBody, IsResponseBody           what stands behind the first bytes
 --     SpellsRequest, SpellsResponse           whole APDUs

@@ -1,4 +1,4 @@
--- What is written: of each APDU one text, with the shortest lengths.
+-- What is written (IEC 62056-5-3, GET, SET, ACTION and ExceptionResponse): of each APDU one text, with the shortest lengths.
 --     flag_text .. list_text          the parts of the services
 --     request_body, response_body     what stands behind the first bytes
 --     request_text, response_text     whole APDUs

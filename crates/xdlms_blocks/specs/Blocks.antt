@@ -1,4 +1,4 @@
--- The blocks of a text.
+-- The blocks of a text (IEC 62056-5-3, block transfer).
 --     AreBlocks     pieces are the blocks of one text, in order: numbered by ones, each full but the last, and the last alone marked
 --     joined        their parts, end to end
 --     pieces_of     the pieces that a transfer gives, each asked for by the number of the one before

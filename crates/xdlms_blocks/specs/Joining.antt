@@ -1,4 +1,4 @@
--- What is joined of blocks that come.
+-- What is joined of blocks that come (IEC 62056-5-3, block transfer).
 use Rattle.std.specs.Prelude.{ℕ, ◌+◌, Bool, false, not, List, [], ◌++◌, Option, Some, None, if◌then◌else◌}
 use Rattle.xdlms_blocks.specs.declared.fault.BlockFault.{BlockFault}
 use Rattle.xdlms_blocks.specs.declared.fault.BlockFault.TheVariants.{NoTransfer, WrongNumber, TooLong, Memory}

@@ -5,7 +5,7 @@ use Rattle.std.specs.Prelude.{ℕ}
 abbrev pub max_blocks : ℕ
 max_blocks = 4294967295
 
--- how many raw bytes a block that is sent has at least: a PDU of 64 bytes has room for them behind the 12 of a GET-Response-With-Datablock
+-- how many raw bytes a block that is sent has at least: a PDU of 64 bytes has room for them behind the 12 of a GET-Response-With-Datablock (IEC 62056-5-3, GET)
 abbrev pub min_block_size : ℕ
 min_block_size = 52
 

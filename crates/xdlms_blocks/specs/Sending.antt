@@ -1,4 +1,4 @@
--- What is sent next of a long text. The text is cut every `size` bytes, and its last block is the rest.
+-- What is sent next of a long text (IEC 62056-5-3, block transfer). The text is cut every `size` bytes, and its last block is the rest.
 use Rattle.std.specs.Prelude.{ℕ, ◌+◌, ◌*◌, nat_le, Bool, false, not, List, length, take, drop}
 use Rattle.xdlms_blocks.specs.declared.blocks.Piece.{Piece}
 use Rattle.xdlms_blocks.specs.declared.fault.BlockFault.{BlockFault}
