@@ -12,6 +12,8 @@ ENVIRONMENT = {name: value for name, value in os.environ.items() if name != "MET
 
 FAULT_INPUT = b"fault: input\n"
 FAULT_LISTEN = b"fault: listen\n"
+# What --verbose tells behind the number of a line that is wrong in a trace.
+NO_LINE = b"not what a trace has there, missing, or one too many\n"
 
 HEX = ["hex", "--password", "12345678"]
 SERVE = ["serve", "--password", "12345678"]
@@ -188,6 +190,17 @@ CASES = [
     ("65,537 events", "trace_player_cli", [], with_events(OPENING, *[b"button"] * 65537), b"", FAULT_INPUT, 2),
     ("33,554,432 bytes", "trace_player_cli", [], LARGEST, LARGEST_PLAYED, b"", 0),
     ("a byte more than the largest trace", "trace_player_cli", [], LARGEST + b"\n", b"", FAULT_INPUT, 2),
+    ("a played trace has nothing to tell", "trace_player_cli", ["--verbose"], TRACE, PLAYED, b"", 0),
+    ("where there is no trace", "trace_player_cli", ["--verbose"], b"", b"", b"line 1: " + NO_LINE + FAULT_INPUT, 2),
+    ("where the mode is none", "trace_player_cli", ["--verbose"], TRACE.replace(b"mode 0", b"mode 7"), b"", b"line 4: " + NO_LINE + FAULT_INPUT, 2),
+    ("where a run must have fired", "trace_player_cli", ["--verbose"],
+     with_events(LONG_RUN.replace(b"\nover 0 0", b"\nover 42949672950 0"), b"samples 5001"), b"", b"line 14: " + NO_LINE + FAULT_INPUT, 2),
+    ("where an event is wrong", "trace_player_cli", ["--verbose"], with_events(OPENING, b"button", b"press"), b"",
+     b"line 23: " + NO_LINE + FAULT_INPUT, 2),
+    ("where a line is too many", "trace_player_cli", ["--verbose"], with_events(OPENING_2, b"button") + b"button\n", b"",
+     b"line 33: " + NO_LINE + FAULT_INPUT, 2),
+    ("where a trace is too long", "trace_player_cli", ["--verbose"], LARGEST + b"\n", b"",
+     b"byte 33554433: a trace of more than 33,554,432 bytes\n" + FAULT_INPUT, 2),
     ("an argument", "trace_player_cli", ["trace"], TRACE, b"", None, 2),
     ("help of the player", "trace_player_cli", ["--help"], b"", None, b"", 0),
     ("jobs are counted", "head_end_cli", ["check"], b"m1 127.0.0.1:4059 disconnect\nm2 127.0.0.1:4060 state\n", b"jobs 2\n", b"", 0),
@@ -200,6 +213,19 @@ CASES = [
     ("1,000 jobs", "head_end_cli", ["check"], b"m 127.0.0.1:4059 state\n" * 1000, b"jobs 1000\n", b"", 0),
     ("1,001 jobs", "head_end_cli", ["check"], b"m 127.0.0.1:4059 state\n" * 1001, b"", FAULT_INPUT, 2),
     ("1,048,577 bytes of jobs", "head_end_cli", ["check"], b"\n" * 1048577, b"", FAULT_INPUT, 2),
+    ("where a verb is wrong", "head_end_cli", ["check", "--verbose"], b"m1 127.0.0.1:4059 state\n\nm2 127.0.0.1:4059 close\n", b"",
+     b"line 3: no verb disconnect, reconnect or state\n" + FAULT_INPUT, 2),
+    ("where an address is missing", "head_end_cli", ["check", "--verbose"], b"m1  127.0.0.1:4059 state\n", b"",
+     b"line 1: no address of 1 to 64 visible bytes\n" + FAULT_INPUT, 2),
+    ("where a name is too long", "head_end_cli", ["check", "--verbose"], b"n" * 33 + b" 127.0.0.1:4059 state\n", b"",
+     b"line 1: no name of 1 to 32 visible bytes\n" + FAULT_INPUT, 2),
+    ("where a word is too many", "head_end_cli", ["run", "--verbose", "--password", "12345678"], b"m1 127.0.0.1:4059 state now", b"",
+     b"line 1: more words than a name, an address and a verb\n" + FAULT_INPUT, 2),
+    ("where jobs are too many", "head_end_cli", ["check", "--verbose"], b"m 127.0.0.1:4059 state\n" * 1001, b"",
+     b"job 1001: more than 1,000 jobs\n" + FAULT_INPUT, 2),
+    ("where jobs are too long", "head_end_cli", ["check", "--verbose"], b"\n" * 1048577, b"", b"byte 1048577: more than 1,048,576 bytes\n" + FAULT_INPUT, 2),
+    ("where a campaign has no password", "head_end_cli", ["run", "--verbose"], b"", b"", b"password: none that has 1 to 32 bytes\n" + FAULT_INPUT, 2),
+    ("jobs that are right have nothing to tell", "head_end_cli", ["check", "--verbose"], b"m1 127.0.0.1:4059 state\n", b"jobs 1\n", b"", 0),
     ("a campaign without jobs", "head_end_cli", ["run", "--password", "12345678"], b"", b"", b"", 0),
     ("a closed port and a text that is no address", "head_end_cli", ["run", "--password", "12345678", "--connect-timeout", "2"],
      b"m1 127.0.0.1:1 disconnect\nm2 nowhere state\n", b"m1 unknown\nm2 unknown\n", b"", 0),

@@ -21,40 +21,6 @@ const SET_LAST_BLOCK: [u8; 11] = [
     0xC1, 0x03, 0xC1, 0x01, 0x00, 0x00, 0x00, 0x02, 0x02, 0x1B, 0x58,
 ];
 
-// A request of each form, and some forms with other contents.
-const REQUESTS: [&[u8]; 13] = [
-    &GET,
-    &GET_SELECTED,
-    &[0xC0, 0x02, 0xC1, 0x00, 0x00, 0x00, 0x01],
-    &[
-        0xC0, 0x03, 0xC1, 0x02, 0x00, 0x46, 0x00, 0x00, 0x60, 0x03, 0x0A, 0xFF, 0x03, 0x00, 0x00,
-        0x46, 0x00, 0x00, 0x60, 0x03, 0x0B, 0xFF, 0x03, 0x00,
-    ],
-    &[0xC0, 0x03, 0xC1, 0x00],
-    &[
-        0xC1, 0x01, 0xC1, 0x00, 0x46, 0x00, 0x00, 0x60, 0x03, 0x0A, 0xFF, 0x04, 0x00, 0x16, 0x02,
-    ],
-    &[
-        0xC1, 0x02, 0xC1, 0x00, 0x47, 0x00, 0x00, 0x11, 0x00, 0x00, 0xFF, 0x04, 0x00, 0x00, 0x00,
-        0x00, 0x00, 0x01, 0x03, 0x06, 0x00, 0x00,
-    ],
-    &SET_LAST_BLOCK,
-    &[
-        0xC3, 0x01, 0xC1, 0x00, 0x46, 0x00, 0x00, 0x60, 0x03, 0x0A, 0xFF, 0x02, 0x00,
-    ],
-    &[
-        0xC3, 0x01, 0xC1, 0x00, 0x46, 0x00, 0x00, 0x60, 0x03, 0x0A, 0xFF, 0x02, 0x01, 0x0F, 0x00,
-    ],
-    &[
-        0xC3, 0x04, 0xC1, 0x00, 0x46, 0x00, 0x00, 0x60, 0x03, 0x0A, 0xFF, 0x01, 0x00, 0x00, 0x00,
-        0x00, 0x01, 0x01, 0x0F,
-    ],
-    &[0xC3, 0x06, 0xC1, 0x01, 0x00, 0x00, 0x00, 0x02, 0x01, 0x00],
-    &[
-        0xC0, 0x01, 0xC1, 0x00, 0x01, 0x00, 0x00, 0x2A, 0x00, 0x00, 0xFF, 0x02, 0x00,
-    ],
-];
-
 // An attribute of disconnect control, of the one with that value group E.
 fn control(group: u8, number: u8, selected: bool) -> AttributeSelection {
     AttributeSelection {
@@ -64,6 +30,18 @@ fn control(group: u8, number: u8, selected: bool) -> AttributeSelection {
             number,
         },
         selected,
+    }
+}
+
+// An attribute of an object of another class.
+fn attribute(class: u16, name: Obis, number: u8) -> AttributeSelection {
+    AttributeSelection {
+        attr: AttrRef {
+            class: ClassId(class),
+            name,
+            number,
+        },
+        selected: false,
     }
 }
 
@@ -84,180 +62,372 @@ fn block(alloc: Global, last: bool, number: u32, raw: &[u8]) -> Result<Block, Al
     })
 }
 
-// What the text at that place of the table spells.
-fn request_at(alloc: Global, place: usize) -> Result<Request, AllocError> {
-    Ok(match place {
-        0 => Request::Get {
+// Adds a value and its text.
+fn add<T: Drop>(
+    pairs: &mut Vec<(&'static [u8], T)>,
+    text: &'static [u8],
+    value: T,
+) -> Result<(), AllocError> {
+    pairs.push((text, value))?;
+    Ok(())
+}
+
+// Adds requests that read an attribute, with their texts.
+fn add_gets(pairs: &mut Vec<(&'static [u8], Request)>) -> Result<(), AllocError> {
+    add(
+        pairs,
+        &GET,
+        Request::Get {
             id: ID,
             target: control(10, 3, false),
         },
-        1 => Request::Get {
+    )?;
+    add(
+        pairs,
+        &GET_SELECTED,
+        Request::Get {
             id: ID,
             target: control(10, 3, true),
         },
-        2 => Request::GetNext { id: ID, number: 1 },
-        3 => Request::GetList {
+    )?;
+    add(
+        pairs,
+        &[
+            0xC0, 0x01, 0xC1, 0x00, 0x01, 0x00, 0x00, 0x2A, 0x00, 0x00, 0xFF, 0x02, 0x00,
+        ],
+        Request::Get {
             id: ID,
-            targets: Listed::from_vec(vec![in alloc;
-                control(10, 3, false),
-                control(11, 3, false),
-            ]?),
+            target: attribute(1, Obis([0, 0, 42, 0, 0, 255]), 2),
         },
-        4 => Request::GetList {
+    )?;
+    add(
+        pairs,
+        &[0xC0, 0x02, 0xC1, 0x00, 0x00, 0x00, 0x01],
+        Request::GetNext { id: ID, number: 1 },
+    )
+}
+
+// The same of requests that read lists of attributes.
+fn add_get_lists(
+    alloc: Global,
+    pairs: &mut Vec<(&'static [u8], Request)>,
+) -> Result<(), AllocError> {
+    let targets = vec![in alloc; control(10, 3, false), control(11, 3, false)]?;
+    add(
+        pairs,
+        &[
+            0xC0, 0x03, 0xC1, 0x02, 0x00, 0x46, 0x00, 0x00, 0x60, 0x03, 0x0A, 0xFF, 0x03, 0x00,
+            0x00, 0x46, 0x00, 0x00, 0x60, 0x03, 0x0B, 0xFF, 0x03, 0x00,
+        ],
+        Request::GetList {
+            id: ID,
+            targets: Listed::from_vec(targets),
+        },
+    )?;
+    add(
+        pairs,
+        &[0xC0, 0x03, 0xC1, 0x00],
+        Request::GetList {
             id: ID,
             targets: Listed::new(alloc),
         },
-        5 => Request::Set {
+    )
+}
+
+// The same of requests that write an attribute.
+fn add_sets(alloc: Global, pairs: &mut Vec<(&'static [u8], Request)>) -> Result<(), AllocError> {
+    add(
+        pairs,
+        &[
+            0xC1, 0x01, 0xC1, 0x00, 0x46, 0x00, 0x00, 0x60, 0x03, 0x0A, 0xFF, 0x04, 0x00, 0x16,
+            0x02,
+        ],
+        Request::Set {
             id: ID,
             target: control(10, 4, false),
             value: Data::Enum(2),
         },
-        6 => Request::SetFirst {
+    )?;
+    let first = block(alloc, false, 1, &[0x06, 0x00, 0x00])?;
+    add(
+        pairs,
+        &[
+            0xC1, 0x02, 0xC1, 0x00, 0x47, 0x00, 0x00, 0x11, 0x00, 0x00, 0xFF, 0x04, 0x00, 0x00,
+            0x00, 0x00, 0x00, 0x01, 0x03, 0x06, 0x00, 0x00,
+        ],
+        Request::SetFirst {
             id: ID,
-            target: AttributeSelection {
-                attr: AttrRef {
-                    class: ClassId(71),
-                    name: Obis([0, 0, 17, 0, 0, 255]),
-                    number: 4,
-                },
-                selected: false,
-            },
-            block: block(alloc, false, 1, &[0x06, 0x00, 0x00])?,
+            target: attribute(71, Obis([0, 0, 17, 0, 0, 255]), 4),
+            block: first,
         },
-        7 => Request::SetNext {
+    )?;
+    let last = block(alloc, true, 2, &[0x1B, 0x58])?;
+    add(
+        pairs,
+        &SET_LAST_BLOCK,
+        Request::SetNext {
             id: ID,
-            block: block(alloc, true, 2, &[0x1B, 0x58])?,
+            block: last,
         },
-        8 => Request::Action {
+    )
+}
+
+// The same of requests that call a method with a parameter that comes whole, or with none.
+fn add_actions(pairs: &mut Vec<(&'static [u8], Request)>) -> Result<(), AllocError> {
+    add(
+        pairs,
+        &[
+            0xC3, 0x01, 0xC1, 0x00, 0x46, 0x00, 0x00, 0x60, 0x03, 0x0A, 0xFF, 0x02, 0x00,
+        ],
+        Request::Action {
             id: ID,
             method: method(2),
             parameter: None,
         },
-        9 => Request::Action {
+    )?;
+    add(
+        pairs,
+        &[
+            0xC3, 0x01, 0xC1, 0x00, 0x46, 0x00, 0x00, 0x60, 0x03, 0x0A, 0xFF, 0x02, 0x01, 0x0F,
+            0x00,
+        ],
+        Request::Action {
             id: ID,
             method: method(2),
             parameter: Some(Data::Integer(0)),
         },
-        10 => Request::ActionFirst {
+    )
+}
+
+// The same of requests that call a method with a parameter in blocks.
+fn add_action_blocks(
+    alloc: Global,
+    pairs: &mut Vec<(&'static [u8], Request)>,
+) -> Result<(), AllocError> {
+    let first = block(alloc, false, 1, &[0x0F])?;
+    add(
+        pairs,
+        &[
+            0xC3, 0x04, 0xC1, 0x00, 0x46, 0x00, 0x00, 0x60, 0x03, 0x0A, 0xFF, 0x01, 0x00, 0x00,
+            0x00, 0x00, 0x01, 0x01, 0x0F,
+        ],
+        Request::ActionFirst {
             id: ID,
             method: method(1),
-            block: block(alloc, false, 1, &[0x0F])?,
+            block: first,
         },
-        11 => Request::ActionNext {
+    )?;
+    let last = block(alloc, true, 2, &[0x00])?;
+    add(
+        pairs,
+        &[0xC3, 0x06, 0xC1, 0x01, 0x00, 0x00, 0x00, 0x02, 0x01, 0x00],
+        Request::ActionNext {
             id: ID,
-            block: block(alloc, true, 2, &[0x00])?,
+            block: last,
         },
-        _ => Request::Get {
-            id: ID,
-            target: AttributeSelection {
-                attr: AttrRef {
-                    class: ClassId(1),
-                    name: Obis([0, 0, 42, 0, 0, 255]),
-                    number: 2,
-                },
-                selected: false,
-            },
-        },
-    })
+    )
+}
+
+// A request of each form, and some forms with other contents, each with its text.
+fn add_requests(
+    alloc: Global,
+    pairs: &mut Vec<(&'static [u8], Request)>,
+) -> Result<(), AllocError> {
+    add_gets(pairs)?;
+    add_get_lists(alloc, pairs)?;
+    add_sets(alloc, pairs)?;
+    add_actions(pairs)?;
+    add_action_blocks(alloc, pairs)
 }
 
 const GOT: [u8; 6] = [0xC4, 0x01, 0xC1, 0x00, 0x16, 0x01];
 
-// A response of each form, and some forms with other contents.
-const RESPONSES: [&[u8]; 18] = [
-    &GOT,
-    &[
-        0xC4, 0x01, 0xC1, 0x00, 0x09, 0x06, 0x52, 0x45, 0x4C, 0x41, 0x59, 0x31,
-    ],
-    &[0xC4, 0x01, 0xC1, 0x01, 0xFA],
-    &[
-        0xC4, 0x02, 0xC1, 0x01, 0x00, 0x00, 0x00, 0x1A, 0x00, 0x03, 0x04, 0x04, 0x04,
-    ],
-    &[0xC4, 0x02, 0xC1, 0x01, 0x00, 0x00, 0x00, 0x07, 0x01, 0x13],
-    &[0xC4, 0x03, 0xC1, 0x02, 0x00, 0x16, 0x01, 0x01, 0x04],
-    &[0xC4, 0x03, 0xC1, 0x00],
-    &[0xC5, 0x01, 0xC1, 0x00],
-    &[0xC5, 0x01, 0xC1, 0x03],
-    &[0xC5, 0x02, 0xC1, 0x00, 0x00, 0x00, 0x01],
-    &[0xC5, 0x03, 0xC1, 0x00, 0x00, 0x00, 0x00, 0x02],
-    &[0xC7, 0x01, 0xC1, 0x02, 0x00],
-    &[0xC7, 0x01, 0xC1, 0xFA, 0x00],
-    &[0xC7, 0x04, 0xC1, 0x00, 0x00, 0x00, 0x01],
-    &[0xD8, 0x01, 0x01],
-    &[0xD8, 0x02, 0x02],
-    &[0xD8, 0x01, 0x03],
-    &[
-        0xC4, 0x02, 0xC1, 0x00, 0x00, 0x00, 0x00, 0x01, 0x00, 0x02, 0x02, 0x04,
-    ],
-];
-
-// What the text at that place of the table spells.
-fn response_at(alloc: Global, place: usize) -> Result<Response, AllocError> {
-    Ok(match place {
-        0 => Response::Get {
+// Adds responses that carry the value of an attribute, or why there is none, with their texts.
+fn add_got(alloc: Global, pairs: &mut Vec<(&'static [u8], Response)>) -> Result<(), AllocError> {
+    add(
+        pairs,
+        &GOT,
+        Response::Get {
             id: ID,
             result: GetResult::Value(Data::Enum(1)),
         },
-        1 => Response::Get {
+    )?;
+    let name = Octets::from_slice(alloc, b"RELAY1")?;
+    add(
+        pairs,
+        &[
+            0xC4, 0x01, 0xC1, 0x00, 0x09, 0x06, 0x52, 0x45, 0x4C, 0x41, 0x59, 0x31,
+        ],
+        Response::Get {
             id: ID,
-            result: GetResult::Value(Data::OctetString(Octets::from_slice(alloc, b"RELAY1")?)),
+            result: GetResult::Value(Data::OctetString(name)),
         },
-        2 => Response::Get {
+    )?;
+    add(
+        pairs,
+        &[0xC4, 0x01, 0xC1, 0x01, 0xFA],
+        Response::Get {
             id: ID,
             result: GetResult::Code(ResultCode::OtherReason),
         },
-        3 => Response::GetBlock {
+    )
+}
+
+// The same of responses with a block of a value.
+fn add_got_blocks(
+    alloc: Global,
+    pairs: &mut Vec<(&'static [u8], Response)>,
+) -> Result<(), AllocError> {
+    let last = block(alloc, true, 26, &[0x04, 0x04, 0x04])?;
+    add(
+        pairs,
+        &[
+            0xC4, 0x02, 0xC1, 0x01, 0x00, 0x00, 0x00, 0x1A, 0x00, 0x03, 0x04, 0x04, 0x04,
+        ],
+        Response::GetBlock {
             id: ID,
-            block: block(alloc, true, 26, &[0x04, 0x04, 0x04])?,
+            block: last,
         },
-        4 => Response::GetBlockRefused {
+    )?;
+    add(
+        pairs,
+        &[0xC4, 0x02, 0xC1, 0x01, 0x00, 0x00, 0x00, 0x07, 0x01, 0x13],
+        Response::GetBlockRefused {
             id: ID,
             last: true,
             number: 7,
             code: ResultCode::DataBlockNumberInvalid,
         },
-        5 => Response::GetList {
+    )?;
+    let first = block(alloc, false, 1, &[0x02, 0x04])?;
+    add(
+        pairs,
+        &[
+            0xC4, 0x02, 0xC1, 0x00, 0x00, 0x00, 0x00, 0x01, 0x00, 0x02, 0x02, 0x04,
+        ],
+        Response::GetBlock {
             id: ID,
-            results: Listed::from_vec(vec![in alloc;
-                GetResult::Value(Data::Enum(1)),
-                GetResult::Code(ResultCode::ObjectUndefined),
-            ]?),
+            block: first,
         },
-        6 => Response::GetList {
+    )
+}
+
+// The same of responses with a list of values.
+fn add_got_lists(
+    alloc: Global,
+    pairs: &mut Vec<(&'static [u8], Response)>,
+) -> Result<(), AllocError> {
+    let results = vec![in alloc;
+        GetResult::Value(Data::Enum(1)),
+        GetResult::Code(ResultCode::ObjectUndefined),
+    ]?;
+    add(
+        pairs,
+        &[0xC4, 0x03, 0xC1, 0x02, 0x00, 0x16, 0x01, 0x01, 0x04],
+        Response::GetList {
+            id: ID,
+            results: Listed::from_vec(results),
+        },
+    )?;
+    add(
+        pairs,
+        &[0xC4, 0x03, 0xC1, 0x00],
+        Response::GetList {
             id: ID,
             results: Listed::new(alloc),
         },
-        7 => Response::Set {
+    )
+}
+
+// The same of what is answered to a write.
+fn add_set(pairs: &mut Vec<(&'static [u8], Response)>) -> Result<(), AllocError> {
+    add(
+        pairs,
+        &[0xC5, 0x01, 0xC1, 0x00],
+        Response::Set {
             id: ID,
             code: ResultCode::Success,
         },
-        8 => Response::Set {
+    )?;
+    add(
+        pairs,
+        &[0xC5, 0x01, 0xC1, 0x03],
+        Response::Set {
             id: ID,
             code: ResultCode::ReadWriteDenied,
         },
-        9 => Response::SetBlock { id: ID, number: 1 },
-        10 => Response::SetLastBlock {
+    )?;
+    add(
+        pairs,
+        &[0xC5, 0x02, 0xC1, 0x00, 0x00, 0x00, 0x01],
+        Response::SetBlock { id: ID, number: 1 },
+    )?;
+    add(
+        pairs,
+        &[0xC5, 0x03, 0xC1, 0x00, 0x00, 0x00, 0x00, 0x02],
+        Response::SetLastBlock {
             id: ID,
             code: ResultCode::Success,
             number: 2,
         },
-        11 => Response::Action {
+    )
+}
+
+// The same of what is answered to the call of a method.
+fn add_acted(pairs: &mut Vec<(&'static [u8], Response)>) -> Result<(), AllocError> {
+    add(
+        pairs,
+        &[0xC7, 0x01, 0xC1, 0x02, 0x00],
+        Response::Action {
             id: ID,
             code: ResultCode::TemporaryFailure,
         },
-        12 => Response::Action {
+    )?;
+    add(
+        pairs,
+        &[0xC7, 0x01, 0xC1, 0xFA, 0x00],
+        Response::Action {
             id: ID,
             code: ResultCode::OtherReason,
         },
-        13 => Response::ActionBlock { id: ID, number: 1 },
-        14 => Response::Exception(Exception::NotAllowed),
-        15 => Response::Exception(Exception::Unknown),
-        16 => Response::Exception(Exception::Unreadable),
-        _ => Response::GetBlock {
-            id: ID,
-            block: block(alloc, false, 1, &[0x02, 0x04])?,
-        },
-    })
+    )?;
+    add(
+        pairs,
+        &[0xC7, 0x04, 0xC1, 0x00, 0x00, 0x00, 0x01],
+        Response::ActionBlock { id: ID, number: 1 },
+    )
+}
+
+// The same of exceptions.
+fn add_exceptions(pairs: &mut Vec<(&'static [u8], Response)>) -> Result<(), AllocError> {
+    add(
+        pairs,
+        &[0xD8, 0x01, 0x01],
+        Response::Exception(Exception::NotAllowed),
+    )?;
+    add(
+        pairs,
+        &[0xD8, 0x02, 0x02],
+        Response::Exception(Exception::Unknown),
+    )?;
+    add(
+        pairs,
+        &[0xD8, 0x01, 0x03],
+        Response::Exception(Exception::Unreadable),
+    )
+}
+
+// A response of each form, and some forms with other contents, each with its text.
+fn add_responses(
+    alloc: Global,
+    pairs: &mut Vec<(&'static [u8], Response)>,
+) -> Result<(), AllocError> {
+    add_got(alloc, pairs)?;
+    add_got_blocks(alloc, pairs)?;
+    add_got_lists(alloc, pairs)?;
+    add_set(pairs)?;
+    add_acted(pairs)?;
+    add_exceptions(pairs)
 }
 
 // The calls under test, without their contracts: a test is run for what no clause says, and its own proof then has little to look at.
@@ -321,17 +491,9 @@ fn is_text_of_request(alloc: Global, request: &Request, bytes: &[u8]) -> bool {
     }
 }
 
-// Whether the text at that place of the table is read as what it spells, and is what is written of it.
-fn is_request_at(alloc: Global, place: usize, text: &[u8]) -> bool {
-    match request_at(alloc, place) {
-        Ok(expected) => {
-            let is_read = is_read_as_request(alloc, text, &expected);
-            let is_written = is_text_of_request(alloc, &expected, text);
-            drop(expected);
-            is_read && is_written
-        }
-        Err(_) => false,
-    }
+// Whether the text is read as that request, and is what is written of it.
+fn spells_request(alloc: Global, text: &[u8], request: &Request) -> bool {
+    is_read_as_request(alloc, text, request) && is_text_of_request(alloc, request, text)
 }
 
 // Whether Debug writes this of a response.
@@ -378,33 +540,31 @@ fn is_text_of_response(alloc: Global, response: &Response, bytes: &[u8]) -> bool
     }
 }
 
-// Whether the text at that place of the table is read as what it spells, and is what is written of it.
-fn is_response_at(alloc: Global, place: usize, text: &[u8]) -> bool {
-    match response_at(alloc, place) {
-        Ok(expected) => {
-            let is_read = is_read_as_response(alloc, text, &expected);
-            let is_written = is_text_of_response(alloc, &expected, text);
-            drop(expected);
-            is_read && is_written
-        }
-        Err(_) => false,
-    }
+// Whether the text is read as that response, and is what is written of it.
+fn spells_response(alloc: Global, text: &[u8], response: &Response) -> bool {
+    is_read_as_response(alloc, text, response) && is_text_of_response(alloc, response, text)
 }
 
 #[test]
 fn each_request_is_read_and_written(rt: HostRuntime) {
     text_of_request_spells();
-    for (place, text) in REQUESTS.iter().enumerate() {
-        assert!(rt; is_request_at(rt.alloc(), place, text), "at {place}");
+    let mut pairs = Vec::new(rt.alloc());
+    assert!(rt; add_requests(rt.alloc(), &mut pairs).is_ok());
+    for (text, request) in &pairs {
+        assert!(rt; spells_request(rt.alloc(), text, request), "{text:?}");
     }
+    drop(pairs);
 }
 
 #[test]
 fn each_response_is_read_and_written(rt: HostRuntime) {
     text_of_response_spells();
-    for (place, text) in RESPONSES.iter().enumerate() {
-        assert!(rt; is_response_at(rt.alloc(), place, text), "at {place}");
+    let mut pairs = Vec::new(rt.alloc());
+    assert!(rt; add_responses(rt.alloc(), &mut pairs).is_ok());
+    for (text, response) in &pairs {
+        assert!(rt; spells_response(rt.alloc(), text, response), "{text:?}");
     }
+    drop(pairs);
 }
 
 // Why bytes are no request, and no response; None where they are one.
@@ -443,7 +603,9 @@ fn late_response_fault(alloc: Global, text: &[u8]) -> Option<ApduFault> {
 
 #[test]
 fn a_request_that_ends_too_early_is_unreadable(rt: HostRuntime) {
-    for text in &REQUESTS {
+    let mut pairs = Vec::new(rt.alloc());
+    assert!(rt; add_requests(rt.alloc(), &mut pairs).is_ok());
+    for (text, _) in &pairs {
         for end in 1..text.len() {
             let fault = request_fault(rt.alloc(), &text[..end]);
             assert!(rt;
@@ -452,19 +614,25 @@ fn a_request_that_ends_too_early_is_unreadable(rt: HostRuntime) {
             );
         }
     }
+    drop(pairs);
 }
 
 #[test]
 fn a_request_that_ends_too_late_is_unreadable(rt: HostRuntime) {
-    for text in &REQUESTS {
+    let mut pairs = Vec::new(rt.alloc());
+    assert!(rt; add_requests(rt.alloc(), &mut pairs).is_ok());
+    for (text, _) in &pairs {
         let fault = late_request_fault(rt.alloc(), text);
         assert!(rt; fault == Some(ApduFault::Unreadable), "{text:?}");
     }
+    drop(pairs);
 }
 
 #[test]
 fn a_response_that_ends_too_early_is_unreadable(rt: HostRuntime) {
-    for text in &RESPONSES {
+    let mut pairs = Vec::new(rt.alloc());
+    assert!(rt; add_responses(rt.alloc(), &mut pairs).is_ok());
+    for (text, _) in &pairs {
         for end in 1..text.len() {
             let fault = response_fault(rt.alloc(), &text[..end]);
             assert!(rt;
@@ -473,14 +641,18 @@ fn a_response_that_ends_too_early_is_unreadable(rt: HostRuntime) {
             );
         }
     }
+    drop(pairs);
 }
 
 #[test]
 fn a_response_that_ends_too_late_is_unreadable(rt: HostRuntime) {
-    for text in &RESPONSES {
+    let mut pairs = Vec::new(rt.alloc());
+    assert!(rt; add_responses(rt.alloc(), &mut pairs).is_ok());
+    for (text, _) in &pairs {
         let fault = late_response_fault(rt.alloc(), text);
         assert!(rt; fault == Some(ApduFault::Unreadable), "{text:?}");
     }
+    drop(pairs);
 }
 
 const REQUEST_FAULTS: [(&[u8], ApduFault); 11] = [

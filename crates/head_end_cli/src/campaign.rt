@@ -74,8 +74,17 @@ fn password(rt: &HostRuntime, matches: &ArgMatches<'_>) -> Result<Octets, Fault>
 
 /// What the command line asks for, with the jobs on standard input.
 pub(crate) fn planned(rt: &HostRuntime, matches: &ArgMatches<'_>) -> Result<Plan, Fault> {
-    let password = password(rt, matches)?;
-    let jobs = jobs_of(rt.alloc(), rt.stdin())?;
+    let is_verbose = matches.get_flag("verbose");
+    let password = match password(rt, matches) {
+        Ok(password) => password,
+        Err(fault) => {
+            if is_verbose {
+                let _ = eprintln!(rt; "password: none that has 1 to 32 bytes");
+            }
+            return Err(fault);
+        }
+    };
+    let jobs = jobs_of(rt, rt.stdin(), is_verbose)?;
     Ok(Plan {
         jobs,
         password,

@@ -5,13 +5,15 @@
 
 mod campaign;
 mod progress;
+mod telling;
 
 use crate::campaign::Plan;
-use byte_streams::{Counted, InputFault, read_to_end_within};
+use crate::telling::{input_fault, jobs_fault, tell_input, tell_jobs};
+use byte_streams::{Counted, read_to_end_within};
 use clap::error::ErrorKind;
 use clap::{Arg, ArgAction, ArgMatches, Command, value_parser};
 use client_core::Job;
-use head_end::{JobsFault, TcpConnector, read_jobs};
+use head_end::{TcpConnector, read_jobs};
 use listed::Listed;
 use program_fault::Fault;
 use std::alloc::{AllocError, Global};
@@ -26,9 +28,17 @@ const MAX_INPUT: usize = 1_048_576;
 /// What `--help` tells below the options.
 const LIMITS_AND_STATUSES: &str = "\
 Limits: a list has 1,000 jobs and 1,048,576 bytes at most.
-A fault is the line `fault: WORD` on standard error.
+A fault is the line `fault: WORD` on standard error; --verbose adds a line before it that tells where and why the input is wrong.
 Exit status: 0 done; 2 the command line or the input is wrong; 3 reading or writing failed; 4 memory ran out.
 Example: echo m1 127.0.0.1:4059 state | head_end check";
+
+/// The option `--verbose`.
+fn verbose<'a>(alloc: Global) -> Arg<'a> {
+    Arg::new(alloc, "verbose")
+        .long("verbose")
+        .help("Tell on standard error where and why the input is wrong")
+        .action(ArgAction::SetTrue)
+}
 
 /// The command that runs a campaign.
 fn run_command<'a>(alloc: Global) -> Result<Command<'a>, AllocError> {
@@ -67,14 +77,17 @@ fn run_command<'a>(alloc: Global) -> Result<Command<'a>, AllocError> {
         .arg(workers)?
         .arg(timeout)?
         .arg(connect_timeout)?
-        .arg(progress)
+        .arg(progress)?
+        .arg(verbose(alloc))
 }
 
 /// The commands of the program, as its users see them.
 fn command_line<'a>(alloc: Global) -> Result<Command<'a>, AllocError> {
-    let check = Command::new(alloc, "check").about(
-        "Reads the jobs on standard input and prints how many they are: a line each, ID ADDRESS VERB, the verb disconnect, reconnect or state",
-    );
+    let check = Command::new(alloc, "check")
+        .about(
+            "Reads the jobs on standard input and prints how many they are: a line each, ID ADDRESS VERB, the verb disconnect, reconnect or state",
+        )
+        .arg(verbose(alloc))?;
     Command::new(alloc, "head_end")
         .bin_name("head_end")?
         .version("0.1.0")
@@ -85,25 +98,36 @@ fn command_line<'a>(alloc: Global) -> Result<Command<'a>, AllocError> {
         .subcommand(run_command(alloc)?)
 }
 
-/// The jobs on standard input.
-pub(crate) fn jobs_of<I: Read + Drop>(alloc: Global, input: I) -> Result<Listed<Job>, Fault> {
+/// The jobs on standard input. Where there are none to be had and `is_verbose`, a line on standard error tells where and why.
+pub(crate) fn jobs_of<I: Read + Drop>(
+    rt: &HostRuntime,
+    input: I,
+    is_verbose: bool,
+) -> Result<Listed<Job>, Fault> {
     let mut reader = Counted::new(input);
-    let text = match read_to_end_within(alloc, &mut reader, MAX_INPUT) {
+    let text = match read_to_end_within(rt.alloc(), &mut reader, MAX_INPUT) {
         Ok(text) => text,
-        Err(InputFault::TooLong) => return Err(Fault::Input),
-        Err(InputFault::Read) => return Err(Fault::Read),
-        Err(InputFault::Memory) => return Err(Fault::Memory),
+        Err(fault) => {
+            if is_verbose {
+                tell_input(rt, fault);
+            }
+            return Err(input_fault(fault));
+        }
     };
-    match read_jobs(alloc, text.as_slice()) {
+    match read_jobs(rt.alloc(), text.as_slice()) {
         Ok(jobs) => Ok(jobs),
-        Err(JobsFault::Memory) => Err(Fault::Memory),
-        Err(_) => Err(Fault::Input),
+        Err(fault) => {
+            if is_verbose {
+                tell_jobs(rt, text.as_slice(), fault);
+            }
+            Err(jobs_fault(fault))
+        }
     }
 }
 
 /// Counts the jobs.
-fn check(rt: &HostRuntime) -> Result<(), Fault> {
-    let jobs = jobs_of(rt.alloc(), rt.stdin())?;
+fn check(rt: &HostRuntime, is_verbose: bool) -> Result<(), Fault> {
+    let jobs = jobs_of(rt, rt.stdin(), is_verbose)?;
     println!(rt; "jobs {}", jobs.len()).map_err(|_| Fault::Write)
 }
 
@@ -119,8 +143,8 @@ enum Next {
 /// Does what was chosen, up to a campaign.
 fn begin_chosen(rt: &HostRuntime, matches: &ArgMatches<'_>) -> Result<Next, Fault> {
     match matches.subcommand() {
-        Some(("check", _)) => {
-            check(rt)?;
+        Some(("check", matches)) => {
+            check(rt, matches.get_flag("verbose"))?;
             Ok(Next::Ended(0))
         }
         Some(("run", matches)) => Ok(Next::Campaign(campaign::planned(rt, matches)?)),

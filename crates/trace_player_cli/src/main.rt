@@ -4,45 +4,73 @@
 #![tactic(auto)]
 
 use byte_streams::Counted;
-use clap::Command;
 use clap::error::ErrorKind;
+use clap::{Arg, ArgAction, Command};
 use program_fault::Fault;
 use std::alloc::{AllocError, Global};
 use std::process::ExitCode;
 use std::rt::Env;
 use std::{env, io};
-use trace_player::{PlayFault, play};
+use trace_player::{MAX_BYTES, PlayFault, play};
 
 /// What `--help` tells below the options.
 const LIMITS_AND_STATUSES: &str = "\
 Limits: a trace has 33,554,432 bytes and 65,536 events at most.
-A fault is the line `fault: WORD` on standard error.
+A fault is the line `fault: WORD` on standard error; --verbose adds a line before it that tells where and why.
 Exit status: 0 done; 2 the command line or the input is wrong; 3 reading or writing failed; 4 memory ran out.
 Example: trace_player < run.trace";
 
 /// The program, as its users see it.
 fn command_line<'a>(alloc: Global) -> Result<Command<'a>, AllocError> {
-    Ok(
-        Command::new(alloc, "trace_player")
-            .bin_name("trace_player")?
-            .version("0.1.0")
-            .about(
-                "Plays a trace of the supply switch: standard input is the trace, and each of its events is answered by a line",
-            )
-            .after_help(LIMITS_AND_STATUSES),
-    )
+    let verbose = Arg::new(alloc, "verbose")
+        .long("verbose")
+        .help("Tell on standard error where and why a trace is wrong")
+        .action(ArgAction::SetTrue);
+    Command::new(alloc, "trace_player")
+        .bin_name("trace_player")?
+        .version("0.1.0")
+        .about(
+            "Plays a trace of the supply switch: standard input is the trace, and each of its events is answered by a line",
+        )
+        .after_help(LIMITS_AND_STATUSES)
+        .arg(verbose)
+}
+
+/// Tells on standard error where and why a trace was not played, in one line.
+fn tell(rt: &HostRuntime, fault: PlayFault) {
+    let _ = match fault {
+        PlayFault::Line(number) => {
+            eprintln!(rt; "line {number}: not what a trace has there, missing, or one too many")
+        }
+        PlayFault::TooLong => eprintln!(rt; "byte {}: {fault}", MAX_BYTES + 1),
+        PlayFault::Read => eprintln!(rt; "standard input: {fault}"),
+        PlayFault::Write => eprintln!(rt; "standard output: {fault}"),
+        PlayFault::Memory => eprintln!(rt; "{fault}"),
+    };
+}
+
+/// The fault of the program where a trace is not played.
+fn fault_of(fault: PlayFault) -> Fault {
+    match fault {
+        PlayFault::Line(_) | PlayFault::TooLong => Fault::Input,
+        PlayFault::Read => Fault::Read,
+        PlayFault::Write => Fault::Write,
+        PlayFault::Memory => Fault::Memory,
+    }
 }
 
 /// Plays the trace of standard input.
-fn play_input(rt: &HostRuntime) -> Result<(), Fault> {
+fn play_input(rt: &HostRuntime, is_verbose: bool) -> Result<(), Fault> {
     let mut reader = Counted::new(rt.stdin());
     let mut writer = Counted::new(rt.stdout());
     match play(rt.alloc(), &mut reader, &mut writer) {
         Ok(_) => Ok(()),
-        Err(PlayFault::Line(_) | PlayFault::TooLong) => Err(Fault::Input),
-        Err(PlayFault::Read) => Err(Fault::Read),
-        Err(PlayFault::Write) => Err(Fault::Write),
-        Err(PlayFault::Memory) => Err(Fault::Memory),
+        Err(fault) => {
+            if is_verbose {
+                tell(rt, fault);
+            }
+            Err(fault_of(fault))
+        }
     }
 }
 
@@ -61,8 +89,10 @@ fn run(rt: &HostRuntime) -> Result<u8, Fault> {
     let words: Vec<String> = words.collect(alloc).map_err(|_| Fault::Memory)?;
     let command = command_line(alloc).map_err(|_| Fault::Memory)?;
     match command.try_get_matches_from(words.as_slice()) {
-        Ok(_matches) => {
-            play_input(rt)?;
+        Ok(matches) => {
+            let is_verbose = matches.get_flag("verbose");
+            drop(matches);
+            play_input(rt, is_verbose)?;
             Ok(0)
         }
         Err(error) if error.kind() == ErrorKind::OutOfMemory => Err(Fault::Memory),
