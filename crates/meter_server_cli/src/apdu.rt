@@ -1,3 +1,4 @@
+use crate::telling::{InputFault, told};
 use cosem_axdr::Octets;
 use hex::FromHexError;
 use meter_server::answer_apdu;
@@ -10,7 +11,7 @@ use std::io::{ErrorKind, Read, Write};
 const MOST_BYTES: usize = 1_048_576;
 
 /// All of an input, which must not be longer than `MOST_BYTES`.
-fn whole_text<I: Read>(alloc: Global, input: &mut I) -> Result<Vec<u8>, Fault> {
+fn whole_text<I: Read>(alloc: Global, input: &mut I) -> Result<Vec<u8>, InputFault> {
     let mut text = Vec::new(alloc);
     let mut piece = [0u8; 4096];
     for _ in 0..u64::MAX {
@@ -18,34 +19,39 @@ fn whole_text<I: Read>(alloc: Global, input: &mut I) -> Result<Vec<u8>, Fault> {
             Ok(0) => return Ok(text),
             Ok(count) => {
                 text.extend_from_slice(&piece[..count])
-                    .map_err(|_| Fault::Memory)?;
+                    .map_err(|_| InputFault::Other(Fault::Memory))?;
             }
             Err(error) if error.kind() == ErrorKind::Interrupted => {}
-            Err(_) => return Err(Fault::Read),
+            Err(_) => return Err(InputFault::Other(Fault::Read)),
         }
         if text.len() > MOST_BYTES {
-            return Err(Fault::Input);
+            return Err(InputFault::TooLong);
         }
     }
-    Err(Fault::Read)
+    Err(InputFault::Other(Fault::Read))
 }
 
-/// The bytes of a line of hexadecimal pairs.
-fn request(alloc: Global, line: &[u8]) -> Result<Vec<u8>, Fault> {
+/// The bytes of a line of hexadecimal pairs, the line with that number.
+fn request(alloc: Global, number: usize, line: &[u8]) -> Result<Vec<u8>, InputFault> {
     hex::decode(alloc, line).map_err(|error| match error {
-        FromHexError::OutOfMemory => Fault::Memory,
-        _ => Fault::Input,
+        FromHexError::OutOfMemory => InputFault::Other(Fault::Memory),
+        FromHexError::InvalidHexCharacter { index, .. } => {
+            InputFault::Character(number, index.saturating_add(1))
+        }
+        _ => InputFault::Odd(number),
     })
 }
 
 /// The requests of a text, a line each; an empty line is none.
-fn requests(alloc: Global, text: &[u8]) -> Result<Vec<Vec<u8>>, Fault> {
+fn requests(alloc: Global, text: &[u8]) -> Result<Vec<Vec<u8>>, InputFault> {
     let mut requests = Vec::new(alloc);
+    let mut number: usize = 0;
     for line in text.split(|byte| *byte == b'\n') {
+        number = number.saturating_add(1);
         if !line.is_empty() {
             requests
-                .push(request(alloc, line)?)
-                .map_err(|_| Fault::Memory)?;
+                .push(request(alloc, number, line)?)
+                .map_err(|_| InputFault::Other(Fault::Memory))?;
         }
     }
     Ok(requests)
@@ -92,11 +98,16 @@ fn answers(alloc: Global, requests: &[Vec<u8>]) -> Result<String, Fault> {
     answered.map(|()| lines)
 }
 
+/// The requests of standard input.
+fn input_requests<R: Input + AllocGlobal>(rt: &R) -> Result<Vec<Vec<u8>>, InputFault> {
+    let text = whole_text(rt.alloc(), &mut rt.reader())?;
+    requests(rt.alloc(), text.as_slice())
+}
+
 /// The command `apdu`: answers each request of standard input. All requests are judged before any is answered.
-pub fn run<R: Print + Input + AllocGlobal>(rt: &R) -> Result<(), Fault> {
+pub fn run<R: Print + Eprint + Input + AllocGlobal>(rt: &R, is_verbose: bool) -> Result<(), Fault> {
     let alloc = rt.alloc();
-    let text = whole_text(alloc, &mut rt.reader())?;
-    let requests = requests(alloc, text.as_slice())?;
+    let requests = input_requests(rt).map_err(|fault| told(rt, is_verbose, fault))?;
     let lines = answers(alloc, requests.as_slice())?;
     print!(rt; "{lines}").map_err(|_| Fault::Write)
 }

@@ -5,7 +5,7 @@ use std::alloc::{AllocError, Global};
 /// What `--help` tells below the options.
 const LIMITS_AND_STATUSES: &str = "\
 Limits: apdu and hex read 1,048,576 bytes at most; serve has eight sessions at most at a time, and closes a ninth connection.
-A fault is the line `fault: WORD` on standard error.
+A fault is the line `fault: WORD` on standard error; --verbose of apdu and hex adds a line before it that tells where and why the input is wrong.
 Exit status: 0 done; 2 the command line or the input is wrong; 3 reading, writing or listening failed; 4 memory or the turns of the lock ran out.
 Example: echo C001C10046000060030AFF0300 | meter_server apdu";
 
@@ -37,6 +37,14 @@ fn flag<'a>(alloc: Global, name: &'a str, help: &'a str) -> Arg<'a> {
         .action(ArgAction::SetTrue)
 }
 
+/// The option `--verbose` of the commands whose input may be wrong.
+fn verbose<'a>(alloc: Global) -> Arg<'a> {
+    Arg::new(alloc, "verbose")
+        .long("verbose")
+        .help("Tell on standard error where and why the input is wrong")
+        .action(ArgAction::SetTrue)
+}
+
 /// The command `hex`.
 fn hex<'a>(alloc: Global) -> Result<Command<'a>, AllocError> {
     Command::new(alloc, "hex")
@@ -44,7 +52,8 @@ fn hex<'a>(alloc: Global) -> Result<Command<'a>, AllocError> {
             "Runs a client's session: standard input is its stream in hexadecimal, and each frame sent is a line",
         )
         .arg(password(alloc, true))?
-        .arg(device(alloc))
+        .arg(device(alloc))?
+        .arg(verbose(alloc))
 }
 
 /// The option `--listen`.
@@ -100,10 +109,10 @@ fn session<'a>(alloc: Global) -> Arg<'a> {
 }
 
 /// The command `apdu`.
-fn apdu<'a>(alloc: Global) -> Command<'a> {
-    Command::new(alloc, "apdu").about(
-        "Answers xDLMS requests: each line of standard input is one, in hexadecimal",
-    )
+fn apdu<'a>(alloc: Global) -> Result<Command<'a>, AllocError> {
+    Command::new(alloc, "apdu")
+        .about("Answers xDLMS requests: each line of standard input is one, in hexadecimal")
+        .arg(verbose(alloc))
 }
 
 /// A command with the options of `serve` that tell who is served and where. Where the environment has no password, the command line has to give it.
@@ -179,7 +188,7 @@ pub fn command_line<'a>(alloc: Global, has_password: bool) -> Result<Command<'a>
         .about("The supply switch of a DLMS/COSEM electricity meter")
         .after_help(LIMITS_AND_STATUSES)
         .subcommand_required(true);
-    let program = program.subcommand(apdu(alloc))?;
+    let program = with_subcommand(program, apdu(alloc))?;
     let program = with_subcommand(program, hex(alloc))?;
     with_subcommand(program, serve(alloc, has_password))
 }

@@ -13,10 +13,12 @@ mod lines;
 mod listening;
 mod plan;
 mod serving;
+mod telling;
 mod texts;
 
 use crate::arguments::command_line;
 use crate::plan::{PASSWORD_VARIABLE, Plan};
+use crate::telling::told;
 use clap::ArgMatches;
 use clap::error::ErrorKind;
 use program_fault::Fault;
@@ -43,13 +45,16 @@ fn begin_chosen<I: Read + Drop>(
 ) -> Result<Next<I>, Fault> {
     match matches.subcommand() {
         Some(("serve", matches)) => Ok(Next::Serve(plan::planned(rt, input, matches)?)),
-        Some(("apdu", _)) => {
-            apdu::run(rt)?;
+        Some(("apdu", matches)) => {
+            apdu::run(rt, matches.get_flag("verbose"))?;
             Ok(Next::Ended(0))
         }
         Some(("hex", matches)) => {
-            hex_session::run(rt.alloc(), input, rt.stdout(), matches)?;
-            Ok(Next::Ended(0))
+            let is_verbose = matches.get_flag("verbose");
+            match hex_session::run(rt.alloc(), input, rt.stdout(), matches) {
+                Ok(()) => Ok(Next::Ended(0)),
+                Err(fault) => Err(told(rt, is_verbose, fault)),
+            }
         }
         _ => Err(Fault::Input),
     }
