@@ -12,8 +12,6 @@ ENVIRONMENT = {name: value for name, value in os.environ.items() if name != "MET
 
 FAULT_INPUT = b"fault: input\n"
 FAULT_LISTEN = b"fault: listen\n"
-# What --verbose tells behind the number of a line that is wrong in a trace.
-NO_LINE = b"not what a trace has there, missing, or one too many\n"
 
 HEX = ["hex", "--password", "12345678"]
 SERVE = ["serve", "--password", "12345678"]
@@ -122,8 +120,8 @@ CASES = [
     ("where requests are too long", "meter_server_cli", ["apdu", "--verbose"], b"G\n" + b"\n" * 1048576, b"",
      b"byte 1048577: more than 1,048,576 bytes\n" + FAULT_INPUT, 2),
     ("requests that are right have nothing to tell", "meter_server_cli", ["apdu", "--verbose"], b"C001C10046000060030AFF0300\n", b"C401C1001601\n", b"", 0),
-    ("what is wrong in a session", "meter_server_cli", HEX + ["--verbose"], AARQ + b"0G", b"",
-     b"standard input: a character that is no hexadecimal digit, or an odd digit\n" + FAULT_INPUT, 2),
+    ("where a character of a session is no digit", "meter_server_cli", HEX + ["--verbose"], b"00 01\r\n0G", b"", b"byte 9: no hexadecimal digit\n" + FAULT_INPUT, 2),
+    ("that the digits of a session are odd", "meter_server_cli", HEX + ["--verbose"], b"00 01\n0", b"", b"standard input: an odd number of digits\n" + FAULT_INPUT, 2),
     ("where a session is too long", "meter_server_cli", HEX + ["--verbose"], b" " * 1048577, b"",
      b"byte 1048577: more than 1,048,576 bytes\n" + FAULT_INPUT, 2),
     ("that a password is empty", "meter_server_cli", ["hex", "--verbose", "--password", ""], b"", b"",
@@ -207,14 +205,22 @@ CASES = [
     ("33,554,432 bytes", "trace_player_cli", [], LARGEST, LARGEST_PLAYED, b"", 0),
     ("a byte more than the largest trace", "trace_player_cli", [], LARGEST + b"\n", b"", FAULT_INPUT, 2),
     ("a played trace has nothing to tell", "trace_player_cli", ["--verbose"], TRACE, PLAYED, b"", 0),
-    ("where there is no trace", "trace_player_cli", ["--verbose"], b"", b"", b"line 1: " + NO_LINE + FAULT_INPUT, 2),
-    ("where the mode is none", "trace_player_cli", ["--verbose"], TRACE.replace(b"mode 0", b"mode 7"), b"", b"line 4: " + NO_LINE + FAULT_INPUT, 2),
+    ("where there is no trace", "trace_player_cli", ["--verbose"], b"", b"", b"line 1: the trace ends before the end of this line\n" + FAULT_INPUT, 2),
+    ("where the mode is none", "trace_player_cli", ["--verbose"], TRACE.replace(b"mode 0", b"mode 7"), b"", b"line 4: `mode MODE` with a value that is refused here, or a line too many\n" + FAULT_INPUT, 2),
     ("where a run must have fired", "trace_player_cli", ["--verbose"],
-     with_events(LONG_RUN.replace(b"\nover 0 0", b"\nover 42949672950 0"), b"samples 5001"), b"", b"line 14: " + NO_LINE + FAULT_INPUT, 2),
+     with_events(LONG_RUN.replace(b"\nover 0 0", b"\nover 42949672950 0"), b"samples 5001"), b"", b"line 14: `over RUN FIRED` with a value that is refused here, or a line too many\n" + FAULT_INPUT, 2),
     ("where an event is wrong", "trace_player_cli", ["--verbose"], with_events(OPENING, b"button", b"press"), b"",
-     b"line 23: " + NO_LINE + FAULT_INPUT, 2),
+     b"line 23: no event begins so\n" + FAULT_INPUT, 2),
+    ("where a word is no number", "trace_player_cli", ["--verbose"], TRACE.replace(b"schedule 2 0 5 0100", b"schedule 2 0 x 0100"), b"",
+     b"line 19: not `schedule 2 SELECTOR TYPE ENTRIES`: no TYPE\n" + FAULT_INPUT, 2),
+    ("where bytes are odd", "trace_player_cli", ["--verbose"], TRACE.replace(b"device 52454C415931", b"device 52454C41593"), b"",
+     b"line 2: not `device HEX`: no HEX\n" + FAULT_INPUT, 2),
+    ("where another line is wanted", "trace_player_cli", ["--verbose"], TRACE.replace(b"RELAYTRACE 1", b"RELAYTRACE 2"), b"",
+     b"line 16: not `xvalue WATTS`: no xvalue\n" + FAULT_INPUT, 2),
+    ("where an event has a word too many", "trace_player_cli", ["--verbose"], TRACE.replace(b"moment 5\n", b"moment 5 6\n"), b"",
+     b"line 29: not `moment SECONDS`: a word too many\n" + FAULT_INPUT, 2),
     ("where a line is too many", "trace_player_cli", ["--verbose"], with_events(OPENING_2, b"button") + b"button\n", b"",
-     b"line 33: " + NO_LINE + FAULT_INPUT, 2),
+     b"line 33: `button` with a value that is refused here, or a line too many\n" + FAULT_INPUT, 2),
     ("where a trace is too long", "trace_player_cli", ["--verbose"], LARGEST + b"\n", b"",
      b"byte 33554433: a trace of more than 33,554,432 bytes\n" + FAULT_INPUT, 2),
     ("an argument", "trace_player_cli", ["trace"], TRACE, b"", None, 2),

@@ -1,17 +1,50 @@
 use crate::telling::InputFault;
 use crate::texts::{LONGEST_DEVICE, LONGEST_PASSWORD, octets_of};
-use byte_streams::Counted;
+use byte_streams::{Counted, read_to_end_within};
 use clap::ArgMatches;
 use meter_server::{HexFault, run_hex};
 use program_fault::Fault;
 use std::alloc::Global;
 use std::io::{Read, Write};
 
+/// How many characters a stream may have.
+const MOST_CHARACTERS: usize = 1_048_576;
+
 /// The fault of an option's text, which is this one where the text is wrong.
 fn option_fault(fault: Fault, wrong: InputFault) -> InputFault {
     match fault {
         Fault::Input => wrong,
         other => InputFault::Other(other),
+    }
+}
+
+/// Why a text is no bytes in hexadecimal: its first character that is neither a digit nor passed over, else its digits are odd.
+fn why_no_bytes(text: &[u8]) -> InputFault {
+    match text.iter().position(|byte| !byte.is_ascii_hexdigit()
+        && !matches!(byte, b' ' | b'\n' | b'\r'))
+    {
+        Some(index) => InputFault::Digit(index.saturating_add(1)),
+        None => InputFault::OddDigits,
+    }
+}
+
+/// Why a stream was not played. What is wrong in its digits is told by its text, where that is known.
+fn hex_fault(fault: HexFault, text: &[u8]) -> InputFault {
+    match fault {
+        HexFault::Digits => why_no_bytes(text),
+        HexFault::TooLong => InputFault::TooLong,
+        HexFault::Read => InputFault::Other(Fault::Read),
+        HexFault::Write => InputFault::Other(Fault::Write),
+        HexFault::Memory => InputFault::Other(Fault::Memory),
+    }
+}
+
+/// Why standard input was not read.
+fn reading_fault(fault: byte_streams::InputFault) -> InputFault {
+    match fault {
+        byte_streams::InputFault::TooLong => InputFault::TooLong,
+        byte_streams::InputFault::Read => InputFault::Other(Fault::Read),
+        byte_streams::InputFault::Memory => InputFault::Other(Fault::Memory),
     }
 }
 
@@ -32,13 +65,12 @@ pub fn run<I: Read + Drop, O: Write + Drop>(
         fault,
         InputFault::Device,
     ))?;
-    let mut reader = Counted::new(input);
+    let mut input = Counted::new(input);
+    let text = read_to_end_within(alloc, &mut input, MOST_CHARACTERS).map_err(reading_fault)?;
+    let mut reader = Counted::new(text.as_slice());
     let mut writer = Counted::new(output);
-    run_hex(alloc, &mut reader, &mut writer, &device, &password).map_err(|fault| match fault {
-        HexFault::Digits => InputFault::Digits,
-        HexFault::TooLong => InputFault::TooLong,
-        HexFault::Read => InputFault::Other(Fault::Read),
-        HexFault::Write => InputFault::Other(Fault::Write),
-        HexFault::Memory => InputFault::Other(Fault::Memory),
-    })
+    run_hex(alloc, &mut reader, &mut writer, &device, &password).map_err(|fault| hex_fault(
+        fault,
+        text.as_slice(),
+    ))
 }

@@ -10,8 +10,10 @@ pub enum InputFault {
     Odd(usize),
     /// In the line with the first number the byte with the second one is no digit, both counted from 1.
     Character(usize, usize),
-    /// A stream has a character that is no digit, or an odd number of digits.
-    Digits,
+    /// In a stream the character with this number, counted from 1, is no digit.
+    Digit(usize),
+    /// A stream has an odd number of digits.
+    OddDigits,
     /// The password has not 1 to 32 bytes.
     Password,
     /// The device name has not 1 to 16 bytes.
@@ -39,11 +41,8 @@ fn tell<R: Eprint>(rt: &R, fault: InputFault) {
         InputFault::Character(line, byte) => {
             eprintln!(rt; "line {line}: byte {byte} is no hexadecimal digit")
         }
-        InputFault::Digits => {
-            eprintln!(rt;
-                "standard input: a character that is no hexadecimal digit, or an odd digit"
-            )
-        }
+        InputFault::Digit(byte) => eprintln!(rt; "byte {byte}: no hexadecimal digit"),
+        InputFault::OddDigits => eprintln!(rt; "standard input: an odd number of digits"),
         InputFault::Password => eprintln!(rt; "password: none that has 1 to 32 bytes"),
         InputFault::Device => eprintln!(rt; "device: no name that has 1 to 16 bytes"),
         InputFault::Other(Fault::Memory) => eprintln!(rt; "no memory"),

@@ -3,7 +3,10 @@
 //! What it prints is that of `trace_player::play`; this crate has the command line, the standard streams and the exit status.
 #![tactic(auto)]
 
-use byte_streams::Counted;
+mod telling;
+
+use crate::telling::tell;
+use byte_streams::{Counted, read_to_end_within};
 use clap::error::ErrorKind;
 use clap::{Arg, ArgAction, Command};
 use program_fault::Fault;
@@ -36,19 +39,6 @@ fn command_line<'a>(alloc: Global) -> Result<Command<'a>, AllocError> {
         .arg(verbose)
 }
 
-/// Tells on standard error where and why a trace was not played, in one line.
-fn tell(rt: &HostRuntime, fault: PlayFault) {
-    let _ = match fault {
-        PlayFault::Line(number) => {
-            eprintln!(rt; "line {number}: not what a trace has there, missing, or one too many")
-        }
-        PlayFault::TooLong => eprintln!(rt; "byte {}: {fault}", MAX_BYTES + 1),
-        PlayFault::Read => eprintln!(rt; "standard input: {fault}"),
-        PlayFault::Write => eprintln!(rt; "standard output: {fault}"),
-        PlayFault::Memory => eprintln!(rt; "{fault}"),
-    };
-}
-
 /// The fault of the program where a trace is not played.
 fn fault_of(fault: PlayFault) -> Fault {
     match fault {
@@ -60,15 +50,31 @@ fn fault_of(fault: PlayFault) -> Fault {
 }
 
 /// Plays the trace of standard input.
-fn play_input(rt: &HostRuntime, is_verbose: bool) -> Result<(), Fault> {
+fn play_input(rt: &HostRuntime) -> Result<(), Fault> {
     let mut reader = Counted::new(rt.stdin());
     let mut writer = Counted::new(rt.stdout());
     match play(rt.alloc(), &mut reader, &mut writer) {
         Ok(_) => Ok(()),
+        Err(fault) => Err(fault_of(fault)),
+    }
+}
+
+/// Plays the trace of standard input, and tells on standard error where and why it is wrong. The text is kept for that.
+fn play_and_tell(rt: &HostRuntime) -> Result<(), Fault> {
+    let mut input = Counted::new(rt.stdin());
+    let text = match read_to_end_within(rt.alloc(), &mut input, MAX_BYTES) {
+        Ok(text) => text,
         Err(fault) => {
-            if is_verbose {
-                tell(rt, fault);
-            }
+            tell(rt, &[], PlayFault::from(fault));
+            return Err(fault_of(PlayFault::from(fault)));
+        }
+    };
+    let mut reader = Counted::new(text.as_slice());
+    let mut writer = Counted::new(rt.stdout());
+    match play(rt.alloc(), &mut reader, &mut writer) {
+        Ok(_) => Ok(()),
+        Err(fault) => {
+            tell(rt, text.as_slice(), fault);
             Err(fault_of(fault))
         }
     }
@@ -92,7 +98,11 @@ fn run(rt: &HostRuntime) -> Result<u8, Fault> {
         Ok(matches) => {
             let is_verbose = matches.get_flag("verbose");
             drop(matches);
-            play_input(rt, is_verbose)?;
+            if is_verbose {
+                play_and_tell(rt)?;
+            } else {
+                play_input(rt)?;
+            }
             Ok(0)
         }
         Err(error) if error.kind() == ErrorKind::OutOfMemory => Err(Fault::Memory),

@@ -1,0 +1,258 @@
+#!/usr/bin/env python3
+"""Builds the library for C and its examples with the machine's own C compiler, and runs them beside the programs that the gate left.
+
+The same streams go through `meter_server hex` and through the example in C, byte by byte: the stored ones, changed ones, and sessions of requests made by chance. What both
+answer is the same text, and the trace that C exported plays to the replies in these answers. Then each call of the heap is refused in turn. The super-loop runs with the
+pool, and on 64-bit ARM without any C library where Debian's `gcc-aarch64-linux-gnu` and `qemu-user` are installed; with valgrind where that is.
+
+usage: tests/firmware.py [--long]     (--long: each refused call, and 1,000 sessions in place of 200)"""
+
+import argparse
+import collections
+import os
+import pathlib
+import random
+import re
+import shutil
+import subprocess
+import sys
+import tempfile
+
+sys.dont_write_bytecode = True  # the modules beside this one leave nothing behind
+
+import serving
+from fuzz import changed, pieces_of, stored
+from serving import ACTIVE, DEVICE, DISCONNECT, MODE, NORMAL, OBJECTS, PASSWORD, PLAYER, RECONNECT, REGISTER, SERVER, STATE, TOP, check, described, test
+
+LIBRARY = TOP / "crates" / "meter"
+HEADER = LIBRARY / "include" / "meter.h"
+HEAPS, EXAMPLES, TOOLS = TOP / "firmware", TOP / "examples" / "firmware", TOP / "tests" / "firmware"
+WARNINGS = ["-std=c11", "-Wall", "-Wextra", "-Wpedantic", "-Werror", "-O2"]
+INCLUDES = [f"-I{HEADER.parent}", f"-I{HEAPS}", f"-I{EXAMPLES}"]
+AARQ = bytes.fromhex("00010001000100386036A1090607608574050801018A0207808B0760857405080201AC0A80083132333435363738BE10040E01000000065F1F040000FEFF0400")
+LOOP = """0.0 s: state 1
+6.9 s: state 2, supply off
+12.0 s: button, result 0
+12.0 s: state 1, supply on
+15.0 s: state 0, supply off
+16.0 s: button, result 2
+17.0 s: state 2, supply off
+18.0 s: button, result 0
+18.0 s: state 1, supply on
+frames sent: 8
+""".split("\n", 1)[1]
+ARM = ("aarch64-linux-gnu-gcc", "qemu-aarch64")
+
+place = None  # where everything is built
+is_long = False
+
+
+def made(*words):
+    """Runs a command that has to do its work."""
+    ran = subprocess.run([str(word) for word in words], capture_output=True, text=True)
+    assert ran.returncode == 0, f"{words[0]}: {ran.stdout}{ran.stderr}"
+    return ran.stdout
+
+
+def library(*words):
+    """Builds the library, and gives the path of a copy."""
+    ran = subprocess.run(["rt", "lib", *words], cwd=LIBRARY, capture_output=True, text=True)
+    assert ran.returncode == 0, ran.stdout + ran.stderr
+    copy = place / f"libmeter{len(words)}.a"
+    shutil.copy(LIBRARY / "out" / "libmeter.a", copy)
+    return copy
+
+
+def program(name, *sources, compiler="cc", words=()):
+    made(compiler, *WARNINGS, *words, *INCLUDES, *sources, "-o", place / name)
+    return place / name
+
+
+# ---- sessions
+
+def frame(payload):
+    return bytes.fromhex("000100010001") + len(payload).to_bytes(2, "big") + payload
+
+
+def request(chance):
+    """A request, and the kind of its answer."""
+    what = chance.randrange(8)
+    if what < 3:
+        return bytes.fromhex("C001C1" + described(chance.choice((STATE, MODE, NORMAL, ACTIVE, REGISTER, DEVICE, OBJECTS, (70, "0000600000FF", 2)))) + "00")
+    if what == 3:
+        return bytes.fromhex(f"C101C1{described(MODE)}00160{chance.randrange(8)}")
+    if what == 4:
+        return bytes.fromhex(f"C101C1{described(NORMAL)}0006{chance.randrange(1 << 32):08X}")
+    if what == 5:
+        return bytes.fromhex(f"C301C1{described(chance.choice((DISCONNECT, RECONNECT)))}010F00")
+    if what == 6:
+        return bytes.fromhex("C002C100000001")
+    return bytes.fromhex(f"C003C102{described(STATE)}00{described(DEVICE)}00")
+
+
+def session(chance):
+    """A stream of an association and some requests."""
+    return AARQ + b"".join(frame(request(chance)) for _ in range(chance.randrange(1, 30)))
+
+
+def by_program(stream, *words):
+    return made_text(["hex", "--password", PASSWORD], SERVER, stream)
+
+
+def made_text(words, executable, stream, **environment):
+    ran = subprocess.run([str(executable), *words], input=stream.hex().encode(), capture_output=True, timeout=60, env={**os.environ, **environment})
+    return ran.returncode, ran.stdout, ran.stderr
+
+
+def replies_in(answers):
+    """The replies to events in frames that were answered; of a value that is sent in blocks the first block."""
+    replies = []
+    for line in answers.decode().split():
+        payload = line[16:]
+        if payload.startswith("C401C100"):
+            replies.append(f"value {payload[8:]}")
+        elif payload.startswith("C402C1") and payload[6:18] == "000000000100":
+            replies.append(f"value {payload[20:]}..")
+        elif payload.startswith(("C401C101", "C501C1")):
+            replies.append(f"code {int(payload[-2:], 16)}")
+        elif payload.startswith("C701C1"):
+            replies.append(f"code {int(payload[6:8], 16)}")
+        elif payload.startswith("C403C1"):
+            replies.append("values")
+    return replies
+
+
+def is_told(reply, told):
+    """Whether a reply that a client saw is the one that the trace's run tells."""
+    if reply == "values":
+        return told.startswith("values ")
+    return told.startswith(reply[:-2]) if reply.endswith("..") else told == reply
+
+
+def run_of(trace):
+    ran = subprocess.run([str(PLAYER)], input=trace, capture_output=True, timeout=60)
+    return [line.split("; ")[0].split(": ", 1)[1] for line in ran.stdout.decode().splitlines()] if ran.returncode == 0 else None
+
+
+# ---- the tests
+
+def the_header_has_the_exports(name):
+    exported = set(re.findall(r" T (meter_\w+)$", made("nm", "--defined-only", place / "libmeter0.a"), re.M))
+    declared = set(re.findall(r"\b(meter_\w+)\(struct meter", HEADER.read_text()))
+    check(name, exported == declared and exported, exported ^ declared)
+
+
+def the_header_has_the_types_of_the_exports(name):
+    """Each parameter of an export has its C type in the header."""
+    source = "".join(it.read_text() for it in sorted((LIBRARY / "src").glob("*.rt")))
+    header = re.sub(r"/\*.*?\*/", "", HEADER.read_text(), flags=re.S)
+    types = {"&mut Handle": ["struct meter *"], "&[u8]": ["const uint8_t *", "size_t "], "&mut [u8]": ["uint8_t *", "size_t "], "&[u32]": ["const uint32_t *", "size_t "],
+             "u8": ["uint8_t "], "u16": ["uint16_t "], "u32": ["uint32_t "], "&mut u8": ["uint8_t *"], "&mut u32": ["uint32_t *"], "&mut usize": ["size_t *"],
+             "&mut bool": ["bool *"], "&mut Fired": ["struct meter_fired *"], "Global": []}
+    for export, parameters in re.findall(r'extern "C" fn (meter_\w+)\(([^)]*)\)', source):
+        wanted = [it for one in parameters.split(",") if one.strip() for it in types.get(one.split(":")[1].strip(), ["unknown " + one])]
+        found = re.search(rf"\b{export}\(([^)]*)\)", header)
+        told = [re.sub(r"\w+$", "", one.strip()) for one in found[1].split(",")] if found else None
+        check(f"{name}: {export}", told == wanted, told, wanted)
+
+
+def streams_are_answered_as_by_the_program(name):
+    chance = random.Random(22)
+    seeds = [text for text in map(pieces_of, stored(("meter_server_cli", ["hex"]))) if text] + [AARQ + frame(request(chance))]
+    sessions = [session(chance) for _ in range(1000 if is_long else 200)]
+    others = [changed(chance.choice(seeds), chance, seeds) for _ in range(1000 if is_long else 200)]
+    events = 0
+    for stream in seeds + sessions + others:
+        wanted = made_text(["hex", "--password", PASSWORD], SERVER, stream)
+        found = made_text([PASSWORD, place / "trace"], place / "session", stream)
+        if (found[0], found[1]) != (wanted[0], wanted[1]):
+            check(f"{name}: {stream.hex()}", False, found, wanted)
+        run = run_of((place / "trace").read_bytes())
+        if run is None:
+            check(f"{name}: the trace plays: {stream.hex()}", False)
+        elif stream in sessions:
+            seen = replies_in(found[1])
+            events += len(run)
+            if len(seen) != len(run) or not all(map(is_told, seen, run)):
+                check(f"{name}: the trace tells the replies: {stream.hex()}", False, seen, run)
+    print(f"{len(seeds)} stored streams, {len(sessions)} sessions and {len(others)} changed streams, each byte by byte; {events} events in the sessions' traces")
+    check(name, events > len(sessions))
+
+
+def each_refusal_can_be_made_again(name):
+    chance = random.Random(7)
+    stream = AARQ + b"".join(frame(bytes.fromhex(it)) for it in (
+        f"C001C1{described(OBJECTS)}00", "C002C100000001", f"C101C1{described(MODE)}001601", f"C301C1{described(DISCONNECT)}010F00",
+        f"C003C102{described(STATE)}00{described(DEVICE)}00", f"C001C1{described(STATE)}00"))
+    ample = made_text([PASSWORD, place / "trace"], place / "refused", stream)
+    trace = (place / "trace").read_bytes()
+    calls = int(re.search(rb"calls (\d+)", ample[2])[1])
+    check(f"{name}: ample memory", ample[:2] == made_text(["hex", "--password", PASSWORD], SERVER, stream)[:2] and b"blocks left 0" in ample[2], ample)
+    numbers = range(1, calls + 1) if is_long else sorted({1, calls, *chance.sample(range(1, calls + 1), min(calls, 60))})
+    found = collections.Counter()
+    for number in numbers:
+        ran = made_text([PASSWORD, place / "trace"], place / "refused", stream, REFUSE=str(number))
+        is_same = ran[:2] == ample[:2] and b"blocks left 0" in ran[2] and (place / "trace").read_bytes() == trace
+        found["the answers and the trace of the ample run, no block left"] += is_same
+        if not is_same:
+            check(f"{name}: call {number}", False, ran)
+    print(f"calls of the heap: {calls}; refused one by one: {len(numbers)}: {found.most_common()}")
+    check(name, sum(found.values()) == len(numbers))
+
+
+def the_pool_keeps_its_blocks(name):
+    program("pool_test", TOOLS / "pool_test.c", HEAPS / "heap_pool.c")
+    print("pool:", made(place / "pool_test").strip())
+    check(name, True)
+
+
+def the_super_loop_runs(name):
+    ran = made(place / "super_loop")
+    print("super-loop:", ran.splitlines()[-1])
+    check(name, ran.startswith(LOOP) and ran.endswith("left: 0\n"), ran)
+
+
+def valgrind_finds_nothing(name):
+    if not shutil.which("valgrind"):
+        print("skipped: valgrind is not installed")
+        return
+    for words in ([place / "session", PASSWORD], [place / "super_loop"]):
+        ran = subprocess.run(["valgrind", "--quiet", "--leak-check=full", "--error-exitcode=9", *map(str, words)], input=(AARQ + frame(request(random.Random(1)))).hex().encode(),
+                             capture_output=True, timeout=120)
+        check(f"{name}: {words[0].name}", ran.returncode == 0, ran.stderr)
+
+
+def the_super_loop_runs_on_arm(name):
+    if not all(map(shutil.which, ARM)):
+        print("skipped: gcc-aarch64-linux-gnu and qemu-user are not installed")
+        return
+    archive = library("--target", "aarch64-unknown-linux-gnu")
+    program("super_loop_arm", EXAMPLES / "super_loop.c", EXAMPLES / "platform_bare.c", HEAPS / "heap_pool.c", archive, compiler=ARM[0],
+            words=["-std=gnu11", "-ffreestanding", "-nostdlib", "-static"])
+    ran = made(ARM[1], place / "super_loop_arm")
+    check(name, ran == made(place / "super_loop"), ran)
+
+
+def main():
+    global place, is_long
+    reader = argparse.ArgumentParser(add_help=False)
+    reader.add_argument("--long", action="store_true")
+    is_long = reader.parse_args().long
+    if not shutil.which("cc"):
+        print("skipped: no C compiler is installed\n1 passed, 0 failed")
+        return 0
+    with tempfile.TemporaryDirectory() as folder:
+        place = pathlib.Path(folder)
+        archive = library()
+        program("session", EXAMPLES / "session.c", HEAPS / "heap_malloc.c", archive)
+        program("refused", EXAMPLES / "session.c", TOOLS / "refusing_heap.c", archive)
+        program("super_loop", EXAMPLES / "super_loop.c", EXAMPLES / "platform_hosted.c", HEAPS / "heap_pool.c", archive)
+        for one in (the_header_has_the_exports, the_header_has_the_types_of_the_exports, the_pool_keeps_its_blocks, streams_are_answered_as_by_the_program,
+                    each_refusal_can_be_made_again, the_super_loop_runs, valgrind_finds_nothing, the_super_loop_runs_on_arm):
+            test(one)
+    print(f"{serving.passed} passed, {serving.failed} failed")
+    return 1 if serving.failed else 0
+
+
+if __name__ == "__main__":
+    sys.exit(main())
