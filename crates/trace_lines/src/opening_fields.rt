@@ -4,7 +4,6 @@ ghost use Rattle.byte_reading.specs.Outcome.{Gives};
 ghost use Rattle.disconnect_control.specs.declared.state.ControlMode.TheVariants.{Mode0};
 ghost use Rattle.disconnect_control.specs.declared.state.ControlState.TheVariants.{Connected};
 ghost use Rattle.trace_lines.specs.OpeningFields.{IsWordReader, behind, labelled, version_in, device_in, state_in, mode_in, moment_in, table_in, entries_in, type_in, version_from, events_from, schedule_from};
-ghost use Rattle.trace_lines.specs.Reading.{number_in};
 ghost use Rattle.trace_lines.specs.Rows.{Word, Reads};
 ghost use Rattle.trace_lines.specs.declared.fault.RowFault.{RowFault};
 ghost use Rattle.trace_lines.specs.declared.fault.RowFault.TheVariants.{Memory};
@@ -232,18 +231,10 @@ pub(crate) fn schedule(
     with_entries(alloc, selector, kind, last_word(words)?)
 }
 
-/// How many events there are.
-fn count_in(word: &[u8]) -> Result<u32, RowFault>
-    ensures count { result ≡ number_in 65536 word.now }
-    ensures few { IfOk result (λ count. count ≤ 65536) }
-{
-    number(word, MAX_EVENTS)
-}
-
 /// The line of the count of events.
 pub(crate) fn event_count(words: &mut Words) -> Result<u32, RowFault>
     ensures count { Gives Memory (λ count. count) result (events_from words.old) }
     ensures few { IfOk result (λ count. count ≤ 65536) }
 {
-    labelled(b"events", words, count_in)
+    labelled(b"events", words, |word| number(word, MAX_EVENTS))
 }
