@@ -12,13 +12,13 @@ use Rattle.cosem_names.specs.declared.name.MethodRef.{MethodRef}
 use Rattle.cosem_names.specs.declared.name.Obis.{Obis}
 use Rattle.cosem_names.specs.declared.service.AttributeSelection.{AttributeSelection}
 use Rattle.relay_core.specs.declared.event.Event.{Event}
-use Rattle.relay_core.specs.declared.event.Event.TheVariants.{GetList, Button, Samples}
+use Rattle.relay_core.specs.declared.event.Event.TheVariants.{GetList, Set, Execute, Button, Samples, Moment}
 use Rattle.lane_sampler.specs.Samples.{values_alone, pairs_of}
 use Rattle.trace_text.proofs.WordsLemmas.{line_of-words_of}
 use Rattle.trace_text.specs.Words.{words_of, line_of}
-use Rattle.trace_lines.proofs.WordsBack.{IsWrittenBack, AreWrittenBack, number_back, flag_back, level_back, name_back, same_is, data_back, next_back, next_number_back, ended_back, all_back}
+use Rattle.trace_lines.proofs.WordsBack.{IsWrittenBack, AreWrittenBack, number_back, flag_back, level_back, name_back, same_is, data_back, next_back, next_number_back, last_back, last_number_back, ended_back, all_back}
 use Rattle.trace_lines.specs.Events.{get_from, get_list_from, set_from, execute_from, samples_from, pairs_from, moment_from, event_from, event_of}
-use Rattle.trace_lines.specs.Reading.{number_in, flag_in, level_in, name_in, data_in, parameter_in, attribute_from, method_at, selection_from, selection_at, value_in, value_from, pair_from, next_as}
+use Rattle.trace_lines.specs.Reading.{number_in, flag_in, level_in, name_in, data_in, parameter_in, attribute_from, method_at, selection_from, selection_at, value_in, value_from, pair_from, next_as, last_as}
 use Rattle.trace_lines.specs.Rows.{Word, Row, ended, all_at}
 use Rattle.trace_lines.specs.Verbs.{verb_word, is_word_of, verb_in}
 use Rattle.trace_lines.specs.Writing.{level_number, flag_number, attribute_words, method_words, selection_words, all_words, data_word, parameter_word, value_words, pairs_words, event_words, event_row}
@@ -159,32 +159,26 @@ unfolding set_from event_words
 set_back words event e =
     let level = bind_ok (next_as level_in words) _ event e in
     let item = bind_ok (selection_at level.0.1) _ event level.2 in
-    let value = bind_ok (next_as data_in item.0.1) _ event item.2 in
-    let end = ended_back Event value.0.1 _ event value.2 in
+    let value = bind_ok (last_as data_in item.0.1) _ event item.2 in
     ap (λ (ws : Row). verb_word OfSet ∷ ws) (
     next_back Level level_in (λ l. decimal (level_number l)) level_back words level.0.1 level.0.0 level.1
     ∙ ap (λ (ws : Row). decimal (level_number level.0.0) ∷ ws) (
     selection_here_back level.0.1 item.0.0 item.0.1 item.1
-    ∙ ap (selection_words item.0.0) (
-    next_back Data data_in data_word data_back item.0.1 value.0.1 value.0.0 value.1
-    ∙ ap (λ (ws : Row). data_word value.0.0 ∷ ws) end.0)))
-    ∙ ap event_row end.1
+    ∙ ap (selection_words item.0.0) (last_back Data data_in data_word data_back item.0.1 value.0 value.1)))
+    ∙ ap event_row (ok_is (Set level.0.0 item.0.0.attr item.0.0.selected value.0) event value.2)
 
 execute_back : IsLineBack OfExecute execute_from
 unfolding execute_from event_words
 execute_back words event e =
     let level = bind_ok (next_as level_in words) _ event e in
     let method = bind_ok (method_at level.0.1) _ event level.2 in
-    let parameter = bind_ok (next_as parameter_in method.0.1) _ event method.2 in
-    let end = ended_back Event parameter.0.1 _ event parameter.2 in
+    let parameter = bind_ok (last_as parameter_in method.0.1) _ event method.2 in
     ap (λ (ws : Row). verb_word OfExecute ∷ ws) (
     next_back Level level_in (λ l. decimal (level_number l)) level_back words level.0.1 level.0.0 level.1
     ∙ ap (λ (ws : Row). decimal (level_number level.0.0) ∷ ws) (
     method_back level.0.1 method.0.0 method.0.1 method.1
-    ∙ ap (method_words method.0.0) (
-    next_back (Option Data) parameter_in parameter_word parameter_back method.0.1 parameter.0.1 parameter.0.0 parameter.1
-    ∙ ap (λ (ws : Row). parameter_word parameter.0.0 ∷ ws) end.0)))
-    ∙ ap event_row end.1
+    ∙ ap (method_words method.0.0) (last_back (Option Data) parameter_in parameter_word parameter_back method.0.1 parameter.0 parameter.1)))
+    ∙ ap event_row (ok_is (Execute level.0.0 method.0.0 parameter.0) event parameter.2)
 
 button_back : IsLineBack OfButton (λ words. ended words Button)
 unfolding event_words
@@ -209,12 +203,9 @@ pairs_back words event e =
 moment_back : IsLineBack OfMoment moment_from
 unfolding moment_from event_words
 moment_back words event e =
-    let now = bind_ok (next_as (number_in 4294967295) words) _ event e in
-    let end = ended_back Event now.0.1 _ event now.2 in
-    ap (λ (ws : Row). verb_word OfMoment ∷ ws) (
-    next_number_back 4294967295 (omega arith) words now.0.1 now.0.0 now.1
-    ∙ ap (λ (ws : Row). decimal now.0.0 ∷ ws) end.0)
-    ∙ ap event_row end.1
+    let now = bind_ok (last_as (number_in 4294967295) words) _ event e in
+    ap (λ (ws : Row). verb_word OfMoment ∷ ws) (last_number_back 4294967295 (omega arith) words now.0 now.1)
+    ∙ ap event_row (ok_is (Moment now.0) event now.2)
 
 words_back : (version : Version) (verb : Verb) → IsLineBack verb (event_from version verb)
 unfolding event_from

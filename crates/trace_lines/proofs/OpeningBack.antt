@@ -7,6 +7,8 @@ use Rattle.action_schedule.specs.Schedule.{Schedule}
 use Rattle.cosem_axdr.specs.declared.value.Data.{Data}
 use Rattle.cosem_names.specs.declared.objects.Which.TheVariants.{Import, Export}
 use Rattle.disconnect_control.specs.Transitions.{mode_number, state_number}
+use Rattle.disconnect_control.specs.declared.state.ControlMode.{ControlMode}
+use Rattle.disconnect_control.specs.declared.state.ControlState.{ControlState}
 use Rattle.relay_core.specs.declared.opening.Opening.{Opening}
 use Rattle.relay_core.specs.declared.schedules.Schedules.{Schedules}
 use Rattle.script_steps.specs.Reading.{table_of}
@@ -15,34 +17,17 @@ use Rattle.trace_lines.proofs.OpeningFieldsBack.{labelled_read, version_back, ev
 use Rattle.trace_lines.proofs.OpeningWordsBack.{version_number, table_read}
 use Rattle.trace_lines.specs.OpeningFields.{label, labelled, version_from, device_in, state_in, mode_in, moment_in, table_in, events_from, schedule_from}
 use Rattle.trace_lines.specs.OpeningForms.{Forms, AreFormsOf, written_forms, entries_row, rows_with}
-use Rattle.trace_lines.specs.OpeningReading.{value_line, limiter_from, export_from, switch_from, schedules_from, opening_in, opening_from}
+use Rattle.trace_lines.specs.OpeningReading.{value_line, limiter_from, export_from, schedules_from, opening_with, opening_in, opening_from}
 use Rattle.trace_lines.specs.OpeningRows.{number_row, moment_word, value_row, limiter_rows, opening_rows}
 use Rattle.trace_lines.specs.Places.{Place, line_as}
 use Rattle.trace_lines.specs.Rows.{Word, Row}
 use Rattle.trace_lines.specs.Writing.{data_word}
-use Rattle.trace_lines.specs.declared.opening_lines.Switch.{Switch}
 use Rattle.trace_lines.specs.declared.version.Version.{Version}
 use Rattle.trace_lines.specs.declared.version.Version.TheVariants.{Two}
 use Rattle.trace_lines.proofs.PlacesBack.{carried, Took, then, line_read, line_back, value_back}
 use Rattle.trace_lines.proofs.LimitersBack.{limiter_back, export_back}
 
--- ---- the switch, the script table and the schedules
-
-abbrev switch_rows : Switch → List Row
-switch_rows switch =
-    (codes "device" ∷ encode_upper switch.device ∷ []) ∷ number_row (codes "state") (state_number switch.state) ∷ number_row (codes "mode") (mode_number switch.mode) ∷ []
-
-switch_back : (place : Place) (switch : Switch) (behind : Place) → switch_from place ≡ Ok (switch, behind) → Took (switch_rows switch) place behind
-unfolding switch_from
-switch_back place switch behind e =
-    let device = bind_ok (line_as (labelled (codes "device") device_in) place) _ (switch, behind) e in
-    let state = bind_ok (line_as (labelled (codes "state") state_in) device.0.1) _ (switch, behind) device.2 in
-    let mode = bind_ok (line_as (labelled (codes "mode") (mode_in state.0.0)) state.0.1) _ (switch, behind) state.2 in
-    let made : Switch = record { device = device.0.0; state = state.0.0; mode = mode.0.0 } in
-    carried Switch (λ read at. Took (switch_rows read) place at) made switch mode.0.1 behind mode.2 (
-    then _ _ place device.0.1 mode.0.1 (line_back _ (labelled (codes "device") device_in) (λ d. codes "device" ∷ encode_upper d ∷ []) device_line_back place device.0.0 device.0.1 device.1) (
-    then _ _ device.0.1 state.0.1 mode.0.1 (line_back _ (labelled (codes "state") state_in) (λ s. number_row (codes "state") (state_number s)) state_line_back device.0.1 state.0.0 state.0.1 state.1)
-    (line_back _ (labelled (codes "mode") (mode_in state.0.0)) (λ m. number_row (codes "mode") (mode_number m)) (mode_line_back state.0.0) state.0.1 mode.0.0 mode.0.1 mode.1)))
+-- ---- the script table and the schedules
 
 -- the line of the script table, which stands as this Data
 record TableRead (scripts : List Script) (place behind : Place) : Type 0 where
@@ -111,17 +96,62 @@ schedules_back place schedules behind e =
 
 -- ---- all of it
 
--- the lines behind that of the version, up to the script table
-abbrev front_rows : Opening → List Row
-front_rows o =
-    (codes "device" ∷ encode_upper o.device ∷ []) ∷ number_row (codes "state") (state_number o.state) ∷ number_row (codes "mode") (mode_number o.mode)
-    ∷ value_row Import o.import ∷ (codes "now" ∷ moment_word o.moment ∷ []) ∷ (limiter_rows Import o.import ++ (value_row Export o.export ∷ limiter_rows Export o.export))
+-- the lines of the device name, the state and the mode
+abbrev switch_rows : List ℕ → ControlState → ControlMode → List Row
+switch_rows device state mode = (codes "device" ∷ encode_upper device ∷ []) ∷ number_row (codes "state") (state_number state) ∷ number_row (codes "mode") (mode_number mode) ∷ []
+
+same_rows : (device other : List ℕ) (state other_state : ControlState) (mode other_mode : ControlMode) → device ≡ other → state ≡ other_state → mode ≡ other_mode
+    → switch_rows device state mode ≡ switch_rows other other_state other_mode
+same_rows device other state other_state mode other_mode is_device is_state is_mode = rw (is_device, is_state, is_mode) refl
+
+-- the lines behind these
+abbrev rest_rows : Opening → Forms → List Row
+rest_rows o forms =
+    (value_row Import o.import ∷ (codes "now" ∷ moment_word o.moment ∷ []) ∷ (limiter_rows Import o.import ++ (value_row Export o.export ∷ limiter_rows Export o.export)))
+    ++ (codes "scripts" ∷ data_word forms.table ∷ []) ∷ entries_row 0 o.schedules.first forms.first ∷ entries_row 1 o.schedules.second forms.second
+    ∷ entries_row 2 o.schedules.third forms.third ∷ entries_row 3 o.schedules.fourth forms.fourth ∷ []
+
+-- an opening that was read behind the line of the mode, and the Datas that its lines hold
+record RestRead (device : List ℕ) (state : ControlState) (mode : ControlMode) (o : Opening) (place behind : Place) : Type 0 where
+  pub device_is : device ≡ o.device
+  pub state_is : state ≡ o.state
+  pub mode_is : mode ≡ o.mode
+  pub forms : Forms
+  pub say : AreFormsOf o forms
+  pub took : Took (rest_rows o forms) place behind
+
+rest_back : (device : List ℕ) (state : ControlState) (mode : ControlMode) (place : Place) (o : Opening) (behind : Place) → opening_with Two device state mode place ≡ Ok (o, behind)
+    → RestRead device state mode o place behind
+unfolding opening_with
+rest_back device state mode place o behind e =
+    let last = bind_ok (value_line Import place) _ (o, behind) e in
+    let moment = bind_ok (line_as (labelled (codes "now") moment_in) last.0.1) _ (o, behind) last.2 in
+    let import = bind_ok (limiter_from Import last.0.0 moment.0.1) _ (o, behind) moment.2 in
+    let export = bind_ok (export_from Two import.0.1) _ (o, behind) import.2 in
+    let scripts = bind_ok (line_as (labelled (codes "scripts") table_in) export.0.1) _ (o, behind) export.2 in
+    let schedules = bind_ok (schedules_from scripts.0.1) _ (o, behind) scripts.2 in
+    let limiter = limiter_back Import last.0.0 moment.0.1 import.0.0 import.0.1 import.1 in
+    let table = table_back export.0.1 scripts.0.0 scripts.0.1 scripts.1 in
+    let entries = schedules_back scripts.0.1 schedules.0.0 schedules.0.1 schedules.1 in
+    let made : Opening = record { device = device; state = state; mode = mode; moment = moment.0.0; import = import.0.0; export = export.0.0; scripts = scripts.0.0; schedules = schedules.0.0 } in
+    carried Opening (λ read at. RestRead device state mode read place at) made o schedules.0.1 behind schedules.2 (record {
+      device_is = refl;
+      state_is = refl;
+      mode_is = refl;
+      forms = record { table = table.form; first = entries.first; second = entries.second; third = entries.third; fourth = entries.fourth };
+      say = record { table = table.says; first = entries.first_says; second = entries.second_says; third = entries.third_says; fourth = entries.fourth_says };
+      took =
+          then _ _ place last.0.1 schedules.0.1
+          (subst (λ (n : ℕ). Took (number_row (label Import (codes "value")) n ∷ []) place last.0.1) limiter.1 (value_back Import (codes "value") place last.0.0 last.0.1 last.1)) (
+          then _ _ last.0.1 moment.0.1 schedules.0.1 (line_back _ (labelled (codes "now") moment_in) (λ m. codes "now" ∷ moment_word m ∷ []) moment_line_back last.0.1 moment.0.0 moment.0.1 moment.1) (
+          then _ _ moment.0.1 import.0.1 schedules.0.1 limiter.0 (
+          then _ _ import.0.1 export.0.1 schedules.0.1 (export_back import.0.1 export.0.0 export.0.1 export.1) (
+          then _ _ export.0.1 scripts.0.1 schedules.0.1 table.took entries.took))));
+    })
 
 -- all lines behind that of the version
 abbrev rows_behind : Opening → Forms → List Row
-rows_behind o forms =
-    front_rows o ++ (codes "scripts" ∷ data_word forms.table ∷ []) ∷ entries_row 0 o.schedules.first forms.first ∷ entries_row 1 o.schedules.second forms.second
-    ∷ entries_row 2 o.schedules.third forms.third ∷ entries_row 3 o.schedules.fourth forms.fourth ∷ []
+rows_behind o forms = switch_rows o.device o.state o.mode ++ rest_rows o forms
 
 -- an opening that was read, and the Datas that its lines hold
 record OpeningRead (o : Opening) (place behind : Place) : Type 0 where
@@ -132,29 +162,20 @@ record OpeningRead (o : Opening) (place behind : Place) : Type 0 where
 inner_back : (place : Place) (o : Opening) (behind : Place) → opening_in Two place ≡ Ok (o, behind) → OpeningRead o place behind
 unfolding opening_in
 inner_back place o behind e =
-    let switch = bind_ok (switch_from place) _ (o, behind) e in
-    let last = bind_ok (value_line Import switch.0.1) _ (o, behind) switch.2 in
-    let moment = bind_ok (line_as (labelled (codes "now") moment_in) last.0.1) _ (o, behind) last.2 in
-    let import = bind_ok (limiter_from Import last.0.0 moment.0.1) _ (o, behind) moment.2 in
-    let export = bind_ok (export_from Two import.0.1) _ (o, behind) import.2 in
-    let scripts = bind_ok (line_as (labelled (codes "scripts") table_in) export.0.1) _ (o, behind) export.2 in
-    let schedules = bind_ok (schedules_from scripts.0.1) _ (o, behind) scripts.2 in
-    let limiter = limiter_back Import last.0.0 moment.0.1 import.0.0 import.0.1 import.1 in
-    let table = table_back export.0.1 scripts.0.0 scripts.0.1 scripts.1 in
-    let entries = schedules_back scripts.0.1 schedules.0.0 schedules.0.1 schedules.1 in
-    let made : Opening = record { device = switch.0.0.device; state = switch.0.0.state; mode = switch.0.0.mode; moment = moment.0.0; import = import.0.0; export = export.0.0; scripts = scripts.0.0; schedules = schedules.0.0 } in
-    carried Opening (λ read at. OpeningRead read place at) made o schedules.0.1 behind schedules.2 (record {
-      forms = record { table = table.form; first = entries.first; second = entries.second; third = entries.third; fourth = entries.fourth };
-      say = record { table = table.says; first = entries.first_says; second = entries.second_says; third = entries.third_says; fourth = entries.fourth_says };
-      took =
-          then _ _ place switch.0.1 schedules.0.1 (switch_back place switch.0.0 switch.0.1 switch.1) (
-          then _ _ switch.0.1 last.0.1 schedules.0.1
-          (subst (λ (n : ℕ). Took (number_row (label Import (codes "value")) n ∷ []) switch.0.1 last.0.1) limiter.1 (value_back Import (codes "value") switch.0.1 last.0.0 last.0.1 last.1)) (
-          then _ _ last.0.1 moment.0.1 schedules.0.1 (line_back _ (labelled (codes "now") moment_in) (λ m. codes "now" ∷ moment_word m ∷ []) moment_line_back last.0.1 moment.0.0 moment.0.1 moment.1) (
-          then _ _ moment.0.1 import.0.1 schedules.0.1 limiter.0 (
-          then _ _ import.0.1 export.0.1 schedules.0.1 (export_back import.0.1 export.0.0 export.0.1 export.1) (
-          then _ _ export.0.1 scripts.0.1 schedules.0.1 table.took entries.took)))));
-    })
+    let device = bind_ok (line_as (labelled (codes "device") device_in) place) _ (o, behind) e in
+    let state = bind_ok (line_as (labelled (codes "state") state_in) device.0.1) _ (o, behind) device.2 in
+    let mode = bind_ok (line_as (labelled (codes "mode") (mode_in state.0.0)) state.0.1) _ (o, behind) state.2 in
+    let rest = rest_back device.0.0 state.0.0 mode.0.0 mode.0.1 o behind mode.2 in
+    let switch =
+    then _ _ place device.0.1 mode.0.1 (line_back _ (labelled (codes "device") device_in) (λ d. codes "device" ∷ encode_upper d ∷ []) device_line_back place device.0.0 device.0.1 device.1) (
+    then _ _ device.0.1 state.0.1 mode.0.1 (line_back _ (labelled (codes "state") state_in) (λ s. number_row (codes "state") (state_number s)) state_line_back device.0.1 state.0.0 state.0.1 state.1)
+    (line_back _ (labelled (codes "mode") (mode_in state.0.0)) (λ m. number_row (codes "mode") (mode_number m)) (mode_line_back state.0.0) state.0.1 mode.0.0 mode.0.1 mode.1)) in
+    let same = same_rows device.0.0 o.device state.0.0 o.state mode.0.0 o.mode rest.device_is rest.state_is rest.mode_is in
+    record {
+      forms = rest.forms;
+      say = rest.say;
+      took = then _ _ place mode.0.1 behind (subst (λ (rows : List Row). Took rows place mode.0.1) same switch) rest.took;
+    }
 
 -- all lines
 abbrev all_rows : Opening → Forms → List Row

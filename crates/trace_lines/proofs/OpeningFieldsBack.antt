@@ -2,7 +2,7 @@
 use Rattle.std.proofs.Common.{◌≡◌, ℕ, Bool, nat_eq, ◌==◌, List, [], ◌∷◌, Option, Result, Ok, ap, subst, ◌∙◌, arith, decimal, codes}
 use Rattle.std.proofs.lemmas.Bool.{eqb-true}
 use Rattle.std.specs.Cmp.Lexicographic.{pointwise}
-use Rattle.byte_reading.proofs.OutcomeLemmas.{done, ok_is, bind_ok, guard_ok}
+use Rattle.byte_reading.proofs.OutcomeLemmas.{ok_is, bind_ok, guard_ok}
 use Rattle.hex.specs.Hex.{encode_upper}
 use Rattle.action_schedule.specs.Kinds.{number_of}
 use Rattle.action_schedule.specs.Reading.{entries_of}
@@ -20,11 +20,11 @@ use Rattle.limiter_core.specs.State.{are_fit}
 use Rattle.limiter_core.specs.declared.count.Count.{Count}
 use Rattle.limiter_core.specs.declared.settings.Actions.{Actions}
 use Rattle.limiter_core.specs.declared.settings.Profile.{Profile}
-use Rattle.trace_lines.proofs.WordsBack.{IsWrittenBack, number_back, flag_back, same_is, next_back, next_number_back, ended_back, all_back}
+use Rattle.trace_lines.proofs.WordsBack.{IsWrittenBack, number_back, flag_back, same_is, next_back, next_number_back, last_read, last_back, last_number_back, all_back}
 use Rattle.trace_lines.specs.OpeningFields.{behind, labelled, label, max_events, version_in, device_in, state_in, mode_in, moment_in, start_in, entries_in, type_in, id_from, events_from, version_from, profile_from, groups_from, actions_from, count_from, over_from, under_from, schedule_from}
 use Rattle.trace_lines.specs.OpeningForms.{entries_row}
 use Rattle.trace_lines.specs.OpeningRows.{number_row, moment_word, count_row, profile_row, groups_row}
-use Rattle.trace_lines.specs.Reading.{number_in, flag_in, value_in, next_as}
+use Rattle.trace_lines.specs.Reading.{number_in, flag_in, value_in, next_as, last_as}
 use Rattle.trace_lines.specs.Rows.{Word, Row}
 use Rattle.trace_lines.specs.Writing.{value_words, data_word, flag_number}
 use Rattle.trace_lines.specs.declared.fault.RowFault.{RowFault}
@@ -40,26 +40,13 @@ behind_back name (word ∷ others) u words e =
     let same = guard_ok (pointwise nat_eq word name) Wrong _ (u, words) e in
     ap (λ (w : Word). w ∷ others) (same_is word name same.0) ∙ ap (λ (p : Unit {0} × Row). name ∷ p.1) (ok_is (tt, others) (u, words) same.1)
 
--- a word of a line, and the value that is read from it
-next_read : (X : Type 0) (value_in : Word → Result X RowFault) (words rest : Row) (x : X) → next_as value_in words ≡ Ok (x, rest) → (word : Word) × (words ≡ word ∷ rest) × (value_in word ≡ Ok x)
-next_read X value_in [] rest x e = absurd cc
-next_read X value_in (word ∷ words) rest x e =
-    let read = bind_ok (value_in word) _ (x, rest) e in
-    let is = ok_is (read.0, words) (x, rest) read.2 in
-    (word, ap (λ (p : X × Row). word ∷ p.1) is, read.1 ∙ ap (λ (p : X × Row). done RowFault p.0) is)
-
 -- a line of a first word and one value
 pub labelled_read : (X : Type 0) (name : Word) (value_in : Word → Result X RowFault) (row : Row) (x : X) → labelled name value_in row ≡ Ok x
     → (word : Word) × (row ≡ name ∷ word ∷ []) × (value_in word ≡ Ok x)
 labelled_read X name value_in row x e =
     let words = bind_ok (behind name row) _ x e in
-    let value = bind_ok (next_as value_in words.0.1) _ x words.2 in
-    let end = ended_back X value.0.1 value.0.0 x value.2 in
-    let read = next_read X value_in words.0.1 value.0.1 value.0.0 value.1 in (
-      read.0,
-      behind_back name row words.0.0 words.0.1 words.1 ∙ ap (λ (ws : Row). name ∷ ws) (read.1 ∙ ap (λ (ws : Row). read.0 ∷ ws) end.0),
-      read.2 ∙ ap (done RowFault) end.1,
-    )
+    let read = last_read X value_in words.0.1 x words.2 in
+    (read.0, behind_back name row words.0.0 words.0.1 words.1 ∙ ap (λ (ws : Row). name ∷ ws) read.1, read.2)
 
 -- each line from which a value is read is the one that is written for it
 abbrev pub IsRowBack : (X : Type 0) → (Row → Result X RowFault) → (X → Row) → Type 0
@@ -99,17 +86,14 @@ profile_back which row profile e =
     let words = bind_ok (behind name row) _ profile e in
     let id = bind_ok (next_as (number_in 65535) words.0.1) _ profile words.2 in
     let start = bind_ok (next_as start_in id.0.1) _ profile id.2 in
-    let duration = bind_ok (next_as value_in start.0.1) _ profile start.2 in
-    let end = ended_back Profile duration.0.1 _ profile duration.2 in
+    let duration = bind_ok (last_as value_in start.0.1) _ profile start.2 in
     behind_back name row words.0.0 words.0.1 words.1
     ∙ ap (λ (ws : Row). name ∷ ws) (
     next_number_back 65535 (omega arith) words.0.1 id.0.1 id.0.0 id.1
     ∙ ap (λ (ws : Row). decimal id.0.0 ∷ ws) (
     next_back DateTimeFields start_in (λ s. encode_upper (date_time_bytes s)) start_back id.0.1 start.0.1 start.0.0 start.1
-    ∙ ap (λ (ws : Row). encode_upper (date_time_bytes start.0.0) ∷ ws) (
-    next_number_back 4294967295 (omega arith) start.0.1 duration.0.1 duration.0.0 duration.1
-    ∙ ap (λ (ws : Row). decimal duration.0.0 ∷ ws) end.0)))
-    ∙ ap (profile_row which) end.1
+    ∙ ap (λ (ws : Row). encode_upper (date_time_bytes start.0.0) ∷ ws) (last_number_back 4294967295 (omega arith) start.0.1 duration.0 duration.1)))
+    ∙ ap (profile_row which) (ok_is (record { id = id.0.0; start = start.0.0; duration = duration.0 }) profile duration.2)
 
 pub groups_back : (which : Which) → IsRowBack (List ℕ) (groups_from which) (groups_row which)
 unfolding groups_from
@@ -128,30 +112,24 @@ actions_back which row actions e =
     let name = label which (codes "actions") in
     let words = bind_ok (behind name row) _ actions e in
     let over = bind_ok (next_as (number_in 65535) words.0.1) _ actions words.2 in
-    let under = bind_ok (next_as (number_in 65535) over.0.1) _ actions over.2 in
-    let end = ended_back Actions under.0.1 _ actions under.2 in
+    let under = bind_ok (last_as (number_in 65535) over.0.1) _ actions over.2 in
     behind_back name row words.0.0 words.0.1 words.1
     ∙ ap (λ (ws : Row). name ∷ ws) (
     next_number_back 65535 (omega arith) words.0.1 over.0.1 over.0.0 over.1
-    ∙ ap (λ (ws : Row). decimal over.0.0 ∷ ws) (
-    next_number_back 65535 (omega arith) over.0.1 under.0.1 under.0.0 under.1
-    ∙ ap (λ (ws : Row). decimal under.0.0 ∷ ws) end.0))
-    ∙ ap (actions_row which) end.1
+    ∙ ap (λ (ws : Row). decimal over.0.0 ∷ ws) (last_number_back 65535 (omega arith) over.0.1 under.0 under.1))
+    ∙ ap (actions_row which) (ok_is (record { over = over.0.0; under = under.0 }) actions under.2)
 
 count_back : (name : Word) → IsRowBack Count (count_from name) (count_row name)
 unfolding count_from
 count_back name row count e =
     let words = bind_ok (behind name row) _ count e in
     let run = bind_ok (next_as (number_in cap) words.0.1) _ count words.2 in
-    let fired = bind_ok (next_as flag_in run.0.1) _ count run.2 in
-    let end = ended_back Count fired.0.1 _ count fired.2 in
+    let fired = bind_ok (last_as flag_in run.0.1) _ count run.2 in
     behind_back name row words.0.0 words.0.1 words.1
     ∙ ap (λ (ws : Row). name ∷ ws) (
     next_number_back cap (omega arith) words.0.1 run.0.1 run.0.0 run.1
-    ∙ ap (λ (ws : Row). decimal run.0.0 ∷ ws) (
-    next_back Bool flag_in (λ flag. decimal (flag_number flag)) flag_back run.0.1 fired.0.1 fired.0.0 fired.1
-    ∙ ap (λ (ws : Row). decimal (flag_number fired.0.0) ∷ ws) end.0))
-    ∙ ap (count_row name) end.1
+    ∙ ap (λ (ws : Row). decimal run.0.0 ∷ ws) (last_back Bool flag_in (λ flag. decimal (flag_number flag)) flag_back run.0.1 fired.0 fired.1))
+    ∙ ap (count_row name) (ok_is (record { run = run.0.0; fired = fired.0 }) count fired.2)
 
 pub over_back : (which : Which) (last : ℕ) → IsRowBack Count (over_from which last) (count_row (label which (codes "over")))
 unfolding over_from
@@ -168,15 +146,15 @@ under_back which last over row count e =
     count_back (label which (codes "under")) row read.0 read.1 ∙ ap (count_row (label which (codes "under"))) (ok_is read.0 count fit.1)
 
 -- the words of a schedule's line, one after the other
-schedule_line : (row a b c d e : Row) (found number : ℕ) (word : Word) (selector : ℕ) (kind : ScheduleType) (entries : List EntryPattern) (form : Data)
-    → row ≡ codes "schedule" ∷ a → a ≡ decimal found ∷ b → found ≡ number → b ≡ decimal selector ∷ c → c ≡ decimal (number_of kind) ∷ d → d ≡ word ∷ e → word ≡ data_word form → e ≡ []
+schedule_line : (row a b c d : Row) (found number : ℕ) (word : Word) (selector : ℕ) (kind : ScheduleType) (entries : List EntryPattern) (form : Data)
+    → row ≡ codes "schedule" ∷ a → a ≡ decimal found ∷ b → found ≡ number → b ≡ decimal selector ∷ c → c ≡ decimal (number_of kind) ∷ d → d ≡ word ∷ [] → word ≡ data_word form
     → row ≡ entries_row number (record { selector = selector; kind = kind; entries = entries }) form
-schedule_line row a b c d e found number word selector kind entries form is_row is_a is_number is_b is_c is_d is_word is_e =
+schedule_line row a b c d found number word selector kind entries form is_row is_a is_number is_b is_c is_d is_word =
     is_row ∙ ap (λ (ws : Row). codes "schedule" ∷ ws) (
     is_a ∙ ap (λ (n : ℕ). decimal n ∷ b) is_number ∙ ap (λ (ws : Row). decimal number ∷ ws) (
     is_b ∙ ap (λ (ws : Row). decimal selector ∷ ws) (
     is_c ∙ ap (λ (ws : Row). decimal (number_of kind) ∷ ws) (
-    is_d ∙ ap (λ (w : Word). w ∷ e) is_word ∙ ap (λ (ws : Row). data_word form ∷ ws) is_e))))
+    is_d ∙ ap (λ (w : Word). w ∷ []) is_word))))
 
 -- a schedule, whose entries stand as a Data that is read as these
 pub schedule_read : (number : ℕ) (row : Row) (schedule : Schedule) → schedule_from number row ≡ Ok schedule
@@ -189,17 +167,16 @@ schedule_read number row schedule e =
     let same = guard_ok (found.0.0 == number) Wrong _ schedule found.2 in
     let selector = bind_ok (next_as (number_in 65535) found.0.1) _ schedule same.1 in
     let kind = bind_ok (next_as type_in selector.0.1) _ schedule selector.2 in
-    let entries = bind_ok (next_as entries_in kind.0.1) _ schedule kind.2 in
-    let made : Schedule = record { selector = selector.0.0; kind = kind.0.0; entries = entries.0.0 } in
-    let end = ended_back Schedule entries.0.1 made schedule entries.2 in
-    let word = next_read (List EntryPattern) entries_in kind.0.1 entries.0.1 entries.0.0 entries.1 in
-    let form = entries_read word.0 entries.0.0 word.2 in
+    let entries = bind_ok (last_as entries_in kind.0.1) _ schedule kind.2 in
+    let is = ok_is (record { selector = selector.0.0; kind = kind.0.0; entries = entries.0 }) schedule entries.2 in
+    let word = last_read (List EntryPattern) entries_in kind.0.1 entries.0 entries.1 in
+    let form = entries_read word.0 entries.0 word.2 in
     let line =
-    schedule_line row words.0.1 found.0.1 selector.0.1 kind.0.1 entries.0.1 found.0.0 number word.0 selector.0.0 kind.0.0 entries.0.0 form.0
+    schedule_line row words.0.1 found.0.1 selector.0.1 kind.0.1 found.0.0 number word.0 selector.0.0 kind.0.0 entries.0 form.0
     (behind_back name row words.0.0 words.0.1 words.1)
     (next_number_back 3 (omega arith) words.0.1 found.0.1 found.0.0 found.1)
     (eqb-true found.0.0 number same.0)
     (next_number_back 65535 (omega arith) found.0.1 selector.0.1 selector.0.0 selector.1)
     (next_back ScheduleType type_in (λ k. decimal (number_of k)) type_back selector.0.1 kind.0.1 kind.0.0 kind.1)
-    word.1 form.2 end.0 in
-    (form.0, subst (λ (s : Schedule). entries_of form.0 ≡ Ok s.entries) end.1 form.1, subst (λ (s : Schedule). row ≡ entries_row number s form.0) end.1 line)
+    word.1 form.2 in
+    (form.0, subst (λ (s : Schedule). entries_of form.0 ≡ Ok s.entries) is form.1, subst (λ (s : Schedule). row ≡ entries_row number s form.0) is line)

@@ -11,7 +11,7 @@ use Rattle.relay_core.specs.declared.schedules.Schedules.{Schedules}
 use Rattle.script_steps.specs.Writing.{data_of}
 use Rattle.trace_lines.proofs.OpeningFieldLaws.{version_again, events_again, device_line_again, state_line_again, mode_line_again, moment_line_again, value_line_again, table_line_again, profile_again, groups_again, actions_again, FitRunsMean, over_again, under_again, schedule_again}
 use Rattle.trace_lines.specs.OpeningFields.{label, labelled, version_from, device_in, state_in, mode_in, moment_in, table_in, events_from, profile_from, groups_from, actions_from, over_from, under_from, schedule_from}
-use Rattle.trace_lines.specs.OpeningReading.{limits_from, emergency_from, runs_from, limiter_from, export_from, switch_from, schedules_from, opening_in, opening_from}
+use Rattle.trace_lines.specs.OpeningReading.{limiter_from, export_from, schedules_from, opening_with, opening_in, opening_from}
 use Rattle.trace_lines.specs.OpeningRows.{number_row, moment_word, count_row, profile_row, groups_row, value_row, limiter_rows, schedule_row, schedule_rows, opening_rows}
 use Rattle.trace_lines.specs.OpeningTraced.{IsTracedLimiter, IsTracedSchedule, IsWritable}
 use Rattle.trace_lines.specs.Places.{Place, passed, line_as}
@@ -47,44 +47,6 @@ number_line_again : (which : Which) (name : Word) (value number : ℕ) (rows : L
 number_line_again which name value number rows unended le =
     line_again (labelled (label which name) value_in) (number_row (label which name) value) value number rows unended (value_line_again (label which name) value le)
 
-limits_again : (which : Which) (o : LimiterOpening) (number : ℕ) (rows : List Row) (unended : List ℕ) → IsTracedLimiter o
-    → limits_from which (place number (
-    number_row (label which (codes "normal")) o.normal_threshold ∷ number_row (label which (codes "emergency")) o.emergency_threshold
-    ∷ number_row (label which (codes "minover")) o.min_over_duration ∷ number_row (label which (codes "minunder")) o.min_under_duration ∷ rows) unended)
-    ≡ Ok (record { normal_threshold = o.normal_threshold; emergency_threshold = o.emergency_threshold; min_over_duration = o.min_over_duration; min_under_duration = o.min_under_duration }, place (four_on number) rows unended)
-unfolding limits_from
-limits_again which o number rows unended traced =
-    let under_row = number_row (label which (codes "minunder")) o.min_under_duration in
-    let over_row = number_row (label which (codes "minover")) o.min_over_duration in
-    let emergency_row = number_row (label which (codes "emergency")) o.emergency_threshold in
-    let normal = number_line_again which (codes "normal") o.normal_threshold number (emergency_row ∷ over_row ∷ under_row ∷ rows) unended traced.normal_threshold in
-    let emergency = number_line_again which (codes "emergency") o.emergency_threshold (suc number) (over_row ∷ under_row ∷ rows) unended traced.emergency_threshold in
-    let over = number_line_again which (codes "minover") o.min_over_duration (two_on number) (under_row ∷ rows) unended traced.min_over_duration in
-    let under = number_line_again which (codes "minunder") o.min_under_duration (three_on number) rows unended traced.min_under_duration in
-    rw (normal, emergency, over, under) refl
-
-emergency_again : (which : Which) (o : LimiterOpening) (number : ℕ) (rows : List Row) (unended : List ℕ) → IsFitLimiterOpening o → IsTracedLimiter o
-    → emergency_from which (place number (profile_row which o.profile ∷ groups_row which o.groups ∷ (label which (codes "actions") ∷ decimal o.actions.over ∷ decimal o.actions.under ∷ []) ∷ rows) unended)
-    ≡ Ok (record { profile = o.profile; groups = o.groups; actions = o.actions }, place (three_on number) rows unended)
-unfolding emergency_from
-emergency_again which o number rows unended fit traced =
-    let actions_row : Row = label which (codes "actions") ∷ decimal o.actions.over ∷ decimal o.actions.under ∷ [] in
-    let profile = line_again (profile_from which) (profile_row which o.profile) o.profile number (groups_row which o.groups ∷ actions_row ∷ rows) unended
-    (profile_again which o.profile traced.profile_id traced.profile_start traced.profile_duration) in
-    let groups = line_again (groups_from which) (groups_row which o.groups) o.groups (suc number) (actions_row ∷ rows) unended (groups_again which o.groups fit.groups traced.groups) in
-    let actions = line_again (actions_from which) actions_row o.actions (two_on number) rows unended (actions_again which o.actions traced.over_selector traced.under_selector) in
-    rw (profile, groups, actions) refl
-
-runs_again : FitRunsMean → (which : Which) (o : LimiterOpening) (number : ℕ) (rows : List Row) (unended : List ℕ) → IsFitLimiterOpening o
-    → runs_from which o.value (place number (count_row (label which (codes "over")) o.over ∷ count_row (label which (codes "under")) o.under ∷ rows) unended)
-    ≡ Ok (record { over = o.over; under = o.under }, place (two_on number) rows unended)
-unfolding runs_from
-runs_again mean which o number rows unended fit =
-    let under_row = count_row (label which (codes "under")) o.under in
-    let over = line_again (over_from which o.value) (count_row (label which (codes "over")) o.over) o.over number (under_row ∷ rows) unended (over_again mean which o.value o.over o.under fit.runs) in
-    let under = line_again (under_from which o.value o.over) under_row o.under (suc number) rows unended (under_again mean which o.value o.over o.under fit.runs) in
-    rw (over, under) refl
-
 abbrev nine_on : ℕ → ℕ
 nine_on number = two_on (three_on (four_on number))
 
@@ -92,12 +54,24 @@ limiter_again : FitRunsMean → (which : Which) (o : LimiterOpening) (number : �
     → limiter_from which o.value (place number (limiter_rows which o ++ rows) unended) ≡ Ok (o, place (nine_on number) rows unended)
 unfolding limiter_from
 limiter_again mean which o number rows unended fit traced =
-    let run_rows : List Row = count_row (label which (codes "over")) o.over ∷ count_row (label which (codes "under")) o.under ∷ rows in
-    let emergency_rows : List Row = profile_row which o.profile ∷ groups_row which o.groups ∷ (label which (codes "actions") ∷ decimal o.actions.over ∷ decimal o.actions.under ∷ []) ∷ run_rows in
-    let limits = limits_again which o number emergency_rows unended traced in
-    let emergency = emergency_again which o (four_on number) run_rows unended fit traced in
-    let runs = runs_again mean which o (three_on (four_on number)) rows unended fit in
-    rw (limits, emergency, runs) refl
+    let under_row = count_row (label which (codes "under")) o.under in
+    let from_over : List Row = count_row (label which (codes "over")) o.over ∷ under_row ∷ rows in
+    let actions_row : Row = label which (codes "actions") ∷ decimal o.actions.over ∷ decimal o.actions.under ∷ [] in
+    let from_groups : List Row = groups_row which o.groups ∷ actions_row ∷ from_over in
+    let from_profile : List Row = profile_row which o.profile ∷ from_groups in
+    let from_min_under : List Row = number_row (label which (codes "minunder")) o.min_under_duration ∷ from_profile in
+    let from_min_over : List Row = number_row (label which (codes "minover")) o.min_over_duration ∷ from_min_under in
+    let normal = number_line_again which (codes "normal") o.normal_threshold number (number_row (label which (codes "emergency")) o.emergency_threshold ∷ from_min_over) unended traced.normal_threshold in
+    let emergency = number_line_again which (codes "emergency") o.emergency_threshold (suc number) from_min_over unended traced.emergency_threshold in
+    let min_over = number_line_again which (codes "minover") o.min_over_duration (two_on number) from_min_under unended traced.min_over_duration in
+    let min_under = number_line_again which (codes "minunder") o.min_under_duration (three_on number) from_profile unended traced.min_under_duration in
+    let profile = line_again (profile_from which) (profile_row which o.profile) o.profile (four_on number) from_groups unended
+    (profile_again which o.profile traced.profile_id traced.profile_start traced.profile_duration) in
+    let groups = line_again (groups_from which) (groups_row which o.groups) o.groups (suc (four_on number)) (actions_row ∷ from_over) unended (groups_again which o.groups fit.groups traced.groups) in
+    let actions = line_again (actions_from which) actions_row o.actions (two_on (four_on number)) from_over unended (actions_again which o.actions traced.over_selector traced.under_selector) in
+    let over = line_again (over_from which o.value) (count_row (label which (codes "over")) o.over) o.over (three_on (four_on number)) (under_row ∷ rows) unended (over_again mean which o.value o.over o.under fit.runs) in
+    let under = line_again (under_from which o.value o.over) under_row o.under (suc (three_on (four_on number))) rows unended (under_again mean which o.value o.over o.under fit.runs) in
+    rw (normal, emergency, min_over, min_under, profile, groups, actions, over, under) refl
 
 export_again : FitRunsMean → (o : LimiterOpening) (number : ℕ) (rows : List Row) (unended : List ℕ) → IsFitLimiterOpening o → IsTracedLimiter o
     → export_from Two (place number (value_row Export o ∷ (limiter_rows Export o ++ rows)) unended) ≡ Ok (o, place (suc (nine_on number)) rows unended)
@@ -108,19 +82,6 @@ export_again mean o number rows unended fit traced =
     rw (last, limiter) refl
 
 -- ---- all of it
-
-switch_again : (o : Opening) (number : ℕ) (rows : List Row) (unended : List ℕ) → IsWritable o
-    → switch_from (place number ((codes "device" ∷ encode_upper o.device ∷ []) ∷ number_row (codes "state") (state_number o.state) ∷ number_row (codes "mode") (mode_number o.mode) ∷ rows) unended)
-    ≡ Ok (record { device = o.device; state = o.state; mode = o.mode }, place (three_on number) rows unended)
-unfolding switch_from
-switch_again o number rows unended writable =
-    let mode_row = number_row (codes "mode") (mode_number o.mode) in
-    let state_row = number_row (codes "state") (state_number o.state) in
-    let device = line_again (labelled (codes "device") device_in) (codes "device" ∷ encode_upper o.device ∷ []) o.device number (state_row ∷ mode_row ∷ rows) unended
-    (device_line_again o.device writable.fit.device_some writable.fit.device_few writable.device) in
-    let state = line_again (labelled (codes "state") state_in) state_row o.state (suc number) (mode_row ∷ rows) unended (state_line_again o.state) in
-    let mode = line_again (labelled (codes "mode") (mode_in o.state)) mode_row o.mode (two_on number) rows unended (mode_line_again o.mode o.state writable.fit.control) in
-    rw (device, state, mode) refl
 
 schedules_again : (schedules : Schedules) (number : ℕ) (rows : List Row) (unended : List ℕ)
     → IsTracedSchedule schedules.first → IsTracedSchedule schedules.second → IsTracedSchedule schedules.third → IsTracedSchedule schedules.fourth
@@ -144,21 +105,27 @@ behind_version o rows =
     ++ ((codes "scripts" ∷ data_word (data_of o.scripts) ∷ []) ∷ (schedule_rows o.schedules ++ rows)))))
 
 inner_again : FitRunsMean → (o : Opening) (rows : List Row) (unended : List ℕ) → IsWritable o → opening_in Two (place 2 (behind_version o rows) unended) ≡ Ok (o, place 31 rows unended)
-unfolding opening_in
+unfolding opening_in opening_with
 inner_again mean o rows unended writable =
     let last_rows : List Row = schedule_rows o.schedules ++ rows in
     let table_rows : List Row = (codes "scripts" ∷ data_word (data_of o.scripts) ∷ []) ∷ last_rows in
     let export_rows : List Row = value_row Export o.export ∷ (limiter_rows Export o.export ++ table_rows) in
     let import_rows : List Row = limiter_rows Import o.import ++ export_rows in
     let moment_row : Row = codes "now" ∷ moment_word o.moment ∷ [] in
-    let switch = switch_again o 2 (value_row Import o.import ∷ moment_row ∷ import_rows) unended writable in
+    let last_row = value_row Import o.import in
+    let mode_row = number_row (codes "mode") (mode_number o.mode) in
+    let state_row = number_row (codes "state") (state_number o.state) in
+    let device = line_again (labelled (codes "device") device_in) (codes "device" ∷ encode_upper o.device ∷ []) o.device 2 (state_row ∷ mode_row ∷ last_row ∷ moment_row ∷ import_rows) unended
+    (device_line_again o.device writable.fit.device_some writable.fit.device_few writable.device) in
+    let state = line_again (labelled (codes "state") state_in) state_row o.state 3 (mode_row ∷ last_row ∷ moment_row ∷ import_rows) unended (state_line_again o.state) in
+    let mode = line_again (labelled (codes "mode") (mode_in o.state)) mode_row o.mode 4 (last_row ∷ moment_row ∷ import_rows) unended (mode_line_again o.mode o.state writable.fit.control) in
     let last = number_line_again Import (codes "value") o.import.value 5 (moment_row ∷ import_rows) unended writable.import.value in
     let moment = line_again (labelled (codes "now") moment_in) moment_row o.moment 6 import_rows unended (moment_line_again o.moment writable.moment) in
     let import = limiter_again mean Import o.import 7 export_rows unended writable.fit.import writable.import in
     let export = export_again mean o.export 16 table_rows unended writable.fit.export writable.export in
     let scripts = line_again (labelled (codes "scripts") table_in) (codes "scripts" ∷ data_word (data_of o.scripts) ∷ []) o.scripts 26 last_rows unended (table_line_again o.scripts writable.scripts writable.script_numbers) in
     let schedules = schedules_again o.schedules 27 rows unended writable.first writable.second writable.third writable.fourth in
-    rw (switch, last, moment, import, export, scripts, schedules) refl
+    rw (device, state, mode, last, moment, import, export, scripts, schedules) refl
 
 pub opening_again : FitRunsMean → (o : Opening) (rows : List Row) (unended : List ℕ) → IsWritable o
     → opening_from (record { number = 1; rows = opening_rows o ++ rows; unended = unended }) ≡ Ok ((Two, o), record { number = 31; rows = rows; unended = unended })

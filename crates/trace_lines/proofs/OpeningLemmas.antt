@@ -1,5 +1,6 @@
 -- What is so of each line of an opening that is read.
 use Rattle.std.proofs.Common.{◌≡◌, ℕ, ◌≤◌, List, length, Option, Some, None, Result, Ok, Err, ap, arith, inr}
+use Rattle.std.specs.Prelude.{IfOk}
 use Rattle.byte_reading.specs.Outcome.{◌>>=◌, Fails}
 use Rattle.byte_reading.proofs.OutcomeLemmas.{done}
 use Rattle.trace_text.proofs.HexadecimalLemmas.{bytes_only}
@@ -25,3 +26,8 @@ id_is word words n e = ap (λ (r : Result ℕ RowFault). r >>= λ (id : ℕ). do
 -- or it is none
 pub id_fails : (word : Word) (words : Row) (fault : RowFault) → number_in 65535 word ≡ Err fault → Fails Memory fault (id_from word words)
 id_fails word words fault e = inr (ap (λ (r : Result ℕ RowFault). r >>= λ (id : ℕ). done RowFault (id, words)) e)
+
+-- what was read is what was answered
+pub answer_is : {X : Type 0} (P : Result X RowFault → Type 0) (read : Result X RowFault) → P read → IfOk read (λ x. P (Ok x))
+answer_is P (Ok x) p = p
+answer_is P (Err fault) p = tt

@@ -1,11 +1,18 @@
 -- The lines of a text, taken one after the other.
-use Rattle.std.proofs.Common.{◌≡◌, ℕ, suc, ◌+◌, ◌<◌, ◌≤◌, ◌^◌, List, [], ◌∷◌, ◌++◌, length, Ok, Err, refl, sym, ap, ◌∙◌, arith, length-append}
+use Rattle.std.proofs.Common.{◌≡◌, ℕ, suc, ◌+◌, ◌<◌, ◌≤◌, ◌^◌, List, [], ◌∷◌, ◌++◌, length, Result, Ok, Err, refl, sym, ap, ◌∙◌, arith, length-append, inl, inr}
+use Rattle.std.specs.Prelude.{IfOk}
+use Rattle.byte_reading.proofs.OutcomeLemmas.{ok_is}
+use Rattle.byte_reading.specs.Outcome.{Fails, Gives}
+use Rattle.trace_lines.specs.declared.fault.RowFault.{RowFault}
+use Rattle.trace_lines.specs.declared.fault.RowFault.TheVariants as row_fault
+use Rattle.trace_lines.specs.declared.fault.RowFault.TheVariants.{Wrong}
 use Rattle.trace_text.specs.Lines.{rows_of, rows_text, unended_of, lines_of}
 use Rattle.trace_text.specs.Words.{line_of, words_of}
 use Rattle.trace_text.proofs.LinesLemmas.{rows_text-cons, rows_text-nil, rows_text-rows_of, rows_of-taken, rows_of-none, lines_of-nil, unended_of-nil}
-use Rattle.trace_lines.specs.Places.{Place, nothing_left, ended_at}
+use Rattle.trace_lines.specs.Places.{Place, ReadsLines, passed, first_as, line_as, told, nothing_left, ended_at}
 use Rattle.trace_lines.specs.Rows.{Row}
-use Rattle.trace_lines.specs.declared.fault.TraceFault.TheVariants.{Line}
+use Rattle.trace_lines.specs.declared.fault.TraceFault.{TraceFault}
+use Rattle.trace_lines.specs.declared.fault.TraceFault.TheVariants.{Line, Memory}
 
 -- each line takes a byte or more
 rows_are_few : (rows : List Row) → length rows ≤ length (rows_text rows)
@@ -63,3 +70,41 @@ something_is_left place number text is some = ap (λ (p : Place). ended_at {X = 
 pub no_bytes : (bytes text : List ℕ) → bytes ≡ text → length bytes ≡ 0 → text ≡ []
 no_bytes bytes [] is e = refl
 no_bytes bytes (byte ∷ others) is e = let l : length bytes ≡ length (byte ∷ others) = ap (λ (b : List ℕ). length b) is in absurd (omega (arith, l, e))
+
+-- the words of the first line are read as a definition reads them
+words_read_at : {X : Type 0} (given : Row → Result X RowFault) (number : ℕ) (rows : List Row) (unended : List ℕ) (words : Row) (behind : Place) (read : Result X RowFault)
+    → first_as (λ row. Ok row) number rows unended ≡ Ok (words, behind) → Gives row_fault.Memory (λ x. x) read (given words)
+    → ReadsLines (λ x. x) (told number read) behind (first_as given number rows unended)
+words_read_at given number [] unended words behind read e reads = absurd cc
+words_read_at {X} given number (row ∷ rows) unended words behind (Ok x) e reads =
+    let is = ok_is (row, record { number = suc number; rows = rows; unended = unended }) (words, behind) e in
+    ap (λ (p : Row × Place). passed (given p.0) number rows unended) is ∙ ap (λ (r : Result X RowFault). passed r number rows unended) reads ∙ ap (λ (p : Row × Place). Ok (x, p.1)) is
+words_read_at {X} given number (row ∷ rows) unended words behind (Err Wrong) e (inl memory) = absurd cc
+words_read_at {X} given number (row ∷ rows) unended words behind (Err Wrong) e (inr wrong) =
+    let is = ok_is (row, record { number = suc number; rows = rows; unended = unended }) (words, behind) e in
+    inr (ap (λ (p : Row × Place). passed (given p.0) number rows unended) is ∙ ap (λ (r : Result X RowFault). passed r number rows unended) wrong)
+words_read_at {X} given number (row ∷ rows) unended words behind (Err row_fault.Memory) e reads = inl refl
+
+pub words_read : {X : Type 0} (given : Row → Result X RowFault) (place : Place) (words : Row) (behind : Place) (read : Result X RowFault)
+    → line_as (λ row. Ok row) place ≡ Ok (words, behind) → Gives row_fault.Memory (λ x. x) read (given words)
+    → ReadsLines (λ x. x) (told place.number read) behind (line_as given place)
+unfolding line_as
+words_read given place words behind read e reads = words_read_at given place.number place.rows place.unended words behind read e reads
+
+-- a line that is read is what its words gave
+pub answer_told : {X : Type 0} (P : Result X RowFault → Type 0) (number : ℕ) (read : Result X RowFault) → P read → IfOk (told number read) (λ x. P (Ok x))
+answer_told P number (Ok x) p = p
+answer_told P number (Err Wrong) p = tt
+answer_told P number (Err row_fault.Memory) p = tt
+
+-- a line that is missing, or not ended, is so whatever it would have been read as
+missing_at : {X : Type 0} (value_from : Row → Result X RowFault) (number : ℕ) (rows : List Row) (unended : List ℕ) (fault : TraceFault)
+    → Fails Memory fault (first_as (λ row. Ok row) number rows unended) → Fails Memory fault (first_as value_from number rows unended)
+missing_at value_from number rows unended fault (inl memory) = inl memory
+missing_at value_from number [] unended fault (inr e) = inr cc
+missing_at value_from number (row ∷ rows) unended fault (inr e) = absurd cc
+
+pub words_missing : {X : Type 0} (value_from : Row → Result X RowFault) (place : Place) (fault : TraceFault)
+    → Fails Memory fault (line_as (λ row. Ok row) place) → Fails Memory fault (line_as value_from place)
+unfolding line_as
+words_missing value_from place fault fails = missing_at value_from place.number place.rows place.unended fault fails

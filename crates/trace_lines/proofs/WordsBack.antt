@@ -19,7 +19,7 @@ use Rattle.trace_text.specs.Numbers.{number_of}
 use Rattle.trace_text.proofs.HexadecimalLemmas.{bytes_only}
 use Rattle.trace_text.proofs.NumbersLemmas.{number_only}
 use Rattle.trace_lines.proofs.OpeningLemmas.{wanted_is}
-use Rattle.trace_lines.specs.Reading.{number_in, flag_in, level_in, bytes_in, name_in, data_in, next_as}
+use Rattle.trace_lines.specs.Reading.{number_in, flag_in, level_in, bytes_in, name_in, data_in, next_as, last_as}
 use Rattle.trace_lines.specs.Rows.{Word, Row, Read, wanted, ended, all_at}
 use Rattle.trace_lines.specs.Writing.{level_number, flag_number, data_word, all_words}
 use Rattle.trace_lines.specs.declared.fault.RowFault.{RowFault}
@@ -109,6 +109,21 @@ next_number_back limit small words rest n e = next_back ℕ (number_in limit) de
 pub ended_back : (X : Type 0) (words : Row) (x y : X) → ended words x ≡ Ok y → (words ≡ []) × (x ≡ y)
 ended_back X [] x y e = (refl, ok_is x y e)
 ended_back X (word ∷ words) x y e = absurd cc
+
+-- the last word, and the value that is read from it
+pub last_read : (X : Type 0) (value_in : Word → Result X RowFault) (words : Row) (x : X) → last_as value_in words ≡ Ok x → (word : Word) × (words ≡ word ∷ []) × (value_in word ≡ Ok x)
+last_read X value_in [] x e = absurd cc
+last_read X value_in (word ∷ []) x e = (word, refl, e)
+last_read X value_in (word ∷ other ∷ words) x e = absurd cc
+
+pub last_back : (X : Type 0) (value_in : Word → Result X RowFault) (word_of : X → Word) → IsWrittenBack X value_in word_of
+    → (words : Row) (x : X) → last_as value_in words ≡ Ok x → words ≡ word_of x ∷ []
+last_back X value_in word_of back words x e =
+    let read = last_read X value_in words x e in
+    read.1 ∙ ap (λ (w : Word). w ∷ []) (back read.0 x read.2)
+
+pub last_number_back : (limit : ℕ) → limit < 2 ^ 64 → (words : Row) (n : ℕ) → last_as (number_in limit) words ≡ Ok n → words ≡ decimal n ∷ []
+last_number_back limit small words n e = last_back ℕ (number_in limit) decimal (number_back limit small) words n e
 
 -- values up to the end of the line
 pub all_back : (X : Type 0) (item_from : Word → Row → Read X) (words_of : X → Row → Row) → AreWrittenBack X item_from words_of

@@ -6,7 +6,7 @@ use Rattle.byte_reading.specs.Outcome.{◌>>=◌, ◌>>◌, guard}
 use Rattle.lane_sampler.specs.Samples.{values_alone, pairs_of}
 use Rattle.relay_core.specs.declared.event.Event.{Event}
 use Rattle.relay_core.specs.declared.event.Event.TheVariants.{Get, GetList, Set, Execute, Button, Samples, Moment}
-use Rattle.trace_lines.specs.Reading.{number_in, level_in, data_in, parameter_in, next_as, method_at, selection_from, selection_at, value_from, pair_from}
+use Rattle.trace_lines.specs.Reading.{number_in, level_in, data_in, parameter_in, next_as, last_as, method_at, selection_from, selection_at, value_from, pair_from}
 use Rattle.trace_lines.specs.Rows.{Row, ended, word_at, all_at}
 use Rattle.trace_lines.specs.Verbs.{verb_in}
 use Rattle.trace_lines.specs.declared.fault.RowFault.{RowFault}
@@ -37,16 +37,16 @@ unfoldable pub set_from : Row → Result Event RowFault
 set_from words = do
   level ← next_as level_in words
   item ← selection_at level.1
-  value ← next_as data_in item.1
-  ended value.1 (Set level.0 item.0.attr item.0.selected value.0)
+  value ← last_as data_in item.1
+  Ok (Set level.0 item.0.attr item.0.selected value)
 
 -- level, class, name, number, parameter
 unfoldable pub execute_from : Row → Result Event RowFault
 execute_from words = do
   level ← next_as level_in words
   method ← method_at level.1
-  parameter ← next_as parameter_in method.1
-  ended parameter.1 (Execute level.0 method.0 parameter.0)
+  parameter ← last_as parameter_in method.1
+  Ok (Execute level.0 method.0 parameter)
 
 -- up to 256 import values
 unfoldable pub samples_from : Row → Result Event RowFault
@@ -63,8 +63,8 @@ pairs_from words = do
 -- seconds
 unfoldable pub moment_from : Row → Result Event RowFault
 moment_from words = do
-  now ← next_as (number_in 4294967295) words
-  ended now.1 (Moment now.0)
+  now ← last_as (number_in 4294967295) words
+  Ok (Moment now)
 
 -- the event of this kind; there are no pairs in version 1
 unfoldable pub event_from : Version → Verb → Row → Result Event RowFault

@@ -6,7 +6,9 @@
 use Rattle.std.specs.Prelude.{ℕ, ◌==◌, nat_eq, nat_le, codes, List, ◌++◌, length, Option, Some, None, Result, Ok, Err, if◌then◌else◌}
 use Rattle.std.specs.Cmp.Lexicographic.{pointwise}
 use Rattle.std.specs.Result.{result_ok}
-use Rattle.byte_reading.specs.Outcome.{◌>>=◌, ◌>>◌, guard}
+use Rattle.std.specs.Fn.{Once, FnOnceReturnsAt}
+use denote.Ref.{Bor}
+use Rattle.byte_reading.specs.Outcome.{◌>>=◌, ◌>>◌, guard, Gives}
 use Rattle.action_schedule.specs.Reading.{entries_of}
 use Rattle.action_schedule.specs.Kinds.{type_of_number}
 use Rattle.action_schedule.specs.Schedule.{Schedule}
@@ -28,10 +30,10 @@ use Rattle.limiter_core.specs.declared.settings.Actions.{Actions}
 use Rattle.limiter_core.specs.declared.settings.Profile.{Profile}
 use Rattle.script_steps.specs.Reading.{table_of}
 use Rattle.script_steps.specs.declared.step.Script.{Script}
-use Rattle.trace_lines.specs.Reading.{number_in, flag_in, bytes_in, data_in, value_in, next_as}
-use Rattle.trace_lines.specs.Rows.{Word, Row, Read, wanted, ended, word_at, all_at}
+use Rattle.trace_lines.specs.Reading.{number_in, flag_in, bytes_in, data_in, value_in, next_as, last_as}
+use Rattle.trace_lines.specs.Rows.{Word, Row, Read, wanted, word_at, all_at}
 use Rattle.trace_lines.specs.declared.fault.RowFault.{RowFault}
-use Rattle.trace_lines.specs.declared.fault.RowFault.TheVariants.{Wrong}
+use Rattle.trace_lines.specs.declared.fault.RowFault.TheVariants.{Wrong, Memory}
 use Rattle.trace_lines.specs.declared.version.Version.{Version}
 use Rattle.trace_lines.specs.declared.version.Version.TheVariants.{One, Two}
 
@@ -48,8 +50,11 @@ behind label row = do
 abbrev pub labelled : {X : Type 0} → Word → (Word → Result X RowFault) → Row → Result X RowFault
 labelled label value_in row = do
   words ← behind label row
-  value ← next_as value_in words.1
-  ended value.1 value.0
+  last_as value_in words.1
+
+-- each answer that this code can give about a word is that of the definition
+abbrev pub IsWordReader : {F X : Type 0} → Once F (Bor Word × Unit {0}) (Result X RowFault) → F → (Word → Result X RowFault) → Type 0
+IsWordReader {F} {X} calls read value_in = (word : Word) (given : Result X RowFault) → FnOnceReturnsAt calls read word given → Gives Memory (λ x. x) given (value_in word)
 
 -- the first word of a line of one of the limiters: those of the export limiter begin with an x
 abbrev pub label : Which → Word → Word
@@ -138,8 +143,8 @@ profile_from which row = do
   words ← behind (label which (codes "profile")) row
   id ← next_as (number_in 65535) words.1
   start ← next_as start_in id.1
-  duration ← next_as value_in start.1
-  ended duration.1 (record { id = id.0; start = start.0; duration = duration.0 })
+  duration ← last_as value_in start.1
+  Ok (record { id = id.0; start = start.0; duration = duration })
 
 -- up to 32 group ids
 unfoldable pub groups_from : Which → Row → Result (List ℕ) RowFault
@@ -152,16 +157,16 @@ unfoldable pub actions_from : Which → Row → Result Actions RowFault
 actions_from which row = do
   words ← behind (label which (codes "actions")) row
   over ← next_as (number_in 65535) words.1
-  under ← next_as (number_in 65535) over.1
-  ended under.1 (record { over = over.0; under = under.0 })
+  under ← last_as (number_in 65535) over.1
+  Ok (record { over = over.0; under = under })
 
 -- a run, and whether it has fired
 unfoldable pub count_from : Word → Row → Result Count RowFault
 count_from name row = do
   words ← behind name row
   run ← next_as (number_in cap) words.1
-  fired ← next_as flag_in run.1
-  ended fired.1 (record { run = run.0; fired = fired.0 })
+  fired ← last_as flag_in run.1
+  Ok (record { run = run.0; fired = fired })
 
 -- the run over the threshold, which the last value can end
 unfoldable pub over_from : Which → ℕ → Row → Result Count RowFault
@@ -185,5 +190,5 @@ schedule_from number row = do
   guard (found.0 == number) Wrong
   selector ← next_as (number_in 65535) found.1
   kind ← next_as type_in selector.1
-  entries ← next_as entries_in kind.1
-  ended entries.1 (record { selector = selector.0; kind = kind.0; entries = entries.0 })
+  entries ← last_as entries_in kind.1
+  Ok (record { selector = selector.0; kind = kind.0; entries = entries })

@@ -3,11 +3,14 @@
 --     ReadLines        what a reader of lines answers: a value and the place behind it, or a fault
 --     ReadsLines       what code that moves on through the lines answers, compared with a definition
 --     line_as          the next line, read as a value
+--     IsRowReader      what code reads from the words of a line, compared with a definition
 --     told             the fault of a line, by its number
 --     ended_at         a value behind which nothing is left
 --     place_of         the place at the start of a text
 use Rattle.std.specs.Prelude.{◌≡◌, ℕ, suc, List, [], ◌∷◌, Result, Ok, Err}
-use Rattle.byte_reading.specs.Outcome.{Fails}
+use Rattle.std.specs.Fn.{Once, FnOnceReturnsAtMut}
+use denote.Ref.{MutBor}
+use Rattle.byte_reading.specs.Outcome.{Fails, Gives}
 use Rattle.trace_text.specs.Lines.{rows_of, unended_of}
 use Rattle.trace_lines.specs.Rows.{Row}
 use Rattle.trace_lines.specs.declared.fault.RowFault.{RowFault}
@@ -43,6 +46,10 @@ first_as value_in number (row ∷ rows) unended = passed (value_in row) number r
 -- the next line as such a value
 unfoldable pub line_as : {X : Type 0} → (Row → Result X RowFault) → Place → ReadLines X
 line_as value_in place = first_as value_in place.number place.rows place.unended
+
+-- each answer that this code can give about the words of a line is that of the definition
+abbrev pub IsRowReader : {F X : Type 0} → Once F (MutBor Row × Unit {0}) (Result X RowFault × (MutBor Row × Unit {0})) → F → (Row → Result X RowFault) → Type 0
+IsRowReader {F} {X} calls row value_from = (words after : Row) (read : Result X RowFault) → FnOnceReturnsAtMut calls row words read after → Gives row_fault.Memory (λ x. x) read (value_from words)
 
 -- what the words of a line gave, a fault by the number of the line
 abbrev pub told : {X : Type 0} → ℕ → Result X RowFault → Result X TraceFault

@@ -18,7 +18,7 @@ use Rattle.cosem_names.specs.declared.name.Obis.{Obis}
 use Rattle.cosem_names.specs.declared.service.AttributeSelection.{AttributeSelection}
 use Rattle.trace_text.specs.Hexadecimal.{bytes_of}
 use Rattle.trace_text.specs.Numbers.{number_of}
-use Rattle.trace_lines.specs.Rows.{Word, Row, Read, wanted, word_at}
+use Rattle.trace_lines.specs.Rows.{Word, Row, Read, wanted, word_at, last_word}
 use Rattle.trace_lines.specs.declared.fault.RowFault.{RowFault}
 use Rattle.trace_lines.specs.declared.fault.RowFault.TheVariants.{Wrong}
 
@@ -49,13 +49,18 @@ name_in word = do
   guard (length bytes == 6) Wrong
   Ok (record { 0 = bytes })
 
--- a Data in hexadecimal: all of the bytes, in the spelling that is written
+-- a Data read from bytes that are the spelling that is written for it
+abbrev pub spelled : List ℕ → Data → Result Data RowFault
+spelled bytes value = do
+  guard (pointwise nat_eq (text (tree_of value)) bytes) Wrong
+  Ok value
+
+-- a Data in hexadecimal: all of the bytes, in that spelling
 unfoldable pub data_in : Word → Result Data RowFault
 data_in word = do
   bytes ← bytes_in word
   read ← wanted (result_ok (first_data bytes))
-  guard (pointwise nat_eq (text (tree_of read.0)) bytes) Wrong
-  Ok read.0
+  spelled bytes read.0
 
 -- the next word, as such a value
 abbrev pub next_as : {X : Type 0} → (Word → Result X RowFault) → Row → Read X
@@ -63,6 +68,12 @@ next_as value_in words = do
   word ← word_at words
   value ← value_in word.0
   Ok (value, word.1)
+
+-- the last word, as such a value
+abbrev pub last_as : {X : Type 0} → (Word → Result X RowFault) → Row → Result X RowFault
+last_as value_in words = do
+  word ← last_word words
+  value_in word
 
 -- an attribute or method, its class in the word given: class, name, number
 abbrev pub attribute_from : Word → Row → Read AttrRef

@@ -3,6 +3,7 @@
 --     Reads            what code that moves on through the words answers, compared with a definition
 --     wanted, ended    a value that has to be there; no word more
 --     word_at          the next word
+--     last_word        the next word, behind which no other is left
 --     all_at           values up to the end of the line, not more than so many
 use Rattle.std.specs.Prelude.{◌≡◌, ℕ, zero, suc, List, [], ◌∷◌, Option, Some, None, Result, Ok, Err}
 use Rattle.byte_reading.specs.Outcome.{◌>>=◌, Fails}
@@ -37,6 +38,12 @@ ended (word ∷ words) x = Err Wrong
 abbrev pub word_at : Row → Read Word
 word_at [] = Err Wrong
 word_at (word ∷ words) = Ok (word, words)
+
+-- the next word, behind which no other is left
+abbrev pub last_word : Row → Result Word RowFault
+last_word [] = Err Wrong
+last_word (word ∷ []) = Ok word
+last_word (word ∷ other ∷ words) = Err Wrong
 
 -- a value read at each place from here to the end, at most so many; the reader is given the first word of a value and those behind it
 unfoldable pub all_at : {X : Type 0} → (Word → Row → Read X) → ℕ → Row → Result (List X) RowFault

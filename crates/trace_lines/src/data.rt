@@ -4,7 +4,7 @@ ghost use Rattle.std.specs.Cmp.Lexicographic.{pointwise};
 ghost use Rattle.std.specs.Prelude.{nat_eq, IfOk};
 ghost use Rattle.cosem_axdr.specs.Spelling.{text};
 ghost use Rattle.cosem_axdr.specs.View.{tree_of};
-ghost use Rattle.trace_lines.specs.Reading.{data_in};
+ghost use Rattle.trace_lines.specs.Reading.{spelled, data_in};
 ghost use Rattle.trace_lines.specs.declared.fault.RowFault.TheVariants.{Memory};
 
 use crate::fault::RowFault;
@@ -21,20 +21,32 @@ fn is_written(alloc: Global, value: &Data, bytes: &[u8]) -> Result<bool, AllocEr
     Ok(text.as_slice() == bytes)
 }
 
+/// A value that was read from these bytes, if it is written as they are.
+fn as_written(alloc: Global, value: Data, bytes: &[u8]) -> Result<Data, RowFault>
+    ensures { Gives Memory (λ value. value) result (spelled bytes.now value) }
+{
+    match is_written(alloc, &value, bytes) {
+        Ok(true) => Ok(value),
+        Ok(false) => {
+            drop(value);
+            Err(RowFault::Wrong)
+        }
+        Err(_) => {
+            drop(value);
+            Err(RowFault::Memory)
+        }
+    }
+}
+
 /// A Data in hexadecimal.
 #[tactic(auto, unfolding(crate::specs::Reading::data_in))]
 pub(crate) fn data(alloc: Global, word: &[u8]) -> Result<Data, RowFault>
     ensures { Gives Memory (λ value. value) result (data_in word.now) }
 {
     let bytes = bytes(alloc, word)?;
-    let value = match read(alloc, bytes.as_slice()) {
-        Ok((value, _)) => value,
-        Err(DataFault::Memory) => return Err(RowFault::Memory),
-        Err(_) => return Err(RowFault::Wrong),
-    };
-    if is_written(alloc, &value, bytes.as_slice())? {
-        Ok(value)
-    } else {
-        Err(RowFault::Wrong)
+    match read(alloc, bytes.as_slice()) {
+        Ok((value, _)) => as_written(alloc, value, bytes.as_slice()),
+        Err(DataFault::Memory) => Err(RowFault::Memory),
+        Err(_) => Err(RowFault::Wrong),
     }
 }

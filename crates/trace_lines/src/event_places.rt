@@ -6,24 +6,20 @@ ghost use Rattle.trace_lines.specs.Places.{ReadsLines, line_as};
 use crate::events::event;
 use crate::fault::TraceFault;
 use crate::opening_fields::event_count;
-use crate::place::{TraceLines, told};
+use crate::place::TraceLines;
 use crate::version::Version;
 use relay_core::Event;
 use std::alloc::Global;
 
 /// Reads the line that tells how many events there are, at most `MAX_EVENTS`. Errors: `Line` with its number where it is missing or another.
-#[tactic(auto, unfolding(crate::specs::Places::line_as))]
 pub fn read_event_count(lines: &mut TraceLines) -> Result<u32, TraceFault>
     ensures reads { ReadsLines (λ count. count) result lines.new (line_as events_from lines.old) }
     ensures few { IfOk result (λ count. count ≤ 65536) }
 {
-    let number = lines.number();
-    let mut words = lines.next_words()?;
-    told(number, event_count(&mut words))
+    lines.read(event_count)
 }
 
 /// Reads the next line as an event. Errors: `Line` with its number where it is missing or not written for an event in this version, and `Memory`.
-#[tactic(auto, unfolding(crate::specs::Places::line_as))]
 pub fn next_event(
     alloc: Global,
     version: Version,
@@ -31,7 +27,5 @@ pub fn next_event(
 ) -> Result<Event, TraceFault>
     ensures { ReadsLines (λ event. event) result lines.new (line_as (event_of version) lines.old) }
 {
-    let number = lines.number();
-    let mut words = lines.next_words()?;
-    told(number, event(alloc, version, &mut words))
+    lines.read(|words| event(alloc, version, words))
 }

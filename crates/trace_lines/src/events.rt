@@ -12,7 +12,7 @@ use crate::items::{next_method, next_selection, selections};
 use crate::samples::{pairs, values};
 use crate::verb::{Verb, verb_of};
 use crate::version::Version;
-use crate::words::{end, level, next_word, number};
+use crate::words::{end, last_word, level, next_word, number};
 use cosem_axdr::Data;
 use cosem_names::Level;
 use lane_sampler::{Block, BlockMade};
@@ -64,8 +64,7 @@ fn set(alloc: Global, words: &mut Words) -> Result<Event, RowFault>
 {
     let level = next_level(words)?;
     let item = next_selection(alloc, words)?;
-    let value = data(alloc, next_word(words)?)?;
-    end(words)?;
+    let value = data(alloc, last_word(words)?)?;
     Ok(Event::Set {
         level,
         attr: item.attr,
@@ -90,8 +89,7 @@ fn execute(alloc: Global, words: &mut Words) -> Result<Event, RowFault>
 {
     let level = next_level(words)?;
     let method = next_method(alloc, words)?;
-    let parameter = parameter(alloc, next_word(words)?)?;
-    end(words)?;
+    let parameter = parameter(alloc, last_word(words)?)?;
     Ok(Event::Execute {
         level,
         method,
@@ -141,9 +139,7 @@ fn sample_pairs(alloc: Global, words: &mut Words) -> Result<Event, RowFault>
 fn moment(words: &mut Words) -> Result<Event, RowFault>
     ensures { Gives Memory (λ event. event) result (moment_from words.old) }
 {
-    let now = number(next_word(words)?, u32::MAX)?;
-    end(words)?;
-    Ok(Event::Moment(now))
+    Ok(Event::Moment(number(last_word(words)?, u32::MAX)?))
 }
 
 /// The event of a kind, from the words behind the first.

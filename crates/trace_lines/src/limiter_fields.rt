@@ -10,7 +10,7 @@ ghost use Rattle.trace_lines.specs.Rows.{Reads, all_at};
 ghost use Rattle.trace_lines.specs.declared.fault.RowFault.TheVariants.{Memory};
 
 use crate::fault::RowFault;
-use crate::words::{bytes, end, flag, next_long, next_word, number};
+use crate::words::{bytes, flag, last_word, long, next_long, next_word, number};
 use cosem_datetime::{DateTimeField, read_date_time};
 use cosem_names::Which;
 use limiter_core::{Actions, Count, MAX_GROUPS, Profile, RUN_LIMIT, are_fit};
@@ -48,9 +48,7 @@ pub(crate) fn value(which: Which, name: &[u8], words: &mut Words) -> Result<u32,
     ensures { Gives Memory (λ value. value) result (labelled (label which name.now) value_in words.old) }
 {
     behind_label(which, name, words)?;
-    let value = number(next_word(words)?, u32::MAX)?;
-    end(words)?;
-    Ok(value)
+    number(last_word(words)?, u32::MAX)
 }
 
 /// A date-time in hexadecimal.
@@ -73,20 +71,12 @@ pub(crate) fn profile(alloc: Global, which: Which, words: &mut Words) -> Result<
     behind_label(which, b"profile", words)?;
     let id = next_long(words)?;
     let start = start_in(alloc, next_word(words)?)?;
-    let duration = number(next_word(words)?, u32::MAX)?;
-    end(words)?;
+    let duration = number(last_word(words)?, u32::MAX)?;
     Ok(Profile {
         id,
         start,
         duration,
     })
-}
-
-/// A group id.
-fn id(word: &[u8]) -> Result<u16, RowFault>
-    ensures { result ≡ number_in 65535 word.now }
-{
-    Ok(number(word, 65_535)? as u16)
 }
 
 /// Group ids up to the end of the line, at most 32.
@@ -99,7 +89,7 @@ fn ids(alloc: Global, words: &mut Words) -> Result<Vec<u16>, RowFault>
         if ids.len() == MAX_GROUPS {
             return Err(RowFault::Wrong);
         }
-        ids.push(id(word)?)?;
+        ids.push(long(word)?)?;
     }
     Ok(ids)
 }
@@ -126,8 +116,7 @@ pub(crate) fn actions(which: Which, words: &mut Words) -> Result<Actions, RowFau
 {
     behind_label(which, b"actions", words)?;
     let over = next_long(words)?;
-    let under = next_long(words)?;
-    end(words)?;
+    let under = long(last_word(words)?)?;
     Ok(Actions { over, under })
 }
 
@@ -145,8 +134,7 @@ fn count(which: Which, name: &[u8], words: &mut Words) -> Result<Count, RowFault
 {
     behind_label(which, name, words)?;
     let run = run_in(next_word(words)?)?;
-    let fired = flag(next_word(words)?)?;
-    end(words)?;
+    let fired = flag(last_word(words)?)?;
     Ok(Count { run, fired })
 }
 

@@ -1,15 +1,17 @@
-ghost use Rattle.std.specs.Prelude.{◌≡◌, ◌≤◌, IfOk, codes, length};
+ghost use Rattle.std.specs.Prelude.{◌≡◌, ◌≤◌, Result, Ok, IfOk, codes, length};
+ghost use Rattle.std.specs.Fn.{FnOnceReturnsAt};
 ghost use Rattle.byte_reading.specs.Outcome.{Gives};
 ghost use Rattle.disconnect_control.specs.declared.state.ControlMode.TheVariants.{Mode0};
 ghost use Rattle.disconnect_control.specs.declared.state.ControlState.TheVariants.{Connected};
-ghost use Rattle.trace_lines.specs.OpeningFields.{behind, labelled, version_in, device_in, state_in, mode_in, moment_in, table_in, entries_in, type_in, version_from, events_from, schedule_from};
-ghost use Rattle.trace_lines.specs.Rows.{Reads};
+ghost use Rattle.trace_lines.specs.OpeningFields.{IsWordReader, behind, labelled, version_in, device_in, state_in, mode_in, moment_in, table_in, entries_in, type_in, version_from, events_from, schedule_from};
+ghost use Rattle.trace_lines.specs.Rows.{Word, Reads};
+ghost use Rattle.trace_lines.specs.declared.fault.RowFault.{RowFault};
 ghost use Rattle.trace_lines.specs.declared.fault.RowFault.TheVariants.{Memory};
 
 use crate::data::data;
 use crate::fault::RowFault;
 use crate::version::Version;
-use crate::words::{bytes, end, next_long, next_word, number};
+use crate::words::{bytes, last_word, next_long, next_word, number};
 use action_schedule::{ActionSchedule, ScheduleFault, ScheduleType};
 use cosem_axdr::Octets;
 use disconnect_control::{ControlMode, ControlState};
@@ -35,6 +37,20 @@ fn behind(label: &[u8], words: &mut Words) -> Result<(), RowFault>
     }
 }
 
+/// Reads a line of a first word, which has to be this one, and one word more, by `value_in`.
+fn labelled<X: Drop, F: FnOnce(&[u8]) -> Result<X, RowFault>>(
+    label: &[u8],
+    words: &mut Words,
+    value_in: F,
+) -> Result<X, RowFault>
+    requires { F.IsAlwaysCallable value_in }
+    ensures reads { (of_word : Word → Result X RowFault) → IsWordReader F.FnOnce value_in of_word → Gives Memory (λ x. x) result (labelled label.now of_word words.old) }
+    ensures answered { IfOk result (λ x. (word : Word) × FnOnceReturnsAt F.FnOnce value_in word (Ok x)) }
+{
+    behind(label, words)?;
+    value_in(last_word(words)?)
+}
+
 /// The version of the text.
 fn version_in(word: &[u8]) -> Result<Version, RowFault>
     ensures { result ≡ version_in word.now }
@@ -50,10 +66,7 @@ fn version_in(word: &[u8]) -> Result<Version, RowFault>
 pub(crate) fn version(words: &mut Words) -> Result<Version, RowFault>
     ensures { Gives Memory (λ version. version) result (version_from words.old) }
 {
-    behind(b"RELAYTRACE", words)?;
-    let version = version_in(next_word(words)?)?;
-    end(words)?;
-    Ok(version)
+    labelled(b"RELAYTRACE", words, version_in)
 }
 
 /// A device name.
@@ -76,10 +89,7 @@ pub(crate) fn device(alloc: Global, words: &mut Words) -> Result<Octets, RowFaul
     ensures some { IfOk result (λ device. 1 ≤ length device) }
     ensures few { IfOk result (λ device. length device ≤ 16) }
 {
-    behind(b"device", words)?;
-    let device = device_in(alloc, next_word(words)?)?;
-    end(words)?;
-    Ok(device)
+    labelled(b"device", words, |word| device_in(alloc, word))
 }
 
 /// The state of the switch.
@@ -97,10 +107,7 @@ fn state_in(word: &[u8]) -> Result<ControlState, RowFault>
 pub(crate) fn state(words: &mut Words) -> Result<ControlState, RowFault>
     ensures { Gives Memory (λ state. state) result (labelled (codes "state") state_in words.old) }
 {
-    behind(b"state", words)?;
-    let state = state_in(next_word(words)?)?;
-    end(words)?;
-    Ok(state)
+    labelled(b"state", words, state_in)
 }
 
 /// The mode of a switch in this state.
@@ -124,10 +131,7 @@ pub(crate) fn mode(state: ControlState, words: &mut Words) -> Result<ControlMode
     ensures mode { Gives Memory (λ mode. mode) result (labelled (codes "mode") (mode_in state) words.old) }
     ensures fit { IfOk result (λ mode. mode ≡ Mode0 → state ≡ Connected) }
 {
-    behind(b"mode", words)?;
-    let mode = mode_in(state, next_word(words)?)?;
-    end(words)?;
-    Ok(mode)
+    labelled(b"mode", words, |word| mode_in(state, word))
 }
 
 /// A moment, in seconds, or None.
@@ -144,10 +148,7 @@ fn moment_in(word: &[u8]) -> Result<Option<u32>, RowFault>
 pub(crate) fn moment(words: &mut Words) -> Result<Option<u32>, RowFault>
     ensures { Gives Memory (λ moment. moment) result (labelled (codes "now") moment_in words.old) }
 {
-    behind(b"now", words)?;
-    let moment = moment_in(next_word(words)?)?;
-    end(words)?;
-    Ok(moment)
+    labelled(b"now", words, moment_in)
 }
 
 /// A script table.
@@ -156,7 +157,9 @@ fn table_in(alloc: Global, word: &[u8]) -> Result<ScriptTable, RowFault>
     ensures { Gives Memory (λ table. table) result (table_in word.now) }
 {
     let value = data(alloc, word)?;
-    match ScriptTable::from_data(alloc, &value) {
+    let table = ScriptTable::from_data(alloc, &value);
+    drop(value);
+    match table {
         Ok(table) => Ok(table),
         Err(ScriptFault::Memory) => Err(RowFault::Memory),
         Err(ScriptFault::Unmatched) => Err(RowFault::Wrong),
@@ -168,10 +171,7 @@ fn table_in(alloc: Global, word: &[u8]) -> Result<ScriptTable, RowFault>
 pub(crate) fn table(alloc: Global, words: &mut Words) -> Result<ScriptTable, RowFault>
     ensures { Gives Memory (λ table. table) result (labelled (codes "scripts") table_in words.old) }
 {
-    behind(b"scripts", words)?;
-    let table = table_in(alloc, next_word(words)?)?;
-    end(words)?;
-    Ok(table)
+    labelled(b"scripts", words, |word| table_in(alloc, word))
 }
 
 /// The type of a schedule.
@@ -198,11 +198,18 @@ fn with_entries(
 {
     let value = data(alloc, word)?;
     let mut schedule = ActionSchedule::without_entries(alloc, selector, kind);
-    match schedule.set_entries(alloc, &value) {
+    let set = schedule.set_entries(alloc, &value);
+    drop(value);
+    match set {
         Ok(()) => Ok(schedule),
-        Err(ScheduleFault::Memory) => Err(RowFault::Memory),
-        Err(ScheduleFault::Unmatched) => Err(RowFault::Wrong),
-        Err(ScheduleFault::Value) => Err(RowFault::Wrong),
+        Err(fault) => {
+            drop(schedule);
+            Err(match fault {
+                ScheduleFault::Memory => RowFault::Memory,
+                ScheduleFault::Unmatched => RowFault::Wrong,
+                ScheduleFault::Value => RowFault::Wrong,
+            })
+        }
     }
 }
 
@@ -221,9 +228,7 @@ pub(crate) fn schedule(
     }
     let selector = next_long(words)?;
     let kind = type_in(next_word(words)?)?;
-    let schedule = with_entries(alloc, selector, kind, next_word(words)?)?;
-    end(words)?;
-    Ok(schedule)
+    with_entries(alloc, selector, kind, last_word(words)?)
 }
 
 /// The line of the count of events.
@@ -231,8 +236,5 @@ pub(crate) fn event_count(words: &mut Words) -> Result<u32, RowFault>
     ensures count { Gives Memory (λ count. count) result (events_from words.old) }
     ensures few { IfOk result (λ count. count ≤ 65536) }
 {
-    behind(b"events", words)?;
-    let count = number(next_word(words)?, MAX_EVENTS)?;
-    end(words)?;
-    Ok(count)
+    labelled(b"events", words, |word| number(word, MAX_EVENTS))
 }

@@ -1,12 +1,13 @@
 #![tactic(auto, unfolding(trace_text::specs::Lines::rows_text, trace_text::specs::Lines::text_of, trace_text::specs::Words::line_of))]
 
 ghost use Rattle.std.specs.Prelude.{◌≡◌, ◌++◌, ◌∷◌, [], OnOk, codes, decimal};
+ghost use Rattle.action_schedule.specs.Writing.{entries_data};
 ghost use Rattle.disconnect_control.specs.Transitions.{state_number, mode_number};
 ghost use Rattle.hex.specs.Hex.{encode_upper};
 ghost use Rattle.script_steps.specs.Writing.{data_of};
 ghost use Rattle.trace_text.specs.Lines.{rows_text};
 ghost use Rattle.trace_lines.specs.OpeningRows.{number_row, moment_word, head_rows, schedule_row, schedule_rows, opening_rows};
-ghost use Rattle.trace_lines.specs.Writing.{data_word};
+ghost use Rattle.trace_lines.specs.Writing.{blanked, data_word};
 
 use crate::limiter_writing::{write_last, write_limiter};
 use crate::writing::add_data;
@@ -77,14 +78,37 @@ fn write_moment(out: &mut Vec<u8>, moment: Option<u32>) -> Result<(), AllocError
     end_line(out)
 }
 
+/// Adds a script table.
+fn add_table(alloc: Global, out: &mut Vec<u8>, scripts: &ScriptTable) -> Result<(), AllocError>
+    ensures { OnOk result (out.new.items ≡ out.old.items ++ blanked (data_word (data_of scripts.now) ∷ [])) }
+{
+    let value = scripts.to_data(alloc)?;
+    let added = add_data(alloc, out, &value);
+    drop(value);
+    added
+}
+
 /// Writes the line of the script table.
 fn write_scripts(alloc: Global, out: &mut Vec<u8>, scripts: &ScriptTable) -> Result<(), AllocError>
     ensures { OnOk result (out.new.items ≡ out.old.items ++ rows_text ((codes "scripts" ∷ data_word (data_of scripts.now) ∷ []) ∷ [])) }
 {
-    let value = scripts.to_data(alloc)?;
     out.extend_from_slice(b"scripts")?;
-    add_data(alloc, out, &value)?;
+    add_table(alloc, out, scripts)?;
     end_line(out)
+}
+
+/// Adds the entries of a schedule.
+fn add_entries(
+    alloc: Global,
+    out: &mut Vec<u8>,
+    schedule: &ActionSchedule,
+) -> Result<(), AllocError>
+    ensures { OnOk result (out.new.items ≡ out.old.items ++ blanked (data_word (entries_data schedule.now.entries) ∷ [])) }
+{
+    let entries = schedule.to_data(alloc, ScheduleAttribute::ExecutionTime)?;
+    let added = add_data(alloc, out, &entries);
+    drop(entries);
+    added
 }
 
 /// Writes the line of a schedule: its number, selector, type and entries.
@@ -96,12 +120,11 @@ fn write_schedule(
 ) -> Result<(), AllocError>
     ensures { OnOk result (out.new.items ≡ out.old.items ++ rows_text (schedule_row number schedule.now ∷ [])) }
 {
-    let entries = schedule.to_data(alloc, ScheduleAttribute::ExecutionTime)?;
     out.extend_from_slice(b"schedule")?;
     add_number(out, number)?;
     add_number(out, u64::from(schedule.selector()))?;
     add_number(out, u64::from(schedule.kind().number()))?;
-    add_data(alloc, out, &entries)?;
+    add_entries(alloc, out, schedule)?;
     end_line(out)
 }
 

@@ -1,5 +1,8 @@
-ghost use Rattle.std.specs.Prelude.{◌≡◌, Ok};
-ghost use Rattle.trace_lines.specs.Places.{ReadsLines, line_as, told, ended_at, place_of};
+ghost use Rattle.std.specs.Prelude.{◌≡◌, Result, Ok, IfOk};
+ghost use Rattle.std.specs.Fn.{FnOnceReturnsAtMut};
+ghost use Rattle.trace_lines.specs.Places.{ReadsLines, IsRowReader, line_as, told, ended_at, place_of};
+ghost use Rattle.trace_lines.specs.Rows.{Row};
+ghost use Rattle.trace_lines.specs.declared.fault.RowFault.{RowFault};
 
 use crate::fault::{RowFault, TraceFault};
 use std::marker::Model;
@@ -37,7 +40,7 @@ impl<'a> TraceLines<'a> {
     }
 
     /// The number of the next line.
-    pub(crate) fn number(&self) -> u64
+    fn number(&self) -> u64
         ensures { result ≡ self.now.number }
     {
         self.number
@@ -45,7 +48,7 @@ impl<'a> TraceLines<'a> {
 
     /// The words of the next line. Errors: `Line` where no line is left, or the last is not ended.
     #[tactic(auto, unfolding(crate::specs::Places::line_as), using(crate::proofs::PlaceLemmas::row_taken, crate::proofs::PlaceLemmas::none_taken))]
-    pub(crate) fn next_words(&mut self) -> Result<Words<'a>, TraceFault>
+    fn next_words(&mut self) -> Result<Words<'a>, TraceFault>
         ensures { ReadsLines (λ words. words) result self.new (line_as (λ row. Ok row) self.old) }
     {
         match self.lines.next() {
@@ -55,6 +58,20 @@ impl<'a> TraceLines<'a> {
             }
             None => Err(TraceFault::Line(self.number)),
         }
+    }
+
+    /// Reads the next line, a value from its words by `row`. Errors: `Line` with its number where it is missing or `row` finds it wrong, and `Memory`.
+    pub(crate) fn read<X: Drop, F: FnOnce(&mut Words<'a>) -> Result<X, RowFault>>(
+        &mut self,
+        row: F,
+    ) -> Result<X, TraceFault>
+        requires { F.IsAlwaysCallable row }
+        ensures reads { (value_from : Row → Result X RowFault) → IsRowReader F.FnOnce row value_from → ReadsLines (λ x. x) result self.new (line_as value_from self.old) }
+        ensures answered { IfOk result (λ x. (words after : Row) × FnOnceReturnsAtMut F.FnOnce row words (Ok x) after) }
+    {
+        let number = self.number();
+        let mut words = self.next_words()?;
+        told(number, row(&mut words))
     }
 
     /// Whether nothing is left. Errors: `Line` where a line is left, ended or not.
@@ -70,7 +87,7 @@ impl<'a> TraceLines<'a> {
 }
 
 /// The fault of a line, by its number.
-pub(crate) fn told<X: Drop>(number: u64, read: Result<X, RowFault>) -> Result<X, TraceFault>
+fn told<X: Drop>(number: u64, read: Result<X, RowFault>) -> Result<X, TraceFault>
     ensures { result ≡ told number read }
 {
     match read {

@@ -4,7 +4,7 @@ ghost use Rattle.trace_lines.specs.Verbs.{verb_in, verb_word};
 use crate::fault::RowFault;
 
 /// The first word of an event's line.
-#[derive(Clone, Copy, Debug, PartialEq, Eq)]
+#[derive(Clone, Copy)]
 pub(crate) enum Verb {
     /// `get`
     OfGet,

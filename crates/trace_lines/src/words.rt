@@ -1,6 +1,6 @@
 ghost use Rattle.std.specs.Prelude.{◌≡◌, ◌≤◌, IfOk, length};
 ghost use Rattle.byte_reading.specs.Outcome.{Gives};
-ghost use Rattle.trace_lines.specs.Rows.{Reads, ended, word_at};
+ghost use Rattle.trace_lines.specs.Rows.{Reads, ended, word_at, last_word};
 ghost use Rattle.trace_lines.specs.Reading.{number_in, flag_in, level_in, name_in, bytes_in, next_as};
 ghost use Rattle.trace_lines.specs.declared.fault.RowFault.TheVariants.{Memory, Wrong};
 
@@ -25,6 +25,15 @@ pub(crate) fn end(words: &mut Words) -> Result<(), RowFault>
         Some(_) => Err(RowFault::Wrong),
         None => Ok(()),
     }
+}
+
+/// The next word, behind which no other is left.
+pub(crate) fn last_word<'a>(words: &mut Words<'a>) -> Result<&'a [u8], RowFault>
+    ensures { Gives Memory (λ word. word.now) result (last_word words.old) }
+{
+    let word = next_word(words)?;
+    end(words)?;
+    Ok(word)
 }
 
 /// A number of up to 32 bits.
@@ -80,11 +89,18 @@ pub(crate) fn name(alloc: Global, word: &[u8]) -> Result<Obis, RowFault>
     Ok(Obis(name))
 }
 
+/// A number of up to 16 bits.
+pub(crate) fn long(word: &[u8]) -> Result<u16, RowFault>
+    ensures { result ≡ number_in 65535 word.now }
+{
+    Ok(number(word, 65_535)? as u16)
+}
+
 /// The next word as a number of up to 16 bits.
 pub(crate) fn next_long(words: &mut Words) -> Result<u16, RowFault>
     ensures { Reads (λ number. number) result words.new (next_as (number_in 65535) words.old) }
 {
-    Ok(number(next_word(words)?, 65_535)? as u16)
+    long(next_word(words)?)
 }
 
 /// The next word as a number of up to 8 bits.

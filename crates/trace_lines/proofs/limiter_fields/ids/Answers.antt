@@ -13,12 +13,12 @@ returns-then-len-eq-MAX_GROUPS c =
     let full : length c.items.ids.items ≡ MAX_GROUPS = omega arith in
     record { ids = inr (too_many id_from MAX_GROUPS c.items.ids.items c.items.words c.in-Some.word.now c.next.new.self (all_at id_from MAX_GROUPS c.args.words.now) is full c.items.invariant.so_far); few = tt }
 
-pub returns-in_err-id : goal.returns-in_err-id
-returns-in_err-id c =
+pub returns-in_err-long : goal.returns-in_err-long
+returns-in_err-long c =
     let is : c.items.words ≡ c.in-Some.word.now ∷ c.next.new.self = search rules in
     let more : length c.items.ids.items ≢ MAX_GROUPS = omega arith in
     let p = err_from_is_err_and c.from_residual.result c.from_residual.ensures.1 in
-    rw (p.1, p.2) (record { ids = refused id_from MAX_GROUPS c.in_err-id.field-0.0 c.items.ids.items c.items.words c.in-Some.word.now c.next.new.self (all_at id_from MAX_GROUPS c.args.words.now) is more (id_fails c.in-Some.word.now c.next.new.self c.in_err-id.field-0.0 (sym c.id.ensures ∙ c.in_err-id.was)) c.items.invariant.so_far; few = tt })
+    rw (p.1, p.2) (record { ids = refused id_from MAX_GROUPS c.in_err-long.field-0.0 c.items.ids.items c.items.words c.in-Some.word.now c.next.new.self (all_at id_from MAX_GROUPS c.args.words.now) is more (id_fails c.in-Some.word.now c.next.new.self c.in_err-long.field-0.0 (sym c.long.ensures ∙ c.in_err-long.was)) c.items.invariant.so_far; few = tt })
 
 pub items-preserved : goal.items-preserved
 items-preserved c =
@@ -26,7 +26,7 @@ items-preserved c =
     let more : length c.items.ids.items ≢ MAX_GROUPS = omega arith in
     record {
       terms = (tt, tt);
-      so_far = rw c.in_ok-push.ensures.items (goes_on id_from MAX_GROUPS c.items.ids.items c.items.words c.in-Some.word.now c.next.new.self c.in_ok-id.field-0 c.next.new.self (all_at id_from MAX_GROUPS c.args.words.now) is more (id_is c.in-Some.word.now c.next.new.self c.in_ok-id.field-0 (sym c.id.ensures ∙ c.in_ok-id.was)) c.items.invariant.so_far);
+      so_far = rw c.in_ok-push.ensures.items (goes_on id_from MAX_GROUPS c.items.ids.items c.items.words c.in-Some.word.now c.next.new.self c.in_ok-long.field-0 c.next.new.self (all_at id_from MAX_GROUPS c.args.words.now) is more (id_is c.in-Some.word.now c.next.new.self c.in_ok-long.field-0 (sym c.long.ensures ∙ c.in_ok-long.was)) c.items.invariant.so_far);
     }
 
 pub returns : goal.returns
