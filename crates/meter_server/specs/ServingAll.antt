@@ -1,13 +1,19 @@
 -- What the server did with its sources, its clients and its port.
 --     AllBlocks, AllMoments, AllPresses   the events are all that a source told
 --     Acted                               the port of a number was taken in, with these events
-use Rattle.std.specs.Prelude.{◌≡◌, ℕ, ◌+◌, ◌<◌, List, [], map, replicate, Option, IfSome}
+--     StopsFor, first_of                  which fault comes back, and which goes before the other
+use Rattle.std.specs.Prelude.{◌≡◌, ⊤, ℕ, ◌+◌, ◌<◌, ◌≤◌, List, [], map, replicate, Option, Some, None, IfSome, Result, Ok, Err}
 use Rattle.lane_sampler.specs.Samples.{Samples}
+use Rattle.meter_server.specs.Settling.{fault_of}
+use Rattle.meter_server.specs.declared.fault.ServeFault.{ServeFault}
+use Rattle.meter_server.specs.declared.fault.ServeFault.TheVariants as fault
 use Rattle.meter_server.specs.declared.serving_all.Served.{Served}
 use Rattle.meter_workers.specs.Handed.{MeterPort, unread}
 use Rattle.relay_core.specs.declared.event.Event.{Event}
 use Rattle.relay_core.specs.declared.event.Event.TheVariants as event
 use Rattle.relay_core.specs.declared.event.Reply.{Reply}
+use Rattle.session_threads.specs.Ports.{child}
+use Rattle.turn_lock.specs.declared.faults.CallFault.{CallFault}
 use Rattle.turn_lock.specs.declared.turned.Entry.{Entry}
 use Rattle.turn_lock.specs.History.{IsAmong, calls_by}
 
@@ -39,3 +45,43 @@ IsFresh port = calls_by port.known.number port.known.seen ≡ []
 -- as many connections came as the limit says
 abbrev pub IsLimit : ℕ → Served → Type 0
 IsLimit limit served = 0 < limit → served.served + served.turned_away ≡ limit
+
+-- the port of this number, which was joined in, had read that as many turns were drawn as the lock has
+pub record IsSpent (port : MeterPort) (number : List ℕ) : Type 0 where
+  pub joined : IsAmong number port.known.joined
+  pub own : MeterPort
+  pub same : own.lock ≡ port.lock
+  pub named : own.known.number ≡ number
+  pub drawn : port.bound ≤ own.known.drawn
+
+-- so it is of one of the first `count` ports that were split off from the count `from` on
+abbrev pub IsSpentBy : ℕ → ℕ → MeterPort → Type 0
+IsSpentBy from count port = (i : ℕ) × (i < count) × IsSpent port (child port.known.number (from + i))
+
+-- why the server stops: want of memory, of which nothing is told; a worker whose port is spent; a listener that has failed
+abbrev pub StopsFor : (spent failed : Type 0) → ServeFault → Type 0
+StopsFor spent failed fault.Memory = ⊤
+StopsFor spent failed fault.Exhausted = spent
+StopsFor spent failed fault.Listen = failed
+StopsFor spent failed fault.Read = ⊥
+StopsFor spent failed fault.Write = ⊥
+
+-- the fault of a worker: its work was not begun for want of memory, or the meter refused a call
+abbrev pub worker_fault : Option (Result (Unit {0}) CallFault) → Option ServeFault
+worker_fault None = Some fault.Memory
+worker_fault (Some (Ok done)) = None
+worker_fault (Some (Err refused)) = Some (fault_of refused)
+
+-- of what came of the clients and of a worker the first: want of memory, then a worker's fault, then what came of the clients
+abbrev pub first_of : Result Served ServeFault → Option ServeFault → Result Served ServeFault
+first_of (Err fault.Memory) worker = Err fault.Memory
+first_of (Err other) (Some stopped) = Err stopped
+first_of (Err other) None = Err other
+first_of (Ok all) (Some stopped) = Err stopped
+first_of (Ok all) None = Ok all
+
+-- no worker stopped before its source had given all: nothing failed, or the listener alone, which is told last
+abbrev pub OnEnded : Result Served ServeFault → Type 0 → Type 0
+OnEnded (Ok all) Ended = Ended
+OnEnded (Err fault.Listen) Ended = Ended
+OnEnded (Err other) Ended = ⊤

@@ -15,11 +15,11 @@ pub(crate) struct Sampler<S> {
 }
 
 impl<S: BlockSource + Send> Worker<Port<Kept>> for Sampler<S> {
-    ghost use Rattle.std.specs.Prelude.{OnOk};
+    ghost use Rattle.std.specs.Prelude.{IfErr, OnOk};
     ghost use Rattle.turn_lock.specs.Shown.{IsSame};
-    ghost use Rattle.meter_workers.specs.Handed.{HandsBlocks};
+    ghost use Rattle.meter_workers.specs.Handed.{HandsBlocks, StopsFor};
 
-    ghost did = { λ sampler p q end. IsSame p q × OnOk end (HandsBlocks (S.told sampler.source) p q) };
+    ghost did = { λ sampler p q end. IsSame p q × OnOk end (HandsBlocks (S.told sampler.source) p q) × IfErr end (StopsFor q) };
 
     fn work<W: Wait>(
         self,
@@ -39,11 +39,11 @@ pub(crate) struct Clock<S> {
 }
 
 impl<S: MomentSource + Send> Worker<Port<Kept>> for Clock<S> {
-    ghost use Rattle.std.specs.Prelude.{OnOk};
+    ghost use Rattle.std.specs.Prelude.{IfErr, OnOk};
     ghost use Rattle.turn_lock.specs.Shown.{IsSame};
-    ghost use Rattle.meter_workers.specs.Handed.{HandsMoments};
+    ghost use Rattle.meter_workers.specs.Handed.{HandsMoments, StopsFor};
 
-    ghost did = { λ clock p q end. IsSame p q × OnOk end (HandsMoments (S.told clock.source) p q) };
+    ghost did = { λ clock p q end. IsSame p q × OnOk end (HandsMoments (S.told clock.source) p q) × IfErr end (StopsFor q) };
 
     fn work<W: Wait>(
         self,
@@ -63,11 +63,11 @@ pub(crate) struct Button<S> {
 }
 
 impl<S: ButtonSource + Send> Worker<Port<Kept>> for Button<S> {
-    ghost use Rattle.std.specs.Prelude.{OnOk};
+    ghost use Rattle.std.specs.Prelude.{IfErr, OnOk};
     ghost use Rattle.turn_lock.specs.Shown.{IsSame};
-    ghost use Rattle.meter_workers.specs.Handed.{HandsPresses};
+    ghost use Rattle.meter_workers.specs.Handed.{HandsPresses, StopsFor};
 
-    ghost did = { λ button p q end. IsSame p q × OnOk end (HandsPresses (S.told button.source) p q) };
+    ghost did = { λ button p q end. IsSame p q × OnOk end (HandsPresses (S.told button.source) p q) × IfErr end (StopsFor q) };
 
     fn work<W: Wait>(
         self,

@@ -1,4 +1,5 @@
 //! Where clients come from, and who is told of their sessions.
+ghost use Rattle.std.specs.Prelude.{⊤, Some, OnErr};
 ghost use Rattle.acse_ber.specs.Password.{IsPassword};
 ghost use Rattle.turn_lock.specs.Shown.{IsSame};
 
@@ -28,8 +29,12 @@ pub trait Listener {
 
     type Observer: Observer + Drop + Send + 'static;
 
+    /// It has failed. Of a listener that doesn't say how that is seen nothing is known.
+    ghost has_failed: { Self → Type 0 } = { λ _. ⊤ };
+
     /// Waits for the next client: what it sends, what is sent to it, and who is told of its session. An error: no further one comes.
-    fn accept(&mut self) -> Result<(Self::Input, Self::Output, Self::Observer), ListenFault>;
+    fn accept(&mut self) -> Result<(Self::Input, Self::Output, Self::Observer), ListenFault>
+        ensures { OnErr result (has_failed self.new) };
 }
 
 /// A client that was accepted.
@@ -72,6 +77,10 @@ pub(crate) struct Clients<'a, 'b, L> {
 
 impl<'a, 'b, L: Listener> session_threads::Listener<Port<Kept>> for Clients<'a, 'b, L> {
     type Connection = Client<L::Input, L::Output, L::Observer>;
+
+    ghost has_failed = { λ clients. L.has_failed clients.listener.now };
+
+    ghost borrowed = { λ clients. Some clients.listener.ghost_name };
 
     fn accept(&mut self, alloc: Global) -> Result<Option<Self::Connection>, ListenFault> {
         let (input, output, observer) = self.listener.accept()?;

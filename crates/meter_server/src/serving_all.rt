@@ -1,8 +1,8 @@
 //! The whole server: sessions of clients, blocks of samples, moments and presses, each in a thread of its own, over one meter.
-ghost use Rattle.std.specs.Prelude.{◌≡◌, ◌+◌, [], Some, Ok, IfOk, IfErr, OnOk};
+ghost use Rattle.std.specs.Prelude.{◌≡◌, ◌⊎◌, ◌+◌, [], Err, IfOk, IfErr};
 ghost use Rattle.acse_ber.specs.Password.{IsPassword};
 ghost use Rattle.kept_meter.specs.Calls.{IsLegal as IsLegalRun};
-ghost use Rattle.meter_server.specs.ServingAll.{AllBlocks, AllMoments, AllPresses, Acted, IsFresh, IsLimit};
+ghost use Rattle.meter_server.specs.ServingAll.{AllBlocks, AllMoments, AllPresses, Acted, IsFresh, IsLimit, IsSpent, IsSpentBy, StopsFor, OnEnded, worker_fault, first_of};
 ghost use Rattle.session_threads.specs.Ports.{GoesOn, AreJoined, child};
 ghost use Rattle.turn_lock.specs.Calls.{IsLegal};
 ghost use Rattle.turn_lock.specs.History.{IsAmong};
@@ -33,7 +33,7 @@ fn first_fault(
     served: Result<Served, ServeFault>,
     end: Option<Result<(), CallFault>>,
 ) -> Result<Served, ServeFault>
-    ensures { IfOk result (λ all. (served ≡ Ok all) × (end ≡ Some (Ok tt))) }
+    ensures { result ≡ first_of served (worker_fault end) }
 {
     match (served, end) {
         (Err(ServeFault::Memory), _) => Err(ServeFault::Memory),
@@ -56,6 +56,7 @@ fn serve_clients<L: Listener, R: Threads + Wait + Copy + Send + 'static>(
     ensures goes { GoesOn port.old port.new }
     ensures joined { AreJoined port.old.known.splits port.new }
     ensures limit { IfOk result (IsLimit limit) }
+    ensures fault { IfErr result (StopsFor ⊥ (L.has_failed listener.new)) }
 {
     let mut clients = Clients { listener, password };
     let accepted = serve_connections(rt, alloc, &mut clients, port, limit)?;
@@ -86,12 +87,14 @@ fn serve_until_button<
     limit: u64,
 ) -> Result<Served, ServeFault>
     requires lock { running.promise.port.value.lock ≡ port.old.lock }
+    requires bound { running.promise.port.value.bound ≡ port.old.bound }
     requires password { IsPassword password.now }
     ensures goes { GoesOn port.old port.new }
     ensures joined { AreJoined port.old.known.splits port.new }
     ensures own { IsAmong running.promise.port.value.known.number port.new.known.joined }
     ensures limit { IfOk result (IsLimit limit) }
-    ensures presses { OnOk result (IsFresh running.promise.port.value → Acted port.new running.promise.port.value.known.number (AllPresses (U.told running.promise.worker.value.source))) }
+    ensures presses { OnEnded result (IsFresh running.promise.port.value → Acted port.new running.promise.port.value.known.number (AllPresses (U.told running.promise.worker.value.source))) }
+    ensures fault { IfErr result (StopsFor (IsSpent port.new running.promise.port.value.known.number) (L.has_failed listener.new)) }
 {
     let served = serve_clients(rt, alloc, listener, port, password, limit);
     let end = join_worker(rt, running, port);
@@ -116,7 +119,8 @@ fn serve_with_button<
     ensures goes { GoesOn port.old port.new }
     ensures joined { AreJoined port.old.known.splits port.new }
     ensures limit { IfOk result (IsLimit limit) }
-    ensures presses { OnOk result (Acted port.new (child port.old.known.number port.old.known.splits) (AllPresses (U.told buttons))) }
+    ensures presses { OnEnded result (Acted port.new (child port.old.known.number port.old.known.splits) (AllPresses (U.told buttons))) }
+    ensures fault { IfErr result (StopsFor (IsSpentBy port.old.known.splits 1 port.new) (L.has_failed listener.new)) }
 {
     let Some(running) = start_worker(rt, alloc, Button { source: buttons }, port) else {
         return Err(ServeFault::Memory);
@@ -141,13 +145,15 @@ fn serve_until_clock<
     limit: u64,
 ) -> Result<Served, ServeFault>
     requires lock { running.promise.port.value.lock ≡ port.old.lock }
+    requires bound { running.promise.port.value.bound ≡ port.old.bound }
     requires password { IsPassword password.now }
     ensures goes { GoesOn port.old port.new }
     ensures joined { AreJoined port.old.known.splits port.new }
     ensures own { IsAmong running.promise.port.value.known.number port.new.known.joined }
     ensures limit { IfOk result (IsLimit limit) }
-    ensures moments { OnOk result (IsFresh running.promise.port.value → Acted port.new running.promise.port.value.known.number (AllMoments (M.told running.promise.worker.value.source))) }
-    ensures presses { OnOk result (Acted port.new (child port.old.known.number port.old.known.splits) (AllPresses (U.told buttons))) }
+    ensures moments { OnEnded result (IsFresh running.promise.port.value → Acted port.new running.promise.port.value.known.number (AllMoments (M.told running.promise.worker.value.source))) }
+    ensures presses { OnEnded result (Acted port.new (child port.old.known.number port.old.known.splits) (AllPresses (U.told buttons))) }
+    ensures fault { IfErr result (StopsFor (IsSpent port.new running.promise.port.value.known.number ⊎ IsSpentBy port.old.known.splits 1 port.new) (L.has_failed listener.new)) }
 {
     let served = serve_with_button(rt, alloc, listener, buttons, port, password, limit);
     let end = join_worker(rt, running, port);
@@ -174,8 +180,9 @@ fn serve_with_clock<
     ensures goes { GoesOn port.old port.new }
     ensures joined { AreJoined port.old.known.splits port.new }
     ensures limit { IfOk result (IsLimit limit) }
-    ensures moments { OnOk result (Acted port.new (child port.old.known.number port.old.known.splits) (AllMoments (M.told moments))) }
-    ensures presses { OnOk result (Acted port.new (child port.old.known.number (port.old.known.splits + 1)) (AllPresses (U.told buttons))) }
+    ensures moments { OnEnded result (Acted port.new (child port.old.known.number port.old.known.splits) (AllMoments (M.told moments))) }
+    ensures presses { OnEnded result (Acted port.new (child port.old.known.number (port.old.known.splits + 1)) (AllPresses (U.told buttons))) }
+    ensures fault { IfErr result (StopsFor (IsSpentBy port.old.known.splits 2 port.new) (L.has_failed listener.new)) }
 {
     let Some(running) = start_worker(rt, alloc, Clock { source: moments }, port) else {
         return Err(ServeFault::Memory);
@@ -202,14 +209,16 @@ fn serve_until_sampler<
     limit: u64,
 ) -> Result<Served, ServeFault>
     requires lock { running.promise.port.value.lock ≡ port.old.lock }
+    requires bound { running.promise.port.value.bound ≡ port.old.bound }
     requires password { IsPassword password.now }
     ensures goes { GoesOn port.old port.new }
     ensures joined { AreJoined port.old.known.splits port.new }
     ensures own { IsAmong running.promise.port.value.known.number port.new.known.joined }
     ensures limit { IfOk result (IsLimit limit) }
-    ensures blocks { OnOk result (IsFresh running.promise.port.value → Acted port.new running.promise.port.value.known.number (AllBlocks (B.told running.promise.worker.value.source))) }
-    ensures moments { OnOk result (Acted port.new (child port.old.known.number port.old.known.splits) (AllMoments (M.told moments))) }
-    ensures presses { OnOk result (Acted port.new (child port.old.known.number (port.old.known.splits + 1)) (AllPresses (U.told buttons))) }
+    ensures blocks { OnEnded result (IsFresh running.promise.port.value → Acted port.new running.promise.port.value.known.number (AllBlocks (B.told running.promise.worker.value.source))) }
+    ensures moments { OnEnded result (Acted port.new (child port.old.known.number port.old.known.splits) (AllMoments (M.told moments))) }
+    ensures presses { OnEnded result (Acted port.new (child port.old.known.number (port.old.known.splits + 1)) (AllPresses (U.told buttons))) }
+    ensures fault { IfErr result (StopsFor (IsSpent port.new running.promise.port.value.known.number ⊎ IsSpentBy port.old.known.splits 2 port.new) (L.has_failed listener.new)) }
 {
     let served = serve_with_clock(rt, alloc, listener, moments, buttons, port, password, limit);
     let end = join_worker(rt, running, port);
@@ -238,9 +247,10 @@ fn serve_with_sampler<
     ensures goes { GoesOn port.old port.new }
     ensures joined { AreJoined port.old.known.splits port.new }
     ensures limit { IfOk result (IsLimit limit) }
-    ensures blocks { OnOk result (Acted port.new (child port.old.known.number port.old.known.splits) (AllBlocks (B.told blocks))) }
-    ensures moments { OnOk result (Acted port.new (child port.old.known.number (port.old.known.splits + 1)) (AllMoments (M.told moments))) }
-    ensures presses { OnOk result (Acted port.new (child port.old.known.number (port.old.known.splits + 2)) (AllPresses (U.told buttons))) }
+    ensures blocks { OnEnded result (Acted port.new (child port.old.known.number port.old.known.splits) (AllBlocks (B.told blocks))) }
+    ensures moments { OnEnded result (Acted port.new (child port.old.known.number (port.old.known.splits + 1)) (AllMoments (M.told moments))) }
+    ensures presses { OnEnded result (Acted port.new (child port.old.known.number (port.old.known.splits + 2)) (AllPresses (U.told buttons))) }
+    ensures fault { IfErr result (StopsFor (IsSpentBy port.old.known.splits 3 port.new) (L.has_failed listener.new)) }
 {
     let Some(running) = start_worker(rt, alloc, Sampler { source: blocks }, port) else {
         return Err(ServeFault::Memory);
@@ -260,7 +270,8 @@ fn serve_with_sampler<
 /// tells was handed in, all of it, in order: the blocks by the first of these ports, beside its reads, the moments by the second and the presses by the third.
 ///
 /// The fault is the first of these: `Memory`, where the room for eight sessions, or a port, thread or copy of the password for a worker or a connection was not had;
-/// `Exhausted`, where the meter took no more events of the sampler, the clock or the button; `Listen`, where the listener failed. A session's own fault ends that session alone.
+/// `Exhausted`, where the meter took no more events of the sampler, the clock or the button: the port of one of them had read that all turns were drawn; `Listen`, where the
+/// listener failed: then too what each source tells was handed in. It is no other. A session's own fault ends that session alone.
 pub fn serve_all<
     L: Listener,
     B: BlockSource + Send + 'static,
@@ -285,6 +296,10 @@ pub fn serve_all<
     ensures blocks { IfOk result (λ r. Acted r.0 (child port.known.number port.known.splits) (AllBlocks (B.told blocks))) }
     ensures moments { IfOk result (λ r. Acted r.0 (child port.known.number (port.known.splits + 1)) (AllMoments (M.told moments))) }
     ensures presses { IfOk result (λ r. Acted r.0 (child port.known.number (port.known.splits + 2)) (AllPresses (U.told buttons))) }
+    ensures fault { IfErr result (λ r. StopsFor (IsSpentBy port.known.splits 3 r.0) (L.has_failed listener.new) r.1) }
+    ensures blocks_err { IfErr result (λ r. OnEnded (Err r.1) (Acted r.0 (child port.known.number port.known.splits) (AllBlocks (B.told blocks)))) }
+    ensures moments_err { IfErr result (λ r. OnEnded (Err r.1) (Acted r.0 (child port.known.number (port.known.splits + 1)) (AllMoments (M.told moments)))) }
+    ensures presses_err { IfErr result (λ r. OnEnded (Err r.1) (Acted r.0 (child port.known.number (port.known.splits + 2)) (AllPresses (U.told buttons)))) }
 {
     let served = serve_with_sampler(
         rt, alloc, listener, blocks, moments, buttons, &mut port, password, limit,

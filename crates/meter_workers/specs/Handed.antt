@@ -1,5 +1,5 @@
 -- The events that a worker hands to the meter through its port.
-use Rattle.std.specs.Prelude.{◌≡◌, ℕ, Bool, true, false, not, List, ◌++◌, map, filter, replicate, Option, IfSome}
+use Rattle.std.specs.Prelude.{◌≡◌, ℕ, ◌≤◌, Bool, true, false, not, List, ◌++◌, map, filter, replicate, Option, IfSome}
 use Rattle.lane_sampler.specs.Samples.{Samples}
 use Rattle.relay_core.specs.declared.event.Event.{Event}
 use Rattle.relay_core.specs.declared.event.Event.TheVariants as event
@@ -8,6 +8,8 @@ use Rattle.relay_core.specs.declared.opening.Opening.{Opening}
 use Rattle.turn_lock.specs.declared.turned.Entry.{Entry}
 use Rattle.turn_lock.specs.History.{calls_by}
 use Rattle.turn_lock.specs.Shown.{ShownPort}
+use Rattle.turn_lock.specs.declared.faults.CallFault.{CallFault}
+use Rattle.turn_lock.specs.declared.faults.CallFault.TheVariants.{Memory, Exhausted}
 
 -- a port of a meter
 abbrev pub MeterPort : Type 0
@@ -36,3 +38,8 @@ HandsMoments told p q = IfSome told (λ moments. handed q ≡ handed p ++ map ev
 -- so many presses were handed in since
 abbrev pub HandsPresses : Option ℕ → MeterPort → MeterPort → Type 0
 HandsPresses told p q = IfSome told (λ count. handed q ≡ handed p ++ replicate count event.Button)
+
+-- why a worker stops before its source has given all: never for want of memory, but where its port has read that as many turns were drawn as the lock has
+abbrev pub StopsFor : MeterPort → CallFault → Type 0
+StopsFor q Memory = ⊥
+StopsFor q Exhausted = q.bound ≤ q.known.drawn

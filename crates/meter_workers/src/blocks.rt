@@ -1,8 +1,8 @@
 //! The worker of what samples the power.
-ghost use Rattle.std.specs.Prelude.{◌≡◌, ◌<◌, ◌+◌, ◌%◌, OnOk};
+ghost use Rattle.std.specs.Prelude.{◌≡◌, ◌<◌, ◌+◌, ◌%◌, IfErr, OnOk};
 ghost use Rattle.turn_lock.specs.Shown.{IsSame};
 ghost use Rattle.meter_workers.specs.Blocks.{BringsBlock, GoesAhead, ReadsBetween};
-ghost use Rattle.meter_workers.specs.Handed.{HandsBlocks, handed};
+ghost use Rattle.meter_workers.specs.Handed.{HandsBlocks, StopsFor, handed};
 
 use crate::handing::hand_in;
 use crate::sources::BlockSource;
@@ -48,6 +48,7 @@ impl Scanner {
         ensures same { IsSame port.old port.new }
         ensures ahead { GoesAhead self.old.since_read (handed port.old) (handed port.new) }
         ensures since_read { self.new.since_read ≡ self.old.since_read }
+        ensures err { IfErr result (StopsFor port.new) }
     {
         if self.since_read != 0 {
             return Ok(());
@@ -68,7 +69,7 @@ impl Scanner {
 }
 
 // Hands a block in, scanned with the thresholds last read. Where it is due, these are read before.
-#[tactic(auto, using(crate::proofs::BlockLemmas::brings))]
+#[tactic(auto, using(crate::proofs::BlockLemmas::brings), unfolding(relay_core::specs::Machine::is_sure))]
 fn hand_block<W: Wait>(
     rt: &W,
     alloc: Global,
@@ -79,6 +80,7 @@ fn hand_block<W: Wait>(
     ensures same { IsSame port.old port.new }
     ensures ok { OnOk result (BringsBlock scanner.old.since_read block (handed port.old) (handed port.new)) }
     ensures since_read { OnOk result (scanner.new.since_read ≡ (scanner.old.since_read + 1) % 64) }
+    ensures err { IfErr result (StopsFor port.new) }
 {
     let mut block = block;
     scanner.renew(rt, alloc, port)?;
@@ -103,6 +105,7 @@ pub fn run_blocks<S: BlockSource, W: Wait>(
     ensures same { IsSame port result.0 }
     ensures all { OnOk result.1 (HandsBlocks (S.told source) port result.0) }
     ensures reads { OnOk result.1 (ReadsBetween (S.told source) port result.0) }
+    ensures err { IfErr result.1 (StopsFor result.0) }
 {
     let mut scanner = Scanner::new();
     'giving: for _ in rt.forever() {

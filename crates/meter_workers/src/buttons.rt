@@ -1,6 +1,6 @@
 //! The worker of the button.
-ghost use Rattle.std.specs.Prelude.{OnOk};
-ghost use Rattle.meter_workers.specs.Handed.{HandsPresses};
+ghost use Rattle.std.specs.Prelude.{IfErr, OnOk};
+ghost use Rattle.meter_workers.specs.Handed.{HandsPresses, StopsFor};
 ghost use Rattle.turn_lock.specs.Shown.{IsSame};
 
 use crate::handing::hand_in;
@@ -14,7 +14,7 @@ use turn_lock::{CallFault, Port};
 /// Hands in each press that the source gives, until no further one comes or a call is refused, and hands the port back.
 ///
 /// At `Ok` as many presses as the source told were handed in.
-#[tactic(auto, using(crate::proofs::SourceLemmas::presses_first, crate::proofs::SourceLemmas::presses_on, crate::proofs::SourceLemmas::presses_none))]
+#[tactic(auto, using(crate::proofs::SourceLemmas::presses_first, crate::proofs::SourceLemmas::presses_on, crate::proofs::SourceLemmas::presses_none), unfolding(relay_core::specs::Machine::is_sure))]
 pub fn run_buttons<S: ButtonSource, W: Wait>(
     rt: &W,
     alloc: Global,
@@ -23,6 +23,7 @@ pub fn run_buttons<S: ButtonSource, W: Wait>(
 ) -> (Port<Kept>, Result<(), CallFault>)
     ensures same { IsSame port result.0 }
     ensures all { OnOk result.1 (HandsPresses (S.told source) port result.0) }
+    ensures err { IfErr result.1 (StopsFor result.0) }
 {
     'giving: for _ in rt.forever() {
         if !source.pressed() {

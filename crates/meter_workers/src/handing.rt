@@ -1,7 +1,9 @@
 //! One event handed to the meter.
-ghost use Rattle.std.specs.Prelude.{◌≡◌, [], ◌∷◌, ◌++◌, OnOk, OnErr};
+ghost use Rattle.std.specs.Prelude.{◌≡◌, [], ◌∷◌, ◌++◌, IfErr, OnOk, OnErr};
+ghost use Rattle.kept_meter.specs.Calls.{IsSure};
+ghost use Rattle.turn_lock.specs.Calls.{IsCause};
 ghost use Rattle.turn_lock.specs.Shown.{IsSame};
-ghost use Rattle.meter_workers.specs.Handed.{handed};
+ghost use Rattle.meter_workers.specs.Handed.{StopsFor, handed};
 
 use kept_meter::Kept;
 use relay_core::{Event, Reply};
@@ -20,19 +22,22 @@ pub(crate) fn ask<W: Wait>(
     ensures same { IsSame port.old port.new }
     ensures ok { OnOk result (handed port.new ≡ handed port.old ++ event ∷ []) }
     ensures err { OnErr result (handed port.new ≡ handed port.old) }
+    ensures cause { IfErr result (λ fault. IsCause IsSure event port.new.bound port.new.known fault) }
 {
     port.call(rt, alloc, event)
 }
 
-/// The same, where nobody asks for the reply.
+/// The same for an event that takes no memory, where nobody asks for the reply.
 pub(crate) fn hand_in<W: Wait>(
     rt: &W,
     alloc: Global,
     port: &mut Port<Kept>,
     event: Event,
 ) -> Result<(), CallFault>
+    requires { IsSure event }
     ensures same { IsSame port.old port.new }
     ensures ok { OnOk result (handed port.new ≡ handed port.old ++ event ∷ []) }
+    ensures err { IfErr result (StopsFor port.new) }
 {
     ask(rt, alloc, port, event)?;
     Ok(())

@@ -1,6 +1,6 @@
 //! The worker of the clock.
-ghost use Rattle.std.specs.Prelude.{OnOk};
-ghost use Rattle.meter_workers.specs.Handed.{HandsMoments};
+ghost use Rattle.std.specs.Prelude.{IfErr, OnOk};
+ghost use Rattle.meter_workers.specs.Handed.{HandsMoments, StopsFor};
 ghost use Rattle.turn_lock.specs.Shown.{IsSame};
 
 use crate::handing::hand_in;
@@ -14,7 +14,7 @@ use turn_lock::{CallFault, Port};
 /// Hands in each moment that the source gives, until it gives none or a call is refused, and hands the port back.
 ///
 /// At `Ok` all moments that the source told were handed in, in order, each once.
-#[tactic(auto, using(crate::proofs::SourceLemmas::leaves_first, crate::proofs::SourceLemmas::leaves_on, crate::proofs::SourceLemmas::leaves_none))]
+#[tactic(auto, using(crate::proofs::SourceLemmas::leaves_first, crate::proofs::SourceLemmas::leaves_on, crate::proofs::SourceLemmas::leaves_none), unfolding(relay_core::specs::Machine::is_sure))]
 pub fn run_moments<S: MomentSource, W: Wait>(
     rt: &W,
     alloc: Global,
@@ -23,6 +23,7 @@ pub fn run_moments<S: MomentSource, W: Wait>(
 ) -> (Port<Kept>, Result<(), CallFault>)
     ensures same { IsSame port result.0 }
     ensures all { OnOk result.1 (HandsMoments (S.told source) port result.0) }
+    ensures err { IfErr result.1 (StopsFor result.0) }
 {
     'giving: for _ in rt.forever() {
         let Some(now) = source.next_moment() else {

@@ -1,8 +1,8 @@
 //! The thresholds that blocks are scanned with, read through the worker's own port.
-ghost use Rattle.std.specs.Prelude.{◌≡◌, IfOk};
+ghost use Rattle.std.specs.Prelude.{◌≡◌, IfOk, IfErr};
 ghost use Rattle.turn_lock.specs.Shown.{IsSame};
 ghost use Rattle.meter_workers.specs.Blocks.{GoesAhead};
-ghost use Rattle.meter_workers.specs.Handed.{handed};
+ghost use Rattle.meter_workers.specs.Handed.{StopsFor, handed};
 ghost use Rattle.meter_workers.specs.Thresholds.{threshold_read};
 
 use crate::handing::ask;
@@ -80,6 +80,7 @@ pub(crate) fn read_thresholds<W: Wait>(
 ) -> Result<Option<Thresholds>, CallFault>
     ensures same { IsSame port.old port.new }
     ensures ahead { GoesAhead 0 (handed port.old) (handed port.new) }
+    ensures err { IfErr result (StopsFor port.new) }
 {
     let Ok(event) = make_read(alloc) else {
         return Ok(None);

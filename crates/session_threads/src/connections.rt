@@ -1,4 +1,7 @@
 //! What is served, and where it comes from.
+ghost use Rattle.std.specs.Prelude.{◌≡◌, ⊤, Option, None, OnErr};
+ghost use Rattle.std.specs.Borrow.{GName};
+
 use std::alloc::Global;
 use std::sync::Wait;
 use thiserror::Error;
@@ -26,6 +29,14 @@ pub struct ListenFault;
 pub trait Listener<P> {
     type Connection: Connection<P> + 'static;
 
+    /// It has failed. Of a listener that doesn't say how that is seen nothing is known.
+    ghost has_failed: { Self → Type 0 } = { λ _. ⊤ };
+
+    /// What it borrows to be written to, if anything: that stays the same.
+    ghost borrowed: { Self → Option GName } = { λ _. None };
+
     /// Waits for the next connection. `None`: one came and was closed, with no byte sent, for want of memory.
-    fn accept(&mut self, alloc: Global) -> Result<Option<Self::Connection>, ListenFault>;
+    fn accept(&mut self, alloc: Global) -> Result<Option<Self::Connection>, ListenFault>
+        ensures failed { OnErr result (has_failed self.new) }
+        ensures borrowed { borrowed self.new ≡ borrowed self.old };
 }

@@ -1,5 +1,5 @@
 //! The loop that accepts connections.
-ghost use Rattle.std.specs.Prelude.{◌≡◌, IfOk, IfSome, IfNone, OnOk, OnErr};
+ghost use Rattle.std.specs.Prelude.{◌≡◌, IsTrue, IfOk, IfSome, IfNone, OnOk, OnErr};
 ghost use Rattle.session_threads.specs.Ports.{GoesOn, AreJoined};
 ghost use Rattle.session_threads.specs.Sessions.{port_of, AreHeld, Tends, Takes, IsComplete, IsServed};
 ghost use Rattle.turn_lock.specs.Calls.{IsLegal};
@@ -33,7 +33,9 @@ where
     requires hands_back { (p : _) (q : _) → L.Connection.hands_back p q → IsSame p q }
     ensures tends { Tends port_of port.old sessions.old.handles port.new sessions.new.handles }
     ensures splits { IfSome result (λ outcome. Takes outcome port.old.known.splits port.new.known.splits) }
-    ensures failed { IfNone result (port.new.known.splits ≡ port.old.known.splits) }
+    ensures failed { IfNone result (L.has_failed listener.new) }
+    ensures borrowed { L.borrowed listener.new ≡ L.borrowed listener.old }
+    ensures none { IfNone result (port.new.known.splits ≡ port.old.known.splits) }
 {
     let next = listener.accept(alloc);
     sessions.reap(rt, port);
@@ -66,6 +68,8 @@ where
     ensures tends { Tends port_of port.old sessions.old.handles port.new sessions.new.handles }
     ensures complete { IsComplete limit result }
     ensures served { IsServed port.old.known.splits port.new.known.splits result }
+    ensures failed { IsTrue result.has_failed → L.has_failed listener.new }
+    ensures borrowed { L.borrowed listener.new ≡ L.borrowed listener.old }
 {
     let mut accepted = Accepted::none();
     'connections: for _ in rt.forever() {
@@ -107,6 +111,8 @@ where
     ensures joined { AreJoined port.old.known.splits port.new }
     ensures complete { IfOk result (IsComplete limit) }
     ensures served { IfOk result (IsServed port.old.known.splits port.new.known.splits) }
+    ensures failed { IfOk result (λ accepted. IsTrue accepted.has_failed → L.has_failed listener.new) }
+    ensures borrowed { L.borrowed listener.new ≡ L.borrowed listener.old }
     ensures err { OnErr result (port.new ≡ port.old) }
 {
     let mut sessions = Sessions::new(alloc)?;

@@ -2,11 +2,9 @@ use denote.Param.Send.{sendable}
 use Rattle.std.proofs.Crossing.{crosses}
 use Rattle.kept_meter.proofs.Sent.{kept_send}
 use Rattle.meter_server.proofs.Sent.{event_send, reply_send}
-use Rattle.std.proofs.Common.{◌+◌, ◌∙◌, ap}
-use Rattle.session_threads.specs.Ports.{child}
 use Rattle.session_threads.proofs.Going.{goes_trans}
 use Rattle.meter_server.specs.ServingAll.{AllPresses}
-use Rattle.meter_server.proofs.ServingAllLemmas.{acted_by, acted_told, joined_more, map_ok}
+use Rattle.meter_server.proofs.ServingAllLemmas.{acted_told, joined_more, map_ok, stops_alone}
 use Rattle.meter_server.proofs.serving_all.serve_with_button.Goals as goal
 
 pub returns-clause-goes : goal.returns-clause-goes
@@ -27,3 +25,7 @@ start_worker-requires-send-T-Event g c κs within = search (sendable, crosses, e
 
 pub start_worker-requires-send-T-Reply : goal.start_worker-requires-send-T-Reply
 start_worker-requires-send-T-Reply g c κs within = search (sendable, crosses, reply_send) depth 20 fits 100000
+
+pub returns-clause-fault : goal.returns-clause-fault
+returns-clause-fault g c =
+    stops_alone c.serve_until_button.result _ _ _ _ _ c.in-Some.ensures.port c.serve_until_button.ensures.goes c.serve_until_button.ensures.fault

@@ -17,5 +17,6 @@ connections-preserved g c =
       tends = tends_trans port_of _ _ _ _ _ _ c.connections.invariant.tends c.take_next.ensures.tends;
       served = c.count.ensures.served _ _ _ c.connections.invariant.served c.in-Some-take_next.ensures.splits;
       going = c.count.ensures.failed ∙ c.connections.invariant.going;
+      borrowed = c.take_next.ensures.borrowed ∙ c.connections.invariant.borrowed;
       within = count_on c.args.limit _ _ c.ranges.limit.fits (λ reached. false≢true (c.if-has_reached.ensures.1 reached)) c.count.ensures.counted;
     }

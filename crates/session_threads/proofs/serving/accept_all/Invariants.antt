@@ -9,5 +9,6 @@ invariant-connections g l = record {
   tends : Tends port_of l.initial.port l.initial.sessions.handles l.port l.sessions.handles;
   served : IsServed l.initial.port.known.splits l.port.known.splits l.accepted;
   going : l.accepted.has_failed ≡ false;
+  borrowed : g.L.Listener.borrowed l.listener ≡ g.L.Listener.borrowed l.initial.listener;
   within : 0 < l.limit → l.accepted.served + l.accepted.turned_away ≤ l.limit;
 }
