@@ -1,4 +1,4 @@
-ghost use Rattle.std.specs.Prelude.{◌≡◌, true, Some, IfOk, IfErr, OnOk, OnErr, Ok};
+ghost use Rattle.std.specs.Prelude.{◌≡◌, true, false, Some, IfOk, IfErr, OnOk, OnErr, Ok};
 ghost use Rattle.acse_ber.specs.Password.{IsPassword};
 ghost use Rattle.session_core.specs.declared.task.Task.TheVariants.{Listen, Over};
 
@@ -93,6 +93,8 @@ impl Session {
         // While a reply is awaited, and once the session is over, this is said again.
         ensures waits { is_asking self.old ≡ true → (result ≡ Ok Next.Wait) × (self.new ≡ self.old) }
         ensures again { (end : SessionEnd) → ended self.old ≡ Some end → (result ≡ Ok (Next.End end)) × (self.new ≡ self.old) }
+        // Where memory runs out no reply is awaited.
+        ensures silent { OnErr result (is_asking self.new ≡ false) }
     {
         if self.asking() {
             return Ok(Next::Wait);
@@ -141,8 +143,10 @@ impl Session {
     }
 
     // Does the next task.
+    #[tactic(auto, unfolding(crate::specs::Remaining::is_asking))]
     fn work(&mut self, alloc: Global) -> Result<Option<Next>, AllocError>
-        ensures { WorksBy self.old result self.new }
+        ensures works { WorksBy self.old result self.new }
+        ensures silent { OnErr result (is_asking self.new ≡ false) }
     {
         match &self.task {
             Task::Listen => self.listen(alloc),
@@ -171,9 +175,11 @@ impl Session {
     }
 
     // Takes the next frame. Those for other ports are passed over.
+    #[tactic(auto, unfolding(crate::specs::Remaining::is_asking))]
     fn listen(&mut self, alloc: Global) -> Result<Option<Next>, AllocError>
         requires { self.now.task ≡ Listen }
-        ensures { WorksBy self.old result self.new }
+        ensures works { WorksBy self.old result self.new }
+        ensures silent { OnErr result (is_asking self.new ≡ false) }
     {
         match self.deframer.take(alloc) {
             Ok(Some(frame)) if frame.dst == SERVER_PORT => {

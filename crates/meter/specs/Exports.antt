@@ -1,0 +1,160 @@
+-- What the exports do to the meter of a handle, and what they tell.
+--     OnOpen        a call on a meter that is open, or that tells that it is not
+--     OpensTo       a meter is opened
+--     FedTo, ..     the calls of a meter, with the numbers that C is told
+use Rattle.std.specs.Prelude.{◌≡◌, ◌≤◌, ◌<◌, ℕ, Bool, false, Option, Some, None, List, length, Result, Ok, Err}
+use Rattle.cosem_names.specs.ResultCode as result_code
+use Rattle.cosem_names.specs.declared.result_code.ResultCode.{ResultCode}
+use Rattle.disconnect_control.specs.declared.state.ControlState.TheVariants.{Connected}
+use Rattle.disconnect_control.specs.Transitions.{is_state, state_number, mode_number}
+use Rattle.lane_sampler.specs.Samples.{Samples}
+use Rattle.meter.specs.Outcomes.{code_of, of_fault, of_done, of_given, length_of, of_tick, ran_of}
+use Rattle.meter.specs.declared.events.Firings.{Firings}
+use Rattle.meter.specs.declared.outcome.Outcome.{Outcome}
+use Rattle.meter.specs.declared.outcome.Outcome.TheVariants as outcome
+use Rattle.relay_core.specs.declared.event.Event.TheVariants.{Button}
+use Rattle.relay_core.specs.declared.event.Reply.TheVariants.{Code}
+use Rattle.relay_core.specs.Stands.{StandsFor}
+use Rattle.relay_core.specs.World.{World}
+use Rattle.supply_meter.specs.Calls.{IsNew, OpensBy, FeedsBy, FinishesBy, NextBy, ClosesBy, SamplesBy, TakesMoment}
+use Rattle.supply_meter.specs.Meterings.{Metering, Takes}
+use Rattle.supply_meter.specs.declared.fault.MeterFault.{MeterFault}
+use Rattle.supply_meter.specs.declared.given.Fired.{Fired}
+use Rattle.supply_meter.specs.declared.given.Given.{Given}
+use Rattle.supply_meter.specs.declared.given.Tick.{Tick}
+
+-- a call on the meter of a handle: where it is not open that is told, and what `shut` says
+abbrev pub OnOpen : (shut : Type 0) (does : Metering → ℕ → Metering → Type 0) → Option Metering → ℕ → Option Metering → Type 0
+OnOpen shut does None code new = (code ≡ code_of outcome.NotOpen) × (new ≡ None) × shut
+OnOpen shut does (Some m) code None = ⊥
+OnOpen shut does (Some m) code (Some m') = does m code m'
+
+-- ---- opening
+
+-- the lengths of the arguments lie in their ranges
+pub record AreFit (name password : List ℕ) (kept : ℕ) : Type 0 where
+  pub name_some : 1 ≤ length name
+  pub name_few : length name ≤ 16
+  pub password_some : 1 ≤ length password
+  pub password_few : length password ≤ 32
+  pub kept_some : 1 ≤ kept
+  pub kept_few : kept ≤ 1024
+
+-- how a meter is opened
+abbrev pub OpensTo : List ℕ → List ℕ → ℕ → Option Metering → Outcome → Option Metering → Type 0
+OpensTo name password kept None outcome.Done (Some m) = AreFit name password kept × IsNew name password kept m
+OpensTo name password kept None outcome.WrongArgument None = ¬ (AreFit name password kept)
+OpensTo name password kept None outcome.NoMemory None = AreFit name password kept
+OpensTo name password kept None _ new = ⊥
+OpensTo name password kept (Some m) outcome.IsOpen new = new ≡ Some m
+OpensTo name password kept (Some m) _ new = ⊥
+
+-- by the number that is told
+pub record OpenedTo (name password : List ℕ) (kept : ℕ) (old : Option Metering) (code : ℕ) (new : Option Metering) : Type 0 where
+  pub outcome : Outcome
+  pub does : OpensTo name password kept old outcome new
+  pub told : code ≡ code_of outcome
+
+-- ---- sessions
+
+-- a call that gives nothing
+pub record DoneTo (does : Result Unit MeterFault → Type 0) (code : ℕ) : Type 0 where
+  pub result : Result Unit MeterFault
+  pub done : does result
+  pub told : code ≡ code_of (of_done result)
+
+abbrev pub OpenedAt : ℕ → Metering → ℕ → Metering → Type 0
+OpenedAt session m code m' = DoneTo (λ (r : Result Unit MeterFault). OpensBy m session r m') code
+
+abbrev pub FedAt : ℕ → List ℕ → Metering → ℕ → Metering → Type 0
+FedAt session bytes m code m' = DoneTo (λ (r : Result Unit MeterFault). FeedsBy m session bytes r m') code
+
+abbrev pub FinishedAt : ℕ → Metering → ℕ → Metering → Type 0
+FinishedAt session m code m' = DoneTo (λ (r : Result Unit MeterFault). FinishesBy m session r m') code
+
+abbrev pub ClosedAt : ℕ → Metering → ℕ → Metering → Type 0
+ClosedAt session m code m' = DoneTo (λ (r : Result Unit MeterFault). ClosesBy m session r m') code
+
+-- what `next` tells: the outcome and a length
+abbrev pub tells_next : Result Given MeterFault → Outcome
+tells_next (Ok g) = of_given g
+tells_next (Err f) = of_fault f
+
+abbrev pub next_length : Result Given MeterFault → ℕ
+next_length (Ok g) = length_of g
+next_length (Err f) = 0
+
+pub record GivenAt (session : ℕ) (buffer buffer' : List ℕ) (count : ℕ) (m : Metering) (code : ℕ) (m' : Metering) : Type 0 where
+  pub result : Result Given MeterFault
+  pub done : NextBy m session buffer result m' buffer'
+  pub told : code ≡ code_of (tells_next result)
+  pub counted : count ≡ next_length result
+
+-- ---- events of the meter's own
+
+-- a press
+pub record PressedTo (number : ℕ) (m : Metering) (code : ℕ) (m' : Metering) : Type 0 where
+  pub result : ResultCode
+  pub takes : Takes m Button (Code result) m'
+  pub told : code ≡ code_of outcome.Done
+  pub numbered : number ≡ result_code.code_of result
+
+-- samples
+abbrev pub none_fired : Fired
+none_fired = record { over = 0; under = 0; export_over = 0; export_under = 0 }
+
+abbrev pub tells_samples : Result Fired MeterFault → Outcome
+tells_samples (Ok fired) = outcome.Done
+tells_samples (Err f) = of_fault f
+
+abbrev pub fired_of : Result Fired MeterFault → Fired
+fired_of (Ok fired) = fired
+fired_of (Err f) = none_fired
+
+-- as C sees them
+abbrev pub firings_of : Fired → Firings
+firings_of fired = record { over = fired.over; under = fired.under; export_over = fired.export_over; export_under = fired.export_under }
+
+pub record SampledTo (samples : Samples) (firings : Firings) (m : Metering) (code : ℕ) (m' : Metering) : Type 0 where
+  pub result : Result Fired MeterFault
+  pub done : SamplesBy m samples result m'
+  pub told : code ≡ code_of (tells_samples result)
+  pub fires : firings ≡ firings_of (fired_of result)
+
+-- a moment
+pub record TickedTo (moment ran : ℕ) (m : Metering) (code : ℕ) (m' : Metering) : Type 0 where
+  pub tick : Tick
+  pub takes : TakesMoment m moment tick m'
+  pub told : code ≡ code_of (of_tick tick)
+  pub counted : ran ≡ ran_of tick
+
+-- ---- what stands
+
+-- a call that only looks
+pub record LooksTo (code : ℕ) (m m' : Metering) (tells : World → Type 0) : Type 0 where
+  pub same : m' ≡ m
+  pub told : code ≡ code_of outcome.Done
+  pub tells_of : (w : World) → StandsFor m.recorder.core w → tells w
+
+abbrev pub StateTo : ℕ → Metering → ℕ → Metering → Type 0
+StateTo state m code m' = LooksTo code m m' (λ (w : World). state ≡ state_number w.control.state)
+
+abbrev pub ModeTo : ℕ → Metering → ℕ → Metering → Type 0
+ModeTo mode m code m' = LooksTo code m m' (λ (w : World). mode ≡ mode_number w.control.mode)
+
+abbrev pub SupplyTo : Bool → Metering → ℕ → Metering → Type 0
+SupplyTo is_on m code m' = LooksTo code m m' (λ (w : World). is_on ≡ is_state w.control.state Connected)
+
+-- the last moment, or that none came
+abbrev pub tells_moment : Option ℕ → Outcome
+tells_moment None = outcome.NoMoment
+tells_moment (Some moment) = outcome.Done
+
+abbrev pub moment_of : Option ℕ → ℕ
+moment_of None = 0
+moment_of (Some moment) = moment
+
+pub record MomentTo (moment : ℕ) (m : Metering) (code : ℕ) (m' : Metering) : Type 0 where
+  pub same : m' ≡ m
+  pub told : (w : World) → StandsFor m.recorder.core w → code ≡ code_of (tells_moment w.moment)
+  pub tells_of : (w : World) → StandsFor m.recorder.core w → moment ≡ moment_of w.moment

@@ -1,0 +1,17 @@
+-- What a slot owns: a meter in a box, or nothing.
+use base.Fml.{Fml, ftrue}
+use base.Stored.{Coded}
+use denote.RawPtr.{Ptr}
+use Rattle.std.specs.Prelude.{Option, Some, None}
+use Rattle.std_alloc.specs.Box.Ownership.{box_owns}
+use Rattle.std.specs.Coded.{coded_option}
+use Rattle.std.specs.Global.{Global}
+use Rattle.std_heap.specs.contracts.GlobalAllocator.TheImpl.{ghosts}
+use Rattle.supply_meter.specs.contracts.supply_meter.SupplyMeter.{the_row}
+
+abbrev pub kept : Global → Ptr → Option the_row.Denot → Fml
+kept alloc at None = ftrue
+kept alloc at (Some meter) = box_owns (ghosts.dealloc_token alloc) the_row at meter
+
+abbrev pub kept_coded : Coded (Option the_row.Denot)
+kept_coded = coded_option the_row.coded

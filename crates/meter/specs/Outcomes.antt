@@ -1,0 +1,74 @@
+-- The numbers of `include/meter.h`.
+--     code_of                                 the result of a call
+--     of_fault, of_done, of_given, of_tick    the outcome that a fault or an answer of the meter is to C
+use Rattle.std.specs.Prelude.{ℕ, Result, Ok, Err}
+use Rattle.meter.specs.declared.outcome.Outcome.{Outcome}
+use Rattle.meter.specs.declared.outcome.Outcome.TheVariants as outcome
+use Rattle.session_core.specs.declared.end.SessionEnd.{SessionEnd}
+use Rattle.session_core.specs.declared.end.SessionEnd.TheVariants as ending
+use Rattle.supply_meter.specs.declared.fault.MeterFault.{MeterFault}
+use Rattle.supply_meter.specs.declared.fault.MeterFault.TheVariants as fault
+use Rattle.supply_meter.specs.declared.given.Given.{Given}
+use Rattle.supply_meter.specs.declared.given.Given.TheVariants as given
+use Rattle.supply_meter.specs.declared.given.Tick.{Tick}
+use Rattle.supply_meter.specs.declared.given.Tick.TheVariants as tick
+
+-- the number of an outcome
+abbrev pub code_of : Outcome → ℕ
+code_of outcome.Done = 0
+code_of outcome.Wait = 1
+code_of outcome.Closed = 2
+code_of outcome.Cut = 3
+code_of outcome.BadVersion = 4
+code_of outcome.TooLong = 5
+code_of outcome.Stale = 6
+code_of outcome.NoMoment = 7
+code_of outcome.NoMemory = 8
+code_of outcome.NotOpen = 9
+code_of outcome.IsOpen = 10
+code_of outcome.NoSession = 11
+code_of outcome.SessionTaken = 12
+code_of outcome.WrongArgument = 13
+code_of outcome.NoRoom = 14
+
+-- the outcome of a fault
+abbrev pub of_fault : MeterFault → Outcome
+of_fault fault.NoSession = outcome.NoSession
+of_fault fault.SessionTaken = outcome.SessionTaken
+of_fault fault.TooManySamples = outcome.WrongArgument
+of_fault fault.Uneven = outcome.WrongArgument
+of_fault fault.Memory = outcome.NoMemory
+
+-- the outcome of a call that gives nothing
+abbrev pub of_done : Result Unit MeterFault → Outcome
+of_done (Ok done) = outcome.Done
+of_done (Err f) = of_fault f
+
+-- the outcome of an end
+abbrev pub of_end : SessionEnd → Outcome
+of_end ending.Closed = outcome.Closed
+of_end ending.Cut = outcome.Cut
+of_end ending.BadVersion = outcome.BadVersion
+of_end ending.TooLong = outcome.TooLong
+
+-- the outcome of what a session gives, and the length that it tells
+abbrev pub of_given : Given → Outcome
+of_given (given.Frame count) = outcome.Done
+of_given (given.NoRoom count) = outcome.NoRoom
+of_given given.Wait = outcome.Wait
+of_given (given.End end) = of_end end
+
+abbrev pub length_of : Given → ℕ
+length_of (given.Frame count) = count
+length_of (given.NoRoom count) = count
+length_of given.Wait = 0
+length_of (given.End end) = 0
+
+-- the outcome of a moment, and how many schedules were due
+abbrev pub of_tick : Tick → Outcome
+of_tick (tick.Ran count) = outcome.Done
+of_tick (tick.Stale last) = outcome.Stale
+
+abbrev pub ran_of : Tick → ℕ
+ran_of (tick.Ran count) = count
+ran_of (tick.Stale last) = 0

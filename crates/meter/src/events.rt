@@ -1,0 +1,144 @@
+//! The meter's own events: presses, samples and moments.
+ghost use Rattle.std.specs.Prelude.{◌≡◌};
+ghost use Rattle.lane_sampler.specs.Samples.{values_alone, pairs_of};
+ghost use Rattle.meter.specs.Exports.{OnOpen, PressedTo, SampledTo, TickedTo, none_fired, tells_samples, fired_of, firings_of};
+ghost use Rattle.meter.specs.Outcomes.{code_of, of_tick, ran_of};
+
+use crate::handle::Meter;
+use crate::outcome::Outcome;
+use std::alloc::Global;
+use supply_meter::{Fired, MeterFault, Tick};
+
+/// How often each side of each limiter has fired: `struct meter_fired` of `meter.h`.
+#[repr(C)]
+#[derive(Clone, Copy, Debug, PartialEq, Eq)]
+pub struct Firings {
+    pub over: u16,
+    pub under: u16,
+    pub export_over: u16,
+    pub export_under: u16,
+}
+
+/// Takes a press of the meter's button.
+#[unsafe(no_mangle)]
+pub extern "C" fn meter_press(alloc: Global, meter: &mut Meter, code: &mut u8) -> u32
+    ensures { OnOpen (code.new ≡ 0) (PressedTo code.new) meter.old.slot.held result meter.new.slot.held }
+{
+    *code = 0;
+    let Some(mut held) = meter.take(alloc) else {
+        return Outcome::NotOpen.code();
+    };
+    *code = held.press(alloc).code();
+    meter.put(held);
+    Outcome::Done.code()
+}
+
+/// Takes samples of the imported power, in watts.
+#[unsafe(no_mangle)]
+pub extern "C" fn meter_samples(
+    alloc: Global,
+    meter: &mut Meter,
+    watts: &[u32],
+    fired: &mut Firings,
+) -> u32
+    ensures { OnOpen (fired.new ≡ firings_of none_fired) (SampledTo (values_alone watts.now) fired.new) meter.old.slot.held result meter.new.slot.held }
+{
+    *fired = no_firings();
+    let Some(mut held) = meter.take(alloc) else {
+        return Outcome::NotOpen.code();
+    };
+    let sampled = held.samples(alloc, watts);
+    meter.put(held);
+    *fired = told_firings(sampled);
+    sampled_outcome(sampled).code()
+}
+
+/// Takes samples of the imported and of the exported power, in watts.
+#[unsafe(no_mangle)]
+pub extern "C" fn meter_sample_pairs(
+    alloc: Global,
+    meter: &mut Meter,
+    imported: &[u32],
+    exported: &[u32],
+    fired: &mut Firings,
+) -> u32
+    ensures { OnOpen (fired.new ≡ firings_of none_fired) (SampledTo (pairs_of imported.now exported.now) fired.new) meter.old.slot.held result meter.new.slot.held }
+{
+    *fired = no_firings();
+    let Some(mut held) = meter.take(alloc) else {
+        return Outcome::NotOpen.code();
+    };
+    let sampled = held.sample_pairs(alloc, imported, exported);
+    meter.put(held);
+    *fired = told_firings(sampled);
+    sampled_outcome(sampled).code()
+}
+
+/// Takes a moment of the meter's clock, in seconds since 2000-01-01 00:00:00.
+#[unsafe(no_mangle)]
+pub extern "C" fn meter_moment(alloc: Global, meter: &mut Meter, moment: u32, ran: &mut u8) -> u32
+    ensures { OnOpen (ran.new ≡ 0) (TickedTo moment ran.new) meter.old.slot.held result meter.new.slot.held }
+{
+    *ran = 0;
+    let Some(mut held) = meter.take(alloc) else {
+        return Outcome::NotOpen.code();
+    };
+    let tick = held.moment(alloc, moment);
+    meter.put(held);
+    *ran = ran_schedules(tick);
+    tick_outcome(tick).code()
+}
+
+fn no_firings() -> Firings
+    ensures { result ≡ firings_of none_fired }
+{
+    Firings {
+        over: 0,
+        under: 0,
+        export_over: 0,
+        export_under: 0,
+    }
+}
+
+// What samples bring, to C.
+fn told_firings(sampled: Result<Fired, MeterFault>) -> Firings
+    ensures { result ≡ firings_of (fired_of sampled) }
+{
+    match sampled {
+        Ok(fired) => Firings {
+            over: fired.over,
+            under: fired.under,
+            export_over: fired.export_over,
+            export_under: fired.export_under,
+        },
+        Err(_) => no_firings(),
+    }
+}
+
+fn sampled_outcome(sampled: Result<Fired, MeterFault>) -> Outcome
+    ensures { result ≡ tells_samples sampled }
+{
+    match sampled {
+        Ok(_) => Outcome::Done,
+        Err(fault) => Outcome::of_fault(fault),
+    }
+}
+
+// What a moment brings, to C.
+fn tick_outcome(tick: Tick) -> Outcome
+    ensures { result ≡ of_tick tick }
+{
+    match tick {
+        Tick::Ran(_) => Outcome::Done,
+        Tick::Stale(_) => Outcome::Stale,
+    }
+}
+
+fn ran_schedules(tick: Tick) -> u8
+    ensures { result ≡ ran_of tick }
+{
+    match tick {
+        Tick::Ran(count) => count,
+        Tick::Stale(_) => 0,
+    }
+}

@@ -1,0 +1,19 @@
+//! The proved meter for C: what `include/meter.h` declares.
+//!
+//! C keeps a handle and gives its address to each call; the meter itself lies in one box. `specs/Exports.antt` says what each call does and tells.
+#![tactic(auto)]
+
+mod events;
+mod handle;
+mod opening;
+mod outcome;
+mod sessions;
+mod slot;
+mod standing;
+
+pub use events::{Firings, meter_moment, meter_press, meter_sample_pairs, meter_samples};
+pub use handle::Meter;
+pub use opening::{meter_close, meter_open};
+pub use outcome::Outcome;
+pub use sessions::{meter_close_session, meter_feed, meter_finish, meter_next, meter_open_session};
+pub use standing::{meter_control_mode, meter_control_state, meter_last_moment, meter_supply};

@@ -1,0 +1,88 @@
+//! A meter is opened and closed.
+ghost use Rattle.std.specs.Prelude.{◌≡◌, None, IfOk, IsTrue, ◌↔◌};
+ghost use Rattle.meter.specs.Exports.{AreFit, OpensTo, OpenedTo};
+ghost use Rattle.supply_meter.specs.Calls.{IsNew};
+
+use crate::handle::Meter;
+use crate::outcome::Outcome;
+use cosem_axdr::Octets;
+use std::alloc::{AllocError, Global};
+use supply_meter::SupplyMeter;
+
+/// Opens a new meter.
+#[unsafe(no_mangle)]
+pub extern "C" fn meter_open(
+    alloc: Global,
+    meter: &mut Meter,
+    name: &[u8],
+    password: &[u8],
+    kept_events: u16,
+) -> u32
+    ensures { OpenedTo name.now password.now kept_events meter.old.slot.held result meter.new.slot.held }
+{
+    open(alloc, meter, name, password, kept_events).code()
+}
+
+// Opens a new meter, unless the handle holds one.
+fn open(alloc: Global, meter: &mut Meter, name: &[u8], password: &[u8], kept_events: u16) -> Outcome
+    ensures { OpensTo name.now password.now kept_events meter.old.slot.held result meter.new.slot.held }
+{
+    if let Some(held) = meter.take(alloc) {
+        meter.put(held);
+        return Outcome::IsOpen;
+    }
+    if !are_fit(name, password, kept_events) {
+        return Outcome::WrongArgument;
+    }
+    match new_meter(alloc, name, password, kept_events) {
+        Ok(held) => {
+            meter.put(held);
+            Outcome::Done
+        }
+        Err(_) => Outcome::NoMemory,
+    }
+}
+
+// Whether the lengths of the arguments lie in their ranges.
+fn are_fit(name: &[u8], password: &[u8], kept_events: u16) -> bool
+    ensures { IsTrue result ↔ AreFit name.now password.now kept_events }
+{
+    1 <= name.len()
+        && name.len() <= 16
+        && 1 <= password.len()
+        && password.len() <= 32
+        && 1 <= kept_events
+        && kept_events <= 1024
+}
+
+// A new meter in a box.
+fn new_meter(
+    alloc: Global,
+    name: &[u8],
+    password: &[u8],
+    kept_events: u16,
+) -> Result<Box<SupplyMeter, Global>, AllocError>
+    requires { AreFit name.now password.now kept_events }
+    ensures { IfOk result (λ b. IsNew name.now password.now kept_events b.value) }
+{
+    let name = Octets::from_slice(alloc, name)?;
+    let password = Octets::from_slice(alloc, password)?;
+    let held = SupplyMeter::new(alloc, &name, &password, kept_events)?;
+    match Box::new(alloc, held) {
+        Ok(boxed) => Ok(boxed),
+        Err(failed) => {
+            drop(failed);
+            Err(AllocError)
+        }
+    }
+}
+
+/// Closes a meter, and gives all its memory back.
+#[unsafe(no_mangle)]
+pub extern "C" fn meter_close(alloc: Global, meter: &mut Meter)
+    ensures { meter.new.slot.held ≡ None }
+{
+    if let Some(held) = meter.take(alloc) {
+        drop(held);
+    }
+}

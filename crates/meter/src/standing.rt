@@ -1,0 +1,83 @@
+//! How the meter stands.
+ghost use Rattle.std.specs.Prelude.{◌≡◌, false};
+ghost use Rattle.meter.specs.Exports.{OnOpen, StateTo, ModeTo, SupplyTo, MomentTo, tells_moment, moment_of};
+
+use crate::handle::Meter;
+use crate::outcome::Outcome;
+use std::alloc::Global;
+
+/// The state of the supply switch.
+#[unsafe(no_mangle)]
+pub extern "C" fn meter_control_state(alloc: Global, meter: &mut Meter, state: &mut u8) -> u32
+    ensures { OnOpen (state.new ≡ 0) (StateTo state.new) meter.old.slot.held result meter.new.slot.held }
+{
+    *state = 0;
+    let Some(held) = meter.take(alloc) else {
+        return Outcome::NotOpen.code();
+    };
+    *state = held.state().number();
+    meter.put(held);
+    Outcome::Done.code()
+}
+
+/// The mode of the supply switch.
+#[unsafe(no_mangle)]
+pub extern "C" fn meter_control_mode(alloc: Global, meter: &mut Meter, mode: &mut u8) -> u32
+    ensures { OnOpen (mode.new ≡ 0) (ModeTo mode.new) meter.old.slot.held result meter.new.slot.held }
+{
+    *mode = 0;
+    let Some(held) = meter.take(alloc) else {
+        return Outcome::NotOpen.code();
+    };
+    *mode = held.mode().number();
+    meter.put(held);
+    Outcome::Done.code()
+}
+
+/// Whether the supply is on.
+#[unsafe(no_mangle)]
+pub extern "C" fn meter_supply(alloc: Global, meter: &mut Meter, is_on: &mut bool) -> u32
+    ensures { OnOpen (is_on.new ≡ false) (SupplyTo is_on.new) meter.old.slot.held result meter.new.slot.held }
+{
+    *is_on = false;
+    let Some(held) = meter.take(alloc) else {
+        return Outcome::NotOpen.code();
+    };
+    *is_on = held.output();
+    meter.put(held);
+    Outcome::Done.code()
+}
+
+/// The last moment of the clock.
+#[unsafe(no_mangle)]
+pub extern "C" fn meter_last_moment(alloc: Global, meter: &mut Meter, moment: &mut u32) -> u32
+    ensures { OnOpen (moment.new ≡ 0) (MomentTo moment.new) meter.old.slot.held result meter.new.slot.held }
+{
+    *moment = 0;
+    let Some(held) = meter.take(alloc) else {
+        return Outcome::NotOpen.code();
+    };
+    let last = held.last_moment();
+    meter.put(held);
+    *moment = moment_or_zero(last);
+    moment_outcome(last).code()
+}
+
+// What the last moment is to C.
+fn moment_or_zero(last: Option<u32>) -> u32
+    ensures { result ≡ moment_of last }
+{
+    match last {
+        Some(moment) => moment,
+        None => 0,
+    }
+}
+
+fn moment_outcome(last: Option<u32>) -> Outcome
+    ensures { result ≡ tells_moment last }
+{
+    match last {
+        Some(_) => Outcome::Done,
+        None => Outcome::NoMoment,
+    }
+}

@@ -1,0 +1,11 @@
+-- The meter took some of what was asked, and the rest is still to come. Each step is work done.
+use Rattle.std.proofs.Common.{[]}
+use Rattle.supply_meter.specs.Progress.{Advances}
+use Rattle.supply_meter.specs.Working.{weight}
+use Rattle.supply_meter.proofs.connection.Connection.settle.Given as goal
+
+abbrev pub invariant-work : goal.invariant-work
+invariant-work l = Advances l.initial.self l.initial.recorder [] l.self l.recorder
+
+abbrev pub decreases-work : goal.decreases-work
+decreases-work l = weight l.self

@@ -1,0 +1,145 @@
+-- What the calls of a meter do.
+--     IsNew                           a new meter
+--     OpensBy, ClosesBy               a session is opened, or let go
+--     FeedsBy, FinishesBy, NextBy     what a session of the meter does
+--     SamplesBy, TakesMoment          samples and moments
+use Rattle.std.specs.Prelude.{◌≡◌, ◌≢◌, ◌≤◌, ◌<◌, ℕ, None, List, [], length, Result, Ok, Err, IfSome}
+use Rattle.lane_sampler.specs.Samples.{Samples, AreEven, most_values}
+use Rattle.relay_core.specs.declared.event.Event.TheVariants as event
+use Rattle.relay_core.specs.declared.event.Reply.{Reply}
+use Rattle.relay_core.specs.declared.event.Reply.TheVariants.{Value, Values, Code, Sampled, SampledBoth, Ran, Stale}
+use Rattle.relay_core.specs.World.{new_world}
+use Rattle.relay_recorder.specs.Histories.{StandsForHistory}
+use Rattle.supply_meter.specs.Dialogues.{Dialogue}
+use Rattle.supply_meter.specs.Meterings.{Metering, OthersStay, AtSession, Takes, dialogue_at, most_sessions}
+use Rattle.supply_meter.specs.Progress.{Owes, Feeds, Finishes, Gives, Advances}
+use Rattle.supply_meter.specs.declared.fault.MeterFault.{MeterFault}
+use Rattle.supply_meter.specs.declared.fault.MeterFault.TheVariants.{NoSession, SessionTaken, TooManySamples, Uneven, Memory}
+use Rattle.supply_meter.specs.declared.given.Fired.{Fired}
+use Rattle.supply_meter.specs.declared.given.Given.{Given}
+use Rattle.supply_meter.specs.declared.given.Tick.{Tick}
+use Rattle.supply_meter.specs.declared.given.Tick.TheVariants as tick
+
+-- a new meter of this name
+pub record IsNew (device password : List ℕ) (kept : ℕ) (m : Metering) : Type 0 where
+  pub stands : StandsForHistory m.recorder [] (new_world device)
+  pub capacity : m.recorder.capacity ≡ kept
+  pub guarded : m.password ≡ password
+  pub sessions : (number : ℕ) → dialogue_at m number ≡ None
+
+-- ---- sessions
+
+-- a session was opened, which owes all that one with the meter's password does
+pub record Opens (old : Metering) (number : ℕ) (new : Metering) : Type 0 where
+  pub within : number < most_sessions
+  pub free : dialogue_at old number ≡ None
+  pub opened : IfSome (dialogue_at new number) (Owes old.password)
+  pub is_open : dialogue_at new number ≢ None
+  pub stay : OthersStay old number new
+  pub recorder : new.recorder ≡ old.recorder
+
+abbrev pub OpensBy : Metering → ℕ → Result Unit MeterFault → Metering → Type 0
+OpensBy old number (Ok done) new = Opens old number new
+OpensBy old number (Err NoSession) new = (most_sessions ≤ number) × (new ≡ old)
+OpensBy old number (Err SessionTaken) new = (dialogue_at old number ≢ None) × (new ≡ old)
+OpensBy old number (Err Memory) new = new ≡ old
+OpensBy old number (Err TooManySamples) new = ⊥
+OpensBy old number (Err Uneven) new = ⊥
+
+-- a call was refused: there is no such session, or memory ran out
+abbrev pub RefusedBy : Metering → ℕ → MeterFault → Metering → Type 0
+RefusedBy old number NoSession new = (dialogue_at old number ≡ None) × (new ≡ old)
+RefusedBy old number Memory new = (dialogue_at old number ≢ None) × (new ≡ old)
+RefusedBy old number SessionTaken new = ⊥
+RefusedBy old number TooManySamples new = ⊥
+RefusedBy old number Uneven new = ⊥
+
+-- bytes came for a session
+pub record FeedsAt (old : Metering) (number : ℕ) (bytes : List ℕ) (new : Metering) : Type 0 where
+  pub session : AtSession old number new (λ (d d' : Dialogue). Feeds d bytes d')
+  pub recorder : new.recorder ≡ old.recorder
+
+abbrev pub FeedsBy : Metering → ℕ → List ℕ → Result Unit MeterFault → Metering → Type 0
+FeedsBy old number bytes (Ok done) new = FeedsAt old number bytes new
+FeedsBy old number bytes (Err fault) new = RefusedBy old number fault new
+
+-- the input of a session ended
+pub record FinishesAt (old : Metering) (number : ℕ) (new : Metering) : Type 0 where
+  pub session : AtSession old number new Finishes
+  pub recorder : new.recorder ≡ old.recorder
+
+abbrev pub FinishesBy : Metering → ℕ → Result Unit MeterFault → Metering → Type 0
+FinishesBy old number (Ok done) new = FinishesAt old number new
+FinishesBy old number (Err fault) new = (fault ≡ NoSession) × (dialogue_at old number ≡ None) × (new ≡ old)
+
+-- a session gave a frame, or what it waits for
+abbrev pub GivesAt : Metering → ℕ → List ℕ → Given → Metering → List ℕ → Type 0
+GivesAt old number buffer given new buffer' =
+    AtSession old number new (λ (d d' : Dialogue). Gives d old.recorder buffer given d' new.recorder buffer')
+
+-- memory ran out: no frame was given, and whatever was done counts
+pub record StopsAt (old : Metering) (number : ℕ) (buffer : List ℕ) (new : Metering) (buffer' : List ℕ) : Type 0 where
+  pub session : AtSession old number new (λ (d d' : Dialogue). Advances d old.recorder [] d' new.recorder)
+  pub unwritten : buffer' ≡ buffer
+
+abbrev pub NextBy : Metering → ℕ → List ℕ → Result Given MeterFault → Metering → List ℕ → Type 0
+NextBy old number buffer (Ok given) new buffer' = GivesAt old number buffer given new buffer'
+NextBy old number buffer (Err NoSession) new buffer' = (dialogue_at old number ≡ None) × (new ≡ old) × (buffer' ≡ buffer)
+NextBy old number buffer (Err Memory) new buffer' = StopsAt old number buffer new buffer'
+NextBy old number buffer (Err SessionTaken) new buffer' = ⊥
+NextBy old number buffer (Err TooManySamples) new buffer' = ⊥
+NextBy old number buffer (Err Uneven) new buffer' = ⊥
+
+-- a session was let go
+pub record Closes (old : Metering) (number : ℕ) (new : Metering) : Type 0 where
+  pub was_open : dialogue_at old number ≢ None
+  pub free : dialogue_at new number ≡ None
+  pub stay : OthersStay old number new
+  pub recorder : new.recorder ≡ old.recorder
+
+abbrev pub ClosesBy : Metering → ℕ → Result Unit MeterFault → Metering → Type 0
+ClosesBy old number (Ok done) new = Closes old number new
+ClosesBy old number (Err fault) new = (fault ≡ NoSession) × (dialogue_at old number ≡ None) × (new ≡ old)
+
+-- ---- events of the meter's own
+
+-- what the reply to a block of samples tells
+abbrev pub IsFired : Reply → Fired → Type 0
+IsFired (Sampled over under) fired = fired ≡ record { over = over; under = under; export_over = 0; export_under = 0 }
+IsFired (SampledBoth over under export_over export_under) fired = fired ≡ record { over = over; under = under; export_over = export_over; export_under = export_under }
+IsFired (Value value) fired = ⊥
+IsFired (Values results) fired = ⊥
+IsFired (Code code) fired = ⊥
+IsFired (Ran count) fired = ⊥
+IsFired (Stale last) fired = ⊥
+
+-- a block of samples was taken
+pub record TakesSamples (old : Metering) (samples : Samples) (fired : Fired) (new : Metering) : Type 0 where
+  pub reply : Reply
+  pub takes : Takes old (event.Samples samples) reply new
+  pub tells : IsFired reply fired
+  pub few : length samples.import ≤ most_values
+
+abbrev pub SamplesBy : Metering → Samples → Result Fired MeterFault → Metering → Type 0
+SamplesBy old samples (Ok fired) new = TakesSamples old samples fired new
+SamplesBy old samples (Err TooManySamples) new = (most_values < length samples.import) × (new ≡ old)
+SamplesBy old samples (Err Uneven) new = (¬ (AreEven samples)) × (new ≡ old)
+SamplesBy old samples (Err Memory) new = new ≡ old
+SamplesBy old samples (Err NoSession) new = ⊥
+SamplesBy old samples (Err SessionTaken) new = ⊥
+
+-- what the reply to a moment tells
+abbrev pub IsTick : Reply → Tick → Type 0
+IsTick (Ran count) t = t ≡ tick.Ran count
+IsTick (Stale last) t = t ≡ tick.Stale last
+IsTick (Value value) t = ⊥
+IsTick (Values results) t = ⊥
+IsTick (Code code) t = ⊥
+IsTick (Sampled over under) t = ⊥
+IsTick (SampledBoth over under export_over export_under) t = ⊥
+
+-- a moment was taken
+pub record TakesMoment (old : Metering) (moment : ℕ) (t : Tick) (new : Metering) : Type 0 where
+  pub reply : Reply
+  pub takes : Takes old (event.Moment moment) reply new
+  pub tells : IsTick reply t

@@ -1,0 +1,97 @@
+-- The steps inside of `next`.
+--     SameAhead                      what is still to come is as it was
+--     IsAsked, IsAnswered, IsDue     an event, a reply or a frame is under way
+--     weight                         how much work is left in what is kept
+--     Leaves                         what stands where nothing more is done
+use Rattle.std.specs.Prelude.{◌≡◌, ◌+◌, ◌<◌, ◌++◌, ℕ, List, [], length, drop, Option, Some, None, Result, Ok, Err}
+use Rattle.relay_core.specs.declared.event.Event.{Event}
+use Rattle.relay_core.specs.declared.event.Reply.{Reply}
+use Rattle.relay_recorder.specs.Recording.{Recording}
+use Rattle.session_core.specs.Remaining.{load}
+use Rattle.supply_meter.specs.Dialogues.{Dialogue, asks_ahead, sends_ahead, ends_ahead}
+use Rattle.supply_meter.specs.Progress.{Advances, IsIdle, IsOver, KeepsFrame}
+use Rattle.supply_meter.specs.declared.connection.Rest.{Rest}
+use Rattle.supply_meter.specs.declared.connection.Rest.TheVariants as rest
+use Rattle.supply_meter.specs.declared.given.Given.{Given}
+use Rattle.supply_meter.specs.declared.given.Given.TheVariants as given
+use Rattle.supply_meter.specs.declared.under_way.UnderWay.{UnderWay}
+use Rattle.supply_meter.specs.declared.under_way.UnderWay.TheVariants.{Nothing, Asked, Answered, Due}
+
+-- the same is still to come
+pub record SameAhead (old new : Dialogue) : Type 0 where
+  pub asks : (more : List ℕ) → asks_ahead old more ≡ asks_ahead new more
+  pub sends : (more : List ℕ) (replies : List Reply) → sends_ahead old more replies ≡ sends_ahead new more replies
+  pub ends : (more : List ℕ) → ends_ahead old more ≡ ends_ahead new more
+
+-- an event is under way
+pub record IsAsked (d : Dialogue) : Type 0 where
+  pub event : Event
+  pub is : d.under_way ≡ Asked event
+
+-- a reply is under way
+pub record IsAnswered (d : Dialogue) : Type 0 where
+  pub reply : Reply
+  pub is : d.under_way ≡ Answered reply
+
+-- a frame is due
+pub record IsDue (d : Dialogue) : Type 0 where
+  pub frame : List ℕ
+  pub is : d.under_way ≡ Due frame
+
+-- an event is one step from its reply
+abbrev pub steps_in : UnderWay → ℕ
+steps_in Nothing = 0
+steps_in (Asked event) = 1
+steps_in (Answered reply) = 0
+steps_in (Due frame) = 0
+
+abbrev pub weight : Dialogue → ℕ
+weight d = load d.session + load d.session + steps_in d.under_way
+
+-- what stands where nothing more is done
+abbrev pub Leaves : Rest → Dialogue → Type 0
+Leaves rest.Due d = IsDue d
+Leaves rest.Wait d = IsIdle d
+Leaves (rest.End end) d = IsOver end d
+
+-- the session was asked what is next
+abbrev pub AsksBy : {E : Type 0} → Dialogue → Result (Option Rest) E → Dialogue → Type 0
+AsksBy old (Ok None) new = SameAhead old new × (weight new < weight old)
+AsksBy old (Ok (Some rest)) new = SameAhead old new × Leaves rest new
+AsksBy old (Err error) new = SameAhead old new
+
+-- the meter took the event, or memory ran out
+abbrev pub AppliesBy : {E : Type 0} → Dialogue → Recording → Result Unit E → Dialogue → Recording → Type 0
+AppliesBy old r (Ok done) new r' = Advances old r [] new r' × (weight new < weight old)
+AppliesBy old r (Err error) new r' = (new ≡ old) × (r' ≡ r)
+
+-- the session was given the reply
+abbrev pub AnswersBy : {E : Type 0} → Dialogue → Result Unit E → Dialogue → Type 0
+AnswersBy old (Ok done) new = SameAhead old new × (weight new < weight old)
+AnswersBy old (Err error) new = new ≡ old
+
+-- one step
+abbrev pub WorksBy : {E : Type 0} → Dialogue → Recording → Result (Option Rest) E → Dialogue → Recording → Type 0
+WorksBy old r (Ok None) new r' = Advances old r [] new r' × (weight new < weight old)
+WorksBy old r (Ok (Some rest)) new r' = Advances old r [] new r' × Leaves rest new
+WorksBy old r (Err error) new r' = Advances old r [] new r'
+
+-- all steps
+abbrev pub RestsBy : {E : Type 0} → Dialogue → Recording → Result Rest E → Dialogue → Recording → Type 0
+RestsBy old r (Ok rest) new r' = Advances old r [] new r' × Leaves rest new
+RestsBy old r (Err error) new r' = Advances old r [] new r'
+
+-- the frame that was due lies in the buffer, and is due no longer
+pub record TakesFrame (old : Dialogue) (buffer : List ℕ) (count : ℕ) (new : Dialogue) (buffer' : List ℕ) : Type 0 where
+  pub frame : List ℕ
+  pub due : old.under_way ≡ Due frame
+  pub now : new ≡ record old { under_way = Nothing }
+  pub counted : count ≡ length frame
+  pub written : buffer' ≡ frame ++ drop count buffer
+
+-- the frame was given, or kept
+abbrev pub GivesDue : Dialogue → List ℕ → Given → Dialogue → List ℕ → Type 0
+GivesDue old buffer (given.Frame count) new buffer' = TakesFrame old buffer count new buffer'
+GivesDue old buffer (given.NoRoom count) new buffer' = (new ≡ old) × KeepsFrame count buffer new × (buffer' ≡ buffer)
+GivesDue old buffer given.Wait new buffer' = ⊥
+GivesDue old buffer (given.End end) new buffer' = ⊥

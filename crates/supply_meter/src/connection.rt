@@ -1,0 +1,189 @@
+ghost use Rattle.std.specs.Prelude.{◌≡◌, IfOk, OnOk, OnErr};
+ghost use Rattle.acse_ber.specs.Password.{IsPassword};
+ghost use Rattle.supply_meter.specs.declared.under_way.UnderWay.TheVariants.{Nothing};
+
+use crate::given::Given;
+use crate::under_way::UnderWay;
+use cosem_axdr::Octets;
+use relay_recorder::Recorder;
+use session_core::{Next, Session, SessionEnd};
+use std::alloc::{AllocError, Global};
+use std::marker::Model;
+use std::mem::replace;
+
+/// What a session wants of its caller, the meter having taken what it asks.
+#[derive(Clone, Copy)]
+pub(crate) enum Rest {
+    /// A frame is due.
+    Due,
+    /// More input.
+    Wait,
+    /// Nothing: the session is over.
+    End(SessionEnd),
+}
+
+/// A session of a client, with what is under way between it and the meter.
+#[derive(Debug, Drop)]
+pub(crate) struct Connection {
+    session: Session,
+    under_way: UnderWay,
+}
+
+impl Model for Connection {
+    ghost use Rattle.std.specs.Coded.{codes};
+    ghost use Rattle.session_core.specs.contracts.session.Session as session_row;
+    ghost use Rattle.supply_meter.specs.contracts.under_way.UnderWay as under_way_row;
+    ghost use Rattle.supply_meter.specs.Dialogues.{Dialogue, IsDialogue};
+
+    ghost Value = { Dialogue };
+
+    ghost coded = { Prim.hlevel (codes, session_row.the_row.coded, under_way_row.the_row.coded) };
+
+    ghost view = { λ c. record { session = c.session; under_way = c.under_way } };
+
+    ghost invariant = { λ c. IsDialogue (record { session = c.session; under_way = c.under_way }) };
+}
+
+impl Connection {
+    ghost use Rattle.supply_meter.specs.Progress.{Owes, Feeds, Finishes, GivesBy};
+    ghost use Rattle.supply_meter.specs.Working.{AsksBy, WorksBy, RestsBy, AppliesBy, AnswersBy, IsAsked, IsAnswered, IsDue, GivesDue};
+
+    /// A session of which no byte has come. The management client has this password, 1 to 32 bytes.
+    pub(crate) fn new(alloc: Global, password: &Octets) -> Result<Connection, AllocError>
+        requires { IsPassword password.now }
+        ensures { IfOk result (Owes password.now) }
+    {
+        Ok(Connection {
+            session: Session::new(alloc, password)?,
+            under_way: UnderWay::Nothing,
+        })
+    }
+
+    /// Takes in the next bytes, in any cut. A session that is over, or whose input has ended, takes none.
+    pub(crate) fn feed(&mut self, bytes: &[u8]) -> Result<(), AllocError>
+        ensures ok { OnOk result (Feeds self.old bytes.now self.new) }
+        ensures err { OnErr result (self.new ≡ self.old) }
+    {
+        self.session.feed(bytes)
+    }
+
+    /// The input has ended.
+    pub(crate) fn finish(&mut self)
+        ensures { Finishes self.old self.new }
+    {
+        self.session.finish();
+    }
+
+    /// Lets the meter take what the session asks, up to the next frame, and puts this into the buffer.
+    pub(crate) fn next(
+        &mut self,
+        alloc: Global,
+        recorder: &mut Recorder,
+        buffer: &mut [u8],
+    ) -> Result<Given, AllocError>
+        ensures { GivesBy self.old recorder.old buffer.old result self.new recorder.new buffer.new }
+    {
+        match self.settle(alloc, recorder)? {
+            Rest::Due => Ok(self.give(buffer)),
+            Rest::Wait => Ok(Given::Wait),
+            Rest::End(end) => Ok(Given::End(end)),
+        }
+    }
+
+    // Lets the meter take what the session asks, up to the next frame.
+    fn settle(&mut self, alloc: Global, recorder: &mut Recorder) -> Result<Rest, AllocError>
+        ensures { RestsBy self.old recorder.old result self.new recorder.new }
+    {
+        'work: loop {
+            if let Some(rest) = self.work(alloc, recorder)? {
+                return Ok(rest);
+            }
+        }
+    }
+
+    // One step: from the session to the meter, from the meter to the session, or to a frame.
+    fn work(&mut self, alloc: Global, recorder: &mut Recorder) -> Result<Option<Rest>, AllocError>
+        ensures { WorksBy self.old recorder.old result self.new recorder.new }
+    {
+        match &self.under_way {
+            UnderWay::Nothing => self.ask(alloc),
+            UnderWay::Asked(_) => {
+                self.apply(alloc, recorder)?;
+                Ok(None)
+            }
+            UnderWay::Answered(_) => {
+                self.answer(alloc)?;
+                Ok(None)
+            }
+            UnderWay::Due(_) => Ok(Some(Rest::Due)),
+        }
+    }
+
+    // Asks the session what is next.
+    fn ask(&mut self, alloc: Global) -> Result<Option<Rest>, AllocError>
+        requires { self.now.under_way ≡ Nothing }
+        ensures { AsksBy self.old result self.new }
+    {
+        match self.session.next(alloc)? {
+            Next::Ask(event) => {
+                self.under_way = UnderWay::Asked(event);
+                Ok(None)
+            }
+            Next::Send(frame) => {
+                self.under_way = UnderWay::Due(frame);
+                Ok(Some(Rest::Due))
+            }
+            Next::Wait => Ok(Some(Rest::Wait)),
+            Next::End(end) => Ok(Some(Rest::End(end))),
+        }
+    }
+
+    // Lets the meter take the event. Where memory runs out the event is kept.
+    fn apply(&mut self, alloc: Global, recorder: &mut Recorder) -> Result<(), AllocError>
+        requires { IsAsked self.now }
+        ensures { AppliesBy self.old recorder.old result self.new recorder.new }
+    {
+        let UnderWay::Asked(event) = &self.under_way else {
+            unreachable!()
+        };
+        let event = event.try_copy(alloc)?;
+        let reply = recorder.apply(alloc, event)?;
+        let asked = replace(&mut self.under_way, UnderWay::Answered(reply));
+        drop(asked);
+        Ok(())
+    }
+
+    // Gives the session the reply. Where memory runs out the reply is kept.
+    fn answer(&mut self, alloc: Global) -> Result<(), AllocError>
+        requires { IsAnswered self.now }
+        ensures { AnswersBy self.old result self.new }
+    {
+        let UnderWay::Answered(reply) = replace(&mut self.under_way, UnderWay::Nothing) else {
+            unreachable!()
+        };
+        match self.session.answer(alloc, reply) {
+            Ok(()) => Ok(()),
+            Err((fault, reply)) => {
+                self.under_way = UnderWay::Answered(reply);
+                Err(fault)
+            }
+        }
+    }
+
+    // Puts the frame that is due into the buffer, if it has room.
+    fn give(&mut self, buffer: &mut [u8]) -> Given
+        requires { IsDue self.now }
+        ensures { GivesDue self.old buffer.old result self.new buffer.new }
+    {
+        let UnderWay::Due(frame) = &self.under_way else {
+            unreachable!()
+        };
+        let count = frame.len();
+        if buffer.len() < count {
+            return Given::NoRoom(count);
+        }
+        buffer[..count].copy_from_slice(frame.as_slice());
+        self.under_way = UnderWay::Nothing;
+        Given::Frame(count)
+    }
+}

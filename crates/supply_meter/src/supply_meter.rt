@@ -1,0 +1,294 @@
+ghost use Rattle.std.specs.Prelude.{◌≡◌, ◌<◌, ◌≤◌, false, None, length, IfOk, IsOk, IsTrue, OnErr};
+ghost use Rattle.acse_ber.specs.Password.{IsPassword};
+ghost use Rattle.disconnect_control.specs.declared.state.ControlState.TheVariants.{Connected};
+ghost use Rattle.disconnect_control.specs.Transitions.{is_state};
+ghost use Rattle.lane_sampler.specs.Samples.{values_alone, pairs_of};
+ghost use Rattle.relay_core.specs.Machine.{is_sure, Fits};
+ghost use Rattle.relay_core.specs.Stands.{StandsFor};
+ghost use Rattle.relay_core.specs.World.{World};
+ghost use Rattle.relay_core.specs.declared.event.Event.TheVariants.{Button};
+ghost use Rattle.relay_core.specs.declared.event.Reply.TheVariants.{Code};
+ghost use Rattle.supply_meter.specs.Calls.{IsNew, OpensBy, FeedsBy, FinishesBy, NextBy, ClosesBy, SamplesBy, TakesMoment};
+ghost use Rattle.supply_meter.specs.Meterings.{Takes, dialogue_at};
+
+use crate::connection::Connection;
+use crate::fault::MeterFault;
+use crate::given::{Fired, Given, Tick};
+use cosem_axdr::Octets;
+use cosem_names::ResultCode;
+use disconnect_control::{ControlMode, ControlState};
+use lane_sampler::{Block, BlockMade};
+use relay_core::{Event, Reply};
+use relay_recorder::Recorder;
+use std::alloc::{AllocError, Global};
+use std::marker::Model;
+use std::mem::replace;
+
+/// So many sessions are open at most; their numbers are those below.
+pub const SESSIONS: usize = 8;
+
+/// A meter with its last events, and the sessions of its clients, each told by a number of 0 to 7.
+#[derive(Debug, Drop)]
+pub struct SupplyMeter {
+    recorder: Recorder,
+    password: Octets,
+    places: [Option<Connection>; SESSIONS],
+}
+
+impl Model for SupplyMeter {
+    ghost use Rattle.std.specs.Coded.{codes};
+    ghost use Rattle.relay_recorder.specs.contracts.recorder.Recorder as recorder_row;
+    ghost use Rattle.supply_meter.specs.contracts.connection.Connection as connection_row;
+    ghost use Rattle.supply_meter.specs.Meterings.{Metering, IsMetering};
+
+    ghost Value = { Metering };
+
+    ghost coded = { Prim.hlevel (codes, recorder_row.the_row.coded, connection_row.the_row.coded) };
+
+    ghost view = { λ m. record { recorder = m.recorder; password = m.password; places = m.places } };
+
+    ghost invariant = { λ m. IsMetering (record { recorder = m.recorder; password = m.password; places = m.places }) };
+}
+
+impl SupplyMeter {
+    /// A new meter of this device name, 1 to 16 bytes, that keeps at most `kept_events` events, 1 to 1,024. The management client has this password, 1 to 32
+    /// bytes. No session is open.
+    pub fn new(
+        alloc: Global,
+        device: &Octets,
+        password: &Octets,
+        kept_events: u16,
+    ) -> Result<SupplyMeter, AllocError>
+        requires device { (1 ≤ length device.now) × (length device.now ≤ 16) }
+        requires password { IsPassword password.now }
+        requires kept { (1 ≤ kept_events) × (kept_events ≤ 1024) }
+        ensures { IfOk result (IsNew device.now password.now kept_events) }
+    {
+        let password = password.try_clone(alloc)?;
+        let recorder = Recorder::new(alloc, device, kept_events)?;
+        Ok(SupplyMeter {
+            recorder,
+            password,
+            places: [None, None, None, None, None, None, None, None],
+        })
+    }
+
+    /// Opens a session of a number of 0 to 7.
+    pub fn open_session(&mut self, alloc: Global, number: u8) -> Result<(), MeterFault>
+        ensures { OpensBy self.old number result self.new }
+    {
+        if usize::from(number) >= SESSIONS {
+            return Err(MeterFault::NoSession);
+        }
+        let place = &mut self.places[usize::from(number)];
+        if place.is_some() {
+            return Err(MeterFault::SessionTaken);
+        }
+        match Connection::new(alloc, &self.password) {
+            Ok(connection) => {
+                *place = Some(connection);
+                Ok(())
+            }
+            Err(_) => Err(MeterFault::Memory),
+        }
+    }
+
+    /// Takes in the next bytes of a session, in any cut. A session that is over, or whose input has ended, takes none.
+    pub fn feed(&mut self, number: u8, bytes: &[u8]) -> Result<(), MeterFault>
+        ensures { FeedsBy self.old number bytes.now result self.new }
+    {
+        if !self.has_place(number) {
+            return Err(MeterFault::NoSession);
+        }
+        match &mut self.places[usize::from(number)] {
+            Some(connection) => match connection.feed(bytes) {
+                Ok(()) => Ok(()),
+                Err(_) => Err(MeterFault::Memory),
+            },
+            None => Err(MeterFault::NoSession),
+        }
+    }
+
+    /// The input of a session has ended.
+    pub fn finish(&mut self, number: u8) -> Result<(), MeterFault>
+        ensures { FinishesBy self.old number result self.new }
+    {
+        if !self.has_place(number) {
+            return Err(MeterFault::NoSession);
+        }
+        match &mut self.places[usize::from(number)] {
+            Some(connection) => {
+                connection.finish();
+                Ok(())
+            }
+            None => Err(MeterFault::NoSession),
+        }
+    }
+
+    /// Does what a session asks of the meter, up to the next frame that is due, and puts this into the buffer. A frame that is longer than the buffer stays due. Where
+    /// memory runs out, what was done counts, and the same call goes on from there.
+    pub fn next(
+        &mut self,
+        alloc: Global,
+        number: u8,
+        buffer: &mut [u8],
+    ) -> Result<Given, MeterFault>
+        ensures { NextBy self.old number buffer.old result self.new buffer.new }
+    {
+        if !self.has_place(number) {
+            return Err(MeterFault::NoSession);
+        }
+        match &mut self.places[usize::from(number)] {
+            Some(connection) => match connection.next(alloc, &mut self.recorder, buffer) {
+                Ok(given) => Ok(given),
+                Err(_) => Err(MeterFault::Memory),
+            },
+            None => Err(MeterFault::NoSession),
+        }
+    }
+
+    /// Lets a session go, whatever stands in it.
+    pub fn close_session(&mut self, number: u8) -> Result<(), MeterFault>
+        ensures { ClosesBy self.old number result self.new }
+    {
+        if !self.has_place(number) {
+            return Err(MeterFault::NoSession);
+        }
+        match replace(&mut self.places[usize::from(number)], None) {
+            Some(connection) => {
+                drop(connection);
+                Ok(())
+            }
+            None => Err(MeterFault::NoSession),
+        }
+    }
+
+    // Whether there is a place for a session of this number.
+    #[tactic(auto, using(std::proofs::lemmas::List::get_or_past))]
+    fn has_place(&self, number: u8) -> bool
+        ensures within { IsTrue result → number < 8 }
+        ensures none { result ≡ false → (8 ≤ number) × (dialogue_at self.now number ≡ None) }
+    {
+        let _places = &self.places;
+        usize::from(number) < SESSIONS
+    }
+
+    /// Takes a press of the meter's button, and gives its result. It takes no memory.
+    #[tactic(auto, unfolding(relay_core::specs::Machine::is_sure))]
+    pub fn press(&mut self, alloc: Global) -> ResultCode
+        ensures { Takes self.old Button (Code result) self.new }
+    {
+        match self.take(alloc, Event::Button) {
+            Ok(Reply::Code(code)) => code,
+            Ok(_) | Err(_) => unreachable!(),
+        }
+    }
+
+    /// Takes at most 256 samples of the imported power, in watts. Errors: `TooManySamples`, else `Memory`.
+    pub fn samples(&mut self, alloc: Global, watts: &[u32]) -> Result<Fired, MeterFault>
+        ensures { SamplesBy self.old (values_alone watts.now) result self.new }
+    {
+        match Block::from_slice(alloc, watts) {
+            Ok(block) => self.take_block(alloc, block),
+            Err(BlockMade::TooLong) => Err(MeterFault::TooManySamples),
+            Err(BlockMade::Memory) => Err(MeterFault::Memory),
+            Err(BlockMade::Uneven) => unreachable!(),
+        }
+    }
+
+    /// Takes at most 256 pairs of samples of the imported and the exported power, in watts. Errors, judged in this order: `Uneven`, `TooManySamples`, `Memory`.
+    pub fn sample_pairs(
+        &mut self,
+        alloc: Global,
+        imported: &[u32],
+        exported: &[u32],
+    ) -> Result<Fired, MeterFault>
+        ensures { SamplesBy self.old (pairs_of imported.now exported.now) result self.new }
+    {
+        match Block::from_pairs(alloc, imported, exported) {
+            Ok(block) => self.take_block(alloc, block),
+            Err(BlockMade::Uneven) => Err(MeterFault::Uneven),
+            Err(BlockMade::TooLong) => Err(MeterFault::TooManySamples),
+            Err(BlockMade::Memory) => Err(MeterFault::Memory),
+        }
+    }
+
+    /// Takes a moment of the clock: seconds since 2000-01-01 00:00:00 of the meter's time. It takes no memory.
+    #[tactic(auto, unfolding(relay_core::specs::Machine::is_sure))]
+    pub fn moment(&mut self, alloc: Global, now: u32) -> Tick
+        ensures { TakesMoment self.old now result self.new }
+    {
+        match self.take(alloc, Event::Moment(now)) {
+            Ok(Reply::Ran(count)) => Tick::Ran(count),
+            Ok(Reply::Stale { last }) => Tick::Stale(last),
+            Ok(_) | Err(_) => unreachable!(),
+        }
+    }
+
+    // Takes a block of samples.
+    fn take_block(&mut self, alloc: Global, block: Block) -> Result<Fired, MeterFault>
+        ensures { SamplesBy self.old block result self.new }
+    {
+        match self.take(alloc, Event::Samples(block)) {
+            Ok(Reply::Sampled { over, under }) => Ok(Fired {
+                over,
+                under,
+                export_over: 0,
+                export_under: 0,
+            }),
+            Ok(
+                Reply::SampledBoth {
+                    over,
+                    under,
+                    export_over,
+                    export_under,
+                },
+            ) => Ok(Fired {
+                over,
+                under,
+                export_over,
+                export_under,
+            }),
+            Ok(_) => unreachable!(),
+            Err(_) => Err(MeterFault::Memory),
+        }
+    }
+
+    // Takes an event of the meter's own.
+    fn take(&mut self, alloc: Global, event: Event) -> Result<Reply, AllocError>
+        ensures takes { IfOk result (λ reply. Takes self.old event reply self.new) }
+        ensures fits { IfOk result (Fits event) }
+        ensures sure { IsTrue (is_sure event) → IsOk result }
+        ensures err { OnErr result (self.new ≡ self.old) }
+    {
+        self.recorder.apply(alloc, event)
+    }
+
+    /// The state of the supply switch.
+    pub fn state(&self) -> ControlState
+        ensures { (w : World) → StandsFor self.now.recorder.core w → result ≡ w.control.state }
+    {
+        self.recorder.core().state()
+    }
+
+    /// The mode of the supply switch.
+    pub fn mode(&self) -> ControlMode
+        ensures { (w : World) → StandsFor self.now.recorder.core w → result ≡ w.control.mode }
+    {
+        self.recorder.core().mode()
+    }
+
+    /// Whether the supply is on: exactly in Connected.
+    pub fn output(&self) -> bool
+        ensures { (w : World) → StandsFor self.now.recorder.core w → result ≡ is_state w.control.state Connected }
+    {
+        self.recorder.core().output()
+    }
+
+    /// The last moment of the clock, in seconds since 2000-01-01 00:00:00 of the meter's time, or None before the first.
+    pub fn last_moment(&self) -> Option<u32>
+        ensures { (w : World) → StandsFor self.now.recorder.core w → result ≡ w.moment }
+    {
+        self.recorder.core().last_moment()
+    }
+}
