@@ -1,0 +1,79 @@
+/* Heap and time of a meter behind its handle: what the pool holds after each step, and how long a GET takes from its bytes to its answer. */
+#define _POSIX_C_SOURCE 199309L
+#include "heap_pool.h"
+#include "meter.h"
+
+#include <stdio.h>
+#include <stdlib.h>
+#include <time.h>
+
+#define KEPT_EVENTS 64
+#define GETS 200000
+#define ROUNDS 5
+
+static _Alignas(16) uint8_t pool[1048576];
+static struct meter meter;
+
+/* AARQ of the management client with the password 12345678, and a GET of control_state; what stands before each is the TCP wrapper. */
+static const uint8_t aarq[] = { 0x00, 0x01, 0x00, 0x01, 0x00, 0x01, 0x00, 0x38, 0x60, 0x36, 0xA1, 0x09, 0x06, 0x07, 0x60, 0x85, 0x74, 0x05, 0x08, 0x01, 0x01, 0x8A, 0x02, 0x07, 0x80, 0x8B,
+                                0x07, 0x60, 0x85, 0x74, 0x05, 0x08, 0x02, 0x01, 0xAC, 0x0A, 0x80, 0x08, '1', '2', '3', '4', '5', '6', '7', '8', 0xBE, 0x10, 0x04, 0x0E, 0x01, 0x00, 0x00,
+                                0x00, 0x06, 0x5F, 0x1F, 0x04, 0x00, 0x00, 0xFE, 0xFF, 0x04, 0x00 };
+static const uint8_t get[] = { 0x00, 0x01, 0x00, 0x01, 0x00, 0x01, 0x00, 0x0D, 0xC0, 0x01, 0xC1, 0x00, 0x46, 0x00, 0x00, 0x60, 0x03, 0x0A, 0xFF, 0x03, 0x00 };
+
+static void need(bool is_so, const char *what)
+{
+    if (!is_so) {
+        printf("wrong: %s\n", what);
+        exit(1);
+    }
+}
+
+/* Feeds a frame, and takes its one answer. It gives the answer's length. */
+static size_t ask(uint8_t session, const uint8_t *bytes, size_t count)
+{
+    uint8_t frame[1032];
+    size_t length, answer;
+    need(meter_feed(&meter, session, bytes, count) == METER_OK, "a frame is not taken");
+    need(meter_next(&meter, session, frame, sizeof frame, &answer) == METER_OK, "a frame is not answered");
+    need(meter_next(&meter, session, frame, sizeof frame, &length) == METER_WAIT, "more than one answer");
+    return answer;
+}
+
+static void open_session(uint8_t session)
+{
+    need(meter_open_session(&meter, session) == METER_OK, "a session is not opened");
+    need(ask(session, aarq, sizeof aarq) == 51, "an association is refused");
+    need(ask(session, get, sizeof get) == 14, "a GET is refused");
+}
+
+static double nanoseconds_of_a_get(void)
+{
+    struct timespec began, ended;
+    clock_gettime(CLOCK_MONOTONIC, &began);
+    for (long i = 0; i < GETS; i++)
+        ask(0, get, sizeof get);
+    clock_gettime(CLOCK_MONOTONIC, &ended);
+    return ((double)(ended.tv_sec - began.tv_sec) * 1e9 + (double)(ended.tv_nsec - began.tv_nsec)) / GETS;
+}
+
+int main(void)
+{
+    static const uint8_t name[] = "RELAY1", password[] = "12345678";
+    double best = 1e18;
+    heap_pool_begin(pool, sizeof pool);
+    need(meter_open(&meter, name, sizeof name - 1, password, sizeof password - 1, KEPT_EVENTS) == METER_OK, "a meter is not opened");
+    printf("heap of a meter that keeps %d events, in bytes: %zu\n", KEPT_EVENTS, heap_pool_used());
+    open_session(0);
+    printf("with one session: %zu (at most %zu)\n", heap_pool_used(), heap_pool_most());
+    for (uint8_t session = 1; session < 8; session++)
+        open_session(session);
+    printf("with eight: %zu (at most %zu)\n", heap_pool_used(), heap_pool_most());
+    for (int round = 0; round < ROUNDS; round++) {
+        double taken = nanoseconds_of_a_get();
+        best = taken < best ? taken : best;
+    }
+    printf("a GET, from its bytes to its answer: %.0f ns (best of %d times %d)\n", best, ROUNDS, GETS);
+    meter_close(&meter);
+    printf("after meter_close: %zu\n", heap_pool_used());
+    return 0;
+}

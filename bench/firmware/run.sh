@@ -1,0 +1,21 @@
+#!/usr/bin/env bash
+# The figures of the library for C: code of a program that has all exports (x86-64, and 64-bit ARM where its compiler is installed), heap of one session and of eight, the bound
+# of the stack that Rattle's own compiler tells, and the time of a GET through the handle, over the pool. `bench/session/run.sh` has the time of a GET through `serve_session`.
+set -eu
+here=$(cd "$(dirname "$0")" && pwd)
+top=$(cd "$here/../.." && pwd)
+work=$(mktemp -d)
+trap 'rm -rf "$work"' EXIT
+build() { (cd "$top/crates/meter" && rt lib "$@" > "$work/log" 2>&1) || { cat "$work/log" >&2; exit 1; }; }
+code() { "$1" -A "$2" | awk '$1 ~ /^\.(text|rodata)/ { sum += $2 } END { print sum }'; }
+includes=(-I"$top/crates/meter/include" -I"$top/firmware" -I"$top/examples/firmware")
+if command -v aarch64-linux-gnu-gcc > /dev/null; then
+    build --target aarch64-unknown-linux-gnu
+    echo "code and constants of libmeter.a, 64-bit ARM: $(code aarch64-linux-gnu-size "$top/crates/meter/out/libmeter.a") bytes"
+fi
+build --backend rattle
+grep -o 'frame-bytes=[^ ]* stack-bytes=[^ ]*' "$work/log" | tail -1
+build
+echo "code and constants of libmeter.a, x86-64: $(code size "$top/crates/meter/out/libmeter.a") bytes"
+cc -std=c11 -O2 "${includes[@]}" -o "$work/figures" "$here/figures.c" "$top/firmware/heap_pool.c" "$top/crates/meter/out/libmeter.a"
+"$work/figures"
