@@ -19,7 +19,7 @@ use Rattle.meter_server.specs.Settling.{fault_of}
 use Rattle.meter_server.specs.declared.fault.ServeFault.{ServeFault}
 use Rattle.meter_server.specs.declared.fault.ServeFault.TheVariants as fault
 use Rattle.meter_server.specs.declared.serving_all.Served.{Served}
-use Rattle.meter_server.specs.ServingAll.{events_by, AllBlocks, AllMoments, AllPresses, Acted, IsFresh, IsSpent, IsSpentBy, StopsFor, OnEnded, worker_fault, first_of}
+use Rattle.meter_server.specs.ServingAll.{events_by, AllBlocks, AllMoments, AllPresses, Acted, IsFresh, IsServed, IsSpent, IsSpentBy, StopsFor, OnEnded, worker_fault, first_of}
 
 fresh_handed : (own : MeterPort) → calls_by own.known.number own.known.seen ≡ [] → handed own ≡ []
 fresh_handed own fresh = ap (map (λ (call : Entry Event Reply). call.event)) fresh
@@ -159,6 +159,17 @@ pub if_ok : (served result : Result Served ServeFault) (end : Option (Result (Un
 if_ok served result end P is y =
     let O : Result Served ServeFault → Type 0 = λ r. IfOk r P in
     subst O (sym is) (ok_first served (worker_fault end) P y)
+
+-- the port of a worker was joined in since, which splits none off
+pub served_on : (served result : Result Served ServeFault) (end : Option (Result (Unit {0}) CallFault)) (from splits later : ℕ) → result ≡ first_of served (worker_fault end) → later ≡ splits
+    → IfOk served (IsServed from splits) → IfOk result (IsServed from later)
+served_on served result end from splits later is same so =
+    let O : ℕ → Type 0 = λ n. IfOk result (IsServed from n) in
+    subst O (sym same) (if_ok served result end (IsServed from splits) is so)
+
+-- the same by another count of splits
+pub served_from : (result : Result Served ServeFault) (from before later : ℕ) → from ≡ before → IfOk result (IsServed from later) → IfOk result (IsServed before later)
+served_from result from before later same so = let O : ℕ → Type 0 = λ n. IfOk result (IsServed n later) in subst O same so
 
 stops_for : (A B F : Type 0) (f : ServeFault) → (A → B) → StopsFor A F f → StopsFor B F f
 stops_for A B F fault.Memory so why = tt

@@ -46,6 +46,11 @@ IsFresh port = calls_by port.known.number port.known.seen ≡ []
 abbrev pub IsLimit : ℕ → Served → Type 0
 IsLimit limit served = 0 < limit → served.served + served.turned_away ≡ limit
 
+-- no more connections were served than ports were split off for them, and as many, where the count has not come to its end
+pub record IsServed (splits later : ℕ) (served : Served) : Type 0 where
+  pub most : splits + served.served ≤ later
+  pub all : served.served < 18446744073709551615 → splits + served.served ≡ later
+
 -- the port of this number, which was joined in, had read that as many turns were drawn as the lock has
 pub record IsSpent (port : MeterPort) (number : List ℕ) : Type 0 where
   pub joined : IsAmong number port.known.joined

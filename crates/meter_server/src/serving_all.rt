@@ -2,7 +2,7 @@
 ghost use Rattle.std.specs.Prelude.{◌≡◌, ◌⊎◌, ◌+◌, [], Err, IfOk, IfErr};
 ghost use Rattle.acse_ber.specs.Password.{IsPassword};
 ghost use Rattle.kept_meter.specs.Calls.{IsLegal as IsLegalRun};
-ghost use Rattle.meter_server.specs.ServingAll.{AllBlocks, AllMoments, AllPresses, Acted, IsFresh, IsLimit, IsSpent, IsSpentBy, StopsFor, OnEnded, worker_fault, first_of};
+ghost use Rattle.meter_server.specs.ServingAll.{AllBlocks, AllMoments, AllPresses, Acted, IsFresh, IsLimit, IsServed, IsSpent, IsSpentBy, StopsFor, OnEnded, worker_fault, first_of};
 ghost use Rattle.session_threads.specs.Ports.{GoesOn, AreJoined, child};
 ghost use Rattle.turn_lock.specs.Calls.{IsLegal};
 ghost use Rattle.turn_lock.specs.History.{IsAmong};
@@ -56,6 +56,7 @@ fn serve_clients<L: Listener, R: Threads + Wait + Copy + Send + 'static>(
     ensures goes { GoesOn port.old port.new }
     ensures joined { AreJoined port.old.known.splits port.new }
     ensures limit { IfOk result (IsLimit limit) }
+    ensures served { IfOk result (IsServed port.old.known.splits port.new.known.splits) }
     ensures fault { IfErr result (StopsFor ⊥ (L.has_failed listener.new)) }
 {
     let mut clients = Clients { listener, password };
@@ -93,6 +94,7 @@ fn serve_until_button<
     ensures joined { AreJoined port.old.known.splits port.new }
     ensures own { IsAmong running.promise.port.value.known.number port.new.known.joined }
     ensures limit { IfOk result (IsLimit limit) }
+    ensures served { IfOk result (IsServed port.old.known.splits port.new.known.splits) }
     ensures presses { OnEnded result (IsFresh running.promise.port.value → Acted port.new running.promise.port.value.known.number (AllPresses (U.told running.promise.worker.value.source))) }
     ensures fault { IfErr result (StopsFor (IsSpent port.new running.promise.port.value.known.number) (L.has_failed listener.new)) }
 {
@@ -119,6 +121,7 @@ fn serve_with_button<
     ensures goes { GoesOn port.old port.new }
     ensures joined { AreJoined port.old.known.splits port.new }
     ensures limit { IfOk result (IsLimit limit) }
+    ensures served { IfOk result (IsServed (port.old.known.splits + 1) port.new.known.splits) }
     ensures presses { OnEnded result (Acted port.new (child port.old.known.number port.old.known.splits) (AllPresses (U.told buttons))) }
     ensures fault { IfErr result (StopsFor (IsSpentBy port.old.known.splits 1 port.new) (L.has_failed listener.new)) }
 {
@@ -151,6 +154,7 @@ fn serve_until_clock<
     ensures joined { AreJoined port.old.known.splits port.new }
     ensures own { IsAmong running.promise.port.value.known.number port.new.known.joined }
     ensures limit { IfOk result (IsLimit limit) }
+    ensures served { IfOk result (IsServed (port.old.known.splits + 1) port.new.known.splits) }
     ensures moments { OnEnded result (IsFresh running.promise.port.value → Acted port.new running.promise.port.value.known.number (AllMoments (M.told running.promise.worker.value.source))) }
     ensures presses { OnEnded result (Acted port.new (child port.old.known.number port.old.known.splits) (AllPresses (U.told buttons))) }
     ensures fault { IfErr result (StopsFor (IsSpent port.new running.promise.port.value.known.number ⊎ IsSpentBy port.old.known.splits 1 port.new) (L.has_failed listener.new)) }
@@ -180,6 +184,7 @@ fn serve_with_clock<
     ensures goes { GoesOn port.old port.new }
     ensures joined { AreJoined port.old.known.splits port.new }
     ensures limit { IfOk result (IsLimit limit) }
+    ensures served { IfOk result (IsServed (port.old.known.splits + 2) port.new.known.splits) }
     ensures moments { OnEnded result (Acted port.new (child port.old.known.number port.old.known.splits) (AllMoments (M.told moments))) }
     ensures presses { OnEnded result (Acted port.new (child port.old.known.number (port.old.known.splits + 1)) (AllPresses (U.told buttons))) }
     ensures fault { IfErr result (StopsFor (IsSpentBy port.old.known.splits 2 port.new) (L.has_failed listener.new)) }
@@ -215,6 +220,7 @@ fn serve_until_sampler<
     ensures joined { AreJoined port.old.known.splits port.new }
     ensures own { IsAmong running.promise.port.value.known.number port.new.known.joined }
     ensures limit { IfOk result (IsLimit limit) }
+    ensures served { IfOk result (IsServed (port.old.known.splits + 2) port.new.known.splits) }
     ensures blocks { OnEnded result (IsFresh running.promise.port.value → Acted port.new running.promise.port.value.known.number (AllBlocks (B.told running.promise.worker.value.source))) }
     ensures moments { OnEnded result (Acted port.new (child port.old.known.number port.old.known.splits) (AllMoments (M.told moments))) }
     ensures presses { OnEnded result (Acted port.new (child port.old.known.number (port.old.known.splits + 1)) (AllPresses (U.told buttons))) }
@@ -247,6 +253,7 @@ fn serve_with_sampler<
     ensures goes { GoesOn port.old port.new }
     ensures joined { AreJoined port.old.known.splits port.new }
     ensures limit { IfOk result (IsLimit limit) }
+    ensures served { IfOk result (IsServed (port.old.known.splits + 3) port.new.known.splits) }
     ensures blocks { OnEnded result (Acted port.new (child port.old.known.number port.old.known.splits) (AllBlocks (B.told blocks))) }
     ensures moments { OnEnded result (Acted port.new (child port.old.known.number (port.old.known.splits + 1)) (AllMoments (M.told moments))) }
     ensures presses { OnEnded result (Acted port.new (child port.old.known.number (port.old.known.splits + 2)) (AllPresses (U.told buttons))) }
@@ -293,6 +300,7 @@ pub fn serve_all<
     ensures goes { IfOk result (λ r. GoesOn port r.0 × IsLegal IsLegalRun r.0.known × AreJoined port.known.splits r.0) }
     ensures goes_err { IfErr result (λ r. GoesOn port r.0 × IsLegal IsLegalRun r.0.known × AreJoined port.known.splits r.0) }
     ensures limit { IfOk result (λ r. IsLimit limit r.1) }
+    ensures served { IfOk result (λ r. IsServed (port.known.splits + 3) r.0.known.splits r.1) }
     ensures blocks { IfOk result (λ r. Acted r.0 (child port.known.number port.known.splits) (AllBlocks (B.told blocks))) }
     ensures moments { IfOk result (λ r. Acted r.0 (child port.known.number (port.known.splits + 1)) (AllMoments (M.told moments))) }
     ensures presses { IfOk result (λ r. Acted r.0 (child port.known.number (port.known.splits + 2)) (AllPresses (U.told buttons))) }

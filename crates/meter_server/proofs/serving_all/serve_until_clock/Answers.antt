@@ -1,7 +1,7 @@
 use Rattle.std.proofs.Common.{inl, inr}
 use Rattle.meter_workers.specs.Handed.{HandsMoments}
 use Rattle.session_threads.proofs.Going.{goes_trans}
-use Rattle.meter_server.proofs.ServingAllLemmas.{acted_clock, acted_on, joined_on, on_end, on_ok, if_ok, stops_by, spent_by, spent_still}
+use Rattle.meter_server.proofs.ServingAllLemmas.{acted_clock, acted_on, joined_on, served_on, on_end, on_ok, if_ok, stops_by, spent_by, spent_still}
 use Rattle.meter_server.proofs.serving_all.serve_until_clock.Goals as goal
 
 pub returns-clause-goes : goal.returns-clause-goes
@@ -27,3 +27,6 @@ returns-clause-fault g c =
     let inner = c.serve_with_button-served.ensures in
     stops_by _ _ _ _ _ _ c.first_fault.ensures inner.fault (λ spent. inr (spent_still _ _ _ _ c.join_worker-end.ensures.taken.goes spent))
     (λ refused. inl (spent_by (λ w. HandsMoments (g.M.MomentSource.told w.source)) c.args.running.promise.worker.value _ c.args.port.now _ _ _ c.join_worker-end.ensures inner.goes c.requires.lock c.requires.bound refused))
+
+pub returns-clause-served : goal.returns-clause-served
+returns-clause-served g c = served_on _ _ _ _ _ _ c.first_fault.ensures c.join_worker-end.ensures.taken.splits c.serve_with_button-served.ensures.served

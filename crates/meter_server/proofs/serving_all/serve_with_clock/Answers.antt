@@ -2,11 +2,11 @@ use denote.Param.Send.{sendable}
 use Rattle.std.proofs.Crossing.{crosses}
 use Rattle.kept_meter.proofs.Sent.{kept_send}
 use Rattle.meter_server.proofs.Sent.{event_send, reply_send}
-use Rattle.std.proofs.Common.{◌∙◌, ap}
+use Rattle.std.proofs.Common.{◌≡◌, ◌+◌, ◌∙◌, ap, arith}
 use Rattle.session_threads.specs.Ports.{child}
 use Rattle.session_threads.proofs.Going.{goes_trans}
 use Rattle.meter_server.specs.ServingAll.{AllMoments}
-use Rattle.meter_server.proofs.ServingAllLemmas.{acted_by, acted_told, joined_more, map_ok, stops_among}
+use Rattle.meter_server.proofs.ServingAllLemmas.{acted_by, acted_told, joined_more, map_ok, served_from, stops_among}
 use Rattle.meter_server.proofs.serving_all.serve_with_clock.Goals as goal
 
 pub returns-clause-goes : goal.returns-clause-goes
@@ -36,3 +36,9 @@ start_worker-requires-send-T-Reply g c κs within = search (sendable, crosses, r
 pub returns-clause-fault : goal.returns-clause-fault
 returns-clause-fault g c =
     stops_among c.serve_until_clock.result _ _ _ _ _ 1 c.in-Some.ensures.port c.serve_until_clock.ensures.goes c.serve_until_clock.ensures.fault
+
+pub returns-clause-served : goal.returns-clause-served
+returns-clause-served g c =
+    let off = c.in-Some.ensures.port in
+    let next : c.start_worker.new.port.known.splits + 1 ≡ c.args.port.now.known.splits + 2 = omega (arith, off.splits) in
+    served_from c.serve_until_clock.result _ _ _ next c.serve_until_clock.ensures.served

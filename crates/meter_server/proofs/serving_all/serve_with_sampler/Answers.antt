@@ -6,7 +6,7 @@ use Rattle.std.proofs.Common.{◌≡◌, ◌+◌, ◌∙◌, ap, arith}
 use Rattle.session_threads.specs.Ports.{child}
 use Rattle.session_threads.proofs.Going.{goes_trans}
 use Rattle.meter_server.specs.ServingAll.{AllBlocks}
-use Rattle.meter_server.proofs.ServingAllLemmas.{acted_by, acted_told, joined_more, map_ok, stops_among}
+use Rattle.meter_server.proofs.ServingAllLemmas.{acted_by, acted_told, joined_more, map_ok, served_from, stops_among}
 use Rattle.meter_server.proofs.serving_all.serve_with_sampler.Goals as goal
 
 pub returns-clause-goes : goal.returns-clause-goes
@@ -42,3 +42,9 @@ start_worker-requires-send-T-Reply g c κs within = search (sendable, crosses, r
 pub returns-clause-fault : goal.returns-clause-fault
 returns-clause-fault g c =
     stops_among c.serve_until_sampler.result _ _ _ _ _ 2 c.in-Some.ensures.port c.serve_until_sampler.ensures.goes c.serve_until_sampler.ensures.fault
+
+pub returns-clause-served : goal.returns-clause-served
+returns-clause-served g c =
+    let off = c.in-Some.ensures.port in
+    let next : c.start_worker.new.port.known.splits + 2 ≡ c.args.port.now.known.splits + 3 = omega (arith, off.splits) in
+    served_from c.serve_until_sampler.result _ _ _ next c.serve_until_sampler.ensures.served
