@@ -405,7 +405,6 @@ steps_none s = record { asks = λ more. refl; sends = λ more replies. refl; end
 
 by_task : (task : Task) (end : SessionEnd) → end_in task ≡ Some end → awaits task ≡ false
 by_task task.Listen end over = refl
-by_task (task.Hear frame) end over = refl
 by_task (task.Read joined) end over = refl
 by_task (task.Await asked) end over = absurd (true≢false (ap is_some (sym over)))
 by_task (task.Say due) end over = refl
@@ -445,6 +444,10 @@ module _ {M : Type 0} (steps : M → Event → Result Reply CallFault → M → 
     finished = st.finished ∙ finished;
   }
 
+  -- nothing is due
+  settled_idle : (s : Session) (m : M) (written : Option (List ℕ)) → IsQuiet s → Settled steps written_as s m written [] None s m written
+  settled_idle s m written quiet = settled_quiet s s s m m written written (reached_none s m written) quiet.silent refl (steps_none s) (inr quiet)
+
   -- bytes that came first are taken in
   settled_fed : (old middle new : Session) (bytes : List ℕ) (m m' : M) (written written' : Option (List ℕ)) (end : Option SessionEnd)
       → Feeds old bytes middle → Settled steps written_as middle m written [] end new m' written'
@@ -457,6 +460,11 @@ module _ {M : Type 0} (steps : M → Event → Result Reply CallFault → M → 
     silent = settled.silent;
     finished = settled.finished ∙ fed.finished;
   }
+
+  -- and nothing is due after them
+  pub settled_by_feeding : (old new : Session) (bytes : List ℕ) (m : M) (written : Option (List ℕ)) → Feeds old bytes new → IsQuiet new
+      → Settled steps written_as old m written bytes None new m written
+  settled_by_feeding old new bytes m written fed quiet = settled_fed old new new bytes m m written written None fed (settled_idle new m written quiet)
 
   pub settled_in : (old middle new : Session) (bytes : List ℕ) (m m' : M) (written written' : Option (List ℕ)) (result : Result (Option SessionEnd) ServeFault)
       → Feeds old bytes middle → IfOk result (λ end. Settled steps written_as middle m written [] end new m' written')

@@ -65,6 +65,9 @@ fn take_in<W: Writer, M: Meter>(
     ensures err { IfErr result (λ fault. Stops M.steps as_bytes (still_asks session.old bytes.now) (still_sends session.old bytes.now) meter.old (W.contents writer.old) (W.failures writer.old) fault meter.new (W.contents writer.new) (W.failures writer.new)) }
 {
     session.feed(bytes)?;
+    if session.is_idle() {
+        return Ok(None);
+    }
     settle::<AsBytes, W, M>(alloc, session, writer, meter)
 }
 

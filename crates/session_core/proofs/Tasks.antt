@@ -1,5 +1,5 @@
 -- What each task does to what the session still asks and sends.
-use Rattle.std.proofs.Common.{◌≡◌, ◌≢◌, ℕ, ◌+◌, ◌<◌, ◌≤◌, ◌==◌, ◌&&◌, nat_lt, Bool, true, false, cond, Option, Some, None, Ok, List, [], ◌∷◌, ◌++◌, length, refl, sym, ◌∙◌, ap, arith, inl, inr, subst, drop}
+use Rattle.std.proofs.Common.{◌≡◌, ◌≢◌, ℕ, ◌+◌, ◌<◌, ◌≤◌, ◌==◌, ◌&&◌, nat_lt, Bool, true, false, cond, Option, Some, None, Ok, List, [], ◌∷◌, ◌++◌, length, refl, sym, ◌∙◌, ap, arith, inl, inr, subst, take, drop}
 use Rattle.std.specs.Prelude.{if◌then◌else◌, option_to_list, IsTrue}
 use Rattle.std.proofs.lemmas.Bool.{ltb-false}
 use Rattle.std.proofs.lemmas.List.{append_assoc, append-nil, length-drop}
@@ -20,7 +20,7 @@ use Rattle.xdlms_apdu.specs.Text.{response_text}
 use Rattle.xdlms_apdu.specs.declared.response.Response.TheVariants as response
 use Rattle.session_core.specs.Progress.{asked_by, Owes, Feeds, Finishes, Steps, Takes, IsQuiet, IsAwaiting, IsOver, WorksBy, task_by, next_by}
 use Rattle.session_core.specs.Remaining.{asks_of, texts_of, texts_from, texts_after, ends_of, after_outcome, end_in, awaits, still_asks, still_sends, still_ends, is_asking, ended, is_finished, load, task_load}
-use Rattle.session_core.specs.Rules.{exception_answer, opens, call_in, call_turn, request_turn, turn_in, turn_of, outgoing_by_request, outgoing_by_call, outgoing_in, outgoing_after, resolved, outcome_at, state_after, step_outcome, is_settled, opening_answer, reply_text}
+use Rattle.session_core.specs.Rules.{heard_frame, exception_answer, opens, call_in, call_turn, request_turn, turn_in, turn_of, outgoing_by_request, outgoing_by_call, outgoing_in, outgoing_after, resolved, outcome_at, state_after, step_outcome, is_settled, opening_answer, reply_text}
 use Rattle.session_core.specs.Calls.{is_call}
 use Rattle.session_core.specs.Running.{known_in, asks_on, answers_on, new_state}
 use Rattle.session_core.specs.declared.answer.Answer.TheVariants.{Service}
@@ -44,11 +44,11 @@ use Rattle.session_core.specs.declared.state.State.{State}
 use Rattle.session_core.specs.declared.step.Step.{Step}
 use Rattle.session_core.specs.declared.step.Step.TheVariants as step
 use Rattle.session_core.specs.declared.task.Task.{Task}
-use Rattle.session_core.specs.declared.task.Task.TheVariants.{Listen, Hear, Read, Await, Say, Send, Over}
+use Rattle.session_core.specs.declared.task.Task.TheVariants.{Listen, Read, Await, Say, Send, Over}
 use Rattle.wrapper_frame.specs.Text.{frame_text}
-use Rattle.wrapper_frame.specs.Header.{head_of, header_size}
-use Rattle.wrapper_frame.specs.Messages.{frames_of, rest_of, after_first}
-use Rattle.wrapper_frame.specs.Stream.{IsFirst, IsPart, TakesFirst, GoesOn, Stops, StopsBy}
+use Rattle.wrapper_frame.specs.Header.{head_of, header_size, src_of, dst_of}
+use Rattle.wrapper_frame.specs.Messages.{frames_of, rest_of, first_frame, after_first}
+use Rattle.wrapper_frame.specs.Stream.{IsPart, Fronts, GoesOn, Stops, StopsBy}
 use Rattle.wrapper_frame.specs.declared.fault.WrapperFault.{WrapperFault}
 use Rattle.wrapper_frame.specs.declared.fault.WrapperFault.TheVariants as fault
 use Rattle.wrapper_frame.specs.declared.header.Head.{Head}
@@ -249,28 +249,10 @@ works_to E password pending finished s t task (step.Ask event asked) c less =
 works_to E password pending finished s t task (step.Say due) c less = (steps_to password pending finished s t task (step.Say due) c, (refl, omega arith))
 works_to E password pending finished s t task (step.Join joined) c less = (steps_to password pending finished s t task (step.Join joined) c, (refl, omega arith))
 
-hear_load : (st : Step) → task_load (task_by st) < 5
-hear_load (step.Ask event asked) = omega arith
-hear_load (step.Say due) = omega arith
-hear_load (step.Join joined) = omega arith
-
 read_load : (st : Step) → IsTrue (is_settled st) → task_load (task_by st) < 4
 read_load (step.Ask event asked) done = omega arith
 read_load (step.Say due) done = omega arith
 read_load (step.Join joined) done = absurd cc
-
--- a frame is judged
-pub hears : (E : Type 0) (password pending : List ℕ) (finished : Bool) (s t : State) (f : Frame) (st : Step)
-    → step_outcome st ≡ outcome_at password s f → t ≡ state_after password s f None
-    → WorksBy {E = E} (session password pending finished s (Hear f)) (Ok (next_by st)) (session password pending finished t (task_by st))
-hears E password pending finished s t f st outcome state =
-    works_to E password pending finished s t (Hear f) st
-    (record {
-      asks = λ fs. frame_asks password s f fs ∙ (let a = outcome in let b = state in cc);
-      texts = λ fs replies. frame_texts password s f fs replies ∙ (let a = outcome in let b = state in cc);
-      ends = λ end. refl;
-    })
-    (hear_load st)
 
 -- joined bytes are read
 pub reads : (E : Type 0) (password pending : List ℕ) (finished : Bool) (s : State) (joined : Joined) (st : Step)
@@ -333,12 +315,11 @@ long : (bytes : List ℕ) (n : ℕ) → head_of bytes ≡ head.Whole n → heade
 unfolding head_of
 long bytes n e = long_by (nat_lt (length bytes) header_size) bytes n _ refl e
 
-shorter : (old : List ℕ) (frame : Frame) (new : List ℕ) → IsFirst old frame new → length new + header_size ≤ length old
-shorter old frame new first =
-    let enough = long old (length frame.payload) first.front in
-    let after = first.after in
-    let size = length-drop (header_size + length frame.payload) old in
-    let same : length new ≡ length (after_first (length frame.payload) old) = ap length after in
+shorter : (old : List ℕ) (n : ℕ) (new : List ℕ) → head_of old ≡ head.Whole n → new ≡ after_first n old → length new + header_size ≤ length old
+shorter old n new whole after =
+    let enough = long old n whole in
+    let size = length-drop (header_size + n) old in
+    let same : length new ≡ length (after_first n old) = ap length after in
     omega (arith, enough, size, same)
 
 to_server_by : (b : Bool) (frame : Frame) (fs : List Frame) → (frame.dst == management_device) ≡ b → to_server (frame ∷ fs) ≡ cond b (frame ∷ to_server fs) (to_server fs)
@@ -349,44 +330,65 @@ ends_alike : (bytes others : List ℕ) → rest_of bytes ≡ rest_of others → 
 unfolding end_of
 ends_alike bytes others e = ap (λ (rest : List ℕ). end_by (head_of rest) rest) e
 
--- the frames to come change so, and nothing else
-takes_steps : (password old new : List ℕ) (finished : Bool) (s : State) (frame : Frame) (task : Task) → GoesOn old (Some frame) new
-    → ((fs : List Frame) → asks_of password s task (to_server fs) ≡ asks_on password (known_in s) (to_server (frame ∷ fs)))
-    → ((fs : List Frame) (replies : List Reply) → texts_of password s task (to_server fs) replies ≡ answers_on password s (to_server (frame ∷ fs)) replies)
-    → ((end : SessionEnd) → ends_of task end ≡ end)
-    → Steps (session password old finished s Listen) [] [] (session password new finished s task)
+-- a frame for the server is judged
+hears_steps : (password old new : List ℕ) (finished : Bool) (s t : State) (f : Frame) (st : Step) → GoesOn old (Some f) new → (f.dst == management_device) ≡ true
+    → ((fs : List Frame) → asks_on password (known_in s) (f ∷ fs) ≡ option_to_list (event_of (step_outcome st)) ++ asks_on password (known_in t) fs)
+    → ((fs : List Frame) (replies : List Reply) → answers_on password s (f ∷ fs) replies ≡ texts_from password t (step_outcome st) fs replies)
+    → Steps (session password old finished s Listen) (asked_in (next_by st)) [] (session password new finished t (task_by st))
 unfolding still_asks still_sends still_ends is_finished
-takes_steps password old new finished s frame task goes_on events texts ends = record {
-  asks = λ more. ap (λ (fs : List Frame). asks_on password (known_in s) (to_server fs)) (goes_on.frames (tail finished more)) ∙ sym (events (frames_of (new ++ tail finished more)));
-  sends = λ more replies. ap (λ (fs : List Frame). answers_on password s (to_server fs) replies) (goes_on.frames (tail finished more)) ∙ sym (texts (frames_of (new ++ tail finished more)) replies);
-  ends = λ more. ends_alike (old ++ tail finished more) (new ++ tail finished more) (goes_on.rest (tail finished more)) ∙ sym (ends (end_of (new ++ tail finished more)));
+hears_steps password old new finished s t f st goes_on here events texts = record {
+  asks = λ more. ap (λ (fs : List Frame). asks_on password (known_in s) (to_server fs)) (goes_on.frames (tail finished more))
+      ∙ ap (asks_on password (known_in s)) (to_server_by true f (frames_of (new ++ tail finished more)) here)
+      ∙ events (to_server (frames_of (new ++ tail finished more)))
+      ∙ step_asks password t st (to_server (frames_of (new ++ tail finished more)));
+  sends = λ more replies. ap (λ (fs : List Frame). answers_on password s (to_server fs) replies) (goes_on.frames (tail finished more))
+      ∙ ap (λ (heard : List Frame). answers_on password s heard replies) (to_server_by true f (frames_of (new ++ tail finished more)) here)
+      ∙ texts (to_server (frames_of (new ++ tail finished more))) replies
+      ∙ step_texts password t st (to_server (frames_of (new ++ tail finished more))) replies;
+  ends = λ more. ends_alike (old ++ tail finished more) (new ++ tail finished more) (goes_on.rest (tail finished more)) ∙ sym (task_ends st (end_of (new ++ tail finished more)));
   finished = refl;
 }
 
--- a frame for the server
-pub takes_frame : (E : Type 0) (password old new : List ℕ) (finished : Bool) (s : State) (frame : Frame)
-    → IsFirst old frame new → GoesOn old (Some frame) new → (frame.dst == management_device) ≡ true
-    → WorksBy {E = E} (session password old finished s Listen) (Ok None) (session password new finished s (Hear frame))
-unfolding load is_asking
-takes_frame E password old new finished s frame first goes_on here = (
-  takes_steps password old new finished s frame (Hear frame) goes_on
-      (λ fs. ap (asks_on password (known_in s)) (sym (to_server_by true frame fs here)))
-      (λ fs replies. ap (λ (heard : List Frame). answers_on password s heard replies) (sym (to_server_by true frame fs here)))
-      (λ end. refl),
-  (refl, (let less = shorter old frame new first in omega arith)),
-)
+heard_load : (old new : ℕ) (st : Step) → new + header_size ≤ old → new + task_load (task_by st) < old + task_load Listen
+heard_load old new (step.Ask event asked) less = omega arith
+heard_load old new (step.Say due) less = omega arith
+heard_load old new (step.Join joined) less = omega arith
+
+heard_by : (E : Type 0) (password old new : List ℕ) (finished : Bool) (s t : State) (st : Step)
+    → Steps (session password old finished s Listen) (asked_in (next_by st)) [] (session password new finished t (task_by st))
+    → length new + task_load (task_by st) < length old + task_load Listen
+    → WorksBy {E = E} (session password old finished s Listen) (Ok (next_by st)) (session password new finished t (task_by st))
+unfolding load is_asking still_sends
+heard_by E password old new finished s t (step.Ask event asked) steps less = (steps, (record { asking = refl; sends = λ more. refl }, less))
+heard_by E password old new finished s t (step.Say due) steps less = (steps, (refl, less))
+heard_by E password old new finished s t (step.Join joined) steps less = (steps, (refl, less))
+
+pub hears : (E : Type 0) (password old new : List ℕ) (finished : Bool) (s t : State) (f : Frame) (n : ℕ) (st : Step)
+    → head_of old ≡ head.Whole n → new ≡ after_first n old → GoesOn old (Some f) new → (f.dst == management_device) ≡ true
+    → step_outcome st ≡ outcome_at password s f → t ≡ state_after password s f None
+    → WorksBy {E = E} (session password old finished s Listen) (Ok (next_by st)) (session password new finished t (task_by st))
+hears E password old new finished s t f n st whole after goes_on here outcome state =
+    heard_by E password old new finished s t st
+    (hears_steps password old new finished s t f st goes_on here
+    (λ fs. frame_asks password s f fs ∙ (let a = outcome in let b = state in cc))
+    (λ fs replies. frame_texts password s f fs replies ∙ (let a = outcome in let b = state in cc)))
+    (heard_load (length old) (length new) st (shorter old n new whole after))
 
 -- a frame for another port
-pub passes_frame : (E : Type 0) (password old new : List ℕ) (finished : Bool) (s : State) (frame : Frame)
-    → IsFirst old frame new → GoesOn old (Some frame) new → (frame.dst == management_device) ≡ false
+pub passes_frame : (E : Type 0) (password old new : List ℕ) (finished : Bool) (s : State) (f : Frame) (n : ℕ)
+    → head_of old ≡ head.Whole n → new ≡ after_first n old → GoesOn old (Some f) new → (f.dst == management_device) ≡ false
     → WorksBy {E = E} (session password old finished s Listen) (Ok None) (session password new finished s Listen)
-unfolding load is_asking
-passes_frame E password old new finished s frame first goes_on elsewhere = (
-  takes_steps password old new finished s frame Listen goes_on
-      (λ fs. ap (asks_on password (known_in s)) (sym (to_server_by false frame fs elsewhere)))
-      (λ fs replies. ap (λ (heard : List Frame). answers_on password s heard replies) (sym (to_server_by false frame fs elsewhere)))
-      (λ end. refl),
-  (refl, (let less = shorter old frame new first in omega arith)),
+unfolding still_asks still_sends still_ends is_finished load is_asking
+passes_frame E password old new finished s f n whole after goes_on elsewhere = (
+  (record {
+    asks = λ more. ap (λ (fs : List Frame). asks_on password (known_in s) (to_server fs)) (goes_on.frames (tail finished more))
+        ∙ ap (asks_on password (known_in s)) (to_server_by false f (frames_of (new ++ tail finished more)) elsewhere);
+    sends = λ more replies. ap (λ (fs : List Frame). answers_on password s (to_server fs) replies) (goes_on.frames (tail finished more))
+        ∙ ap (λ (heard : List Frame). answers_on password s heard replies) (to_server_by false f (frames_of (new ++ tail finished more)) elsewhere);
+    ends = λ more. ends_alike (old ++ tail finished more) (new ++ tail finished more) (goes_on.rest (tail finished more));
+    finished = refl;
+  }),
+  (refl, (let less = shorter old n new whole after in omega arith)),
 )
 
 is_quiet : (password pending : List ℕ) (s : State) → IsPart pending → IsQuiet (session password pending false s Listen)
@@ -558,71 +560,72 @@ by_parts : (P : Session → Type 0) (s : Session) (finished : Bool) (task : Task
 by_parts P s finished task f t p =
     subst (λ (b : Bool). P (session s.password s.deframer b s.state s.task)) (sym f) (subst (λ (u : Task). P (session s.password s.deframer finished s.state u)) (sym t) p)
 
-pub listens_to_frame : (E : Type 0) (s t : Session) (pending : List ℕ) (frame : Frame) → s.task ≡ Listen → IsFirst s.deframer frame pending → GoesOn s.deframer (Some frame) pending
-    → (frame.dst == management_device) ≡ true → t ≡ session s.password pending s.is_finished s.state (Hear frame) → WorksBy {E = E} s (Ok None) t
-listens_to_frame E s t pending frame listens first goes_on here after =
-    subst (λ (u : Session). WorksBy {E = E} s (Ok None) u) (sym after)
-    (by_parts (λ (u : Session). WorksBy {E = E} u (Ok None) (session s.password pending s.is_finished s.state (Hear frame))) s s.is_finished Listen refl listens
-    (takes_frame E s.password s.deframer pending s.is_finished s.state frame first goes_on here))
+-- the frame at the front, by what was read of it
+front_frame : (bytes payload : List ℕ) (src dst n : ℕ) → src ≡ src_of bytes → dst ≡ dst_of bytes → payload ≡ take n (drop header_size bytes) → dst ≡ management_device
+    → first_frame n bytes ≡ heard_frame src payload
+front_frame bytes payload src dst n a b c d = let e : dst_of bytes ≡ management_device = sym b ∙ d in cc
 
-pub listens_past_frame : (E : Type 0) (s : Session) (pending : List ℕ) (frame : Frame) → s.task ≡ Listen → IsFirst s.deframer frame pending → GoesOn s.deframer (Some frame) pending
-    → (frame.dst == management_device) ≡ false → WorksBy {E = E} s (Ok None) (session s.password pending s.is_finished s.state s.task)
-listens_past_frame E s pending frame listens first goes_on elsewhere =
-    subst (λ (u : Task). WorksBy {E = E} (session s.password s.deframer s.is_finished s.state u) (Ok None) (session s.password pending s.is_finished s.state u)) (sym listens)
-    (passes_frame E s.password s.deframer pending s.is_finished s.state frame first goes_on elsewhere)
-
-pub listens_on : (E : Type 0) (s : Session) (pending : List ℕ) → s.task ≡ Listen → s.is_finished ≡ false → IsPart s.deframer × (pending ≡ s.deframer)
-    → WorksBy {E = E} s (Ok (Some next.Wait)) (session s.password pending s.is_finished s.state s.task)
-listens_on E s pending listens goes_on (part, same) =
-    subst (λ (p : List ℕ). WorksBy {E = E} s (Ok (Some next.Wait)) (session s.password p s.is_finished s.state s.task)) (sym same)
-    (by_parts (λ (u : Session). WorksBy {E = E} u (Ok (Some next.Wait)) u) s false Listen goes_on listens (wants_more E s.password s.deframer s.state part))
-
-listens_to_end : (E : Type 0) (s t : Session) (pending : List ℕ) (end : SessionEnd) (r : Option Next) → s.task ≡ Listen → pending ≡ s.deframer → NoFrame s.is_finished s.deframer end
-    → r ≡ Some (next.End end) → t ≡ session s.password pending s.is_finished s.state (Over end) → WorksBy {E = E} s (Ok r) t
-listens_to_end E s t pending end r listens same none given after =
+pub hears_any : (E : Type 0) (s t : Session) (pending payload : List ℕ) (kept : State) (src dst n : ℕ) (st : Step) (r : Option Next) → s.task ≡ Listen
+    → head_of s.deframer ≡ head.Whole n → src ≡ src_of s.deframer → dst ≡ dst_of s.deframer → dst ≡ management_device → payload ≡ take n (drop header_size s.deframer)
+    → pending ≡ after_first n s.deframer → GoesOn s.deframer (Some (first_frame n s.deframer)) pending
+    → step_outcome st ≡ outcome_at s.password s.state (heard_frame src payload) → kept ≡ state_after s.password s.state (heard_frame src payload) None
+    → r ≡ next_by st → t ≡ session s.password pending s.is_finished kept (task_by st) → WorksBy {E = E} s (Ok r) t
+hears_any E s t pending payload kept src dst n st r listening whole src_is dst_is here payload_is left goes_on outcome state given after =
     subst (λ (u : Session). WorksBy {E = E} s (Ok r) u) (sym after)
-    (subst (λ (q : Option Next). WorksBy {E = E} s (Ok q) (session s.password pending s.is_finished s.state (Over end))) (sym given)
-    (subst (λ (p : List ℕ). WorksBy {E = E} s (Ok (Some (next.End end))) (session s.password p s.is_finished s.state (Over end))) (sym same)
+    (subst (λ (q : Option Next). WorksBy {E = E} s (Ok q) (session s.password pending s.is_finished kept (task_by st))) (sym given)
+    (by_parts (λ (u : Session). WorksBy {E = E} u (Ok (next_by st)) (session s.password pending s.is_finished kept (task_by st))) s s.is_finished Listen refl listening
+    (hears E s.password s.deframer pending s.is_finished s.state kept (heard_frame src payload) n st whole left
+    (subst (λ (f : Frame). GoesOn s.deframer (Some f) pending) (front_frame s.deframer payload src dst n src_is dst_is payload_is here) goes_on)
+    refl outcome state)))
+
+pub passes_any : (E : Type 0) (s : Session) (pending : List ℕ) (dst n : ℕ) → s.task ≡ Listen → head_of s.deframer ≡ head.Whole n
+    → dst ≡ dst_of s.deframer → (dst == management_device) ≡ false → pending ≡ after_first n s.deframer → GoesOn s.deframer (Some (first_frame n s.deframer)) pending
+    → WorksBy {E = E} s (Ok None) (session s.password pending s.is_finished s.state s.task)
+passes_any E s pending dst n listening whole dst_is elsewhere left goes_on =
+    subst (λ (u : Task). WorksBy {E = E} (session s.password s.deframer s.is_finished s.state u) (Ok None) (session s.password pending s.is_finished s.state u)) (sym listening)
+    (passes_frame E s.password s.deframer pending s.is_finished s.state (first_frame n s.deframer) n whole left goes_on (ap (λ (d : ℕ). d == management_device) (sym dst_is) ∙ elsewhere))
+
+pub listens_on : (E : Type 0) (s : Session) (h : Head) → s.task ≡ Listen → s.is_finished ≡ false → h ≡ head.Part → Fronts s.deframer h → WorksBy {E = E} s (Ok (Some next.Wait)) s
+listens_on E s h listens goes_on is means =
+    by_parts (λ (u : Session). WorksBy {E = E} u (Ok (Some next.Wait)) u) s false Listen goes_on listens
+    (wants_more E s.password s.deframer s.state (subst (Fronts s.deframer) is means))
+
+listens_to_end : (E : Type 0) (s t : Session) (end : SessionEnd) (r : Option Next) → s.task ≡ Listen → NoFrame s.is_finished s.deframer end
+    → r ≡ Some (next.End end) → t ≡ session s.password s.deframer s.is_finished s.state (Over end) → WorksBy {E = E} s (Ok r) t
+listens_to_end E s t end r listens none given after =
+    subst (λ (u : Session). WorksBy {E = E} s (Ok r) u) (sym after)
+    (subst (λ (q : Option Next). WorksBy {E = E} s (Ok q) (session s.password s.deframer s.is_finished s.state (Over end))) (sym given)
     (by_parts (λ (u : Session). WorksBy {E = E} u (Ok (Some (next.End end))) (session s.password s.deframer s.is_finished s.state (Over end))) s s.is_finished Listen refl listens
-    (comes_to_end E s.password s.deframer s.is_finished s.state end none))))
+    (comes_to_end E s.password s.deframer s.is_finished s.state end none)))
 
-pub listens_to_close : (E : Type 0) (s t : Session) (pending : List ℕ) (r : Option Next) → s.task ≡ Listen → s.is_finished ≡ true → IsPart s.deframer × (pending ≡ s.deframer) → pending ≡ []
-    → r ≡ Some (next.End ending.Closed) → t ≡ session s.password pending s.is_finished s.state (Over ending.Closed) → WorksBy {E = E} s (Ok r) t
-listens_to_close E s t pending r listens finished (part, same) empty given after =
-    listens_to_end E s t pending ending.Closed r listens same
-    (subst (λ (b : Bool). NoFrame b s.deframer ending.Closed) (sym finished) (is_closed s.deframer part (sym same ∙ empty))) given after
+pub listens_to_close : (E : Type 0) (s t : Session) (h : Head) (r : Option Next) → s.task ≡ Listen → s.is_finished ≡ true → h ≡ head.Part → Fronts s.deframer h → s.deframer ≡ []
+    → r ≡ Some (next.End ending.Closed) → t ≡ session s.password s.deframer s.is_finished s.state (Over ending.Closed) → WorksBy {E = E} s (Ok r) t
+listens_to_close E s t h r listens finished is means empty given after =
+    listens_to_end E s t ending.Closed r listens
+    (subst (λ (b : Bool). NoFrame b s.deframer ending.Closed) (sym finished) (is_closed s.deframer (subst (Fronts s.deframer) is means) empty)) given after
 
-pub listens_to_cut : (E : Type 0) (s t : Session) (pending : List ℕ) (r : Option Next) → s.task ≡ Listen → s.is_finished ≡ true → IsPart s.deframer × (pending ≡ s.deframer) → pending ≢ []
-    → r ≡ Some (next.End ending.Cut) → t ≡ session s.password pending s.is_finished s.state (Over ending.Cut) → WorksBy {E = E} s (Ok r) t
-listens_to_cut E s t pending r listens finished (part, same) some given after =
-    listens_to_end E s t pending ending.Cut r listens same
-    (subst (λ (b : Bool). NoFrame b s.deframer ending.Cut) (sym finished) (is_cut s.deframer part (λ empty. some (same ∙ empty)))) given after
+pub listens_to_cut : (E : Type 0) (s t : Session) (h : Head) (r : Option Next) → s.task ≡ Listen → s.is_finished ≡ true → h ≡ head.Part → Fronts s.deframer h → s.deframer ≢ []
+    → r ≡ Some (next.End ending.Cut) → t ≡ session s.password s.deframer s.is_finished s.state (Over ending.Cut) → WorksBy {E = E} s (Ok r) t
+listens_to_cut E s t h r listens finished is means some given after =
+    listens_to_end E s t ending.Cut r listens
+    (subst (λ (b : Bool). NoFrame b s.deframer ending.Cut) (sym finished) (is_cut s.deframer (subst (Fronts s.deframer) is means) some)) given after
 
-pub listens_to_bad_version : (E : Type 0) (s t : Session) (pending : List ℕ) (r : Option Next) → s.task ≡ Listen → pending ≡ s.deframer → Stops head.BadVersion s.deframer
-    → r ≡ Some (next.End ending.BadVersion) → t ≡ session s.password pending s.is_finished s.state (Over ending.BadVersion) → WorksBy {E = E} s (Ok r) t
-listens_to_bad_version E s t pending r listens same stops given after =
-    listens_to_end E s t pending ending.BadVersion r listens same (is_bad_version s.is_finished s.deframer stops) given after
+pub listens_to_bad_version : (E : Type 0) (s t : Session) (h : Head) (r : Option Next) → s.task ≡ Listen → h ≡ head.BadVersion → Fronts s.deframer h
+    → r ≡ Some (next.End ending.BadVersion) → t ≡ session s.password s.deframer s.is_finished s.state (Over ending.BadVersion) → WorksBy {E = E} s (Ok r) t
+listens_to_bad_version E s t h r listens is means given after =
+    listens_to_end E s t ending.BadVersion r listens (is_bad_version s.is_finished s.deframer (subst (Fronts s.deframer) is means)) given after
 
-pub listens_to_too_long : (E : Type 0) (s t : Session) (pending : List ℕ) (r : Option Next) → s.task ≡ Listen → pending ≡ s.deframer → Stops head.TooLong s.deframer
-    → r ≡ Some (next.End ending.TooLong) → t ≡ session s.password pending s.is_finished s.state (Over ending.TooLong) → WorksBy {E = E} s (Ok r) t
-listens_to_too_long E s t pending r listens same stops given after =
-    listens_to_end E s t pending ending.TooLong r listens same (is_too_long s.is_finished s.deframer stops) given after
+pub listens_to_too_long : (E : Type 0) (s t : Session) (h : Head) (r : Option Next) → s.task ≡ Listen → h ≡ head.TooLong → Fronts s.deframer h
+    → r ≡ Some (next.End ending.TooLong) → t ≡ session s.password s.deframer s.is_finished s.state (Over ending.TooLong) → WorksBy {E = E} s (Ok r) t
+listens_to_too_long E s t h r listens is means given after =
+    listens_to_end E s t ending.TooLong r listens (is_too_long s.is_finished s.deframer (subst (Fronts s.deframer) is means)) given after
 
--- what a taking says where it gave no frame, and where it gave a fault
-pub none_taken : (old new : List ℕ) (taken : Option Frame) → taken ≡ None → TakesFirst old taken new → IsPart old × (new ≡ old)
-none_taken old new taken none takes = subst (λ (t : Option Frame). TakesFirst old t new) none takes
-
+-- what a feeding says where it gave a fault
 pub bad_version : (bytes : List ℕ) (f : WrapperFault) → f ≡ fault.Version → StopsBy f bytes → Stops head.BadVersion bytes
 bad_version bytes f is stops = subst (λ (g : WrapperFault). StopsBy g bytes) is stops
 
 pub too_long : (bytes : List ℕ) (f : WrapperFault) → f ≡ fault.TooLong → StopsBy f bytes → Stops head.TooLong bytes
 too_long bytes f is stops = subst (λ (g : WrapperFault). StopsBy g bytes) is stops
-
-pub one_taken : (old new : List ℕ) (taken : Option Frame) (frame : Frame) → taken ≡ Some frame → TakesFirst old taken new → IsFirst old frame new
-one_taken old new taken frame some takes = subst (λ (t : Option Frame). TakesFirst old t new) some takes
-
-pub goes_on_after : (old new : List ℕ) (taken : Option Frame) (frame : Frame) → taken ≡ Some frame → GoesOn old taken new → GoesOn old (Some frame) new
-goes_on_after old new taken frame some goes_on = subst (λ (t : Option Frame). GoesOn old t new) some goes_on
 
 -- ---- bytes come to any session
 
@@ -652,14 +655,6 @@ pub feeds_behind_length : (s : Session) (bytes pending : List ℕ) → s.is_fini
 feeds_behind_length s bytes pending goes_on same stops = feeds_behind s bytes pending ending.TooLong goes_on same (is_too_long false s.deframer stops)
 
 -- ---- the other tasks of any session
-
-pub hears_any : (E : Type 0) (s t : Session) (kept : State) (f : Frame) (st : Step) (r : Option Next) → s.task ≡ Hear f → step_outcome st ≡ outcome_at s.password s.state f
-    → kept ≡ state_after s.password s.state f None → r ≡ next_by st → t ≡ session s.password s.deframer s.is_finished kept (task_by st) → WorksBy {E = E} s (Ok r) t
-hears_any E s t kept f st r hearing outcome state given after =
-    subst (λ (u : Session). WorksBy {E = E} s (Ok r) u) (sym after)
-    (subst (λ (q : Option Next). WorksBy {E = E} s (Ok q) (session s.password s.deframer s.is_finished kept (task_by st))) (sym given)
-    (by_parts (λ (u : Session). WorksBy {E = E} u (Ok (next_by st)) (session s.password s.deframer s.is_finished kept (task_by st))) s s.is_finished (Hear f) refl hearing
-    (hears E s.password s.deframer s.is_finished s.state kept f st outcome state)))
 
 pub reads_any : (E : Type 0) (s t : Session) (joined : Joined) (st : Step) (r : Option Next) → s.task ≡ Read joined → step_outcome st ≡ whole_outcome joined → IsTrue (is_settled st)
     → r ≡ next_by st → t ≡ session s.password s.deframer s.is_finished s.state (task_by st) → WorksBy {E = E} s (Ok r) t
@@ -691,6 +686,10 @@ pub over_any : (E : Type 0) (s : Session) (end : SessionEnd) → s.task ≡ Over
 over_any E s end over =
     by_parts (λ (u : Session). WorksBy {E = E} u (Ok (Some (next.End end))) u) s s.is_finished (Over end) refl over (is_over E s.password s.deframer s.is_finished s.state end)
 
+-- a session that needs more input
+pub idles : (s : Session) (h : Head) → s.task ≡ Listen → s.is_finished ≡ false → h ≡ head.Part → Fronts s.deframer h → IsQuiet s
+idles s h listens goes_on is means = by_parts IsQuiet s false Listen goes_on listens (is_quiet s.password s.deframer s.state (subst (Fronts s.deframer) is means))
+
 -- the session is over, and says so again
 pub ends_again : (s : Session) (end : SessionEnd) → ended s ≡ Some end → s.task ≡ Over end
 unfolding ended
@@ -698,7 +697,6 @@ ends_again s end = over_by s.task end
   where
     over_by : (task : Task) (end : SessionEnd) → end_in task ≡ Some end → task ≡ Over end
     over_by Listen end e = absurd cc
-    over_by (Hear frame) end e = absurd cc
     over_by (Read joined) end e = absurd cc
     over_by (Await asked) end e = absurd cc
     over_by (Say due) end e = absurd cc
@@ -720,7 +718,6 @@ waits_again s = awaiting_by s.password s.deframer s.is_finished s.state s.task
   where
     awaiting_by : (password pending : List ℕ) (finished : Bool) (state : State) (task : Task) → awaits task ≡ true → IsAwaiting (session password pending finished state task)
     awaiting_by password pending finished state Listen e = absurd cc
-    awaiting_by password pending finished state (Hear frame) e = absurd cc
     awaiting_by password pending finished state (Read joined) e = absurd cc
     awaiting_by password pending finished state (Await asked) e = record { asking = refl; sends = λ more. refl }
     awaiting_by password pending finished state (Say due) e = absurd cc

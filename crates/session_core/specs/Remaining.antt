@@ -1,8 +1,8 @@
 -- What a session still does, by what it keeps, for every way that its input goes on and for every list of replies.
 --     still_asks, still_sends, still_ends     the events, the texts of the answers, and the end
---     is_asking, ended, is_finished           what it waits for
+--     is_asking, ended, is_finished, is_idle  what it waits for
 --     load                                    how much work is in what it keeps
-use Rattle.std.specs.Prelude.{ℕ, ◌+◌, Bool, true, false, if◌then◌else◌, Option, Some, None, option_to_list, List, [], ◌∷◌, ◌++◌, length}
+use Rattle.std.specs.Prelude.{ℕ, ◌+◌, ◌&&◌, not, Bool, true, false, if◌then◌else◌, Option, Some, None, option_to_list, List, [], ◌∷◌, ◌++◌, length}
 use Rattle.relay_core.specs.declared.event.Event.{Event}
 use Rattle.relay_core.specs.declared.event.Reply.{Reply}
 use Rattle.session_core.specs.Answers.{answer_text, due_text}
@@ -18,8 +18,11 @@ use Rattle.session_core.specs.declared.end.SessionEnd.{SessionEnd}
 use Rattle.session_core.specs.declared.session.Session.{Session}
 use Rattle.session_core.specs.declared.state.State.{State}
 use Rattle.session_core.specs.declared.task.Task.{Task}
-use Rattle.session_core.specs.declared.task.Task.TheVariants.{Listen, Hear, Read, Await, Say, Send, Over}
+use Rattle.session_core.specs.declared.task.Task.TheVariants.{Listen, Read, Await, Say, Send, Over}
+use Rattle.wrapper_frame.specs.Header.{head_of}
 use Rattle.wrapper_frame.specs.Messages.{frames_of}
+use Rattle.wrapper_frame.specs.declared.header.Head.{Head}
+use Rattle.wrapper_frame.specs.declared.header.Head.TheVariants.{Part, BadVersion, TooLong, Whole}
 use Rattle.wrapper_frame.specs.declared.parts.Frame.{Frame}
 
 -- the bytes that are not yet taken as frames: those that are pending, and unless the input has ended those that are to come
@@ -35,7 +38,6 @@ frames_ahead s more = to_server (frames_of (bytes_ahead s more))
 -- the events of a task, and of the frames after it
 abbrev pub asks_of : List ℕ → State → Task → List Frame → List Event
 asks_of password state Listen fs = asks_on password (known_in state) fs
-asks_of password state (Hear frame) fs = asks_on password (known_in state) (frame ∷ fs)
 asks_of password state (Read joined) fs = option_to_list (event_of (whole_outcome joined)) ++ asks_on password (known_in state) fs
 asks_of password state (Await asked) fs = asks_on password (known_in state) fs
 asks_of password state (Say due) fs = asks_on password (known_in state) fs
@@ -70,7 +72,6 @@ texts_after password state asked fs (reply ∷ replies) = reply_text asked reply
 -- the texts of a task, and of the frames after it
 abbrev pub texts_of : List ℕ → State → Task → List Frame → List Reply → List (List ℕ)
 texts_of password state Listen fs replies = answers_on password state fs replies
-texts_of password state (Hear frame) fs replies = answers_on password state (frame ∷ fs) replies
 texts_of password state (Read joined) fs replies = texts_from password state (whole_outcome joined) fs replies
 texts_of password state (Await asked) fs replies = texts_after password state asked fs replies
 texts_of password state (Say due) fs replies = due_text due.to (answer_text due.answer) ∷ answers_on password state fs replies
@@ -86,7 +87,6 @@ still_sends s more replies = texts_of s.password s.state s.task (frames_ahead s 
 -- how a task goes, where the input ends so
 abbrev pub ends_of : Task → SessionEnd → SessionEnd
 ends_of Listen end = end
-ends_of (Hear frame) end = end
 ends_of (Read joined) end = end
 ends_of (Await asked) end = end
 ends_of (Say due) end = end
@@ -101,7 +101,6 @@ still_ends s more = ends_of s.task (end_of (bytes_ahead s more))
 
 abbrev pub awaits : Task → Bool
 awaits Listen = false
-awaits (Hear frame) = false
 awaits (Read joined) = false
 awaits (Await asked) = true
 awaits (Say due) = false
@@ -114,7 +113,6 @@ is_asking s = awaits s.task
 
 abbrev pub end_in : Task → Option SessionEnd
 end_in Listen = None
-end_in (Hear frame) = None
 end_in (Read joined) = None
 end_in (Await asked) = None
 end_in (Say due) = None
@@ -129,12 +127,30 @@ ended s = end_in s.task
 unfoldable pub is_finished : Session → Bool
 is_finished s = s.is_finished
 
+abbrev pub listens : Task → Bool
+listens Listen = true
+listens (Read joined) = false
+listens (Await asked) = false
+listens (Say due) = false
+listens (Send text) = false
+listens (Over end) = false
+
+-- less than a frame is there, of which nothing is wrong so far
+abbrev pub is_part : Head → Bool
+is_part Part = true
+is_part BadVersion = false
+is_part TooLong = false
+is_part (Whole n) = false
+
+-- nothing is to be done before more input comes
+unfoldable pub is_idle : Session → Bool
+is_idle s = listens s.task && not s.is_finished && is_part (head_of s.deframer)
+
 -- ---- how much work is left
 
 -- each task is more work than what comes of it, and a frame has more bytes than its tasks are work
 abbrev pub task_load : Task → ℕ
 task_load Listen = 0
-task_load (Hear frame) = 5
 task_load (Read joined) = 4
 task_load (Await asked) = 3
 task_load (Say due) = 2

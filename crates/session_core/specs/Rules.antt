@@ -17,6 +17,7 @@ use Rattle.session_core.specs.Calls.{is_opening, is_call, call_of}
 use Rattle.session_core.specs.Incoming.{no_blocks, block_outcome_of, block_after, transfer_of, later_outcome, later_after, whole_outcome}
 use Rattle.session_core.specs.Outcome.{Outcome, Turn, asks, says, settled, continues}
 use Rattle.session_core.specs.Outgoing.{continued, continued_response, outgoing_by, reply_response}
+use Rattle.session_core.specs.Standard.{management_device}
 use Rattle.session_core.specs.declared.answer.Answer.{Answer}
 use Rattle.session_core.specs.declared.answer.Answer.TheVariants.{Association, Release, Service}
 use Rattle.session_core.specs.declared.asked.Asked.{Asked}
@@ -40,6 +41,10 @@ use Rattle.xdlms_apdu.specs.declared.response.Response.TheVariants as response
 use Rattle.xdlms_blocks.specs.Transfer.{Sending}
 
 -- ---- which frames are heard
+
+-- a frame for the server: the port that it comes from, and its payload
+abbrev pub heard_frame : ℕ → List ℕ → Frame
+heard_frame src payload = record { src = src; dst = management_device; payload = payload }
 
 -- a frame opens an association, or tries to
 abbrev pub opens : Frame → Bool

@@ -1,6 +1,8 @@
-ghost use Rattle.std.specs.Prelude.{◌≡◌, true, false, Some, IfOk, IfErr, OnOk, OnErr, Ok};
+ghost use Rattle.std.specs.Prelude.{◌≡◌, ◌≤◌, ◌+◌, length, true, false, Some, IfOk, IfErr, OnOk, OnErr, Ok};
 ghost use Rattle.acse_ber.specs.Password.{IsPassword};
 ghost use Rattle.session_core.specs.declared.task.Task.TheVariants.{Listen, Over};
+ghost use Rattle.wrapper_frame.specs.Header.{header_size, head_of};
+ghost use Rattle.wrapper_frame.specs.declared.header.Head.TheVariants.{Whole};
 
 use crate::answer::SERVER_PORT;
 use crate::end::SessionEnd;
@@ -14,7 +16,7 @@ use cosem_axdr::Octets;
 use relay_core::Reply;
 use std::alloc::{AllocError, Global};
 use std::mem::replace;
-use wrapper_frame::{Deframer, WrapperFault};
+use wrapper_frame::{Deframer, Head, WrapperFault};
 
 /// A client's session with the server, from the bytes that come to the frames that are sent.
 ///
@@ -30,8 +32,8 @@ pub struct Session {
 }
 
 impl Session {
-    ghost use Rattle.session_core.specs.Remaining.{is_asking, ended};
-    ghost use Rattle.session_core.specs.Progress.{Owes, Feeds, Finishes, StepsBy, Leaves, Takes, WorksBy, task_by, next_by};
+    ghost use Rattle.session_core.specs.Remaining.{is_asking, ended, is_idle};
+    ghost use Rattle.session_core.specs.Progress.{Owes, IsQuiet, Feeds, Finishes, StepsBy, Leaves, Takes, WorksBy, task_by, next_by};
 
     /// A session of which no byte has come. The management client has this password, 1 to 32 bytes.
     pub fn new(alloc: Global, password: &Octets) -> Result<Session, AllocError>
@@ -77,12 +79,7 @@ impl Session {
     {
         match &self.task {
             Task::Await(_) => true,
-            Task::Listen
-            | Task::Hear(_)
-            | Task::Read(_)
-            | Task::Say(_)
-            | Task::Send(_)
-            | Task::Over(_) => false,
+            Task::Listen | Task::Read(_) | Task::Say(_) | Task::Send(_) | Task::Over(_) => false,
         }
     }
 
@@ -133,12 +130,19 @@ impl Session {
     {
         match &self.task {
             Task::Over(end) => Some(*end),
-            Task::Listen
-            | Task::Hear(_)
-            | Task::Read(_)
-            | Task::Await(_)
-            | Task::Say(_)
-            | Task::Send(_) => None,
+            Task::Listen | Task::Read(_) | Task::Await(_) | Task::Say(_) | Task::Send(_) => None,
+        }
+    }
+
+    /// Whether `next` would only ask for more input.
+    #[tactic(auto, unfolding(crate::specs::Remaining::is_idle))]
+    pub fn is_idle(&self) -> bool
+        ensures idle { result ≡ is_idle self.now }
+        ensures quiet { result ≡ true → IsQuiet self.now }
+    {
+        match &self.task {
+            Task::Listen => !self.is_finished && matches!(self.deframer.front(), Head::Part),
+            Task::Read(_) | Task::Await(_) | Task::Say(_) | Task::Send(_) | Task::Over(_) => false,
         }
     }
 
@@ -150,10 +154,6 @@ impl Session {
     {
         match &self.task {
             Task::Listen => self.listen(alloc),
-            Task::Hear(frame) => {
-                let step = self.state.hear(alloc, &self.password, frame)?;
-                Ok(self.take(step))
-            }
             Task::Read(joined) => {
                 let step = joined.read(alloc)?;
                 Ok(self.take(step))
@@ -174,26 +174,41 @@ impl Session {
         }
     }
 
-    // Takes the next frame. Those for other ports are passed over.
+    // Takes what stands at the front of the input.
     #[tactic(auto, unfolding(crate::specs::Remaining::is_asking))]
     fn listen(&mut self, alloc: Global) -> Result<Option<Next>, AllocError>
         requires { self.now.task ≡ Listen }
         ensures works { WorksBy self.old result self.new }
         ensures silent { OnErr result (is_asking self.new ≡ false) }
     {
-        match self.deframer.take(alloc) {
-            Ok(Some(frame)) if frame.dst == SERVER_PORT => {
-                self.turn_to(Task::Hear(frame));
-                Ok(None)
-            }
-            Ok(Some(_)) => Ok(None),
-            Ok(None) if !self.is_finished => Ok(Some(Next::Wait)),
-            Ok(None) if self.deframer.is_empty() => Ok(self.end(SessionEnd::Closed)),
-            Ok(None) => Ok(self.end(SessionEnd::Cut)),
-            Err(WrapperFault::Version) => Ok(self.end(SessionEnd::BadVersion)),
-            Err(WrapperFault::TooLong) => Ok(self.end(SessionEnd::TooLong)),
-            Err(WrapperFault::Memory) => Err(AllocError),
+        match self.deframer.front() {
+            Head::Whole(size) => self.hear(alloc, size),
+            Head::Part if !self.is_finished => Ok(Some(Next::Wait)),
+            Head::Part if self.deframer.is_empty() => Ok(self.end(SessionEnd::Closed)),
+            Head::Part => Ok(self.end(SessionEnd::Cut)),
+            Head::BadVersion => Ok(self.end(SessionEnd::BadVersion)),
+            Head::TooLong => Ok(self.end(SessionEnd::TooLong)),
         }
+    }
+
+    // Hears the frame at the front, whose payload has so many bytes. One for another port is passed over.
+    #[tactic(auto, unfolding(crate::specs::Remaining::is_asking))]
+    fn hear(&mut self, alloc: Global, size: usize) -> Result<Option<Next>, AllocError>
+        requires listening { self.now.task ≡ Listen }
+        requires whole { head_of self.now.deframer ≡ Whole size }
+        requires there { header_size + size ≤ length self.now.deframer }
+        ensures works { WorksBy self.old result self.new }
+        ensures silent { OnErr result (is_asking self.new ≡ false) }
+    {
+        let (src, dst) = self.deframer.ports();
+        if dst != SERVER_PORT {
+            self.deframer.pass(size);
+            return Ok(None);
+        }
+        let payload = self.deframer.payload(size);
+        let step = self.state.hear(alloc, &self.password, src, payload)?;
+        self.deframer.pass(size);
+        Ok(self.take(step))
     }
 
     // The session is over.

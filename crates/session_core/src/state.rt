@@ -1,7 +1,7 @@
 ghost use Rattle.std.specs.Prelude.{◌≡◌, ◌≤◌, Some, None, length, true, false, IfOk, OnOk, OnErr};
 ghost use Rattle.acse_ber.specs.Reading.{aarq_of};
 ghost use Rattle.session_core.specs.Association.{opened_by};
-ghost use Rattle.session_core.specs.Rules.{opening_answer};
+ghost use Rattle.session_core.specs.Rules.{heard_frame, opening_answer};
 ghost use Rattle.session_core.specs.Calls.{call_of};
 ghost use Rattle.session_core.specs.Incoming.{block_outcome_of, block_after, no_blocks, transfer_of, later_outcome, later_after};
 ghost use Rattle.session_core.specs.declared.answer.Answer.TheVariants.{Service};
@@ -18,7 +18,6 @@ use crate::step::Step;
 use acse_ber::{AcseFault, judge, read_aarq};
 use relay_core::Event;
 use std::alloc::{AllocError, Global};
-use wrapper_frame::Frame;
 use xdlms_apdu::{Block, Exception, InvokeId, Request};
 use xdlms_blocks::JoinBlocks;
 
@@ -31,7 +30,7 @@ pub(crate) struct State {
 }
 
 impl State {
-    ghost use Rattle.session_core.specs.Rules.{outcome_at, state_after, state_by_call, step_outcome, resolved, call_turn, request_turn};
+    ghost use Rattle.session_core.specs.Rules.{heard_frame, outcome_at, state_after, state_by_call, step_outcome, resolved, call_turn, request_turn};
     ghost use Rattle.session_core.specs.Outcome.{asks, says};
     ghost use Rattle.session_core.specs.Outgoing.{continued, continued_response};
 
@@ -46,28 +45,28 @@ impl State {
         }
     }
 
-    /// Takes in a frame. Want of memory changes nothing.
+    /// Takes in a frame for the server. Want of memory changes nothing.
     #[tactic(auto, unfolding(crate::specs::Rules::turn_of, crate::specs::Rules::link_after, crate::specs::Rules::incoming_after, crate::specs::Rules::outgoing_after))]
     pub(crate) fn hear(
         &mut self,
         alloc: Global,
         password: &Password,
-        frame: &Frame,
+        src: u16,
+        payload: &[u8],
     ) -> Result<Step, AllocError>
-        ensures outcome { IfOk result (λ step. step_outcome step ≡ outcome_at password.now self.old frame.now) }
-        ensures after { OnOk result (self.new ≡ state_after password.now self.old frame.now None) }
+        ensures outcome { IfOk result (λ step. step_outcome step ≡ outcome_at password.now self.old (heard_frame src payload.now)) }
+        ensures after { OnOk result (self.new ≡ state_after password.now self.old (heard_frame src payload.now) None) }
         ensures err { OnErr result (self.new ≡ self.old) }
     {
-        let payload = frame.payload.as_slice();
         if has_tag(AARQ, payload) {
-            return self.open(alloc, password, frame);
+            return self.open(alloc, password, src, payload);
         }
         if !is_call(payload) {
-            return Ok(Step::Say(Due::exception(frame.src, Exception::Unknown)));
+            return Ok(Step::Say(Due::exception(src, Exception::Unknown)));
         }
         match self.link {
-            Some(link) if link.source == frame.src => self.call(alloc, link, payload),
-            Some(_) | None => Ok(Step::Say(Due::exception(frame.src, Exception::NotAllowed))),
+            Some(link) if link.source == src => self.call(alloc, link, payload),
+            Some(_) | None => Ok(Step::Say(Due::exception(src, Exception::NotAllowed))),
         }
     }
 
@@ -76,13 +75,14 @@ impl State {
         &mut self,
         alloc: Global,
         password: &Password,
-        frame: &Frame,
+        src: u16,
+        payload: &[u8],
     ) -> Result<Step, AllocError>
-        ensures outcome { IfOk result (λ step. step_outcome step ≡ says frame.now.src (opening_answer password.now frame.now.src (aarq_of frame.now.payload))) }
-        ensures after { OnOk result (self.new ≡ record { link = opened_by password.now frame.now; incoming = None; outgoing = None }) }
+        ensures outcome { IfOk result (λ step. step_outcome step ≡ says src (opening_answer password.now src (aarq_of payload.now))) }
+        ensures after { OnOk result (self.new ≡ record { link = opened_by password.now (heard_frame src payload.now); incoming = None; outgoing = None }) }
         ensures err { OnErr result (self.new ≡ self.old) }
     {
-        let (link, due) = read_opening(alloc, password, frame)?;
+        let (link, due) = read_opening(alloc, password, src, payload)?;
         *self = State {
             link,
             incoming: None,
@@ -253,23 +253,22 @@ impl State {
 fn read_opening(
     alloc: Global,
     password: &Password,
-    frame: &Frame,
+    src: u16,
+    payload: &[u8],
 ) -> Result<(Option<Link>, Due), AllocError>
-    ensures link { IfOk result (λ opening. opening.0 ≡ opened_by password.now frame.now) }
-    ensures to { IfOk result (λ opening. opening.1.to ≡ frame.now.src) }
-    ensures answer { IfOk result (λ opening. opening.1.answer ≡ opening_answer password.now frame.now.src (aarq_of frame.now.payload)) }
+    ensures link { IfOk result (λ opening. opening.0 ≡ opened_by password.now (heard_frame src payload.now)) }
+    ensures to { IfOk result (λ opening. opening.1.to ≡ src) }
+    ensures answer { IfOk result (λ opening. opening.1.answer ≡ opening_answer password.now src (aarq_of payload.now)) }
 {
-    match read_aarq(alloc, frame.payload.as_slice()) {
+    match read_aarq(alloc, payload) {
         Ok(aarq) => {
-            let verdict = judge(&aarq, frame.src, password.octets());
+            let verdict = judge(&aarq, src, password.octets());
             Ok((
-                opened(frame.src, verdict),
-                Due::association(frame.src, answer_to(verdict)),
+                opened(src, verdict),
+                Due::association(src, answer_to(verdict)),
             ))
         }
-        Err(AcseFault::Unreadable) => {
-            Ok((None, Due::exception(frame.src, Exception::Unreadable)))
-        }
+        Err(AcseFault::Unreadable) => { Ok((None, Due::exception(src, Exception::Unreadable))) }
         Err(AcseFault::Memory) => Err(AllocError),
     }
 }

@@ -3,15 +3,12 @@ use crate::due::Due;
 use crate::end::SessionEnd;
 use crate::joined::Joined;
 use cosem_axdr::Octets;
-use wrapper_frame::Frame;
 
 /// What a session does next.
 #[derive(Debug, Drop)]
 pub(crate) enum Task {
     /// It takes the next frame.
     Listen,
-    /// It judges a frame.
-    Hear(Frame),
     /// It reads the value that came in blocks.
     Read(Joined),
     /// It awaits the reply to an event.

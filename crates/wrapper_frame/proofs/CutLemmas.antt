@@ -6,7 +6,7 @@ use Rattle.wrapper_frame.specs.declared.header.Head.{Head}
 use Rattle.wrapper_frame.specs.declared.header.Head.TheVariants.{Part, BadVersion, TooLong, Whole}
 use Rattle.wrapper_frame.specs.Header.{header_size, head_of}
 use Rattle.wrapper_frame.specs.Messages.{Cut, first_frame, after_first, cut_after, cut_by, cut_in, frames_of, rest_of}
-use Rattle.wrapper_frame.specs.Stream.{IsFirst, IsPart, GoesOn, Stops}
+use Rattle.wrapper_frame.specs.Stream.{IsFirst, IsPart, GoesOn, Stops, Fronts}
 use Rattle.wrapper_frame.proofs.FrontLemmas.{whole_parts, field_more, whole_more, version_more, long_more, part_few}
 
 -- bytes with no frame at their front
@@ -131,3 +131,18 @@ stops_version bytes h = stops_at BadVersion bytes (λ n e. cc) (λ more. version
 
 pub stops_long : (bytes : List ℕ) → head_of bytes ≡ TooLong → Stops TooLong bytes
 stops_long bytes h = stops_at TooLong bytes (λ n e. cc) (λ more. long_more bytes more h)
+
+-- a whole frame at the front is there
+pub whole_there : (bytes : List ℕ) (n : ℕ) → head_of bytes ≡ Whole n → header_size + n ≤ length bytes
+whole_there bytes n h = (whole_parts bytes n h).there
+
+-- what was left after a first frame
+pub goes_on_as : (bytes : List ℕ) (n : ℕ) (new : List ℕ) → head_of bytes ≡ Whole n → new ≡ after_first n bytes → GoesOn bytes (Some (first_frame n bytes)) new
+goes_on_as bytes n new h e = subst (λ (rest : List ℕ). GoesOn bytes (Some (first_frame n bytes)) rest) (sym e) (goes_on bytes n h)
+
+-- what a front means
+pub fronts : (bytes : List ℕ) (front : Head) → front ≡ head_of bytes → Fronts bytes front
+fronts bytes Part e = is_part bytes (sym e)
+fronts bytes BadVersion e = stops_version bytes (sym e)
+fronts bytes TooLong e = stops_long bytes (sym e)
+fronts bytes (Whole n) e = whole_there bytes n (sym e)

@@ -1,5 +1,5 @@
 -- What a Deframer does to the bytes that it holds, and what that means for every text that they begin.
-use Rattle.std.specs.Prelude.{◌≡◌, ℕ, ◌+◌, ◌<◌, List, [], ◌++◌, length, Option, Some, None, option_to_list}
+use Rattle.std.specs.Prelude.{◌≡◌, ℕ, ◌+◌, ◌<◌, ◌≤◌, List, [], ◌++◌, length, Option, Some, None, option_to_list}
 use Rattle.wrapper_frame.specs.declared.parts.Frame.{Frame}
 use Rattle.wrapper_frame.specs.declared.fault.WrapperFault.{WrapperFault}
 use Rattle.wrapper_frame.specs.declared.fault.WrapperFault.TheVariants as fault
@@ -42,3 +42,10 @@ abbrev pub StopsBy : WrapperFault → List ℕ → Type 0
 StopsBy fault.Version bytes = Stops BadVersion bytes
 StopsBy fault.TooLong bytes = Stops TooLong bytes
 StopsBy fault.Memory bytes = Unit {0}
+
+-- what stands at the front means this of every text that the bytes begin; a whole frame is there
+abbrev pub Fronts : List ℕ → Head → Type 0
+Fronts bytes Part = IsPart bytes
+Fronts bytes BadVersion = Stops BadVersion bytes
+Fronts bytes TooLong = Stops TooLong bytes
+Fronts bytes (Whole n) = header_size + n ≤ length bytes

@@ -1,7 +1,8 @@
-ghost use Rattle.std.specs.Prelude.{◌≡◌, ◌↔◌, [], ◌++◌, IsTrue, IfOk, IfErr, OnOk, OnErr, IsErrOf};
-ghost use Rattle.wrapper_frame.specs.Header.{head_of};
-ghost use Rattle.wrapper_frame.specs.Stream.{TakesFirst, GoesOn, StopsBy};
-ghost use Rattle.wrapper_frame.specs.declared.header.Head.TheVariants.{BadVersion, TooLong};
+ghost use Rattle.std.specs.Prelude.{◌≡◌, ◌≤◌, ◌+◌, ◌↔◌, [], ◌++◌, length, take, drop, Some, IsTrue, IfOk, IfErr, OnOk, OnErr, IsErrOf};
+ghost use Rattle.wrapper_frame.specs.Header.{header_size, src_of, dst_of, head_of};
+ghost use Rattle.wrapper_frame.specs.Messages.{first_frame, after_first};
+ghost use Rattle.wrapper_frame.specs.Stream.{Fronts, TakesFirst, GoesOn, StopsBy};
+ghost use Rattle.wrapper_frame.specs.declared.header.Head.TheVariants.{BadVersion, TooLong, Whole};
 
 use crate::fault::WrapperFault;
 use crate::header::{DST_AT, HEADER_SIZE, Head, SRC_AT, judge};
@@ -74,6 +75,47 @@ impl Deframer {
         Ok(())
     }
 
+    /// What stands at the front of the pending bytes.
+    #[tactic(auto, using(crate::proofs::CutLemmas::fronts))]
+    pub fn front(&self) -> Head
+        ensures head { result ≡ head_of self.now }
+        ensures means { Fronts self.now result }
+    {
+        let pending = self.pending.as_slice();
+        judge(pending)
+    }
+
+    /// The ports in the header at the front: the source, then the destination.
+    pub fn ports(&self) -> (u16, u16)
+        requires { header_size ≤ length self.now }
+        ensures src { result.0 ≡ src_of self.now }
+        ensures dst { result.1 ≡ dst_of self.now }
+    {
+        let header = self.pending.as_slice();
+        (
+            BigEndian::read_u16(&header[SRC_AT..]),
+            BigEndian::read_u16(&header[DST_AT..]),
+        )
+    }
+
+    /// The payload of so many bytes behind the header at the front, where it lies.
+    pub fn payload(&self, size: usize) -> &[u8]
+        requires { header_size + size ≤ length self.now }
+        ensures { result.now ≡ take size (drop header_size self.now) }
+    {
+        &self.pending.as_slice()[HEADER_SIZE..HEADER_SIZE + size]
+    }
+
+    /// Lets the frame at the front go, whose payload has so many bytes.
+    #[tactic(auto, using(crate::proofs::CutLemmas::whole_there))]
+    pub fn pass(&mut self, size: usize)
+        requires { head_of self.old ≡ Whole size }
+        ensures after { self.new ≡ after_first size self.old }
+        ensures goes_on { GoesOn self.old (Some (first_frame size self.old)) self.new }
+    {
+        self.pending.advance(HEADER_SIZE + size);
+    }
+
     /// Takes the first frame, or says that part of one is pending. After a fault all stands as before.
     #[tactic(auto, using(crate::proofs::CutLemmas::is_part, crate::proofs::CutLemmas::stops_version, crate::proofs::CutLemmas::stops_long))]
     pub fn take(&mut self, alloc: Global) -> Result<Option<Frame>, WrapperFault>
@@ -97,7 +139,7 @@ impl Deframer {
                     dst: BigEndian::read_u16(&bytes[DST_AT..]),
                     payload: Octets::from_slice(alloc, &bytes[HEADER_SIZE..HEADER_SIZE + size])?,
                 };
-                self.pending.advance(HEADER_SIZE + size);
+                self.pass(size);
                 Ok(Some(frame))
             }
         }

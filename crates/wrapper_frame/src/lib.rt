@@ -13,7 +13,7 @@ mod text;
 
 pub use deframer::Deframer;
 pub use fault::WrapperFault;
-pub use header::HEADER_SIZE;
+pub use header::{HEADER_SIZE, Head};
 pub use law::one_reading;
 pub use parts::Frame;
 pub use text::frame;

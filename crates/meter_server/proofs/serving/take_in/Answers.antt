@@ -1,5 +1,5 @@
-use Rattle.std.proofs.Common.{[]}
-use Rattle.meter_server.proofs.Reaching.{reached_none, steps_none, starved_by}
+use Rattle.std.proofs.Common.{refl, []}
+use Rattle.meter_server.proofs.Reaching.{reached_none, settled_by_feeding, steps_none, starved_by}
 use Rattle.meter_server.proofs.serving.take_in.Goals as goal
 
 pub returns-in_err-feed-clause-err : goal.returns-in_err-feed-clause-err
@@ -9,3 +9,8 @@ returns-in_err-feed-clause-err g c =
     let failed = g.W.Writer.failures c.args.writer.now in
     starved_by [] c.args.bytes.now s s c.args.meter.now written failed failed c.from_residual.result
     (reached_none s c.args.meter.now written) (steps_none s) c.from_residual.ensures.1
+
+pub returns-then-is_idle-clause-ok : goal.returns-then-is_idle-clause-ok
+returns-then-is_idle-clause-ok g c =
+    settled_by_feeding g.M.Meter.steps _ c.args.session.now c.feed.new.self c.args.bytes.now c.args.meter.now (g.W.Writer.contents c.args.writer.now)
+    c.in_ok-feed.ensures.ok (c.if-is_idle.ensures.quiet refl)

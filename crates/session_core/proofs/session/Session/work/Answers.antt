@@ -1,17 +1,12 @@
 use Rattle.std.specs.contracts.alloc.AllocError.{the_row}
 use Rattle.std.proofs.Common.{ℕ, sym, ◌∙◌}
-use Rattle.session_core.proofs.Tasks.{hears_any, reads_any, awaits_any, says_any, gives_any, over_any}
+use Rattle.session_core.proofs.Tasks.{reads_any, awaits_any, says_any, gives_any, over_any}
 use Rattle.session_core.proofs.session.Session.work.Goals as goal
-
-pub returns-in_ok-step-in-Hear-clause-works : goal.returns-in_ok-step-in-Hear-clause-works
-returns-in_ok-step-in-Hear-clause-works c =
-    hears_any the_row.Denot c.args.self.now c.take.new.self c.hear.new.self c.in-Hear.frame c.in_ok-step-in-Hear.step c.take.result c.in-Hear.is c.in_ok-step-in-Hear.ensures.outcome c.in_ok-step-in-Hear.ensures.after
-    c.take.ensures.next c.take.ensures.after
 
 pub returns-in_ok-step-in-Read-clause-works : goal.returns-in_ok-step-in-Read-clause-works
 returns-in_ok-step-in-Read-clause-works c =
-    reads_any the_row.Denot c.args.self.now c.take-in-Read.new.self c.in-Read.joined c.in_ok-step-in-Read.step c.take-in-Read.result c.in-Read.is c.in_ok-step-in-Read.ensures.outcome
-    c.in_ok-step-in-Read.ensures.settled c.take-in-Read.ensures.next c.take-in-Read.ensures.after
+    reads_any the_row.Denot c.args.self.now c.take.new.self c.in-Read.joined c.in_ok-step-in-Read.step c.take.result c.in-Read.is c.in_ok-step-in-Read.ensures.outcome
+    c.in_ok-step-in-Read.ensures.settled c.take.ensures.next c.take.ensures.after
 
 pub returns-in-Await-clause-works : goal.returns-in-Await-clause-works
 returns-in-Await-clause-works c = awaits_any ℕ c.args.self.now c.in-Await.field-0 c.in-Await.is
