@@ -4,7 +4,7 @@ use Rattle.std.proofs.lemmas.Bool.Decides.{nat_tests}
 use Rattle.byte_reading.specs.Outcome.{◌>>=◌}
 use Rattle.cosem_names.specs.declared.objects.Which.{Which}
 use Rattle.cosem_names.specs.declared.objects.Which.TheVariants.{Import, Export}
-use Rattle.trace_lines.specs.OpeningReading.{limits_from, emergency_from, runs_from, limiter_from, export_from, switch_from, schedules_from, opening_in, opening_from}
+use Rattle.trace_lines.specs.OpeningReading.{limiter_from, export_from, schedules_from, opening_with, opening_in, opening_from}
 use Rattle.trace_lines.specs.Places.{Place, place_of, line_as, passed, first_as, nothing_left, ended_at}
 use Rattle.trace_lines.specs.Rows.{Row}
 use Rattle.trace_lines.specs.declared.fault.RowFault.{RowFault}
@@ -59,35 +59,17 @@ unfolding ended_at
 ended_other place x e = left_other place.number place.rows place.unended x e
 
 -- the opening
-limits_other : (which : Which) (place : Place) → IsOther (limits_from which place)
-unfolding limits_from
-limits_other which place =
-    then_other _ _ (line_other _ place) (λ normal. then_other _ _ (line_other _ normal.1) (λ emergency. then_other _ _ (line_other _ emergency.1) (λ over.
-    then_other _ _ (line_other _ over.1) (λ under. value_other _))))
-
-emergency_other : (which : Which) (place : Place) → IsOther (emergency_from which place)
-unfolding emergency_from
-emergency_other which place =
-    then_other _ _ (line_other _ place) (λ profile. then_other _ _ (line_other _ profile.1) (λ groups. then_other _ _ (line_other _ groups.1) (λ actions. value_other _)))
-
-runs_other : (which : Which) (last : ℕ) (place : Place) → IsOther (runs_from which last place)
-unfolding runs_from
-runs_other which last place = then_other _ _ (line_other _ place) (λ over. then_other _ _ (line_other _ over.1) (λ under. value_other _))
-
 limiter_other : (which : Which) (last : ℕ) (place : Place) → IsOther (limiter_from which last place)
 unfolding limiter_from
 limiter_other which last place =
-    then_other _ _ (limits_other which place) (λ limits. then_other _ _ (emergency_other which limits.1) (λ emergency. then_other _ _ (runs_other which last emergency.1) (λ runs. value_other _)))
+    then_other _ _ (line_other _ place) (λ normal. then_other _ _ (line_other _ normal.1) (λ emergency. then_other _ _ (line_other _ emergency.1) (λ min_over.
+    then_other _ _ (line_other _ min_over.1) (λ min_under. then_other _ _ (line_other _ min_under.1) (λ profile. then_other _ _ (line_other _ profile.1) (λ groups.
+    then_other _ _ (line_other _ groups.1) (λ actions. then_other _ _ (line_other _ actions.1) (λ over. then_other _ _ (line_other _ over.1) (λ under. value_other _)))))))))
 
 export_other : (version : Version) (place : Place) → IsOther (export_from version place)
 unfolding export_from
 export_other One place = value_other _
 export_other Two place = then_other _ _ (line_other _ place) (λ last. limiter_other Export last.0 last.1)
-
-switch_other : (place : Place) → IsOther (switch_from place)
-unfolding switch_from
-switch_other place =
-    then_other _ _ (line_other _ place) (λ device. then_other _ _ (line_other _ device.1) (λ state. then_other _ _ (line_other _ state.1) (λ mode. value_other _)))
 
 schedules_other : (place : Place) → IsOther (schedules_from place)
 unfolding schedules_from
@@ -96,11 +78,12 @@ schedules_other place =
     then_other _ _ (line_other _ third.1) (λ fourth. value_other _))))
 
 behind_version_other : (version : Version) (place : Place) → IsOther (opening_in version place)
-unfolding opening_in
+unfolding opening_in opening_with
 behind_version_other version place =
-    then_other _ _ (switch_other place) (λ switch. then_other _ _ (line_other _ switch.1) (λ last. then_other _ _ (line_other _ last.1) (λ moment.
+    then_other _ _ (line_other _ place) (λ device. then_other _ _ (line_other _ device.1) (λ state. then_other _ _ (line_other _ state.1) (λ mode.
+    then_other _ _ (line_other _ mode.1) (λ last. then_other _ _ (line_other _ last.1) (λ moment.
     then_other _ _ (limiter_other Import last.0 moment.1) (λ import. then_other _ _ (export_other version import.1) (λ export. then_other _ _ (line_other _ export.1) (λ scripts.
-    then_other _ _ (schedules_other scripts.1) (λ schedules. value_other _)))))))
+    then_other _ _ (schedules_other scripts.1) (λ schedules. value_other _)))))))))
 
 opening_other : (place : Place) → IsOther (opening_from place)
 unfolding opening_from
