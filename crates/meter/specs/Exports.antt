@@ -2,7 +2,7 @@
 --     OnOpen        a call on a meter that is open, or that tells that it is not
 --     OpensTo       a meter is opened
 --     FedTo, ..     the calls of a meter, with the numbers that C is told
-use Rattle.std.specs.Prelude.{◌≡◌, ◌≤◌, ◌<◌, ℕ, Bool, false, Option, Some, None, List, length, Result, Ok, Err}
+use Rattle.std.specs.Prelude.{◌≡◌, ◌⊎◌, ◌≤◌, ◌<◌, ◌++◌, ℕ, ⊤, Bool, Option, Some, None, List, [], ◌∷◌, length, drop, Result, Ok, Err}
 use Rattle.cosem_names.specs.ResultCode as result_code
 use Rattle.cosem_names.specs.declared.result_code.ResultCode.{ResultCode}
 use Rattle.disconnect_control.specs.declared.state.ControlState.TheVariants.{Connected}
@@ -12,16 +12,20 @@ use Rattle.meter.specs.Outcomes.{code_of, of_fault, of_done, of_given, length_of
 use Rattle.meter.specs.declared.events.Firings.{Firings}
 use Rattle.meter.specs.declared.outcome.Outcome.{Outcome}
 use Rattle.meter.specs.declared.outcome.Outcome.TheVariants as outcome
+use Rattle.meter_serving.specs.Ending.{TellsRun}
 use Rattle.relay_core.specs.declared.event.Event.TheVariants.{Button}
 use Rattle.relay_core.specs.declared.event.Reply.TheVariants.{Code}
 use Rattle.relay_core.specs.Stands.{StandsFor}
 use Rattle.relay_core.specs.World.{World}
-use Rattle.supply_meter.specs.Calls.{IsNew, OpensBy, FeedsBy, FinishesBy, NextBy, ClosesBy, SamplesBy, TakesMoment}
+use Rattle.supply_meter.specs.Calls.{IsNew, Resumes, OpensBy, FeedsBy, FinishesBy, NextBy, ClosesBy, SamplesBy, TakesMoment}
+use Rattle.relay_recorder.specs.Recording.{Recording}
 use Rattle.supply_meter.specs.Meterings.{Metering, Takes}
 use Rattle.supply_meter.specs.declared.fault.MeterFault.{MeterFault}
 use Rattle.supply_meter.specs.declared.given.Fired.{Fired}
 use Rattle.supply_meter.specs.declared.given.Given.{Given}
 use Rattle.supply_meter.specs.declared.given.Tick.{Tick}
+use Rattle.trace_lines.specs.declared.fault.TraceFault.{TraceFault}
+use Rattle.trace_player.specs.Traces.{trace_of}
 
 -- a call on the meter of a handle: where it is not open that is told, and what `shut` says
 abbrev pub OnOpen : (shut : Type 0) (does : Metering → ℕ → Metering → Type 0) → Option Metering → ℕ → Option Metering → Type 0
@@ -53,6 +57,25 @@ OpensTo name password kept (Some m) _ new = ⊥
 pub record OpenedTo (name password : List ℕ) (kept : ℕ) (old : Option Metering) (code : ℕ) (new : Option Metering) : Type 0 where
   pub outcome : Outcome
   pub does : OpensTo name password kept old outcome new
+  pub told : code ≡ code_of outcome
+
+-- a text that no trace has
+pub record IsNoTrace (text : List ℕ) : Type 0 where
+  pub fault : TraceFault
+  pub told : trace_of text ≡ Err fault
+
+-- how a meter goes on from the text of a trace
+abbrev pub ResumesTo : List ℕ → List ℕ → ℕ → Option Metering → Outcome → Option Metering → Type 0
+ResumesTo text password kept None outcome.Done (Some m) = Resumes text password kept m
+ResumesTo text password kept None outcome.WrongArgument None = (¬ (AreFit (0 ∷ []) password kept)) ⊎ IsNoTrace text
+ResumesTo text password kept None outcome.NoMemory None = ⊤
+ResumesTo text password kept None _ new = ⊥
+ResumesTo text password kept (Some m) outcome.IsOpen new = new ≡ Some m
+ResumesTo text password kept (Some m) _ new = ⊥
+
+pub record ResumedTo (text password : List ℕ) (kept : ℕ) (old : Option Metering) (code : ℕ) (new : Option Metering) : Type 0 where
+  pub outcome : Outcome
+  pub does : ResumesTo text password kept old outcome new
   pub told : code ≡ code_of outcome
 
 -- ---- sessions
@@ -158,3 +181,33 @@ pub record MomentTo (moment : ℕ) (m : Metering) (code : ℕ) (m' : Metering) :
   pub same : m' ≡ m
   pub told : (w : World) → StandsFor m.recorder.core w → code ≡ code_of (tells_moment w.moment)
   pub tells_of : (w : World) → StandsFor m.recorder.core w → moment ≡ moment_of w.moment
+
+-- ---- the trace
+
+-- the text was written into the buffer, or its length told
+abbrev pub WritesText : List ℕ → List ℕ → List ℕ → ℕ → Outcome → Type 0
+WritesText text buffer buffer' count outcome.Done = (buffer' ≡ text ++ drop count buffer) × (count ≡ length text)
+WritesText text buffer buffer' count outcome.NoRoom = (buffer' ≡ buffer) × (count ≡ length text) × (length buffer < count)
+WritesText text buffer buffer' count _ = ⊥
+
+-- the same by the result of writing the text down
+abbrev pub WritesBy : {E : Type 0} → Result (List ℕ) E → List ℕ → List ℕ → ℕ → Outcome → Type 0
+WritesBy (Ok text) buffer buffer' count outcome = WritesText text buffer buffer' count outcome
+WritesBy (Err error) buffer buffer' count outcome.NoMemory = (buffer' ≡ buffer) × (count ≡ 0)
+WritesBy (Err error) buffer buffer' count _ = ⊥
+
+-- a trace was told
+pub record TellsTrace (r : Recording) (buffer buffer' : List ℕ) (count : ℕ) (outcome : Outcome) : Type 0 where
+  pub text : List ℕ
+  pub tells : TellsRun r text
+  pub writes : WritesText text buffer buffer' count outcome
+
+abbrev pub ExportsTo : Recording → List ℕ → List ℕ → ℕ → Outcome → Type 0
+ExportsTo r buffer buffer' count outcome.NoMemory = (buffer' ≡ buffer) × (count ≡ 0)
+ExportsTo r buffer buffer' count outcome = TellsTrace r buffer buffer' count outcome
+
+pub record ExportedTo (buffer buffer' : List ℕ) (count : ℕ) (m : Metering) (code : ℕ) (m' : Metering) : Type 0 where
+  pub same : m' ≡ m
+  pub outcome : Outcome
+  pub does : ExportsTo m.recorder buffer buffer' count outcome
+  pub told : code ≡ code_of outcome

@@ -1,5 +1,5 @@
 -- Whether a slot is held.
-use Rattle.std.specs.Prelude.{◌≡◌, Bool, true, false, Option, Some, None}
+use Rattle.std.specs.Prelude.{Bool, true, false, Option, Some, None}
 use Rattle.std.specs.Prelude.{Option}
 
 abbrev pub is_held : {X : Type 0} → Option X → Bool

@@ -43,8 +43,8 @@ fn open(alloc: Global, meter: &mut Meter, name: &[u8], password: &[u8], kept_eve
     }
 }
 
-// Whether the lengths of the arguments lie in their ranges.
-fn are_fit(name: &[u8], password: &[u8], kept_events: u16) -> bool
+/// Whether the lengths of the arguments lie in their ranges.
+pub(crate) fn are_fit(name: &[u8], password: &[u8], kept_events: u16) -> bool
     ensures { IsTrue result ↔ AreFit name.now password.now kept_events }
 {
     1 <= name.len()

@@ -1,15 +1,18 @@
 -- What the calls of a meter do.
---     IsNew                           a new meter
+--     IsNew, Resumes                  a new meter, and one that goes on from a trace
 --     OpensBy, ClosesBy               a session is opened, or let go
 --     FeedsBy, FinishesBy, NextBy     what a session of the meter does
 --     SamplesBy, TakesMoment          samples and moments
 use Rattle.std.specs.Prelude.{◌≡◌, ◌≢◌, ◌≤◌, ◌<◌, ℕ, None, List, [], length, Result, Ok, Err, IfSome}
 use Rattle.lane_sampler.specs.Samples.{Samples, AreEven, most_values}
+use Rattle.meter_serving.specs.Resuming.{world_of, GoesOn}
 use Rattle.relay_core.specs.declared.event.Event.TheVariants as event
 use Rattle.relay_core.specs.declared.event.Reply.{Reply}
 use Rattle.relay_core.specs.declared.event.Reply.TheVariants.{Value, Values, Code, Sampled, SampledBoth, Ran, Stale}
+use Rattle.relay_core.specs.Stands.{StandsFor}
 use Rattle.relay_core.specs.World.{new_world}
 use Rattle.relay_recorder.specs.Histories.{StandsForHistory}
+use Rattle.relay_recorder.specs.declared.trace.Trace.{Trace}
 use Rattle.supply_meter.specs.Dialogues.{Dialogue}
 use Rattle.supply_meter.specs.Meterings.{Metering, OthersStay, AtSession, Takes, dialogue_at, most_sessions}
 use Rattle.supply_meter.specs.Progress.{Owes, Feeds, Finishes, Gives, Advances}
@@ -19,10 +22,22 @@ use Rattle.supply_meter.specs.declared.given.Fired.{Fired}
 use Rattle.supply_meter.specs.declared.given.Given.{Given}
 use Rattle.supply_meter.specs.declared.given.Tick.{Tick}
 use Rattle.supply_meter.specs.declared.given.Tick.TheVariants as tick
+use Rattle.trace_player.specs.Traces.{trace_of}
 
 -- a new meter of this name
 pub record IsNew (device password : List ℕ) (kept : ℕ) (m : Metering) : Type 0 where
   pub stands : StandsForHistory m.recorder [] (new_world device)
+  pub capacity : m.recorder.capacity ≡ kept
+  pub guarded : m.password ≡ password
+  pub sessions : (number : ℕ) → dialogue_at m number ≡ None
+
+-- a meter that goes on from the trace that this text tells of
+pub record Resumes (text password : List ℕ) (kept : ℕ) (m : Metering) : Type 0 where
+  pub trace : Trace
+  pub told : trace_of text ≡ Ok trace
+  pub stands : StandsFor m.recorder.core (world_of trace)
+  pub goes_on : GoesOn trace (world_of trace)
+  pub empty : m.recorder.events ≡ []
   pub capacity : m.recorder.capacity ≡ kept
   pub guarded : m.password ≡ password
   pub sessions : (number : ℕ) → dialogue_at m number ≡ None

@@ -8,8 +8,10 @@ mod connection;
 mod fault;
 mod given;
 mod supply_meter;
+mod traces;
 mod under_way;
 
 pub use fault::MeterFault;
 pub use given::{Fired, Given, Tick};
 pub use supply_meter::{SESSIONS, SupplyMeter};
+pub use trace_player::TraceFault;

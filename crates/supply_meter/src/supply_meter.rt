@@ -1,4 +1,4 @@
-ghost use Rattle.std.specs.Prelude.{◌≡◌, ◌<◌, ◌≤◌, false, None, length, IfOk, IsOk, IsTrue, OnErr};
+ghost use Rattle.std.specs.Prelude.{◌≡◌, ℕ, ◌<◌, ◌≤◌, false, None, length, IfOk, IsOk, IsTrue, OnErr};
 ghost use Rattle.acse_ber.specs.Password.{IsPassword};
 ghost use Rattle.disconnect_control.specs.declared.state.ControlState.TheVariants.{Connected};
 ghost use Rattle.disconnect_control.specs.Transitions.{is_state};
@@ -66,11 +66,28 @@ impl SupplyMeter {
     {
         let password = password.try_clone(alloc)?;
         let recorder = Recorder::new(alloc, device, kept_events)?;
-        Ok(SupplyMeter {
+        Ok(SupplyMeter::of_recorder(recorder, password))
+    }
+
+    // A meter without sessions.
+    pub(crate) fn of_recorder(recorder: Recorder, password: Octets) -> SupplyMeter
+        requires { IsPassword password }
+        ensures recorder { result.recorder ≡ recorder }
+        ensures password { result.password ≡ password }
+        ensures sessions { (number : ℕ) → dialogue_at result number ≡ None }
+    {
+        SupplyMeter {
             recorder,
             password,
             places: [None, None, None, None, None, None, None, None],
-        })
+        }
+    }
+
+    // The core with its last events.
+    pub(crate) fn recorder(&self) -> &Recorder
+        ensures { result.now ≡ self.now.recorder }
+    {
+        &self.recorder
     }
 
     /// Opens a session of a number of 0 to 7.
@@ -100,7 +117,8 @@ impl SupplyMeter {
         if !self.has_place(number) {
             return Err(MeterFault::NoSession);
         }
-        match &mut self.places[usize::from(number)] {
+        let fed = &mut self.places[usize::from(number)];
+        match fed {
             Some(connection) => match connection.feed(bytes) {
                 Ok(()) => Ok(()),
                 Err(_) => Err(MeterFault::Memory),
@@ -116,7 +134,8 @@ impl SupplyMeter {
         if !self.has_place(number) {
             return Err(MeterFault::NoSession);
         }
-        match &mut self.places[usize::from(number)] {
+        let ended = &mut self.places[usize::from(number)];
+        match ended {
             Some(connection) => {
                 connection.finish();
                 Ok(())
@@ -138,7 +157,8 @@ impl SupplyMeter {
         if !self.has_place(number) {
             return Err(MeterFault::NoSession);
         }
-        match &mut self.places[usize::from(number)] {
+        let served = &mut self.places[usize::from(number)];
+        match served {
             Some(connection) => match connection.next(alloc, &mut self.recorder, buffer) {
                 Ok(given) => Ok(given),
                 Err(_) => Err(MeterFault::Memory),

@@ -1,4 +1,4 @@
-use Rattle.std.proofs.Common.{◌≡◌, Option, Some, None, Bool, true, false, refl, ◌∙◌, ap}
+use Rattle.std.proofs.Common.{◌≡◌, Option, Some, None, true, refl, ◌∙◌, ap}
 use Rattle.meter.specs.Held.{is_held}
 use Rattle.meter.specs.declared.handle.Meter.{Meter}
 use Rattle.meter.proofs.handle.Meter.take.Goals as goal

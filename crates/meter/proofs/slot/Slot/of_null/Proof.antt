@@ -6,8 +6,8 @@ use mir.Val.{Val, has_ty}
 use base.Logic.{SProp, ent, emp, id⊢}
 use base.Fml.{ftrue, fsep}
 use prog.Wp.{WpFn}
-use types.Kit.{‵, raw, ◌⊛◌, ◌$◌, ◌∵◌, !, qed, by, move, drop, use1, split, join, fsplit3, fjoin, suffices, rewrite, done}
-use types.Run.{of_opd, no_more, and_then, returns, enter}
+use types.Kit.{‵, raw, ◌⊛◌, ◌$◌, ◌∵◌, !, qed, move, drop, use1, split, join, fsplit3, fjoin, suffices, rewrite, done}
+use types.Run.{no_more, and_then, returns, enter}
 use types.ByLocal.{alloc_all, pass_all, free_all, look_at, get, sets}
 use types.Part.{agg}
 use contract.Running.{tables}

@@ -1,0 +1,100 @@
+//! The meter as the text of a trace.
+ghost use Rattle.std.specs.Prelude.{◌≡◌};
+ghost use Rattle.meter.specs.Exports.{OnOpen, ResumesTo, ResumedTo, ExportedTo, WritesBy};
+
+use crate::handle::Meter;
+use crate::opening::are_fit;
+use crate::outcome::Outcome;
+use cosem_axdr::Octets;
+use std::alloc::{AllocError, Global};
+use supply_meter::{SupplyMeter, TraceFault};
+
+/// Opens a meter that goes on where the one stopped whose trace this is.
+#[unsafe(no_mangle)]
+pub extern "C" fn meter_resume(
+    alloc: Global,
+    meter: &mut Meter,
+    trace: &[u8],
+    password: &[u8],
+    kept_events: u16,
+) -> u32
+    ensures { ResumedTo trace.now password.now kept_events meter.old.slot.held result meter.new.slot.held }
+{
+    resume(alloc, meter, trace, password, kept_events).code()
+}
+
+// The same, unless the handle holds a meter.
+fn resume(
+    alloc: Global,
+    meter: &mut Meter,
+    trace: &[u8],
+    password: &[u8],
+    kept_events: u16,
+) -> Outcome
+    ensures { ResumesTo trace.now password.now kept_events meter.old.slot.held result meter.new.slot.held }
+{
+    if let Some(held) = meter.take(alloc) {
+        meter.put(held);
+        return Outcome::IsOpen;
+    }
+    if !are_fit(&[0], password, kept_events) {
+        return Outcome::WrongArgument;
+    }
+    let password = match Octets::from_slice(alloc, password) {
+        Ok(password) => password,
+        Err(_) => return Outcome::NoMemory,
+    };
+    match SupplyMeter::resume(alloc, trace, &password, kept_events) {
+        Ok(resumed) => match Box::new(alloc, resumed) {
+            Ok(held) => {
+                meter.put(held);
+                Outcome::Done
+            }
+            Err(failed) => {
+                drop(failed);
+                Outcome::NoMemory
+            }
+        },
+        Err(TraceFault::Memory) => Outcome::NoMemory,
+        Err(TraceFault::Line(_)) => Outcome::WrongArgument,
+        Err(TraceFault::TooLong) => Outcome::WrongArgument,
+    }
+}
+
+/// Writes the trace of the meter as text.
+#[unsafe(no_mangle)]
+pub extern "C" fn meter_export(
+    alloc: Global,
+    meter: &mut Meter,
+    text: &mut [u8],
+    length: &mut usize,
+) -> u32
+    ensures { OnOpen ((text.new ≡ text.old) × (length.new ≡ 0)) (ExportedTo text.old text.new length.new) meter.old.slot.held result meter.new.slot.held }
+{
+    *length = 0;
+    let Some(held) = meter.take(alloc) else {
+        return Outcome::NotOpen.code();
+    };
+    let exported = held.export(alloc);
+    meter.put(held);
+    write_text(exported, text, length).code()
+}
+
+// Puts a text into the buffer, if it has room.
+fn write_text(exported: Result<Octets, AllocError>, text: &mut [u8], length: &mut usize) -> Outcome
+    requires { length.old ≡ 0 }
+    ensures { WritesBy exported text.old text.new length.new result }
+{
+    match exported {
+        Ok(bytes) => {
+            let count = bytes.len();
+            *length = count;
+            if text.len() < count {
+                return Outcome::NoRoom;
+            }
+            text[..count].copy_from_slice(bytes.as_slice());
+            Outcome::Done
+        }
+        Err(_) => Outcome::NoMemory,
+    }
+}

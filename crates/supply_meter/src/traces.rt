@@ -1,0 +1,50 @@
+//! A meter as the text of a trace.
+ghost use Rattle.std.specs.Prelude.{◌≤◌, IfOk, IfErr};
+ghost use Rattle.acse_ber.specs.Password.{IsPassword};
+ghost use Rattle.byte_reading.specs.Outcome.{Fails};
+ghost use Rattle.meter_serving.specs.Ending.{TellsRun};
+ghost use Rattle.supply_meter.specs.Calls.{Resumes};
+ghost use Rattle.trace_lines.specs.declared.fault.TraceFault.TheVariants.{Memory};
+ghost use Rattle.trace_player.specs.Traces.{trace_of};
+
+use crate::supply_meter::SupplyMeter;
+use cosem_axdr::Octets;
+use meter_serving::resumed_recorder;
+use std::alloc::{AllocError, Global};
+use trace_player::{TraceFault, exported_run_is_played, read_trace, write_trace};
+
+impl SupplyMeter {
+    /// The text of the trace that tells what came to the meter. Played, it prints the lines of the events that are kept, with the replies that were given.
+    pub fn export(&self, alloc: Global) -> Result<Octets, AllocError>
+        ensures { IfOk result (TellsRun self.now.recorder) }
+    {
+        exported_run_is_played();
+        let trace = self.recorder().export(alloc)?;
+        let text = write_trace(alloc, &trace);
+        drop(trace);
+        text
+    }
+
+    /// A meter that goes on where the one stopped whose trace this text is. It keeps at most `kept_events` events, 1 to 1,024, and the management client has this
+    /// password, 1 to 32 bytes. Errors: the fault of a text that is no trace, or `Memory`.
+    pub fn resume(
+        alloc: Global,
+        text: &[u8],
+        password: &Octets,
+        kept_events: u16,
+    ) -> Result<SupplyMeter, TraceFault>
+        requires password { IsPassword password.now }
+        requires kept { (1 ≤ kept_events) × (kept_events ≤ 1024) }
+        ensures resumed { IfOk result (Resumes text.now password.now kept_events) }
+        ensures fault { IfErr result (λ fault. Fails Memory fault (trace_of text.now)) }
+    {
+        let password = password.try_clone(alloc)?;
+        let trace = read_trace(alloc, text)?;
+        let recorder = resumed_recorder(alloc, &trace, kept_events);
+        drop(trace);
+        match recorder {
+            Ok(recorder) => Ok(SupplyMeter::of_recorder(recorder, password)),
+            Err(_) => Err(TraceFault::Memory),
+        }
+    }
+}
