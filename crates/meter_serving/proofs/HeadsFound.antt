@@ -12,8 +12,8 @@ use Rattle.std.proofs.lemmas.Str.Parse.{IsNumeralModel, numerals_by_value}
 use Rattle.byte_reading.specs.Outcome.{◌>>=◌, ◌>>◌, guard, Fails}
 use Rattle.byte_reading.proofs.OutcomeLemmas.{bind_ok, ok_is, guard_ok, chosen, failed}
 use Rattle.trace_lines.specs.OpeningFields.{behind, labelled, version_in, version_from}
-use Rattle.trace_lines.specs.Reading.{number_in, next_as}
-use Rattle.trace_lines.specs.Rows.{Word, Row, wanted, ended, word_at}
+use Rattle.trace_lines.specs.Reading.{number_in, last_as}
+use Rattle.trace_lines.specs.Rows.{Word, Row, wanted}
 use Rattle.trace_lines.specs.declared.fault.RowFault.TheVariants.{Wrong}
 use Rattle.trace_lines.specs.declared.version.Version.{Version}
 use Rattle.trace_lines.specs.declared.version.Version.TheVariants.{One, Two}
@@ -52,38 +52,18 @@ behind_found label (word ∷ words) x e =
     let both = guard_ok (pointwise nat_eq word label) _ _ x e in
     ap (λ (w : Word). w ∷ words) (same_word word label both.0) ∙ ap (λ (pair : Unit {0} × Row). label ∷ pair.1) (ok_is (tt, words) x both.1)
 
--- a version, and the words behind its own
-record VersionWord (words : Row) (version : Version) (others : Row) : Type 0 where
-  word : Word
-  words_are : words ≡ word ∷ others
-  told : version_in word ≡ Ok version
-
-next_found : (words : Row) (x : Version × Row) → next_as version_in words ≡ Ok x → VersionWord words x.0 x.1
-next_found [] x e = absurd cc
-next_found (word ∷ words) x e =
-    let b = bind_ok (version_in word) _ x e in
-    let same = ok_is (b.0, words) x b.2 in record {
-      word = word;
-      words_are = ap (λ (pair : Version × Row). word ∷ pair.1) same;
-      told = b.1 ∙ ap (λ (pair : Version × Row). Ok pair.0) same;
-    }
-
-ended_found : (words : Row) (x y : Version) → ended words x ≡ Ok y → (words ≡ []) × (x ≡ y)
-ended_found [] x y e = (refl, ok_is x y e)
-ended_found (word ∷ words) x y e = absurd cc
+-- the last word
+last_found : (words : Row) (version : Version) → last_as version_in words ≡ Ok version → (word : Word) × (words ≡ word ∷ []) × (version_in word ≡ Ok version)
+last_found [] version e = absurd cc
+last_found (word ∷ []) version e = (word, refl, e)
+last_found (word ∷ other ∷ words) version e = absurd cc
 
 -- a line of the version has two words
 two_words : (label : Word) (row : Row) (version : Version) → labelled label version_in row ≡ Ok version → (word : Word) × (row ≡ label ∷ word ∷ []) × (version_in word ≡ Ok version)
 two_words label row version e =
-    let a = bind_ok (behind label row) _ version e in
-    let first = behind_found label row a.0 a.1 in
-    let b = bind_ok (next_as version_in a.0.1) _ version a.2 in
-    let second = next_found a.0.1 b.0 b.1 in
-    let end = ended_found b.0.1 b.0.0 version b.2 in (
-      second.word,
-      first ∙ ap (λ (words : Row). label ∷ words) (second.words_are ∙ ap (λ (words : Row). second.word ∷ words) end.0),
-      second.told ∙ ap (λ (v : Version). Ok v) end.1,
-    )
+    let first = bind_ok (behind label row) _ version e in
+    let last = last_found first.0.1 version first.2 in
+    (last.0, behind_found label row first.0 first.1 ∙ ap (λ (words : Row). label ∷ words) last.1, last.2)
 
 -- the test of a word's digits is std's, and so is their value
 digits_model : IsNumeralModel (λ word. list_all is_ascii_digit word ≡ true) (digits_value 10)

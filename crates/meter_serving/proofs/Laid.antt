@@ -7,7 +7,7 @@ use Rattle.cosem_names.specs.declared.objects.Which.TheVariants.{Import, Export}
 use Rattle.relay_core.specs.declared.opening.Opening.{Opening}
 use Rattle.relay_recorder.specs.declared.trace.Trace.{Trace}
 use Rattle.trace_lines.specs.OpeningFields.{version_from, events_from}
-use Rattle.trace_lines.specs.OpeningReading.{limits_from, emergency_from, runs_from, limiter_from, export_from, switch_from, schedules_from, opening_in, opening_from}
+use Rattle.trace_lines.specs.OpeningReading.{limiter_from, export_from, schedules_from, opening_with, opening_in, opening_from}
 use Rattle.trace_lines.specs.Places.{Place, ReadLines, place_of, line_as, passed, first_as, nothing_left, ended_at}
 use Rattle.trace_lines.specs.Rows.{Row}
 use Rattle.trace_lines.specs.declared.fault.RowFault.{RowFault}
@@ -74,25 +74,12 @@ line_found value_in p x q e = first_line_of value_in p.number p.rows p.unended x
 takes_line : {X : Type 0} (value_in : Row → Result X RowFault) (p : Place) → Takes 1 p (line_as value_in p)
 takes_line value_in p x q e = let line = line_found value_in p x q e in record { front = line.row ∷ []; long = refl; rows = line.rows_are; unended = line.unended_is }
 
-limits_takes : (which : Which) (place : Place) → Takes 4 place (limits_from which place)
-unfolding limits_from
-limits_takes which place =
-    takes_then 1 3 _ _ _ (takes_line _ place) (λ normal. takes_then 1 2 _ _ _ (takes_line _ normal.1) (λ emergency. takes_then 1 1 _ _ _ (takes_line _ emergency.1) (λ over.
-    takes_then 1 0 _ _ _ (takes_line _ over.1) (λ under. takes_none _ _))))
-
-emergency_takes : (which : Which) (place : Place) → Takes 3 place (emergency_from which place)
-unfolding emergency_from
-emergency_takes which place =
-    takes_then 1 2 _ _ _ (takes_line _ place) (λ profile. takes_then 1 1 _ _ _ (takes_line _ profile.1) (λ groups. takes_then 1 0 _ _ _ (takes_line _ groups.1) (λ actions. takes_none _ _)))
-
-runs_takes : (which : Which) (last : ℕ) (place : Place) → Takes 2 place (runs_from which last place)
-unfolding runs_from
-runs_takes which last place = takes_then 1 1 _ _ _ (takes_line _ place) (λ over. takes_then 1 0 _ _ _ (takes_line _ over.1) (λ under. takes_none _ _))
-
 limiter_takes : (which : Which) (last : ℕ) (place : Place) → Takes 9 place (limiter_from which last place)
 unfolding limiter_from
 limiter_takes which last place =
-    takes_then 4 5 _ _ _ (limits_takes which place) (λ limits. takes_then 3 2 _ _ _ (emergency_takes which limits.1) (λ emergency. takes_then 2 0 _ _ _ (runs_takes which last emergency.1) (λ runs. takes_none _ _)))
+    takes_then 1 8 _ _ _ (takes_line _ place) (λ normal. takes_then 1 7 _ _ _ (takes_line _ normal.1) (λ emergency. takes_then 1 6 _ _ _ (takes_line _ emergency.1) (λ min_over.
+    takes_then 1 5 _ _ _ (takes_line _ min_over.1) (λ min_under. takes_then 1 4 _ _ _ (takes_line _ min_under.1) (λ profile. takes_then 1 3 _ _ _ (takes_line _ profile.1) (λ groups.
+    takes_then 1 2 _ _ _ (takes_line _ groups.1) (λ actions. takes_then 1 1 _ _ _ (takes_line _ actions.1) (λ over. takes_then 1 0 _ _ _ (takes_line _ over.1) (λ under. takes_none _ _)))))))))
 
 -- the lines of the export limiter, of which version 1 has none
 abbrev export_lines : Version → ℕ
@@ -104,11 +91,6 @@ unfolding export_from
 export_takes One place = takes_none _ _
 export_takes Two place = takes_then 1 9 _ _ _ (takes_line _ place) (λ last. limiter_takes Export last.0 last.1)
 
-switch_takes : (place : Place) → Takes 3 place (switch_from place)
-unfolding switch_from
-switch_takes place =
-    takes_then 1 2 _ _ _ (takes_line _ place) (λ device. takes_then 1 1 _ _ _ (takes_line _ device.1) (λ state. takes_then 1 0 _ _ _ (takes_line _ state.1) (λ mode. takes_none _ _)))
-
 schedules_takes : (place : Place) → Takes 4 place (schedules_from place)
 unfolding schedules_from
 schedules_takes place =
@@ -117,14 +99,15 @@ schedules_takes place =
 
 -- the lines of an opening behind that of the version
 abbrev lines_behind : Version → ℕ
-lines_behind version = 3 + (1 + (1 + (9 + (export_lines version + (1 + (4 + 0))))))
+lines_behind version = 1 + (1 + (1 + (1 + (1 + (9 + (export_lines version + (1 + (4 + 0))))))))
 
 opening_in_takes : (version : Version) (place : Place) → Takes (lines_behind version) place (opening_in version place)
-unfolding opening_in
+unfolding opening_in opening_with
 opening_in_takes version place =
-    takes_then 3 _ _ _ _ (switch_takes place) (λ switch. takes_then 1 _ _ _ _ (takes_line _ switch.1) (λ last. takes_then 1 _ _ _ _ (takes_line _ last.1) (λ moment.
+    takes_then 1 _ _ _ _ (takes_line _ place) (λ device. takes_then 1 _ _ _ _ (takes_line _ device.1) (λ state. takes_then 1 _ _ _ _ (takes_line _ state.1) (λ mode.
+    takes_then 1 _ _ _ _ (takes_line _ mode.1) (λ last. takes_then 1 _ _ _ _ (takes_line _ last.1) (λ moment.
     takes_then 9 _ _ _ _ (limiter_takes Import last.0 moment.1) (λ import. takes_then (export_lines version) _ _ _ _ (export_takes version import.1) (λ export.
-    takes_then 1 _ _ _ _ (takes_line _ export.1) (λ scripts. takes_then 4 0 _ _ _ (schedules_takes scripts.1) (λ schedules. takes_none _ _)))))))
+    takes_then 1 _ _ _ _ (takes_line _ export.1) (λ scripts. takes_then 4 0 _ _ _ (schedules_takes scripts.1) (λ schedules. takes_none _ _)))))))))
 
 with_version : (version : Version) → suc (lines_behind version) ≡ lines_before version
 with_version One = refl
