@@ -146,14 +146,30 @@ def the_header_has_the_types_of_the_exports(name):
     """Each parameter of an export has its C type in the header."""
     source = "".join(it.read_text() for it in sorted((LIBRARY / "src").glob("*.rt")))
     header = re.sub(r"/\*.*?\*/", "", HEADER.read_text(), flags=re.S)
-    types = {"&mut Handle": ["struct meter *"], "&[u8]": ["const uint8_t *", "size_t "], "&mut [u8]": ["uint8_t *", "size_t "], "&[u32]": ["const uint32_t *", "size_t "],
+    types = {"&mut Meter": ["struct meter *"], "&[u8]": ["const uint8_t *", "size_t "], "&mut [u8]": ["uint8_t *", "size_t "], "&[u32]": ["const uint32_t *", "size_t "],
              "u8": ["uint8_t "], "u16": ["uint16_t "], "u32": ["uint32_t "], "&mut u8": ["uint8_t *"], "&mut u32": ["uint32_t *"], "&mut usize": ["size_t *"],
-             "&mut bool": ["bool *"], "&mut Fired": ["struct meter_fired *"], "Global": []}
+             "&mut bool": ["bool *"], "&mut Firings": ["struct meter_fired *"], "Global": []}
     for export, parameters in re.findall(r'extern "C" fn (meter_\w+)\(([^)]*)\)', source):
         wanted = [it for one in parameters.split(",") if one.strip() for it in types.get(one.split(":")[1].strip(), ["unknown " + one])]
         found = re.search(rf"\b{export}\(([^)]*)\)", header)
         told = [re.sub(r"\w+$", "", one.strip()) for one in found[1].split(",")] if found else None
         check(f"{name}: {export}", told == wanted, told, wanted)
+
+
+def the_header_has_the_numbers_of_the_definitions(name):
+    """Each result has in the header the number that the definition of the contracts gives it."""
+    words = {"Done": "OK", "Wait": "WAIT", "Closed": "CLOSED", "Cut": "CUT", "BadVersion": "BAD_VERSION", "TooLong": "TOO_LONG", "Stale": "STALE", "NoMoment": "NO_MOMENT",
+             "NoMemory": "NO_MEMORY", "NotOpen": "NOT_OPEN", "IsOpen": "IS_OPEN", "NoSession": "NO_SESSION", "SessionTaken": "SESSION_TAKEN", "WrongArgument": "WRONG_ARGUMENT",
+             "NoRoom": "NO_ROOM"}
+    defined = dict(re.findall(r"(?m)^code_of outcome\.(\w+) = (\d+)$", (LIBRARY / "specs" / "Outcomes.antt").read_text()))
+    declared = dict(re.findall(r"\bMETER_(\w+) = (\d+)", HEADER.read_text().split("typedef uint32_t meter_result;")[1].split("};")[0]))
+    check(name, {words.get(word): number for word, number in defined.items()} == declared and len(declared) == len(words), defined, declared)
+
+
+def a_meter_goes_on_from_its_trace(name):
+    ran = made(place / "resume_test")
+    print(ran.strip())
+    check(name, ran.startswith("resumed"))
 
 
 def streams_are_answered_as_by_the_program(name):
@@ -247,7 +263,8 @@ def main():
         program("session", EXAMPLES / "session.c", HEAPS / "heap_malloc.c", archive)
         program("refused", EXAMPLES / "session.c", TOOLS / "refusing_heap.c", archive)
         program("super_loop", EXAMPLES / "super_loop.c", EXAMPLES / "platform_hosted.c", HEAPS / "heap_pool.c", archive)
-        for one in (the_header_has_the_exports, the_header_has_the_types_of_the_exports, the_pool_keeps_its_blocks, streams_are_answered_as_by_the_program,
+        program("resume_test", TOOLS / "resume_test.c", HEAPS / "heap_malloc.c", archive)
+        for one in (the_header_has_the_exports, the_header_has_the_types_of_the_exports, the_header_has_the_numbers_of_the_definitions, a_meter_goes_on_from_its_trace, the_pool_keeps_its_blocks, streams_are_answered_as_by_the_program,
                     each_refusal_can_be_made_again, the_super_loop_runs, valgrind_finds_nothing, the_super_loop_runs_on_arm):
             test(one)
     print(f"{serving.passed} passed, {serving.failed} failed")

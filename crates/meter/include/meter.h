@@ -108,13 +108,13 @@ meter_result meter_close_session(struct meter *meter, uint8_t session);
 
 /*
  * The button of the meter was pressed. It takes no memory.
- *   *code        the result of the press as in an APDU: 0 success, 3 read-write-denied where the state and mode allow no manual change
+ *   *code        the result of the press, numbered as in an APDU: 0 success, 2 temporary-failure where state and mode have no transition for it
  * METER_OK, METER_NOT_OPEN: *code is 0.
  */
 meter_result meter_press(struct meter *meter, uint8_t *code);
 
 /*
- * Samples of the imported power in watts, the oldest first, one a second at most 256.
+ * Samples of the imported power in watts, ten a second, the oldest first; at most 256 in a call.
  * METER_OK, METER_NOT_OPEN, METER_WRONG_ARGUMENT, METER_NO_MEMORY. Where it is not METER_OK all of *fired is 0.
  */
 meter_result meter_samples(struct meter *meter, const uint32_t *watts, size_t count, struct meter_fired *fired);
