@@ -459,20 +459,22 @@ fn wrong_headers_and_cuts_end_the_session(rt: HostRuntime) {
     assert!(rt; matches!(all_end(rt.alloc(), UNANSWERED), Ok(true)));
 }
 
-/// Whether a session waits.
+/// Whether a session waits, and says so before it is asked.
 fn waits(alloc: Global, session: &mut Session) -> Result<bool, AllocError> {
+    let is_idle = session.is_idle();
     let next = session.next(alloc)?;
     let waits = matches!(&next, Next::Wait);
     drop(next);
-    Ok(waits && !session.asking())
+    Ok(is_idle && waits && !session.asking())
 }
 
-/// Whether a session is over for another version.
+/// Whether a session is over for another version, and not idle.
 fn is_over(alloc: Global, session: &mut Session) -> Result<bool, AllocError> {
+    let is_idle = session.is_idle();
     let next = session.next(alloc)?;
     let is_over = matches!(&next, Next::End(SessionEnd::BadVersion));
     drop(next);
-    Ok(is_over)
+    Ok(is_over && !is_idle)
 }
 
 /// Whether a session that waits is ended by a frame of another version, and says so whatever comes then.

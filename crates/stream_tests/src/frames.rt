@@ -1,7 +1,7 @@
 use std::alloc::Global;
 use std::process::Abort;
 use std::test::Fail;
-use wrapper_frame::{Deframer, Frame, WrapperFault, frame};
+use wrapper_frame::{Deframer, Frame, Head, WrapperFault, frame};
 
 /// An association request, 31 bytes from port 16 to port 1, and a GET request, 13 bytes.
 const STREAM: [u8; 60] = [
@@ -127,6 +127,35 @@ fn two_frames_come_out_byte_by_byte(rt: HostRuntime) -> Result<(), Fail> {
     drop(deframer);
     drop(frames);
     checked
+}
+
+/// Whether the frame in front goes from port 16 to port 1 with this payload. It is let go.
+fn is_first(deframer: &mut Deframer, payload: &[u8]) -> bool {
+    match deframer.front() {
+        Head::Whole(size) => {
+            let is_so = deframer.ports() == (16, 1) && deframer.payload(size) == payload;
+            deframer.pass(size);
+            is_so
+        }
+        Head::Part | Head::BadVersion | Head::TooLong => false,
+    }
+}
+
+/// Whether the two frames of the stream lie in front of each other, and nothing behind them.
+fn lie_there(deframer: &mut Deframer) -> Result<bool, Fail> {
+    let is_part = matches!(deframer.front(), Head::Part);
+    deframer.feed(&STREAM)?;
+    let are_both = is_first(deframer, &ASSOCIATION) && is_first(deframer, &GET);
+    Ok(is_part && are_both && deframer.is_empty())
+}
+
+#[test]
+fn two_frames_are_read_where_they_lie(rt: HostRuntime) -> Result<(), Fail> {
+    let mut deframer = Deframer::new(rt.alloc());
+    let lie_there = lie_there(&mut deframer);
+    drop(deframer);
+    assert!(rt; lie_there?);
+    Ok(())
 }
 
 /// Whether there is no frame yet.
