@@ -15,9 +15,9 @@ const MAX_TEXT: usize = 1_048_576;
 /// The most jobs.
 const MAX_JOBS: usize = 1_000;
 /// The longest name of a job, in bytes.
-const MAX_ID: usize = 32;
+pub const MAX_ID: usize = 32;
 /// The longest address, in bytes.
-const MAX_ADDRESS: usize = 64;
+pub const MAX_ADDRESS: usize = 64;
 
 /// Reads the jobs of a text, one of each line `NAME ADDRESS VERB` with one blank between. The name has 1 to 32 and the address 1 to 64 bytes from 21 to 7E; the verb
 /// is `disconnect`, `reconnect` or `state`. Lines end with the byte 0A, which the last may lack; empty lines are skipped.

@@ -20,7 +20,7 @@ pub use campaign::{run_campaign, run_watched_campaign};
 pub use connection::{ConnectFault, Connection, Connector};
 pub use conversing::converse;
 pub use fault::JobsFault;
-pub use jobs::read_jobs;
+pub use jobs::{MAX_ADDRESS, MAX_ID, read_jobs};
 pub use laws::{jobs_may_be_cut, reports_stand_end_to_end};
 pub use reporting::{add_report, report};
 pub use row::{Line, Row};

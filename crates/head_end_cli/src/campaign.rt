@@ -4,6 +4,7 @@ ghost use Rattle.acse_ber.specs.Password.{IsPassword};
 
 use crate::jobs_of;
 use crate::progress::{Progress, Watch};
+use acse_ber::MAX_PASSWORD;
 use clap::ArgMatches;
 use client_core::Job;
 use cosem_axdr::Octets;
@@ -50,7 +51,7 @@ fn judged(alloc: Global, text: &str) -> Result<Octets, Fault>
     ensures { IfOk result IsPassword }
 {
     let bytes = text.as_bytes();
-    if bytes.is_empty() || bytes.len() > 32 {
+    if bytes.is_empty() || bytes.len() > MAX_PASSWORD {
         return Err(Fault::Input);
     }
     match Octets::from_slice(alloc, bytes) {

@@ -3,20 +3,21 @@
 //! The jobs, the campaign and the report are those of the crate `head_end`; this one has the command line, the standard streams and the exit status.
 #![tactic(auto)]
 
+mod arguments;
 mod campaign;
 mod progress;
 mod telling;
 
+use crate::arguments::command_line;
 use crate::campaign::Plan;
 use crate::telling::{input_fault, jobs_fault, tell_input, tell_jobs};
 use byte_streams::{Counted, read_to_end_within};
+use clap::ArgMatches;
 use clap::error::ErrorKind;
-use clap::{Arg, ArgAction, ArgMatches, Command, value_parser};
 use client_core::Job;
 use head_end::{TcpConnector, read_jobs};
 use listed::Listed;
 use program_fault::Fault;
-use std::alloc::{AllocError, Global};
 use std::io::Read;
 use std::process::ExitCode;
 use std::rt::Env;
@@ -24,79 +25,6 @@ use std::{env, io};
 
 /// A list of jobs has at most so many bytes.
 const MAX_INPUT: usize = 1_048_576;
-
-/// What `--help` tells below the options.
-const LIMITS_AND_STATUSES: &str = "\
-Limits: a list has 1,000 jobs and 1,048,576 bytes at most.
-A fault is the line `fault: WORD` on standard error; --verbose adds a line before it that tells where and why the input is wrong.
-Exit status: 0 done; 2 the command line or the input is wrong; 3 reading or writing failed; 4 memory ran out.
-Example: echo m1 127.0.0.1:4059 state | head_end check";
-
-/// The option `--verbose`.
-fn verbose<'a>(alloc: Global) -> Arg<'a> {
-    Arg::new(alloc, "verbose")
-        .long("verbose")
-        .help("Tell on standard error where and why the input is wrong")
-        .action(ArgAction::SetTrue)
-}
-
-/// The command that runs a campaign.
-fn run_command<'a>(alloc: Global) -> Result<Command<'a>, AllocError> {
-    let password = Arg::new(alloc, "password")
-        .long("password")
-        .value_name("TEXT")
-        .help("The password of the management client, 1 to 32 bytes (else METER_PASSWORD)")
-        .action(ArgAction::Set);
-    let workers = Arg::new(alloc, "workers")
-        .long("workers")
-        .value_name("N")
-        .help("How many meters are talked to at once, 1 to 16")
-        .value_parser(value_parser!(u8).range(1..=16))
-        .default_value("4");
-    let timeout = Arg::new(alloc, "timeout")
-        .long("timeout")
-        .value_name("SECONDS")
-        .help("How long a connection may take as a whole; 0 is no limit")
-        .value_parser(value_parser!(u32))
-        .default_value("60");
-    let connect_timeout = Arg::new(alloc, "connect-timeout")
-        .long("connect-timeout")
-        .value_name("SECONDS")
-        .help("How long a connect may take; 0 is no limit")
-        .value_parser(value_parser!(u32))
-        .default_value("10");
-    let progress = Arg::new(alloc, "progress")
-        .long("progress")
-        .help("Says on standard error how many jobs are done")
-        .action(ArgAction::SetTrue);
-    Command::new(alloc, "run")
-        .about(
-            "Runs the jobs on standard input, and prints the report: a line for each job, in their order",
-        )
-        .arg(password)?
-        .arg(workers)?
-        .arg(timeout)?
-        .arg(connect_timeout)?
-        .arg(progress)?
-        .arg(verbose(alloc))
-}
-
-/// The commands of the program, as its users see them.
-fn command_line<'a>(alloc: Global) -> Result<Command<'a>, AllocError> {
-    let check = Command::new(alloc, "check")
-        .about(
-            "Reads the jobs on standard input and prints how many they are: a line each, ID ADDRESS VERB, the verb disconnect, reconnect or state",
-        )
-        .arg(verbose(alloc))?;
-    Command::new(alloc, "head_end")
-        .bin_name("head_end")?
-        .version("0.1.0")
-        .about("Switching campaigns over DLMS/COSEM electricity meters")
-        .after_help(LIMITS_AND_STATUSES)
-        .subcommand_required(true)
-        .subcommand(check)?
-        .subcommand(run_command(alloc)?)
-}
 
 /// The jobs on standard input. Where there are none to be had and `is_verbose`, a line on standard error tells where and why.
 pub(crate) fn jobs_of<I: Read + Drop>(

@@ -1,13 +1,7 @@
 //! Where and why standard input is no list of jobs.
 use byte_streams::InputFault;
-use head_end::JobsFault;
+use head_end::{JobsFault, MAX_ADDRESS, MAX_ID};
 use program_fault::Fault;
-
-/// The longest name of a job, in bytes.
-const LONGEST_NAME: usize = 32;
-
-/// The longest address of a job, in bytes.
-const LONGEST_ADDRESS: usize = 64;
 
 /// The fault of the program where standard input is not read.
 pub(crate) fn input_fault(fault: InputFault) -> Fault {
@@ -61,10 +55,10 @@ fn line_of(text: &[u8], number: u32) -> &[u8] {
 /// Why a line that is no job is none: the first of its words that is missing, wrong or one too many.
 fn why_no_job(line: &[u8]) -> &'static str {
     let mut words = line.split(|byte| *byte == b' ');
-    if !is_text(words.next().unwrap_or(&[]), LONGEST_NAME) {
+    if !is_text(words.next().unwrap_or(&[]), MAX_ID) {
         return "no name of 1 to 32 visible bytes";
     }
-    if !is_text(words.next().unwrap_or(&[]), LONGEST_ADDRESS) {
+    if !is_text(words.next().unwrap_or(&[]), MAX_ADDRESS) {
         return "no address of 1 to 64 visible bytes";
     }
     if !is_verb(words.next().unwrap_or(&[])) {

@@ -1,9 +1,9 @@
 -- A session whose bytes are written in hexadecimal.
-use Rattle.std.proofs.Common.{◌≡◌, ℕ, Option, List, [], ◌∷◌, Result, Ok, Err, refl, sym, ap₂, subst, inl, inr, append-nil}
+use Rattle.std.proofs.Common.{◌≡◌, ℕ, Option, List, [], ◌∷◌, Result, Ok, Err, refl, ap₂, subst, inl, inr, append-nil}
 use Rattle.std.specs.List.{flat_map}
 use Rattle.std.specs.Io.KnownBytes.{Appends}
 use Rattle.meter_server.proofs.Reaching.{reached_new, reached_fed, does_all_on, stops_on}
-use Rattle.meter_server.specs.Hexadecimal.{hex_line, replies_of, hex_output, Played, PlayedOn, RunsShort}
+use Rattle.meter_server.specs.Hexadecimal.{hex_line, replies_of, Played, PlayedOn}
 use Rattle.meter_server.specs.Meters.{Replied, CoreSteps}
 use Rattle.meter_server.specs.Served.{DoesAll, StopsShort, Stops, IsUsedUp}
 use Rattle.meter_server.specs.Settling.{Reached}

@@ -1,5 +1,5 @@
 -- A session from its first read to its last.
-use Rattle.std.proofs.Common.{◌≡◌, ◌≤◌, ◌<◌, ◌+◌, ◌⊎◌, ℕ, Option, Some, List, [], ◌++◌, length, length-append, Result, Ok, Err, IfOk, IfErr, OnOk, IsErrAnd, refl, sym, ◌∙◌, subst, inl, inr, ⊎_elim, append-nil, arith, false}
+use Rattle.std.proofs.Common.{◌≡◌, ◌≤◌, ◌<◌, ◌+◌, ◌⊎◌, ℕ, Option, Some, List, [], ◌++◌, Result, Ok, Err, IfOk, IfErr, OnOk, IsErrAnd, refl, sym, ◌∙◌, subst, inl, append-nil, false}
 use Rattle.std.specs.Io.KnownBytes.{Consumes, IsAtEnd}
 use Rattle.std.proofs.KnownBytes.{Appends-nil, Consumes-nil, Consumes-trans}
 use Rattle.meter_server.proofs.Reaching.{reached_new, reached_none, reached_on, does_all, does_all_on, stops_on}

@@ -3,7 +3,7 @@
 --     IsSettled    nothing is due without more input
 --     Settled      all that is due was done
 --     Stands       a session between two reads
-use Rattle.std.specs.Prelude.{◌≡◌, ◌<◌, ◌≤◌, ℕ, false, length, Option, Some, None, List, [], ◌++◌, Result}
+use Rattle.std.specs.Prelude.{◌≡◌, ◌<◌, ℕ, false, Option, Some, None, List, [], ◌++◌, Result}
 use Rattle.std.specs.List.{flat_map}
 use Rattle.std.specs.Io.KnownBytes.{Appends, Consumes}
 use Rattle.meter_server.specs.Meters.{Replied}

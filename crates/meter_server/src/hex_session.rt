@@ -1,6 +1,6 @@
-ghost use Rattle.std.specs.Prelude.{◌≤◌, length};
 ghost use Rattle.acse_ber.specs.Password.{IsPassword};
 ghost use Rattle.meter_server.specs.Hexadecimal.{Hexed, Played, PlayedOn};
+ghost use Rattle.relay_core.specs.World.{IsDeviceName};
 
 use crate::fault::{HexFault, ServeFault};
 use crate::form::AsHexLine;
@@ -52,7 +52,7 @@ fn play<W: Writer>(
     password: &Octets,
 ) -> Result<(), HexFault>
     requires writable { W.can_write writer.now }
-    requires named { (1 ≤ length device.now) × (length device.now ≤ 16) }
+    requires named { IsDeviceName device.now }
     requires password { IsPassword password.now }
     ensures { Played device.now password.now input.now (W.contents writer.old) (W.failures writer.old) result (W.contents writer.new) (W.failures writer.new) }
 {
@@ -76,7 +76,7 @@ pub fn run_hex<R: Reader, W: Writer>(
 ) -> Result<(), HexFault>
     requires readable { R.can_read reader.now }
     requires writable { W.can_write writer.now }
-    requires named { (1 ≤ length device.now) × (length device.now ≤ 16) }
+    requires named { IsDeviceName device.now }
     requires password { IsPassword password.now }
     ensures { Hexed R.remaining R.failures W.contents W.failures device.now password.now reader.old writer.old result reader.new writer.new }
 {

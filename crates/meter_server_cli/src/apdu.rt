@@ -1,35 +1,15 @@
-use crate::telling::{InputFault, told};
+use crate::telling::{InputFault, reading_fault, told};
+use byte_streams::{Counted, read_to_end_within};
 use cosem_axdr::Octets;
 use hex::FromHexError;
 use meter_server::answer_apdu;
 use program_fault::Fault;
 use relay_core::RelayCore;
 use std::alloc::Global;
-use std::io::{ErrorKind, Read, Write};
+use std::io::{Read, Write};
 
 /// How many bytes standard input may have.
 const MOST_BYTES: usize = 1_048_576;
-
-/// All of an input, which must not be longer than `MOST_BYTES`.
-fn whole_text<I: Read>(alloc: Global, input: &mut I) -> Result<Vec<u8>, InputFault> {
-    let mut text = Vec::new(alloc);
-    let mut piece = [0u8; 4096];
-    for _ in 0..u64::MAX {
-        match input.read(&mut piece) {
-            Ok(0) => return Ok(text),
-            Ok(count) => {
-                text.extend_from_slice(&piece[..count])
-                    .map_err(|_| InputFault::Other(Fault::Memory))?;
-            }
-            Err(error) if error.kind() == ErrorKind::Interrupted => {}
-            Err(_) => return Err(InputFault::Other(Fault::Read)),
-        }
-        if text.len() > MOST_BYTES {
-            return Err(InputFault::TooLong);
-        }
-    }
-    Err(InputFault::Other(Fault::Read))
-}
 
 /// The bytes of a line of hexadecimal pairs, the line with that number.
 fn request(alloc: Global, number: usize, line: &[u8]) -> Result<Vec<u8>, InputFault> {
@@ -100,7 +80,8 @@ fn answers(alloc: Global, requests: &[Vec<u8>]) -> Result<String, Fault> {
 
 /// The requests of standard input.
 fn input_requests<R: Input + AllocGlobal>(rt: &R) -> Result<Vec<Vec<u8>>, InputFault> {
-    let text = whole_text(rt.alloc(), &mut rt.reader())?;
+    let mut input = Counted::new(rt.reader());
+    let text = read_to_end_within(rt.alloc(), &mut input, MOST_BYTES).map_err(reading_fault)?;
     requests(rt.alloc(), text.as_slice())
 }
 

@@ -1,9 +1,11 @@
-use crate::telling::InputFault;
-use crate::texts::{LONGEST_DEVICE, LONGEST_PASSWORD, octets_of};
+use crate::telling::{InputFault, reading_fault};
+use crate::texts::octets_of;
+use acse_ber::MAX_PASSWORD;
 use byte_streams::{Counted, read_to_end_within};
 use clap::ArgMatches;
 use meter_server::{HexFault, run_hex};
 use program_fault::Fault;
+use relay_core::MAX_DEVICE_NAME;
 use std::alloc::Global;
 use std::io::{Read, Write};
 
@@ -39,15 +41,6 @@ fn hex_fault(fault: HexFault, text: &[u8]) -> InputFault {
     }
 }
 
-/// Why standard input was not read.
-fn reading_fault(fault: byte_streams::InputFault) -> InputFault {
-    match fault {
-        byte_streams::InputFault::TooLong => InputFault::TooLong,
-        byte_streams::InputFault::Read => InputFault::Other(Fault::Read),
-        byte_streams::InputFault::Memory => InputFault::Other(Fault::Memory),
-    }
-}
-
 /// The command `hex`: a session of a client with a new meter, from a stream in hexadecimal to a line for each frame sent.
 pub fn run<I: Read + Drop, O: Write + Drop>(
     alloc: Global,
@@ -56,12 +49,12 @@ pub fn run<I: Read + Drop, O: Write + Drop>(
     matches: &ArgMatches<'_>,
 ) -> Result<(), InputFault> {
     let password = matches.get_str("password").unwrap_or("");
-    let password = octets_of(alloc, password, LONGEST_PASSWORD).map_err(|fault| option_fault(
+    let password = octets_of(alloc, password, MAX_PASSWORD).map_err(|fault| option_fault(
         fault,
         InputFault::Password,
     ))?;
     let device = matches.get_str("device").unwrap_or("");
-    let device = octets_of(alloc, device, LONGEST_DEVICE).map_err(|fault| option_fault(
+    let device = octets_of(alloc, device, MAX_DEVICE_NAME).map_err(|fault| option_fault(
         fault,
         InputFault::Device,
     ))?;

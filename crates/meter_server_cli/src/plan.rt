@@ -1,12 +1,15 @@
 //! What `serve` is asked for, and all that is done before the first client comes.
 ghost use Rattle.std.specs.Prelude.{◌≡◌, ◌≤◌, [], length, IfOk};
 ghost use Rattle.acse_ber.specs.Password.{IsPassword};
+ghost use Rattle.relay_core.specs.World.{IsDeviceName};
 
-use crate::texts::{LONGEST_DEVICE, LONGEST_PASSWORD, octets_of};
+use crate::texts::octets_of;
+use acse_ber::MAX_PASSWORD;
 use clap::ArgMatches;
 use cosem_axdr::Octets;
 use meter_serving::{read_head, resumed_recorder};
 use program_fault::Fault;
+use relay_core::MAX_DEVICE_NAME;
 use relay_recorder::Recorder;
 use std::alloc::Global;
 use std::env;
@@ -59,10 +62,10 @@ fn password_of(rt: &HostRuntime, matches: &ArgMatches<'_>) -> Result<Octets, Fau
     ensures { IfOk result IsPassword }
 {
     if let Some(text) = matches.get_str("password") {
-        return octets_of(rt.alloc(), text, LONGEST_PASSWORD);
+        return octets_of(rt.alloc(), text, MAX_PASSWORD);
     }
     match env::var(rt, PASSWORD_VARIABLE) {
-        Ok(text) => octets_of(rt.alloc(), text.as_str(), LONGEST_PASSWORD),
+        Ok(text) => octets_of(rt.alloc(), text.as_str(), MAX_PASSWORD),
         Err(VarError::OutOfMemory) => Err(Fault::Memory),
         Err(_) => Err(Fault::Input),
     }
@@ -89,7 +92,7 @@ fn first_recorder<B: BufRead>(
     options: &Options,
     input: &mut B,
 ) -> Result<Recorder, Fault>
-    requires { (1 ≤ length device.now) × (length device.now ≤ 16) }
+    requires { IsDeviceName device.now }
     ensures { IfOk result (λ recorder. recorder.events ≡ []) }
 {
     let depth = options.depth;
@@ -143,7 +146,7 @@ fn begun<I: Read + Drop>(
     ensures { IfOk result (λ r. r.0.events ≡ []) }
 {
     let device = matches.get_str("device").unwrap_or("");
-    let device = octets_of(alloc, device, LONGEST_DEVICE)?;
+    let device = octets_of(alloc, device, MAX_DEVICE_NAME)?;
     let mut input = BufReader::new(alloc, input).map_err(|_| Fault::Memory)?;
     match first_recorder(alloc, &device, options, &mut input) {
         Ok(recorder) => Ok((recorder, input)),

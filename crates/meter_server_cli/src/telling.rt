@@ -22,6 +22,15 @@ pub enum InputFault {
     Other(Fault),
 }
 
+/// Why standard input was not read.
+pub(crate) fn reading_fault(fault: byte_streams::InputFault) -> InputFault {
+    match fault {
+        byte_streams::InputFault::TooLong => InputFault::TooLong,
+        byte_streams::InputFault::Read => InputFault::Other(Fault::Read),
+        byte_streams::InputFault::Memory => InputFault::Other(Fault::Memory),
+    }
+}
+
 /// The fault of the program. With `is_verbose`, a line on standard error tells first where and why the input is wrong.
 pub fn told<R: Eprint>(rt: &R, is_verbose: bool, fault: InputFault) -> Fault {
     if is_verbose {

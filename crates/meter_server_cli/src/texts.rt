@@ -5,12 +5,6 @@ use cosem_axdr::Octets;
 use program_fault::Fault;
 use std::alloc::Global;
 
-/// How many bytes a password may have.
-pub const LONGEST_PASSWORD: usize = 32;
-
-/// How many bytes a device name may have.
-pub const LONGEST_DEVICE: usize = 16;
-
 /// A text of one byte at least, and so many at most. Errors: `Input` of any other, `Memory`.
 pub fn octets_of(alloc: Global, text: &str, longest: usize) -> Result<Octets, Fault>
     ensures { IfOk result (λ octets. (1 ≤ length octets) × (length octets ≤ longest)) }

@@ -41,6 +41,16 @@ is_sure Button = true
 is_sure (Samples block) = true
 is_sure (Moment now) = true
 
+-- the events that only read
+abbrev pub is_read : Event → Bool
+is_read (Get level attr selected) = true
+is_read (GetList level items) = true
+is_read (Set level attr selected value) = false
+is_read (Execute level method parameter) = false
+is_read Button = false
+is_read (Samples block) = false
+is_read (Moment now) = false
+
 -- the kind of a reply
 abbrev pub IsCode : Reply → Type 0
 IsCode (Code code) = ⊤

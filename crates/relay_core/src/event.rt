@@ -1,4 +1,5 @@
 ghost use Rattle.std.specs.Prelude.{◌≡◌, IfOk};
+ghost use Rattle.relay_core.specs.Machine.{is_read};
 
 use cosem_axdr::Data;
 use cosem_names::{AttrRef, AttributeSelection, GetResult, Level, MethodRef, ResultCode};
@@ -98,6 +99,13 @@ fn copied_parameter(alloc: Global, parameter: &Option<Data>) -> Result<Option<Da
 }
 
 impl Event {
+    /// Whether it only reads: a GET.
+    pub fn is_read(&self) -> bool
+        ensures { result ≡ is_read self.now }
+    {
+        matches!(self, Event::Get { .. } | Event::GetList { .. })
+    }
+
     /// An equal event in memory of its own.
     pub fn try_copy(&self, alloc: Global) -> Result<Event, AllocError>
         ensures { IfOk result (λ copy. copy ≡ self.now) }

@@ -22,7 +22,7 @@ mod writing;
 
 pub use event::{Event, Events, Line, Lines, Reply};
 pub use laws::{replies_fit, steps_are_requests, values_are_in_range, worlds_agree};
-pub use opening::{LimiterOpening, Opening, OpeningFault};
+pub use opening::{LimiterOpening, MAX_DEVICE_NAME, Opening, OpeningFault};
 pub use parts::Parts;
 pub use relay::RelayCore;
 pub use running::{RunStop, line_after, run};

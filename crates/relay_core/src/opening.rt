@@ -16,8 +16,8 @@ use script_steps::ScriptTable;
 use std::alloc::{AllocError, AllocFailed, Global};
 use thiserror::Error;
 
-/// The most bytes that a device name has.
-const MAX_DEVICE_NAME: usize = 16;
+/// The most bytes that a device name, the logical device name (IEC 62056-6-2), has here.
+pub const MAX_DEVICE_NAME: usize = 16;
 
 /// A limiter as an opening tells it: what is set, the last sample and both runs.
 #[derive(Debug, Drop)]

@@ -1,7 +1,7 @@
 ghost use Rattle.std.specs.Prelude.{◌≡◌, IfOk, IfErr, IsOk, IsTrue, OnOk, OnErr};
 ghost use Rattle.relay_core.specs.World.{World};
 ghost use Rattle.relay_core.specs.Stands.{StandsFor};
-ghost use Rattle.relay_core.specs.Machine.{at_event, is_sure, Fits};
+ghost use Rattle.relay_core.specs.Machine.{at_event, is_sure, is_read, Fits};
 ghost use Rattle.relay_core.specs.Moving.{parts_of};
 ghost use Rattle.relay_core.specs.Runs.{line_at, Runs, StopsEarly};
 
@@ -12,7 +12,7 @@ use cosem_names::GetResult;
 use std::alloc::{AllocError, Global};
 
 impl RelayCore {
-    /// Takes an event and answers it. Where memory runs out the core is as it was, as though the event had
+    /// Takes an event and answers it. An event that only reads leaves the core as it was. Where memory runs out the core is as it was too, as though the event had
     /// not come.
     #[tactic(auto, unfolding(crate::specs::Machine::at_event, crate::specs::Machine::is_sure))]
     pub fn step(&mut self, alloc: Global, event: &Event) -> Result<Reply, AllocError>
@@ -20,6 +20,7 @@ impl RelayCore {
         ensures reply { IfOk result (λ reply. (w : World) → StandsFor self.old w → reply ≡ (at_event event.now w).reply) }
         ensures fits { IfOk result (Fits event.now) }
         ensures sure { IsTrue (is_sure event.now) → IsOk result }
+        ensures read { IsTrue (is_read event.now) → self.new ≡ self.old }
         ensures err { OnErr result (self.new ≡ self.old) }
     {
         match event {

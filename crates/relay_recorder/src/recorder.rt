@@ -4,7 +4,7 @@ ghost use Rattle.relay_core.specs.Machine.{is_sure, Fits};
 ghost use Rattle.relay_core.specs.Agreeing.{Agree};
 ghost use Rattle.relay_core.specs.Opening.{opened, opening_of, IsFitOpening};
 ghost use Rattle.relay_core.specs.Stands.{StandsFor};
-ghost use Rattle.relay_core.specs.World.{World, new_world};
+ghost use Rattle.relay_core.specs.World.{World, IsDeviceName, new_world};
 ghost use Rattle.relay_recorder.specs.Histories.{StandsForHistory, HasHistory, Continues};
 ghost use Rattle.relay_recorder.specs.Replaying.{Replays};
 
@@ -45,7 +45,7 @@ impl Recorder {
     /// A recorder of a new meter of this device name, 1 to 16 bytes, that keeps at most `capacity` events, 1 to 1,024. All
     /// the memory that it keeps them in is taken here.
     pub fn new(alloc: Global, device: &Octets, capacity: u16) -> Result<Recorder, AllocError>
-        requires device { (1 ≤ length device.now) × (length device.now ≤ 16) }
+        requires device { IsDeviceName device.now }
         requires capacity { (1 ≤ capacity) × (capacity ≤ 1024) }
         ensures stands { IfOk result (λ recorder. StandsForHistory recorder [] (new_world device.now)) }
         ensures empty { IfOk result (λ recorder. recorder.events ≡ []) }

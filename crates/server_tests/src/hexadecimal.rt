@@ -1,6 +1,6 @@
 //! Sessions over texts in hexadecimal.
-ghost use Rattle.std.specs.Prelude.{◌≤◌, length};
 ghost use Rattle.acse_ber.specs.Password.{IsPassword};
+ghost use Rattle.relay_core.specs.World.{IsDeviceName};
 
 use crate::sessions::{Input, Output, PUBLIC_AARE, PUBLIC_AARQ, PUBLIC_GET, PUBLIC_STATE};
 use byte_streams::Counted;
@@ -21,7 +21,7 @@ struct Ran {
 
 /// Plays a text as a meter with this name and password. One of its reads and one of its writes may fail.
 fn play(alloc: Global, text: &str, failing: (u32, u32), device: &Octets, password: &Octets) -> Ran
-    requires device { (1 ≤ length device.now) × (length device.now ≤ 16) }
+    requires device { IsDeviceName device.now }
     requires password { IsPassword password.now }
 {
     let mut reader = Counted::new(Input {

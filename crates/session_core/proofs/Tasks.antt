@@ -11,7 +11,7 @@ use Rattle.session_core.specs.Answers.{answer_text, due_text}
 use Rattle.session_core.specs.Backwards.{to_server, end_by, end_of}
 use Rattle.session_core.specs.Incoming.{fault_of, outcome_by_fault, block_outcome_of, whole_by_data, whole_data, whole_outcome, event_by, form_by, later_outcome, transfer_of, no_blocks}
 use Rattle.session_core.specs.Outcome.{Outcome, asks, says, Turn, settled, continues, event_of, turn_event}
-use Rattle.session_core.specs.Outgoing.{reply_response, answer_cut, value_answer, values_answer, outgoing_by, begun_by}
+use Rattle.session_core.specs.Outgoing.{answer_cut, value_answer, values_answer, outgoing_by, begun_by}
 use Rattle.session_core.specs.Standard.{management_device}
 use Rattle.cosem_axdr.specs.declared.value.Data.{Data}
 use Rattle.cosem_names.specs.declared.service.GetResult.{GetResult}
@@ -731,20 +731,3 @@ over_again s end e = by_parts (λ (u : Session). IsOver end u) s s.is_finished (
 pub asks_or_ends : (s : Session) (end : SessionEnd) → is_asking s ≡ true → ended s ≡ Some end → ⊥
 unfolding is_asking
 asks_or_ends s end asking e = let over : awaits (Over end) ≡ true = subst (λ (t : Task). awaits t ≡ true) (ends_again s end e) asking in absurd cc
-
--- ---- the payload of a frame
-
-framed_long : (to : ℕ) (payload : List ℕ) → header_size ≤ length (due_text to payload)
-unfolding due_text frame_text
-framed_long to payload = omega arith
-
-framed_payload : (to : ℕ) (payload : List ℕ) → drop header_size (due_text to payload) ≡ payload
-unfolding due_text frame_text
-framed_payload to payload = refl
-
-pub long_frame : (bytes : List ℕ) (asked : Asked) (reply : Reply) → bytes ≡ reply_text asked reply → header_size ≤ length bytes
-long_frame bytes asked reply e =
-    subst (λ (b : List ℕ). header_size ≤ length b) (sym e) (framed_long asked.link.source (answer_text (Service (reply_response asked reply))))
-
-pub payload_of : (bytes : List ℕ) (asked : Asked) (reply : Reply) → bytes ≡ reply_text asked reply → drop header_size bytes ≡ answer_text (Service (reply_response asked reply))
-payload_of bytes asked reply e = ap (drop header_size) e ∙ framed_payload asked.link.source (answer_text (Service (reply_response asked reply)))

@@ -4,6 +4,8 @@ use Rattle.acse_ber.specs.Text.{aare_text, release_response}
 use Rattle.session_core.specs.Standard.{management_device, greatest_raw}
 use Rattle.session_core.specs.declared.answer.Answer.{Answer}
 use Rattle.session_core.specs.declared.answer.Answer.TheVariants.{Association, Release, Service}
+use Rattle.session_core.specs.declared.answer.Way.{Way}
+use Rattle.session_core.specs.declared.answer.Way.TheVariants as way
 use Rattle.cosem_names.specs.declared.service.GetResult.TheVariants.{Value, Code}
 use Rattle.wrapper_frame.specs.Text.{frame_text}
 use Rattle.xdlms_apdu.specs.Text.{response_text}
@@ -19,6 +21,11 @@ answer_text (Service response) = response_text response
 -- the frame in which a payload goes to a port (IEC 62056-4-7)
 unfoldable pub due_text : ℕ → List ℕ → List ℕ
 due_text to payload = frame_text (record { src = management_device; dst = to; payload = payload })
+
+-- an answer that goes out in a frame to a port, or as it is
+abbrev pub way_text : Way → ℕ → List ℕ → List ℕ
+way_text way.Framed to payload = due_text to payload
+way_text way.Bare to payload = payload
 
 -- a response without values, or with a block that has room in a PDU
 abbrev pub IsSmall : Response → Type 0

@@ -1,5 +1,5 @@
 ghost use Rattle.std.specs.Prelude.{◌≡◌, ◌≤◌, length, IfOk};
-ghost use Rattle.session_core.specs.Answers.{answer_text, due_text};
+ghost use Rattle.session_core.specs.Answers.{answer_text, due_text, way_text};
 ghost use Rattle.session_core.specs.Standard.{greatest_pdu};
 
 use acse_ber::{Aare, RELEASE_RESPONSE, write_aare};
@@ -36,9 +36,31 @@ impl Answer {
     }
 }
 
-/// A frame of the server.
+/// How an answer goes out.
+#[derive(Clone, Copy, Debug, PartialEq, Eq)]
+pub(crate) enum Way {
+    /// In a frame to the client's port.
+    Framed,
+    /// As it is.
+    Bare,
+}
+
+impl Way {
+    /// A payload that goes out this way.
+    pub(crate) fn text(self, alloc: Global, to: u16, payload: Octets) -> Result<Octets, AllocError>
+        requires { length payload ≤ greatest_pdu }
+        ensures { IfOk result (λ text. text ≡ way_text self to payload) }
+    {
+        match self {
+            Way::Framed => framed(alloc, to, &payload),
+            Way::Bare => Ok(payload),
+        }
+    }
+}
+
+// A frame of the server.
 #[tactic(auto, unfolding(crate::specs::Answers::due_text))]
-pub(crate) fn framed(alloc: Global, to: u16, payload: &Octets) -> Result<Octets, AllocError>
+fn framed(alloc: Global, to: u16, payload: &Octets) -> Result<Octets, AllocError>
     requires { length payload.now ≤ greatest_pdu }
     ensures { IfOk result (λ text. text ≡ due_text to payload.now) }
 {

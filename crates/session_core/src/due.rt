@@ -1,9 +1,9 @@
 ghost use Rattle.std.specs.Prelude.{◌≡◌, ◌≤◌, length, IfOk};
-ghost use Rattle.session_core.specs.Answers.{answer_text, due_text, IsSmall};
+ghost use Rattle.session_core.specs.Answers.{answer_text, due_text, way_text, IsSmall};
 ghost use Rattle.session_core.specs.Standard.{greatest_pdu};
 ghost use Rattle.session_core.specs.declared.answer.Answer.TheVariants as answer;
 
-use crate::answer::{Answer, framed};
+use crate::answer::{Answer, Way};
 use acse_ber::Aare;
 use cosem_axdr::Octets;
 use std::alloc::{AllocError, Global};
@@ -67,7 +67,14 @@ impl Due {
     pub(crate) fn text(&self, alloc: Global) -> Result<Octets, AllocError>
         ensures { IfOk result (λ text. text ≡ due_text self.now.to (answer_text self.now.answer)) }
     {
+        self.text_by(alloc, Way::Framed)
+    }
+
+    /// The answer as it goes out this way.
+    pub(crate) fn text_by(&self, alloc: Global, way: Way) -> Result<Octets, AllocError>
+        ensures { IfOk result (λ text. text ≡ way_text way self.now.to (answer_text self.now.answer)) }
+    {
         let payload = self.answer.text(alloc)?;
-        framed(alloc, self.to, &payload)
+        way.text(alloc, self.to, payload)
     }
 }

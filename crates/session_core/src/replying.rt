@@ -1,13 +1,12 @@
 ghost use Rattle.std.specs.Prelude.{◌≡◌, ◌≤◌, ◌<◌, ◌*◌, ◌-◌, None, length, option_and_then, IfOk, IfErr};
-ghost use Rattle.session_core.specs.Answers.{answer_text, due_text};
-ghost use Rattle.session_core.specs.Outgoing.{sent, unsent_by, can_go_in_blocks, long_response, long_text, block_response, code_response, reply_code, answer_cut, reply_in, outgoing_by};
-ghost use Rattle.session_core.specs.Rules.{reply_text};
+ghost use Rattle.session_core.specs.Answers.{answer_text, way_text};
+ghost use Rattle.session_core.specs.Outgoing.{sent, unsent_by, can_go_in_blocks, long_response, long_text, block_response, code_response, reply_code, reply_response, answer_cut, reply_in, outgoing_by};
 ghost use Rattle.session_core.specs.Standard.{block_header};
 ghost use Rattle.session_core.specs.declared.answer.Answer.TheVariants.{Service};
 ghost use Rattle.xdlms_blocks.specs.Limits.{max_blocks};
 ghost use Rattle.xdlms_blocks.specs.Sending.{next_piece};
 
-use crate::answer::framed;
+use crate::answer::Way;
 use crate::asked::{Asked, ReplyForm};
 use crate::conformance::GET_IN_BLOCKS;
 use crate::due::Due;
@@ -25,21 +24,22 @@ const GET_HEADER: usize = 4;
 /// The bytes of a Get-Response-With-List before those of its results.
 const GET_LIST_HEADER: usize = 3;
 
-/// The frame that answers a reply, and the long GET that goes on after it.
+/// What answers a reply, and the long GET that goes on after it.
 #[derive(Debug, Drop)]
 pub(crate) struct Answered {
     pub(crate) text: Octets,
     pub(crate) outgoing: Option<Outgoing>,
 }
 
-/// The answer to a reply. Want of memory gives the reply back.
+/// The answer to a reply, as it goes out this way. Want of memory gives the reply back.
 #[tactic(auto, unfolding(crate::specs::Outgoing::reply_response, crate::specs::Outgoing::begun_by), using(crate::proofs::Tasks::value_cut, crate::proofs::Tasks::values_cut))]
 pub(crate) fn answer_reply(
     alloc: Global,
     asked: Asked,
+    way: Way,
     reply: Reply,
 ) -> Result<Answered, (AllocError, Reply)>
-    ensures text { IfOk result (λ answered. answered.text ≡ reply_text asked reply) }
+    ensures text { IfOk result (λ answered. answered.text ≡ way_text way asked.link.source (answer_text (Service (reply_response asked reply)))) }
     ensures outgoing { IfOk result (λ answered. answered.outgoing ≡ outgoing_by asked reply) }
     ensures err { IfErr result (λ failed. failed.1 ≡ reply) }
 {
@@ -50,24 +50,24 @@ pub(crate) fn answer_reply(
                     id,
                     result: GetResult::Value(value),
                 };
-                answer_values(alloc, asked.link, id, normal, GET_HEADER)
+                answer_values(alloc, asked.link, way, id, normal, GET_HEADER)
             }
             ReplyForm::GetList(_)
             | ReplyForm::Set(_)
             | ReplyForm::SetLastBlock(_, _)
-            | ReplyForm::Action(_) => answer_result(alloc, asked, Reply::Value(value)),
+            | ReplyForm::Action(_) => answer_result(alloc, asked, way, Reply::Value(value)),
         },
         Reply::Values(results) => match asked.form {
             ReplyForm::GetList(id) => {
                 let normal = Response::GetList { id, results };
-                answer_values(alloc, asked.link, id, normal, GET_LIST_HEADER)
+                answer_values(alloc, asked.link, way, id, normal, GET_LIST_HEADER)
             }
             ReplyForm::Get(_)
             | ReplyForm::Set(_)
             | ReplyForm::SetLastBlock(_, _)
-            | ReplyForm::Action(_) => answer_result(alloc, asked, Reply::Values(results)),
+            | ReplyForm::Action(_) => answer_result(alloc, asked, way, Reply::Values(results)),
         },
-        other => answer_result(alloc, asked, other),
+        other => answer_result(alloc, asked, way, other),
     }
 }
 
@@ -75,16 +75,17 @@ pub(crate) fn answer_reply(
 fn answer_values(
     alloc: Global,
     link: Link,
+    way: Way,
     id: InvokeId,
     normal: Response,
     header: usize,
 ) -> Result<Answered, (AllocError, Reply)>
     requires { header ≤ 4 }
-    ensures text { IfOk result (λ answered. answered.text ≡ due_text link.source (answer_text (Service (long_response link (answer_cut id normal header))))) }
+    ensures text { IfOk result (λ answered. answered.text ≡ way_text way link.source (answer_text (Service (long_response link (answer_cut id normal header))))) }
     ensures outgoing { IfOk result (λ answered. answered.outgoing ≡ option_and_then (sent 1) (long_text link (answer_cut id normal header))) }
     ensures err { IfErr result (λ failed. failed.1 ≡ reply_in normal) }
 {
-    match answer_long(alloc, link, id, &normal, header) {
+    match answer_long(alloc, link, way, id, &normal, header) {
         Ok(answered) => Ok(answered),
         Err(error) => Err((error, reply_in(normal))),
     }
@@ -112,8 +113,13 @@ fn reply_in(normal: Response) -> Reply
 }
 
 // The answer to a reply that is a result, or that is taken as one.
-fn answer_result(alloc: Global, asked: Asked, reply: Reply) -> Result<Answered, (AllocError, Reply)>
-    ensures text { IfOk result (λ answered. answered.text ≡ due_text asked.link.source (answer_text (Service (code_response asked.form (reply_code reply))))) }
+fn answer_result(
+    alloc: Global,
+    asked: Asked,
+    way: Way,
+    reply: Reply,
+) -> Result<Answered, (AllocError, Reply)>
+    ensures text { IfOk result (λ answered. answered.text ≡ way_text way asked.link.source (answer_text (Service (code_response asked.form (reply_code reply))))) }
     ensures outgoing { IfOk result (λ answered. answered.outgoing ≡ None) }
     ensures err { IfErr result (λ failed. failed.1 ≡ reply) }
 {
@@ -126,15 +132,20 @@ fn answer_result(alloc: Global, asked: Asked, reply: Reply) -> Result<Answered, 
         | Reply::Ran(_)
         | Reply::Stale { .. } => ResultCode::OtherReason,
     };
-    match answer_code(alloc, asked, code) {
+    match answer_code(alloc, asked, way, code) {
         Ok(answered) => Ok(answered),
         Err(error) => Err((error, reply)),
     }
 }
 
 // The answer with a result alone.
-fn answer_code(alloc: Global, asked: Asked, code: ResultCode) -> Result<Answered, AllocError>
-    ensures text { IfOk result (λ answered. answered.text ≡ due_text asked.link.source (answer_text (Service (code_response asked.form code)))) }
+fn answer_code(
+    alloc: Global,
+    asked: Asked,
+    way: Way,
+    code: ResultCode,
+) -> Result<Answered, AllocError>
+    ensures text { IfOk result (λ answered. answered.text ≡ way_text way asked.link.source (answer_text (Service (code_response asked.form code)))) }
     ensures outgoing { IfOk result (λ answered. answered.outgoing ≡ None) }
 {
     let response = match asked.form {
@@ -148,7 +159,7 @@ fn answer_code(alloc: Global, asked: Asked, code: ResultCode) -> Result<Answered
     };
     let due = Due::response(asked.link.source, response);
     Ok(Answered {
-        text: due.text(alloc)?,
+        text: due.text_by(alloc, way)?,
         outgoing: None,
     })
 }
@@ -158,31 +169,32 @@ fn answer_code(alloc: Global, asked: Asked, code: ResultCode) -> Result<Answered
 fn answer_long(
     alloc: Global,
     link: Link,
+    way: Way,
     id: InvokeId,
     normal: &Response,
     header: usize,
 ) -> Result<Answered, AllocError>
     requires { header ≤ 4 }
-    ensures text { IfOk result (λ answered. answered.text ≡ due_text link.source (answer_text (Service (long_response link (answer_cut id normal.now header))))) }
+    ensures text { IfOk result (λ answered. answered.text ≡ way_text way link.source (answer_text (Service (long_response link (answer_cut id normal.now header))))) }
     ensures outgoing { IfOk result (λ answered. answered.outgoing ≡ option_and_then (sent 1) (long_text link (answer_cut id normal.now header))) }
 {
     let text = write_response(alloc, normal)?;
     if text.len() <= usize::from(link.limit.bytes()) {
         return Ok(Answered {
-            text: framed(alloc, link.source, &text)?,
+            text: way.text(alloc, link.source, text)?,
             outgoing: None,
         });
     }
     let raw = &text.as_slice()[header..];
     if can_go_in_blocks(link, raw) {
-        return begin(alloc, link, id, Octets::from_slice(alloc, raw)?);
+        return begin(alloc, link, way, id, Octets::from_slice(alloc, raw)?);
     }
     let refusal = Response::Get {
         id,
         result: GetResult::Code(ResultCode::OtherReason),
     };
     Ok(Answered {
-        text: Due::response(link.source, refusal).text(alloc)?,
+        text: Due::response(link.source, refusal).text_by(alloc, way)?,
         outgoing: None,
     })
 }
@@ -196,17 +208,23 @@ fn can_go_in_blocks(link: Link, raw: &[u8]) -> bool
 }
 
 // Begins to send bytes in blocks: the answer has the first.
-fn begin(alloc: Global, link: Link, id: InvokeId, raw: Octets) -> Result<Answered, AllocError>
+fn begin(
+    alloc: Global,
+    link: Link,
+    way: Way,
+    id: InvokeId,
+    raw: Octets,
+) -> Result<Answered, AllocError>
     requires some { 0 < length raw }
     requires numbered { length raw ≤ max_blocks * (link.limit - block_header) }
-    ensures text { IfOk result (λ answered. answered.text ≡ due_text link.source (answer_text (Service (block_response id (next_piece (unsent_by link.limit raw)))))) }
+    ensures text { IfOk result (λ answered. answered.text ≡ way_text way link.source (answer_text (Service (block_response id (next_piece (unsent_by link.limit raw)))))) }
     ensures outgoing { IfOk result (λ answered. answered.outgoing ≡ sent 1 (unsent_by link.limit raw)) }
 {
     let mut outgoing = Outgoing::new(raw, link.limit);
     match outgoing.next(alloc, 0) {
         Ok(piece) => {
             let is_last = piece.last;
-            let text = block_given(link.source, id, piece).text(alloc)?;
+            let text = block_given(link.source, id, piece).text_by(alloc, way)?;
             Ok(Answered {
                 text,
                 outgoing: if is_last { None } else { Some(outgoing) },

@@ -4,7 +4,7 @@ ghost use Rattle.session_core.specs.declared.task.Task.TheVariants.{Listen, Over
 ghost use Rattle.wrapper_frame.specs.Header.{header_size, head_of};
 ghost use Rattle.wrapper_frame.specs.declared.header.Head.TheVariants.{Whole};
 
-use crate::answer::SERVER_PORT;
+use crate::answer::{SERVER_PORT, Way};
 use crate::end::SessionEnd;
 use crate::next::Next;
 use crate::password::Password;
@@ -117,7 +117,7 @@ impl Session {
         let Task::Await(asked) = self.task else {
             unreachable!()
         };
-        let Answered { text, outgoing } = answer_reply(alloc, asked, reply)?;
+        let Answered { text, outgoing } = answer_reply(alloc, asked, Way::Framed, reply)?;
         self.state.outgoing = outgoing;
         self.turn_to(Task::Send(text));
         Ok(())

@@ -1,13 +1,12 @@
 //! Requests that come without a frame and without an association.
-ghost use Rattle.std.specs.Prelude.{◌≡◌, ◌≤◌, length, drop, IsTrue, IfOk};
+ghost use Rattle.std.specs.Prelude.{◌≡◌, IsTrue, IfOk};
 ghost use Rattle.session_core.specs.Answers.{answer_text};
 ghost use Rattle.session_core.specs.Outgoing.{reply_response};
 ghost use Rattle.session_core.specs.Rules.{is_settled, step_outcome};
 ghost use Rattle.session_core.specs.Unframed.{unframed_of, unframed_outcome, is_unframed};
 ghost use Rattle.session_core.specs.declared.answer.Answer.TheVariants.{Service};
-ghost use Rattle.wrapper_frame.specs.Header.{header_size};
 
-use crate::answer::Answer;
+use crate::answer::{Answer, Way};
 use crate::asked::Asked;
 use crate::conformance::{ACTION_REQUEST, GET_REQUEST, SET_REQUEST};
 use crate::limit::{Limit, MAX_PDU};
@@ -20,7 +19,6 @@ use cosem_axdr::Octets;
 use cosem_names::Level;
 use relay_core::{Event, Reply};
 use std::alloc::{AllocError, Global};
-use wrapper_frame::HEADER_SIZE;
 use xdlms_apdu::{Exception, Response};
 
 /// The port of the management client.
@@ -89,16 +87,8 @@ fn is_unframed(payload: &[u8]) -> bool
 pub fn answer_unframed(alloc: Global, asked: Asked, reply: Reply) -> Result<Octets, AllocError>
     ensures { IfOk result (λ text. text ≡ answer_text (Service (reply_response asked reply))) }
 {
-    match answer_reply(alloc, asked, reply) {
-        Ok(answered) => payload(alloc, answered.text.as_slice()),
+    match answer_reply(alloc, asked, Way::Bare, reply) {
+        Ok(answered) => Ok(answered.text),
         Err((error, _)) => Err(error),
     }
-}
-
-// The payload of a frame.
-fn payload(alloc: Global, frame: &[u8]) -> Result<Octets, AllocError>
-    requires { header_size ≤ length frame.now }
-    ensures { IfOk result (λ payload. payload ≡ drop header_size frame.now) }
-{
-    Octets::from_slice(alloc, &frame[HEADER_SIZE..])
 }

@@ -8,10 +8,10 @@ use Rattle.relay_recorder.specs.Recording.{Recording}
 use Rattle.session_core.specs.Remaining.{load}
 use Rattle.session_core.specs.declared.session.Session.{Session}
 use Rattle.supply_meter.specs.Dialogues.{Dialogue, asks_ahead, sends_ahead}
-use Rattle.supply_meter.specs.Progress.{Advances, GivesFrame}
-use Rattle.supply_meter.specs.Working.{SameAhead, TakesFrame, IsDue, weight}
+use Rattle.supply_meter.specs.Progress.{Advances}
+use Rattle.supply_meter.specs.Working.{SameAhead, IsDue, weight}
 use Rattle.supply_meter.specs.declared.under_way.UnderWay.{UnderWay}
-use Rattle.supply_meter.specs.declared.under_way.UnderWay.TheVariants.{Nothing, Asked, Answered, Due}
+use Rattle.supply_meter.specs.declared.under_way.UnderWay.TheVariants.{Asked, Answered, Due}
 
 map_both : {A B : Type 0} (f : A → B) (xs ys : List A) → map f (xs ++ ys) ≡ map f xs ++ map f ys
 map_both f [] ys = refl

@@ -57,7 +57,7 @@ abbrev pub OpensBy : Metering → ℕ → Result Unit MeterFault → Metering �
 OpensBy old number (Ok done) new = Opens old number new
 OpensBy old number (Err NoSession) new = (most_sessions ≤ number) × (new ≡ old)
 OpensBy old number (Err SessionTaken) new = (dialogue_at old number ≢ None) × (new ≡ old)
-OpensBy old number (Err Memory) new = new ≡ old
+OpensBy old number (Err Memory) new = (number < most_sessions) × (dialogue_at old number ≡ None) × (new ≡ old)
 OpensBy old number (Err TooManySamples) new = ⊥
 OpensBy old number (Err Uneven) new = ⊥
 
@@ -137,7 +137,7 @@ pub record TakesSamples (old : Metering) (samples : Samples) (fired : Fired) (ne
 
 abbrev pub SamplesBy : Metering → Samples → Result Fired MeterFault → Metering → Type 0
 SamplesBy old samples (Ok fired) new = TakesSamples old samples fired new
-SamplesBy old samples (Err TooManySamples) new = (most_values < length samples.import) × (new ≡ old)
+SamplesBy old samples (Err TooManySamples) new = AreEven samples × (most_values < length samples.import) × (new ≡ old)
 SamplesBy old samples (Err Uneven) new = (¬ (AreEven samples)) × (new ≡ old)
 SamplesBy old samples (Err Memory) new = new ≡ old
 SamplesBy old samples (Err NoSession) new = ⊥

@@ -3,10 +3,10 @@ use thiserror::Error;
 /// Why a call was not done.
 #[derive(Clone, Copy, Debug, PartialEq, Eq, Error)]
 pub enum MeterFault {
-    /// No session of this number is open.
+    /// No session of this number is open, or its number is above 7.
     #[error("no session of this number is open")]
     NoSession,
-    /// A session of this number is open already, or there is no such number.
+    /// A session of this number is open already.
     #[error("a session of this number is open")]
     SessionTaken,
     /// More than 256 samples.

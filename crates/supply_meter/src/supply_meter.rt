@@ -5,7 +5,7 @@ ghost use Rattle.disconnect_control.specs.Transitions.{is_state};
 ghost use Rattle.lane_sampler.specs.Samples.{values_alone, pairs_of};
 ghost use Rattle.relay_core.specs.Machine.{is_sure, Fits};
 ghost use Rattle.relay_core.specs.Stands.{StandsFor};
-ghost use Rattle.relay_core.specs.World.{World};
+ghost use Rattle.relay_core.specs.World.{World, IsDeviceName};
 ghost use Rattle.relay_core.specs.declared.event.Event.TheVariants.{Button};
 ghost use Rattle.relay_core.specs.declared.event.Reply.TheVariants.{Code};
 ghost use Rattle.supply_meter.specs.Calls.{IsNew, OpensBy, FeedsBy, FinishesBy, NextBy, ClosesBy, SamplesBy, TakesMoment};
@@ -59,7 +59,7 @@ impl SupplyMeter {
         password: &Octets,
         kept_events: u16,
     ) -> Result<SupplyMeter, AllocError>
-        requires device { (1 ≤ length device.now) × (length device.now ≤ 16) }
+        requires device { IsDeviceName device.now }
         requires password { IsPassword password.now }
         requires kept { (1 ≤ kept_events) × (kept_events ≤ 1024) }
         ensures { IfOk result (IsNew device.now password.now kept_events) }
@@ -90,7 +90,7 @@ impl SupplyMeter {
         &self.recorder
     }
 
-    /// Opens a session of a number of 0 to 7.
+    /// Opens a session of a number of 0 to 7. Errors, judged in this order: `NoSession` where the number is above 7, `SessionTaken`, `Memory`.
     pub fn open_session(&mut self, alloc: Global, number: u8) -> Result<(), MeterFault>
         ensures { OpensBy self.old number result self.new }
     {

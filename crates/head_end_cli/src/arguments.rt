@@ -1,0 +1,96 @@
+//! The command line of the program.
+use clap::{Arg, ArgAction, Command, value_parser};
+use std::alloc::{AllocError, Global};
+
+/// What `--help` tells below the options.
+const LIMITS_AND_STATUSES: &str = "\
+Limits: a list has 1,000 jobs and 1,048,576 bytes at most.
+A fault is the line `fault: WORD` on standard error; --verbose adds a line before it that tells where and why the input is wrong.
+Exit status: 0 done; 2 the command line or the input is wrong; 3 reading or writing failed; 4 memory ran out.
+Example: echo m1 127.0.0.1:4059 state | head_end check";
+
+/// The option `--verbose`.
+fn verbose<'a>(alloc: Global) -> Arg<'a> {
+    Arg::new(alloc, "verbose")
+        .long("verbose")
+        .help("Tell on standard error where and why the input is wrong")
+        .action(ArgAction::SetTrue)
+}
+
+/// The option `--password`.
+fn password<'a>(alloc: Global) -> Arg<'a> {
+    Arg::new(alloc, "password")
+        .long("password")
+        .value_name("TEXT")
+        .help("The password of the management client, 1 to 32 bytes (else METER_PASSWORD)")
+        .action(ArgAction::Set)
+}
+
+/// The option `--workers`.
+fn workers<'a>(alloc: Global) -> Arg<'a> {
+    Arg::new(alloc, "workers")
+        .long("workers")
+        .value_name("N")
+        .help("How many meters are talked to at once, 1 to 16")
+        .value_parser(value_parser!(u8).range(1..=16))
+        .default_value("4")
+}
+
+/// The option `--timeout`.
+fn timeout<'a>(alloc: Global) -> Arg<'a> {
+    Arg::new(alloc, "timeout")
+        .long("timeout")
+        .value_name("SECONDS")
+        .help("How long a connection may take as a whole; 0 is no limit")
+        .value_parser(value_parser!(u32))
+        .default_value("60")
+}
+
+/// The option `--connect-timeout`.
+fn connect_timeout<'a>(alloc: Global) -> Arg<'a> {
+    Arg::new(alloc, "connect-timeout")
+        .long("connect-timeout")
+        .value_name("SECONDS")
+        .help("How long a connect may take; 0 is no limit")
+        .value_parser(value_parser!(u32))
+        .default_value("10")
+}
+
+/// The option `--progress`.
+fn progress<'a>(alloc: Global) -> Arg<'a> {
+    Arg::new(alloc, "progress")
+        .long("progress")
+        .help("Says on standard error how many jobs are done")
+        .action(ArgAction::SetTrue)
+}
+
+/// The command that runs a campaign.
+fn run_command<'a>(alloc: Global) -> Result<Command<'a>, AllocError> {
+    Command::new(alloc, "run")
+        .about(
+            "Runs the jobs on standard input, and prints the report: a line for each job, in their order",
+        )
+        .arg(password(alloc))?
+        .arg(workers(alloc))?
+        .arg(timeout(alloc))?
+        .arg(connect_timeout(alloc))?
+        .arg(progress(alloc))?
+        .arg(verbose(alloc))
+}
+
+/// The commands of the program, as its users see them.
+pub fn command_line<'a>(alloc: Global) -> Result<Command<'a>, AllocError> {
+    let check = Command::new(alloc, "check")
+        .about(
+            "Reads the jobs on standard input and prints how many they are: a line each, ID ADDRESS VERB, the verb disconnect, reconnect or state",
+        )
+        .arg(verbose(alloc))?;
+    Command::new(alloc, "head_end")
+        .bin_name("head_end")?
+        .version("0.1.0")
+        .about("Switching campaigns over DLMS/COSEM electricity meters")
+        .after_help(LIMITS_AND_STATUSES)
+        .subcommand_required(true)
+        .subcommand(check)?
+        .subcommand(run_command(alloc)?)
+}
