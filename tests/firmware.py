@@ -1,5 +1,5 @@
 #!/usr/bin/env python3
-"""Builds the library for C and its examples with the machine's own C compiler, and runs them beside the programs that the gate left.
+"""Builds the library for C and its examples with the machine's own C compiler, and runs them beside the programs that the gate, or bin/build, left.
 
 The same streams go through `meter_server hex` and through the example in C, byte by byte: the stored ones, changed ones, and sessions of requests made by chance. What both
 answer is the same text, and the trace that C exported plays to the replies in these answers. Then each call of the heap is refused in turn. The super-loop runs with the
@@ -20,7 +20,10 @@ import tempfile
 
 sys.dont_write_bytecode = True  # the modules beside this one leave nothing behind
 
+sys.path.insert(0, str(pathlib.Path(__file__).resolve().parent.parent / "bin"))
+
 import serving
+import toolchain
 from fuzz import changed, pieces_of, stored
 from serving import ACTIVE, DEVICE, DISCONNECT, MODE, NORMAL, OBJECTS, PASSWORD, PLAYER, RECONNECT, REGISTER, SERVER, STATE, TOP, check, described, test
 
@@ -41,7 +44,8 @@ LOOP = """0.0 s: state 1
 18.0 s: state 1, supply on
 frames sent: 8
 """.split("\n", 1)[1]
-ARM = ("aarch64-linux-gnu-gcc", "qemu-aarch64")
+PC_TARGET, ARM_TARGET = "x86_64-unknown-linux-gnu", "aarch64-unknown-linux-gnu"
+ARM = ("aarch64-linux-gnu-gcc", "qemu-aarch64")  # what compiles for 64-bit ARM, and runs it
 
 place = None  # where everything is built
 is_long = False
@@ -54,12 +58,40 @@ def made(*words):
     return ran.stdout
 
 
-def library(*words):
-    """Builds the library, and gives the path of a copy."""
-    ran = subprocess.run(["rt", "lib", *words], cwd=LIBRARY, capture_output=True, text=True)
+def archives():
+    """Builds the library for this processor, and for 64-bit ARM where it can be run, and gives the archives' paths. What the gate leaves in a new clone is taken as it is: then each
+    target costs a check of the crate, so ARM has its turn with --long alone."""
+    rt = toolchain.command()
+    rt.rtlib.guarded()  # its first call sets a signal's handler, which only the main thread may
+    crate = next(it for it in rt.rtlib.crates_below(str(TOP)) if it.name == LIBRARY.name)
+    is_after_ci = toolchain.is_left_by_ci(rt, [crate])
+    made_by = from_what_ci_left if is_after_ci else from_kept_work
+    targets = [PC_TARGET, ARM_TARGET] if has_arm() and (is_long or not is_after_ci) else [PC_TARGET]
+    return {target: made_by(rt, crate, target) for target in targets}
+
+
+def from_kept_work(rt, crate, target):
+    """By `rt lib`, over the libraries that earlier checks proved."""
+    copy = place / f"libmeter-{target}.a"
+    ran = subprocess.run(["rt", "lib", "--target", target], cwd=LIBRARY, capture_output=True, text=True)
     assert ran.returncode == 0, ran.stdout + ran.stderr
-    copy = place / f"libmeter{len(words)}.a"
     shutil.copy(LIBRARY / "out" / "libmeter.a", copy)
+    return copy
+
+
+def from_what_ci_left(rt, crate, target):
+    """As `rt ci` makes a program: a check, and a compiler over what it proved."""
+    checked, copy = place / f"checked-{target}", place / f"libmeter-{target}.a"
+    rt.rtlib.Crate.cuts_libraries = True
+    words = [*crate.words(["--jobs", str(os.cpu_count())], keeps=False), *(["--target", target] if target != PC_TARGET else [])]
+    with open(place / "log", "w+", encoding="utf-8", errors="replace") as crate.out:
+        status = crate.call(rt.rtlib.RATTLE, "check", *words, "-o", str(checked))
+        for flag in ("--logic-built", "--jobs"):
+            at = words.index(flag)
+            words = [*words[:at], *words[at + 2 :]]
+        how = ["--crate-checked", str(checked), "--toolchain", f"{rt.KIT}/toolchain", "--backend", "llvm", "-o", str(copy)]
+        status = status or crate.call(rt.rtlib.RATTLE, "build", *words, *how)
+    assert status == 0, (place / "log").read_text()
     return copy
 
 
@@ -137,7 +169,7 @@ def run_of(trace):
 # ---- the tests
 
 def the_header_has_the_exports(name):
-    exported = set(re.findall(r" T (meter_\w+)$", made("nm", "--defined-only", place / "libmeter0.a"), re.M))
+    exported = set(re.findall(r" T (meter_\w+)$", made("nm", "--defined-only", place / f"libmeter-{PC_TARGET}.a"), re.M))
     declared = set(re.findall(r"\b(meter_\w+)\(struct meter", HEADER.read_text()))
     check(name, exported == declared and exported, exported ^ declared)
 
@@ -166,10 +198,9 @@ def the_header_has_the_numbers_of_the_definitions(name):
     check(name, {words.get(word): number for word, number in defined.items()} == declared and len(declared) == len(words), defined, declared)
 
 
-def a_meter_goes_on_from_its_trace(name):
-    ran = made(place / "resume_test")
-    print(ran.strip())
-    check(name, ran.startswith("resumed"))
+def each_export_answers(name):
+    ran = made(place / "exports_test")
+    check(name, ran == "each export answered rightly\n", ran)
 
 
 def streams_are_answered_as_by_the_program(name):
@@ -238,11 +269,15 @@ def valgrind_finds_nothing(name):
         check(f"{name}: {words[0].name}", ran.returncode == 0, ran.stderr)
 
 
+def has_arm():
+    return all(map(shutil.which, ARM))
+
+
 def the_super_loop_runs_on_arm(name):
-    if not all(map(shutil.which, ARM)):
-        print("skipped: gcc-aarch64-linux-gnu and qemu-user are not installed")
+    archive = place / f"libmeter-{ARM_TARGET}.a"
+    if not archive.exists():
+        print("skipped: after the gate --long alone builds for ARM" if has_arm() else "skipped: gcc-aarch64-linux-gnu and qemu-user are not installed")
         return
-    archive = library("--target", "aarch64-unknown-linux-gnu")
     program("super_loop_arm", EXAMPLES / "super_loop.c", EXAMPLES / "platform_bare.c", HEAPS / "heap_pool.c", archive, compiler=ARM[0],
             words=["-std=gnu11", "-ffreestanding", "-nostdlib", "-static"])
     ran = made(ARM[1], place / "super_loop_arm")
@@ -259,13 +294,13 @@ def main():
         return 0
     with tempfile.TemporaryDirectory() as folder:
         place = pathlib.Path(folder)
-        archive = library()
+        archive = archives()[PC_TARGET]
         program("session", EXAMPLES / "session.c", HEAPS / "heap_malloc.c", archive)
         program("refused", EXAMPLES / "session.c", TOOLS / "refusing_heap.c", archive)
         program("super_loop", EXAMPLES / "super_loop.c", EXAMPLES / "platform_hosted.c", HEAPS / "heap_pool.c", archive)
-        program("resume_test", TOOLS / "resume_test.c", HEAPS / "heap_malloc.c", archive)
-        for one in (the_header_has_the_exports, the_header_has_the_types_of_the_exports, the_header_has_the_numbers_of_the_definitions, a_meter_goes_on_from_its_trace, the_pool_keeps_its_blocks, streams_are_answered_as_by_the_program,
-                    each_refusal_can_be_made_again, the_super_loop_runs, valgrind_finds_nothing, the_super_loop_runs_on_arm):
+        program("exports_test", TOOLS / "exports_test.c", HEAPS / "heap_malloc.c", archive)
+        for one in (the_header_has_the_exports, the_header_has_the_types_of_the_exports, the_header_has_the_numbers_of_the_definitions, each_export_answers,
+                    the_pool_keeps_its_blocks, streams_are_answered_as_by_the_program, each_refusal_can_be_made_again, the_super_loop_runs, valgrind_finds_nothing, the_super_loop_runs_on_arm):
             test(one)
     print(f"{serving.passed} passed, {serving.failed} failed")
     return 1 if serving.failed else 0

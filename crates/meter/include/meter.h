@@ -41,7 +41,7 @@ enum {
     METER_NO_MEMORY = 8,      /* the heap gave no memory; the same call can be made again */
     METER_NOT_OPEN = 9,       /* the meter is not open */
     METER_IS_OPEN = 10,       /* meter_open, meter_resume: it is open already */
-    METER_NO_SESSION = 11,    /* no session of this number is open */
+    METER_NO_SESSION = 11,    /* no session of this number is open, or its number is above 7 */
     METER_SESSION_TAKEN = 12, /* meter_open_session: one of this number is open already */
     METER_WRONG_ARGUMENT = 13,/* a length or number lies outside its range, or a text is no trace */
     METER_NO_ROOM = 14        /* the caller's buffer is too short: *length tells how many bytes it takes */
@@ -82,7 +82,7 @@ void meter_close(struct meter *meter);
 
 /*
  * Opens a session of a client, told by a number of 0 to 7.
- * METER_OK, METER_NOT_OPEN, METER_WRONG_ARGUMENT, METER_SESSION_TAKEN, METER_NO_MEMORY.
+ * METER_OK, METER_NOT_OPEN, METER_NO_SESSION: the number is above 7, METER_SESSION_TAKEN, METER_NO_MEMORY.
  */
 meter_result meter_open_session(struct meter *meter, uint8_t session);
 

@@ -2,7 +2,7 @@
 --     OnOpen        a call on a meter that is open, or that tells that it is not
 --     OpensTo       a meter is opened
 --     FedTo, ..     the calls of a meter, with the numbers that C is told
-use Rattle.std.specs.Prelude.{◌≡◌, ◌⊎◌, ◌≤◌, ◌<◌, ◌++◌, ℕ, ⊤, Bool, Option, Some, None, List, [], ◌∷◌, length, drop, Result, Ok, Err}
+use Rattle.std.specs.Prelude.{◌≡◌, ◌⊎◌, ◌≤◌, ◌<◌, ◌++◌, ℕ, Bool, Option, Some, None, List, [], ◌∷◌, length, drop, Result, Ok, Err}
 use Rattle.cosem_names.specs.ResultCode as result_code
 use Rattle.cosem_names.specs.declared.result_code.ResultCode.{ResultCode}
 use Rattle.disconnect_control.specs.declared.state.ControlState.TheVariants.{Connected}
@@ -68,7 +68,7 @@ pub record IsNoTrace (text : List ℕ) : Type 0 where
 abbrev pub ResumesTo : List ℕ → List ℕ → ℕ → Option Metering → Outcome → Option Metering → Type 0
 ResumesTo text password kept None outcome.Done (Some m) = Resumes text password kept m
 ResumesTo text password kept None outcome.WrongArgument None = (¬ (AreFit (0 ∷ []) password kept)) ⊎ IsNoTrace text
-ResumesTo text password kept None outcome.NoMemory None = ⊤
+ResumesTo text password kept None outcome.NoMemory None = AreFit (0 ∷ []) password kept
 ResumesTo text password kept None _ new = ⊥
 ResumesTo text password kept (Some m) outcome.IsOpen new = new ≡ Some m
 ResumesTo text password kept (Some m) _ new = ⊥

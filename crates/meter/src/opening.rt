@@ -5,7 +5,9 @@ ghost use Rattle.supply_meter.specs.Calls.{IsNew};
 
 use crate::handle::Meter;
 use crate::outcome::Outcome;
+use acse_ber::MAX_PASSWORD;
 use cosem_axdr::Octets;
+use relay_core::MAX_DEVICE_NAME;
 use std::alloc::{AllocError, Global};
 use supply_meter::SupplyMeter;
 
@@ -48,9 +50,9 @@ pub(crate) fn are_fit(name: &[u8], password: &[u8], kept_events: u16) -> bool
     ensures { IsTrue result ↔ AreFit name.now password.now kept_events }
 {
     1 <= name.len()
-        && name.len() <= 16
+        && name.len() <= MAX_DEVICE_NAME
         && 1 <= password.len()
-        && password.len() <= 32
+        && password.len() <= MAX_PASSWORD
         && 1 <= kept_events
         && kept_events <= 1024
 }

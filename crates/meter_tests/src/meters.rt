@@ -1,0 +1,44 @@
+//! Meters, and how they stand.
+use cosem_axdr::Octets;
+use std::alloc::{AllocError, Global};
+use std::process::Abort;
+use std::test::Fail;
+use supply_meter::{SupplyMeter, TraceFault};
+
+/// How many events these meters keep.
+const KEPT_EVENTS: u16 = 16;
+
+/// How a meter stands: the numbers of its control state and of its control mode, and whether the supply is on.
+pub(crate) type Standing = (u8, u8, bool);
+
+pub(crate) fn standing(meter: &SupplyMeter) -> Standing {
+    (
+        meter.state().number(),
+        meter.mode().number(),
+        meter.output(),
+    )
+}
+
+/// A new meter RELAY1 with the password 12345678.
+pub(crate) fn new_meter(rt: &impl Abort, alloc: Global) -> Result<SupplyMeter, AllocError> {
+    let device = Octets::from_slice(alloc, b"RELAY1")?;
+    let password = Octets::from_slice(alloc, b"12345678")?;
+    assert!(rt; device.len() == 6 && password.len() == 8);
+    let meter = SupplyMeter::new(alloc, &device, &password, KEPT_EVENTS);
+    drop(device);
+    drop(password);
+    meter
+}
+
+/// A meter that goes on from the text of a trace.
+pub(crate) fn resumed(
+    rt: &impl Abort,
+    alloc: Global,
+    trace: &[u8],
+) -> Result<SupplyMeter, TraceFault> {
+    let password = Octets::from_slice(alloc, b"12345678")?;
+    assert!(rt; password.len() == 8);
+    let meter = SupplyMeter::resume(alloc, trace, &password, KEPT_EVENTS);
+    drop(password);
+    meter
+}
