@@ -42,6 +42,9 @@ const LOWEST_VERSION: u8 = 6;
 /// Block transfer with GET, SET and ACTION, multiple references, GET, SET and ACTION.
 pub const OFFERED_CONFORMANCE: u32 = 0x00_1E19;
 
+/// The most bytes that a password, the secret of low-level security, has here.
+pub const MAX_PASSWORD: usize = 32;
+
 const NO_SIZE_LIMIT: u16 = 0;
 
 const SHORTEST_PDU_SIZE: u16 = 64;

@@ -28,7 +28,7 @@ pub use aarq_making::low_level_aarq;
 pub use aarq_reading::read_aarq;
 pub use aarq_writing::write_aarq;
 pub use fault::AcseFault;
-pub use judging::{OFFERED_CONFORMANCE, judge};
+pub use judging::{MAX_PASSWORD, OFFERED_CONFORMANCE, judge};
 pub use laws::{
     management_needs_the_password, no_spelling_begins_another, release_is_normal,
     spelled_aare_is_fit, spelled_aarq_is_fit, text_of_fit_aare_spells, text_of_fit_aarq_spells,

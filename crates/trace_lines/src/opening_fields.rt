@@ -15,15 +15,13 @@ use crate::words::{bytes, last_word, next_long, next_word, number};
 use action_schedule::{ActionSchedule, ScheduleFault, ScheduleType};
 use cosem_axdr::Octets;
 use disconnect_control::{ControlMode, ControlState};
+use relay_core::MAX_DEVICE_NAME;
 use script_steps::{ScriptFault, ScriptTable};
 use std::alloc::Global;
 use trace_text::Words;
 
 /// How many events a trace has at most.
 pub const MAX_EVENTS: u32 = 65_536;
-
-/// How many bytes a device name has at most.
-const MAX_DEVICE_NAME: usize = 16;
 
 /// Passes the first word of a line, which has to be this one.
 #[tactic(auto, unfolding(crate::specs::OpeningFields::behind))]
