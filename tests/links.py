@@ -32,7 +32,7 @@ SOURCES = {it: sources(it) for it in CRATES}
 ALL_SOURCES = "\n".join(SOURCES.values())
 # A function, a type, a constant, a module, or the variant of an enum.
 DECLARED = r"\b(?:fn|struct|enum|trait|const|mod|type) {0}\b|^ +{0}\b(?:[,( {{]|$)"
-EDITS = {crate: {it.stem for part in ("wrong", "must-fail") for it in (folder / part).glob("*.edit")} for crate, folder in CRATES.items()}
+EDITS = {crate: {it.stem for part in ("wrong", "wrong/long", "must-fail") for it in (folder / part).glob("*.edit")} for crate, folder in CRATES.items()}
 ALL_EDITS = set().union(*EDITS.values())
 TESTS = {it for text in SOURCES.values() for it in re.findall(r"#\[test\]\s*(?:#\[[^\n]*\]\s*)*(?:pub )?fn (\w+)", text)}
 

@@ -1,6 +1,6 @@
 #!/usr/bin/env python3
 """Tests bin/wrong_bodies: beside a wrong body that is refused it tells a right one, one that can't be read and one of a text that isn't there, and counts them; and an edit
-of a constant stands beside others only where nothing but functions' bodies names the constant; and what is left of the functions beside the edited ones."""
+of a constant stands beside others only where nothing but functions' bodies names the constant; and what is left of the functions beside the edited ones; and those of wrong/long/ are judged with --long alone."""
 import importlib.machinery
 import importlib.util
 import os
@@ -8,6 +8,7 @@ import re
 import subprocess
 import sys
 import tempfile
+import types
 
 TOP = os.path.dirname(os.path.dirname(os.path.realpath(__file__)))
 
@@ -80,12 +81,18 @@ fn beside() -> u8 {
     let one = 1;
     one + 1
 }
+
+pub extern "C" fn exported(n: u8) -> u8 {
+    let one = 1;
+    n + one
+}
 """
-KEPT = LEFT.replace("        self.lines\n", "loop {}\n").replace("    let one = 1;\n    one + 1\n", "loop {}\n\n")
-NAMES = ["Page::lines", "PageDefault::default", "page::least", "page::is_even", "page::a_law", "ClientConnectionPortKept::serve", "page::edited", "page::beside"]
+KEPT = LEFT.replace("        self.lines\n", "loop {}\n").replace("    let one = 1;\n    one + 1\n", "loop {}\n\n").replace("    let one = 1;\n    n + one\n", "loop {}\n\n")
+NAMES = ["Page::lines", "PageDefault::default", "page::least", "page::is_even", "page::a_law", "ClientConnectionPortKept::serve", "page::edited", "page::beside", "page::exported"]
 HOLES = {
     "proofs/page/Page/lines/Proof.antt": "use Rattle.book.proofs.page.Page.lines.Statement.{statement}\n\npub lines_spec : {M : Type 1} → statement M\nlines_spec = ?\n",
     "proofs/page/beside/Proof.antt": "use Rattle.book.proofs.page.beside.Statement.{statement}\n\npub beside_spec : {M : Type 1} → statement M\nbeside_spec = ?\n",
+    "proofs/page/exported/Proof.antt": "use Rattle.book.proofs.page.exported.Statement.{statement}\n\npub exported_spec : {M : Type 1} → statement M\nexported_spec = ?\n",
 }
 
 
@@ -121,6 +128,18 @@ def bodies_are_left_out():
     }
 
 
+def long_ones_are_apart():
+    """Whether the edits of wrong/long/ are judged with --long alone."""
+    files_of = judge().files_of
+    with tempfile.TemporaryDirectory() as folder:
+        os.makedirs(f"{folder}/wrong/long")
+        for it in ("wrong/one.edit", "wrong/long/another.edit"):
+            open(f"{folder}/{it}", "w", encoding="utf-8").close()
+        crate = types.SimpleNamespace(name="book", folder=folder)
+        found = [[os.path.relpath(it, folder) for it in files_of(crate, is_long)] for is_long in (False, True)]
+    return {"the edits of wrong/long/ are judged with --long alone": found == [["wrong/one.edit"], ["wrong/one.edit", "wrong/long/another.edit"]]}
+
+
 def told_of_edits():
     """What bin/wrong_bodies tells of the crate with these edits: its status and its lines."""
     with tempfile.TemporaryDirectory() as folder:
@@ -142,6 +161,7 @@ def main():
     rows["all are counted"] = status == 1 and lines[-1] == f"{len(own)} passed, {len(EDITS)} failed"
     rows.update(users_are_told())
     rows.update(bodies_are_left_out())
+    rows.update(long_ones_are_apart())
     for name, is_well in rows.items():
         print(f"wrong_bodies_told: {name}: {'as it must be' if is_well else 'NOT SO'}")
     failed = sum(not it for it in rows.values())
