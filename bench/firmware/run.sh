@@ -1,5 +1,5 @@
 #!/usr/bin/env bash
-# The figures of the library for C: code of a program that has all exports (x86-64, and 64-bit ARM where its compiler is installed), heap of one session and of eight, the bound
+# The figures of the library for C: code of a program that has all exports (x86-64, and 64-bit ARM where its compiler is installed), heap of one session and of eight (on both), the bound
 # of the stack that Rattle's own compiler tells, and the time of a GET through the handle, over the pool, beside one through `serve_session` in Rattle.
 set -eu
 here=$(cd "$(dirname "$0")" && pwd)
@@ -12,6 +12,10 @@ includes=(-I"$top/crates/meter/include" -I"$top/firmware" -I"$top/examples/firmw
 if command -v aarch64-linux-gnu-gcc > /dev/null; then
     build --target aarch64-unknown-linux-gnu
     echo "code and constants of libmeter.a, 64-bit ARM: $(code aarch64-linux-gnu-size "$top/crates/meter/out/libmeter.a") bytes"
+    if command -v qemu-aarch64 > /dev/null; then
+        aarch64-linux-gnu-gcc -static -std=c11 -O2 "${includes[@]}" -o "$work/figures" "$here/figures.c" "$top/firmware/heap_pool.c" "$top/crates/meter/out/libmeter.a"
+        qemu-aarch64 "$work/figures" | sed -n '/ns (best/!s/^/64-bit ARM: /p'
+    fi
 fi
 build --backend rattle
 grep -o 'frame-bytes=[^ ]* stack-bytes=[^ ]*' "$work/log" | tail -1
