@@ -1,24 +1,34 @@
-/* Heap and time of a meter behind its handle: what the pool holds after each step, and how long a GET takes from its bytes to its answer. */
-#define _POSIX_C_SOURCE 199309L
+/* Heap, stack and time of a meter behind its handle: what the pool holds after each step, how much of a stack each call has written, and how long a GET takes from its bytes to its
+ * answer. */
+#define _POSIX_C_SOURCE 200809L
 #include "heap_pool.h"
 #include "meter.h"
 
+#include <pthread.h>
 #include <stdio.h>
 #include <stdlib.h>
+#include <string.h>
 #include <time.h>
 
 #define KEPT_EVENTS 64
 #define GETS 200000
 #define ROUNDS 5
+#define STACK_BYTES 262144
+#define PAINT 0xA5
 
 static _Alignas(16) uint8_t pool[1048576];
+static _Alignas(4096) uint8_t stack[STACK_BYTES];
 static struct meter meter;
+static uint8_t text[65536];
 
 /* AARQ of the management client with the password 12345678, and a GET of control_state; what stands before each is the TCP wrapper. */
 static const uint8_t aarq[] = { 0x00, 0x01, 0x00, 0x01, 0x00, 0x01, 0x00, 0x38, 0x60, 0x36, 0xA1, 0x09, 0x06, 0x07, 0x60, 0x85, 0x74, 0x05, 0x08, 0x01, 0x01, 0x8A, 0x02, 0x07, 0x80, 0x8B,
                                 0x07, 0x60, 0x85, 0x74, 0x05, 0x08, 0x02, 0x01, 0xAC, 0x0A, 0x80, 0x08, '1', '2', '3', '4', '5', '6', '7', '8', 0xBE, 0x10, 0x04, 0x0E, 0x01, 0x00, 0x00,
                                 0x00, 0x06, 0x5F, 0x1F, 0x04, 0x00, 0x00, 0xFE, 0xFF, 0x04, 0x00 };
 static const uint8_t get[] = { 0x00, 0x01, 0x00, 0x01, 0x00, 0x01, 0x00, 0x0D, 0xC0, 0x01, 0xC1, 0x00, 0x46, 0x00, 0x00, 0x60, 0x03, 0x0A, 0xFF, 0x03, 0x00 };
+/* A SET of control_mode by a Data whose arrays are nested as deep as a Data may be; its type is refused. */
+static const uint8_t deep_set[] = { 0x00, 0x01, 0x00, 0x01, 0x00, 0x01, 0x00, 0x1E, 0xC1, 0x01, 0xC1, 0x00, 0x46, 0x00, 0x00, 0x60, 0x03, 0x0A, 0xFF, 0x04, 0x00,
+                                    0x01, 0x01, 0x01, 0x01, 0x01, 0x01, 0x01, 0x01, 0x01, 0x01, 0x01, 0x01, 0x01, 0x01, 0x01, 0x01, 0x00 };
 
 static void need(bool is_so, const char *what)
 {
@@ -56,6 +66,81 @@ static double nanoseconds_of_a_get(void)
     return ((double)(ended.tv_sec - began.tv_sec) * 1e9 + (double)(ended.tv_nsec - began.tv_nsec)) / GETS;
 }
 
+static void *do_nothing(void *unused)
+{
+    return unused;
+}
+
+static void *do_open(void *unused)
+{
+    static const uint8_t name[] = "RELAY1", password[] = "12345678";
+    need(meter_open(&meter, name, sizeof name - 1, password, sizeof password - 1, KEPT_EVENTS) == METER_OK, "a meter is not opened");
+    return unused;
+}
+
+static void *do_associate(void *unused)
+{
+    open_session(0);
+    return unused;
+}
+
+static void *do_set(void *unused)
+{
+    need(ask(0, deep_set, sizeof deep_set) == 12, "a SET of another type is not refused");
+    return unused;
+}
+
+static void *do_samples(void *unused)
+{
+    static const uint32_t watts[256];
+    struct meter_fired fired;
+    need(meter_samples(&meter, watts, 256, &fired) == METER_OK, "samples are not taken");
+    return unused;
+}
+
+static void *do_own_calls(void *unused)
+{
+    uint8_t code;
+    need(meter_press(&meter, &code) == METER_OK, "a press is not taken");
+    need(meter_moment(&meter, 1000, &code) == METER_OK, "a moment is not taken");
+    return unused;
+}
+
+static void *do_export(void *unused)
+{
+    size_t length;
+    need(meter_export(&meter, text, sizeof text, &length) == METER_OK, "a trace is not exported");
+    return unused;
+}
+
+/* How many bytes of a painted stack a call has written. */
+static size_t written_by(void *(*call)(void *))
+{
+    pthread_attr_t attributes;
+    pthread_t thread;
+    size_t clean = 0;
+    memset(stack, PAINT, sizeof stack);
+    need(pthread_attr_init(&attributes) == 0 && pthread_attr_setstack(&attributes, stack, sizeof stack) == 0, "no stack for a thread");
+    need(pthread_create(&thread, &attributes, call, NULL) == 0 && pthread_join(thread, NULL) == 0, "no thread");
+    while (clean < sizeof stack && stack[clean] == PAINT)
+        clean++;
+    return sizeof stack - clean;
+}
+
+/* The stack of each call beside that of a thread that does nothing. */
+static void tell_stacks(void)
+{
+    static const struct {
+        const char *name;
+        void *(*call)(void *);
+    } calls[] = { { "meter_open", do_open }, { "an association and a GET", do_associate }, { "a SET of a Data nested eight deep", do_set }, { "256 samples", do_samples },
+                  { "a press and a moment", do_own_calls }, { "meter_export", do_export } };
+    size_t idle = written_by(do_nothing);
+    for (size_t i = 0; i < sizeof calls / sizeof calls[0]; i++)
+        printf("stack of %s, in bytes: %zu\n", calls[i].name, written_by(calls[i].call) - idle);
+    meter_close(&meter);
+}
+
 int main(void)
 {
     static const uint8_t name[] = "RELAY1", password[] = "12345678";
@@ -75,5 +160,6 @@ int main(void)
     printf("a GET, from its bytes to its answer: %.0f ns (best of %d times %d)\n", best, ROUNDS, GETS);
     meter_close(&meter);
     printf("after meter_close: %zu\n", heap_pool_used());
+    tell_stacks();
     return 0;
 }
