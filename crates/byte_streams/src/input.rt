@@ -7,7 +7,7 @@ use crate::streams::Reader;
 use std::alloc::Global;
 
 /// A read asks for at most so many bytes.
-const MAX_PIECE: usize = 1_024;
+const MAX_PIECE: usize = 16_384;
 
 /// Reads all bytes up to the end, `limit` at most. Errors: `TooLong` as soon as more than these were read, `Read` where a read fails, `Memory`; some bytes were read
 /// then, and are lost.

@@ -13,4 +13,4 @@ samples_of block = record { import = block.import.items; export = option_map (λ
 pub record IsBlock (block : Inside) : Type 0 where
   pub few : length block.import.items ≤ most_values
   pub even : AreEven (samples_of block)
-  pub right : IfSome block.scans (AreRightScans (samples_of block))
+  pub right : IfSome block.scans.value (AreRightScans (samples_of block))

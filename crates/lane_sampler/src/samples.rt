@@ -47,11 +47,13 @@ pub struct Scans {
 
 /// Up to 256 samples of the import power, or as many pairs of import and export power, in the order that
 /// they were taken; and the scans last made of them, which no contract sees.
+///
+/// The scans lie at a place of their own, which is had with the block: so a block, and an event that holds one, is small to hand on.
 #[derive(Debug, Drop)]
 pub struct Block {
     import: Vec<u32>,
     export: Option<Vec<u32>>,
-    scans: Option<Scans>,
+    scans: Box<Option<Scans>>,
 }
 
 impl Model for Block {
@@ -77,10 +79,11 @@ impl Block {
             return Err(BlockMade::TooLong);
         }
         let import = Vec::from_slice(alloc, values).map_err(|_| BlockMade::Memory)?;
+        let scans = Box::new(alloc, None).map_err(|_| BlockMade::Memory)?;
         Ok(Block {
             import,
             export: None,
-            scans: None,
+            scans,
         })
     }
 
@@ -100,10 +103,11 @@ impl Block {
         }
         let import = Vec::from_slice(alloc, import).map_err(|_| BlockMade::Memory)?;
         let export = Vec::from_slice(alloc, export).map_err(|_| BlockMade::Memory)?;
+        let scans = Box::new(alloc, None).map_err(|_| BlockMade::Memory)?;
         Ok(Block {
             import,
             export: Some(export),
-            scans: None,
+            scans,
         })
     }
 
@@ -138,7 +142,7 @@ impl Block {
             self.export(),
             export_threshold,
         );
-        self.scans = Some(scans);
+        *self.scans = Some(scans);
     }
 
     /// The scans last made, right for the values at the thresholds that they name. `None` before the first
@@ -148,7 +152,10 @@ impl Block {
         ensures few { length self.now.import ≤ most_values }
         ensures even { AreEven self.now }
     {
-        self.scans.as_ref()
+        match &*self.scans {
+            Some(scans) => Some(scans),
+            None => None,
+        }
     }
 
     /// A block of the same values, with the same scans.
@@ -160,10 +167,11 @@ impl Block {
             Some(values) => Some(Vec::from_slice(alloc, values.as_slice())?),
             None => None,
         };
+        let scans = Box::new(alloc, *self.scans)?;
         Ok(Block {
             import,
             export,
-            scans: self.scans,
+            scans,
         })
     }
 }

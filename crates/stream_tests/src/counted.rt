@@ -160,7 +160,7 @@ fn reads_five(alloc: Global) -> Result<bool, InputFault> {
 // How many bytes are read of these, in several pieces.
 fn count_read(alloc: Global, bytes: &[u8]) -> Result<usize, InputFault> {
     let mut reader = Counted::new(bytes);
-    let read = read_to_end_within(alloc, &mut reader, 10_000)?;
+    let read = read_to_end_within(alloc, &mut reader, 100_000)?;
     let count = read.len();
     drop(read);
     Ok(count)
@@ -169,8 +169,8 @@ fn count_read(alloc: Global, bytes: &[u8]) -> Result<usize, InputFault> {
 #[test]
 fn bytes_are_read_to_their_end(rt: HostRuntime) -> Result<(), Fail> {
     assert!(rt; reads_five(rt.alloc())?);
-    let many = [7; 3_000];
-    assert!(rt; count_read(rt.alloc(), &many)? == 3_000);
+    let many = [7; 40_000];
+    assert!(rt; count_read(rt.alloc(), &many)? == 40_000);
     Ok(())
 }
 
