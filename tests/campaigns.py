@@ -7,6 +7,7 @@ usage: tests/campaigns.py [--short]     (--short: campaigns of 2,000 jobs in pla
 import argparse
 import os
 import pathlib
+import pty
 import re
 import resource
 import shutil
@@ -32,6 +33,7 @@ VERBS = ("disconnect", "state", "reconnect", "state")  # the campaigns that all 
 WORKERS = (16, 1)
 LIMITS = ("--timeout", "5", "--connect-timeout", "2")
 LONGEST = 300  # seconds that a campaign may take
+PROGRESS = r"jobs done 1 of 2, unknown 0, about \d+ s to go\njobs done 2 of 2, unknown 0, about 0 s to go\n"
 
 OPENING = """RELAYTRACE 2
 device 52454C415931
@@ -250,7 +252,15 @@ def a_meter_is_reached_by_its_name(name):
 def progress_is_told(name):
     meter = ScriptedMeter(does_it)
     status, text, errors = run_head_end(f"m1 127.0.0.1:{meter.port} state\nm2 127.0.0.1:{meter.port} reconnect\n", "--progress", "--workers", "1")
-    check(name, (status, text, errors) == (0, "m1 done 0\nm2 done 0\n", "jobs done 1 of 2, unknown 0\njobs done 2 of 2, unknown 0\n"), status, text, errors)
+    check(name, (status, text) == (0, "m1 done 0\nm2 done 0\n") and re.fullmatch(PROGRESS, errors), status, text, errors)
+    # At a terminal it is told anyway.
+    terminal, standard_error = pty.openpty()
+    jobs = f"m1 127.0.0.1:{meter.port} state\nm2 127.0.0.1:{meter.port} reconnect\n"
+    ran = subprocess.run([str(HEAD_END), "run", "--password", PASSWORD, "--workers", "1"], input=jobs, stdout=subprocess.PIPE, stderr=standard_error, text=True, timeout=60)
+    os.close(standard_error)
+    told = os.read(terminal, 4_096).decode().replace("\r\n", "\n")
+    os.close(terminal)
+    check(f"{name}, at a terminal", (ran.returncode, ran.stdout) == (0, "m1 done 0\nm2 done 0\n") and re.fullmatch(PROGRESS, told), ran, told)
     meter.stop()
 
 

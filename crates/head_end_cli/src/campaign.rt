@@ -13,7 +13,7 @@ use listed::Listed;
 use program_fault::Fault;
 use std::alloc::Global;
 use std::env;
-use std::io::Write;
+use std::io::{IsTerminal, Write};
 use std::thread::Threads;
 use std::time::Duration;
 
@@ -92,7 +92,7 @@ pub(crate) fn planned(rt: &HostRuntime, matches: &ArgMatches<'_>) -> Result<Plan
         workers: workers(matches),
         connect_within: limit(matches, "connect-timeout"),
         answer_within: limit(matches, "timeout"),
-        is_shown: matches.get_flag("progress"),
+        is_shown: matches.get_flag("progress") || rt.stderr().is_terminal(),
     })
 }
 
@@ -115,7 +115,7 @@ pub(crate) fn run<R: Threads + Sync, C: Connector>(
     plan: &Plan,
 ) -> Result<(), Fault> {
     let mut text = room_for(rt.alloc(), plan.jobs.len())?;
-    let progress = Progress::new(plan.jobs.len());
+    let progress = Progress::new(rt, plan.jobs.len());
     let watch = Watch {
         rt,
         progress: &progress,

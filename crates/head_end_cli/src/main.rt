@@ -13,15 +13,13 @@ use crate::campaign::Plan;
 use crate::telling::{input_fault, jobs_fault, tell_input, tell_jobs};
 use byte_streams::{Counted, read_to_end_within};
 use clap::ArgMatches;
-use clap::error::ErrorKind;
 use client_core::Job;
 use head_end::{TcpConnector, read_jobs};
 use listed::Listed;
 use program_fault::Fault;
+use program_start::{ended, without_work, words};
 use std::io::Read;
 use std::process::ExitCode;
-use std::rt::Env;
-use std::{env, io};
 
 /// A list of jobs has at most so many bytes.
 const MAX_INPUT: usize = 1_048_576;
@@ -80,38 +78,14 @@ fn begin_chosen(rt: &HostRuntime, matches: &ArgMatches<'_>) -> Result<Next, Faul
     }
 }
 
-/// The fault of a command line that can't be had: no memory, or a word that is no text.
-fn words_fault(kind: io::ErrorKind) -> Fault {
-    match kind {
-        io::ErrorKind::OutOfMemory => Fault::Memory,
-        _ => Fault::Input,
-    }
-}
-
 /// Reads the command line and does what it asks for, up to a campaign. The exit status is 2 for a command line that is wrong.
 fn begin(rt: &HostRuntime) -> Result<Next, Fault> {
     let alloc = rt.alloc();
-    let words = env::args(rt).map_err(|error| words_fault(error.kind()))?;
-    let words: Vec<String> = words.collect(alloc).map_err(|_| Fault::Memory)?;
+    let words = words(rt)?;
     let command = command_line(alloc).map_err(|_| Fault::Memory)?;
     match command.try_get_matches_from(words.as_slice()) {
         Ok(matches) => begin_chosen(rt, &matches),
-        Err(error) if error.kind() == ErrorKind::OutOfMemory => Err(Fault::Memory),
-        Err(error) => {
-            error.print(rt).map_err(|_| Fault::Write)?;
-            Ok(Next::Ended(if error.use_stderr() { 2 } else { 0 }))
-        }
-    }
-}
-
-/// The exit status of what was done; a fault is told on standard error.
-fn status_of(rt: &HostRuntime, done: Result<u8, Fault>) -> ExitCode {
-    match done {
-        Ok(status) => ExitCode::from(status),
-        Err(fault) => {
-            let _ = eprintln!(rt; "fault: {fault}");
-            ExitCode::from(fault.status())
-        }
+        Err(error) => Ok(Next::Ended(without_work(rt, &error)?)),
     }
 }
 
@@ -121,8 +95,8 @@ fn main(rt: HostRuntime) -> ExitCode {
         Ok(Next::Campaign(plan)) => {
             let connector = TcpConnector::new(rt, plan.connect_within, plan.answer_within);
             let done = campaign::run(&rt, &rt, &connector, &plan).map(|_| 0);
-            status_of(&rt, done)
+            ended(&rt, done)
         }
-        Err(fault) => status_of(&rt, Err(fault)),
+        Err(fault) => ended(&rt, Err(fault)),
     }
 }

@@ -2,22 +2,36 @@
 use client_core::{Job, Outcome};
 use head_end::{Row, Watcher};
 use std::sync::atomic::{AtomicUsize, Ordering};
+use std::time::Instant;
 
-/// How many jobs are done, counted by all workers together.
+/// How many jobs are done, counted by all workers together, and when the first began.
 #[derive(Drop)]
 pub(crate) struct Progress {
     all: usize,
+    began: Option<Instant>,
     done: AtomicUsize,
     unknown: AtomicUsize,
 }
 
 impl Progress {
-    pub(crate) fn new(all: usize) -> Progress {
+    /// None of so many jobs is done, and the time runs from now on.
+    pub(crate) fn new(rt: &HostRuntime, all: usize) -> Progress {
         Progress {
             all,
+            began: Instant::now(rt).ok(),
             done: AtomicUsize::new(0),
             unknown: AtomicUsize::new(0),
         }
+    }
+
+    /// About how many seconds the rest takes, if it goes on as it went for so many jobs. None where there is no clock.
+    fn seconds_to_go(&self, rt: &HostRuntime, done: usize) -> Option<u64> {
+        let began = self.began?;
+        let Ok(passed) = began.elapsed(rt) else {
+            return None;
+        };
+        let rest = self.all.saturating_sub(done) as u64;
+        passed.as_secs().saturating_mul(rest).checked_div(done as u64)
     }
 }
 
@@ -44,10 +58,22 @@ impl<'a> Watcher for Watch<'a> {
             .fetch_add(more, Ordering::SeqCst)
             .wrapping_add(more);
         if self.is_shown {
-            let _ = eprintln!(self.rt;
-                "jobs done {done} of {}, unknown {unknown}",
-                self.progress.all
-            );
+            self.tell(done, unknown);
         }
+    }
+}
+
+impl<'a> Watch<'a> {
+    /// Tells how far the campaign is.
+    fn tell(&self, done: usize, unknown: usize) {
+        let all = self.progress.all;
+        let _ = match self.progress.seconds_to_go(self.rt, done) {
+            Some(seconds) => {
+                eprintln!(self.rt;
+                    "jobs done {done} of {all}, unknown {unknown}, about {seconds} s to go"
+                )
+            }
+            None => eprintln!(self.rt; "jobs done {done} of {all}, unknown {unknown}"),
+        };
     }
 }

@@ -1,5 +1,7 @@
 use program_fault::Fault;
+use program_start::{ended, words};
 use std::alloc::{AllocError, Global};
+use std::process::ExitCode;
 use std::test::Fail;
 
 /// A fault, its word and its status.
@@ -33,4 +35,17 @@ fn a_fault_has_its_status(rt: HostRuntime) {
     for (fault, word, status) in &FAULTS {
         assert!(rt; fault.status() == *status, "{word}");
     }
+}
+
+#[test]
+fn a_program_ends_with_its_status(rt: HostRuntime) {
+    assert!(rt; ended(&rt, Ok(0)) == ExitCode::from(0));
+    assert!(rt; ended(&rt, Ok(2)) == ExitCode::from(2));
+    assert!(rt; ended(&rt, Err(Fault::Input)) == ExitCode::from(2));
+    assert!(rt; ended(&rt, Err(Fault::Turns)) == ExitCode::from(4));
+}
+
+#[test]
+fn a_command_line_has_words(rt: HostRuntime) {
+    assert!(rt; matches!(words(&rt), Ok(words) if !words.is_empty()));
 }

@@ -7,13 +7,11 @@ mod telling;
 
 use crate::telling::tell;
 use byte_streams::{Counted, read_to_end_within};
-use clap::error::ErrorKind;
 use clap::{Arg, ArgAction, Command};
 use program_fault::Fault;
+use program_start::{ended, without_work, words};
 use std::alloc::{AllocError, Global};
 use std::process::ExitCode;
-use std::rt::Env;
-use std::{env, io};
 use trace_player::{MAX_BYTES, PlayFault, play};
 
 /// What `--help` tells below the options.
@@ -80,19 +78,10 @@ fn play_and_tell(rt: &HostRuntime) -> Result<(), Fault> {
     }
 }
 
-/// The fault of a command line that can't be had: no memory, or a word that is no text.
-fn words_fault(kind: io::ErrorKind) -> Fault {
-    match kind {
-        io::ErrorKind::OutOfMemory => Fault::Memory,
-        _ => Fault::Input,
-    }
-}
-
 /// Reads the command line and does what it asks for. Gives the exit status: 0, or 2 for a command line that is wrong.
 fn run(rt: &HostRuntime) -> Result<u8, Fault> {
     let alloc = rt.alloc();
-    let words = env::args(rt).map_err(|error| words_fault(error.kind()))?;
-    let words: Vec<String> = words.collect(alloc).map_err(|_| Fault::Memory)?;
+    let words = words(rt)?;
     let command = command_line(alloc).map_err(|_| Fault::Memory)?;
     match command.try_get_matches_from(words.as_slice()) {
         Ok(matches) => {
@@ -105,20 +94,10 @@ fn run(rt: &HostRuntime) -> Result<u8, Fault> {
             }
             Ok(0)
         }
-        Err(error) if error.kind() == ErrorKind::OutOfMemory => Err(Fault::Memory),
-        Err(error) => {
-            error.print(rt).map_err(|_| Fault::Write)?;
-            Ok(if error.use_stderr() { 2 } else { 0 })
-        }
+        Err(error) => without_work(rt, &error),
     }
 }
 
 fn main(rt: HostRuntime) -> ExitCode {
-    match run(&rt) {
-        Ok(status) => ExitCode::from(status),
-        Err(fault) => {
-            let _ = eprintln!(rt; "fault: {fault}");
-            ExitCode::from(fault.status())
-        }
-    }
+    ended(&rt, run(&rt))
 }

@@ -1,0 +1,30 @@
+-- How a program begins and ends.
+use Rattle.std.specs.Prelude.{ℕ, Bool, true, false, Result, Ok, Err}
+use Rattle.clap.specs.declared.error.kind.ErrorKind.{ErrorKind}
+use Rattle.clap.specs.declared.error.kind.ErrorKind.TheVariants.{DisplayHelp, DisplayVersion}
+use Rattle.program_fault.specs.Statuses.{status_of}
+use Rattle.program_fault.specs.declared.Fault.{Fault}
+use Rattle.program_fault.specs.declared.Fault.TheVariants.{Input, Write, Memory}
+
+-- a command line can't be had: for want of memory, or a word of it is no text
+abbrev pub is_of_words : Fault → Bool
+is_of_words Input = true
+is_of_words Memory = true
+is_of_words _ = false
+
+-- a text can't be printed: for want of memory, or a write failed
+abbrev pub is_of_texts : Fault → Bool
+is_of_texts Write = true
+is_of_texts Memory = true
+is_of_texts _ = false
+
+-- help and the version are what was asked for; any other text tells that the command line is wrong
+abbrev pub status_without_work : ErrorKind → ℕ
+status_without_work DisplayHelp = 0
+status_without_work DisplayVersion = 0
+status_without_work _ = 2
+
+-- the program's own exit status, or that of its fault
+abbrev pub status_by : Result ℕ Fault → ℕ
+status_by (Ok status) = status
+status_by (Err fault) = status_of fault

@@ -1,0 +1,68 @@
+//! How each program begins and ends: the words of its command line, what comes of one that asks for no work, and the exit status.
+#![tactic(auto)]
+
+ghost use Rattle.std.specs.Prelude.{◌≡◌, true, IfOk, IfErr};
+ghost use Rattle.std.specs.Process.{exit_status};
+ghost use Rattle.clap.specs.Words.{kind_of};
+ghost use Rattle.program_start.specs.Ends.{is_of_words, is_of_texts, status_without_work, status_by};
+
+use clap::Error;
+use clap::error::ErrorKind;
+use program_fault::Fault;
+use std::alloc::AllocGlobal;
+use std::env;
+use std::io;
+use std::process::ExitCode;
+use std::rt::Env;
+
+/// The fault of a command line that can't be had.
+fn words_fault(kind: io::ErrorKind) -> Fault
+    ensures { is_of_words result ≡ true }
+{
+    match kind {
+        io::ErrorKind::OutOfMemory => Fault::Memory,
+        _ => Fault::Input,
+    }
+}
+
+/// The words of the command line. Errors: `Memory`, and `Input` where a word is no text.
+pub fn words<R: Env + AllocGlobal>(rt: &R) -> Result<Vec<String>, Fault>
+    ensures { IfErr result (λ fault. is_of_words fault ≡ true) }
+{
+    let words = match env::args(rt) {
+        Ok(words) => words,
+        Err(error) => return Err(words_fault(error.kind())),
+    };
+    match words.collect(rt.alloc()) {
+        Ok(words) => Ok(words),
+        Err(_) => Err(Fault::Memory),
+    }
+}
+
+/// Prints the text of a command line that asks for no work, and gives the exit status: 0 for help and the version, 2 where it is wrong. Errors: `Memory`, and
+/// `Write` where the text could not be printed.
+pub fn without_work<R: Print + Eprint>(rt: &R, error: &Error) -> Result<u8, Fault>
+    ensures status { IfOk result (λ status. status ≡ status_without_work (kind_of error.now)) }
+    ensures fault { IfErr result (λ fault. is_of_texts fault ≡ true) }
+{
+    if error.kind() == ErrorKind::OutOfMemory {
+        return Err(Fault::Memory);
+    }
+    match error.print(rt) {
+        Ok(()) => Ok(if error.use_stderr() { 2 } else { 0 }),
+        Err(_) => Err(Fault::Write),
+    }
+}
+
+/// The exit status of what was done. A fault is told in a line on standard error.
+pub fn ended<R: Eprint>(rt: &R, done: Result<u8, Fault>) -> ExitCode
+    ensures { exit_status result ≡ status_by done }
+{
+    match done {
+        Ok(status) => ExitCode::from(status),
+        Err(fault) => {
+            let _ = eprintln!(rt; "fault: {fault}");
+            ExitCode::from(fault.status())
+        }
+    }
+}
