@@ -1,9 +1,7 @@
 -- An attribute that is written is read again.
-use Rattle.std.proofs.Common.{◌≡◌, ℕ, true, false, ◌||◌, cond, nat_le, List, [], ◌∷◌, map, length, Option, Some, None, ok_or, Result, Ok, Err, IfOk, is_err, length-append, refl, sym, ap, ap₂, subst, ◌∙◌, arith}
+use Rattle.std.proofs.Common.{◌≡◌, ℕ, true, nat_le, List, map, length, Option, Some, None, ok_or, Result, Ok, Err, IfOk, length-append, refl, sym, ap, ap₂, subst, ◌∙◌, arith}
 use Rattle.std.proofs.lemmas.Bool.Decides.{nat_tests}
 use Rattle.std.proofs.lemmas.List.{length-map}
-use Rattle.std.proofs.lemmas.List.Elements.{All-head, All-tail}
-use Rattle.std.specs.List.{All, list_any, cons_option}
 use Rattle.std.specs.Result.{result_ok}
 use Rattle.byte_reading.specs.Outcome.{◌>>=◌, ◌>>◌, guard}
 use Rattle.byte_reading.proofs.OutcomeLemmas.{done}
@@ -14,14 +12,16 @@ use Rattle.cosem_datetime.specs.Fields.{DateFields, time_bytes, date_bytes, year
 use Rattle.cosem_datetime.specs.Reading.{time_of, date_of}
 use Rattle.cosem_datetime.proofs.Spelled.{time_again, date_again}
 use Rattle.cosem_datetime.specs.declared.entry.EntryPattern.{EntryPattern}
+use Rattle.cosem_names.proofs.SeveralRead.{all_again, told_again}
 use Rattle.action_schedule.proofs.Parts.{entry_parts_again}
 use Rattle.action_schedule.specs.Kinds.{number_of, type_of_number}
-use Rattle.action_schedule.specs.Reading.{max_entries, selector_of, kind_of, is_unmatched, told, values, entry_of, judged_entries, entries_of}
+use Rattle.cosem_names.specs.WriteFault.{values}
+use Rattle.action_schedule.specs.Reading.{max_entries, selector_of, kind_of, entry_of, judged_entries, entries_of}
 use Rattle.action_schedule.specs.Schedule.{Schedule, IsEntry, AreEntries}
 use Rattle.action_schedule.specs.Writing.{script_data, entry_data, entries_data, ReadsBack}
 use Rattle.action_schedule.specs.declared.attribute.ScheduleAttribute.{ScheduleAttribute}
-use Rattle.action_schedule.specs.declared.fault.ScheduleFault.{ScheduleFault}
-use Rattle.action_schedule.specs.declared.fault.ScheduleFault.TheVariants.{Unmatched, Value}
+use Rattle.cosem_names.specs.declared.write_fault.WriteFault.{WriteFault}
+use Rattle.cosem_names.specs.declared.write_fault.WriteFault.TheVariants.{Unmatched, Value}
 use Rattle.action_schedule.specs.declared.kind.ScheduleType.{ScheduleType}
 use Rattle.action_schedule.specs.declared.kind.ScheduleType.TheVariants.{Type1, Type2, Type3, Type4, Type5}
 
@@ -47,42 +47,18 @@ five_bytes : (p : DateFields) → length (date_bytes p) ≡ 5
 five_bytes p = simp length-append (omega (arith, two_of_year p.year))
 
 -- an entry of its parts
-abbrev with_parts : List ℕ × List ℕ → Result EntryPattern ScheduleFault
-with_parts parts = ok_or (result_ok (time_of parts.0)) Value >>= λ time. ok_or (result_ok (date_of parts.1)) Value >>= λ date. done ScheduleFault (record { time = time; date = date })
+abbrev with_parts : List ℕ × List ℕ → Result EntryPattern WriteFault
+with_parts parts = ok_or (result_ok (time_of parts.0)) Value >>= λ time. ok_or (result_ok (date_of parts.1)) Value >>= λ date. done WriteFault (record { time = time; date = date })
 
 -- an entry that is written
 entry_again : (entry : EntryPattern) → IsEntry entry → entry_of (entry_data entry) ≡ Ok entry
 unfolding entry_of entry_data
 entry_again entry fits =
     ap (λ o. ok_or o Unmatched >>= with_parts) (entry_parts_again (time_bytes entry.time) (date_bytes entry.date) refl (five_bytes entry.date))
-    ∙ ap₂ (λ t d. ok_or (result_ok t) Value >>= λ time. ok_or (result_ok d) Value >>= λ date. done ScheduleFault (record { time = time; date = date })) (time_again entry.time fits.time) (date_again entry.date fits.date)
-
--- several Datas have no fault, and these are their values
-record AreRead {A B : Type 0} (read : A → Result B ScheduleFault) (items : List A) (xs : List B) : Type 0 where
-  typed : list_any (λ item. is_unmatched (read item)) items ≡ false
-  faultless : list_any (λ item. is_err (read item)) items ≡ false
-  are : values read items ≡ xs
-
--- where each that is written is read again, all are
-all_again : {A B : Type 0} (read : A → Result B ScheduleFault) (write : B → A) (P : B → Type 0) → ((x : B) → P x → read (write x) ≡ Ok x)
-    → (xs : List B) → All P xs → AreRead read (map write xs) xs
-all_again read write P again [] all = record { typed = refl; faultless = refl; are = refl }
-all_again read write P again (x ∷ xs) all =
-    let one = again x (All-head P x xs all) in
-    let rest = all_again read write P again xs (All-tail P x xs all) in
-    record {
-      typed = ap₂ (λ r b. is_unmatched r || b) one rest.typed;
-      faultless = ap₂ (λ r b. is_err r || b) one rest.faultless;
-      are = ap₂ (λ r ys. cons_option (result_ok r) ys) one rest.are;
-    }
-
--- nothing is told of these
-told_again : {A B : Type 0} {read : A → Result B ScheduleFault} {items : List A} {xs : List B} → AreRead read items xs → told read items ≡ Ok tt
-unfolding told
-told_again are = ap₂ (λ a b. cond a (Err Unmatched) (cond b (Err Value) (done ScheduleFault tt))) are.typed are.faultless
+    ∙ ap₂ (λ t d. ok_or (result_ok t) Value >>= λ time. ok_or (result_ok d) Value >>= λ date. done WriteFault (record { time = time; date = date })) (time_again entry.time fits.time) (date_again entry.date fits.date)
 
 -- entries that were judged, as they are read
-abbrev with_items : List Data → Result (List EntryPattern) ScheduleFault
+abbrev with_items : List Data → Result (List EntryPattern) WriteFault
 with_items items = judged_entries items >> Ok (values entry_of items)
 
 -- entries that are written
@@ -92,9 +68,9 @@ entries_again entries fits =
     let items = map entry_data entries in
     let are = all_again entry_of entry_data IsEntry entry_again entries fits.fit in
     ap (λ read. with_items read) (list_of_trees items)
-    ∙ ap (λ r. (r >> guard (nat_le (length items) max_entries) Value) >> done ScheduleFault (values entry_of items)) (told_again are)
-    ∙ ap (λ b. guard b Value >> done ScheduleFault (values entry_of items)) few
-    ∙ ap (λ xs. done ScheduleFault xs) are.are
+    ∙ ap (λ r. (r >> guard (nat_le (length items) max_entries) Value) >> done WriteFault (values entry_of items)) (told_again are)
+    ∙ ap (λ b. guard b Value >> done WriteFault (values entry_of items)) few
+    ∙ ap (λ xs. done WriteFault xs) are.are
   where
     few : nat_le (length (map entry_data entries)) max_entries ≡ true
     few = grind (arith, nat_tests, fits.few, length-map)

@@ -1,5 +1,4 @@
 pub mod Again
 pub mod Falling
 pub mod Parts
-pub mod Steps
 pub mod Times

@@ -1,6 +1,5 @@
 -- A Data as an attribute of a schedule (IEC 62056-6-2, class 22), or why it is refused. Another type anywhere is told before any value: that order is this meter's.
-use Rattle.std.specs.Prelude.{ℕ, Bool, true, false, nat_le, List, length, ok_or, Result, Ok, Err, is_err, if◌then◌else◌}
-use Rattle.std.specs.List.{list_any, filter_map}
+use Rattle.std.specs.Prelude.{ℕ, nat_le, List, length, ok_or, Result, Ok}
 use Rattle.std.specs.Result.{result_ok}
 use Rattle.std.specs.Str.{bytes_eq}
 use Rattle.byte_reading.specs.Outcome.{◌>>=◌, ◌>>◌, guard}
@@ -10,61 +9,44 @@ use Rattle.cosem_datetime.specs.Reading.{time_of, date_of}
 use Rattle.cosem_datetime.specs.declared.entry.EntryPattern.{EntryPattern}
 use Rattle.action_schedule.specs.Forms.{script_table, script_parts_of, entry_parts_of}
 use Rattle.action_schedule.specs.Kinds.{type_of_number}
-use Rattle.action_schedule.specs.declared.fault.ScheduleFault.{ScheduleFault}
-use Rattle.action_schedule.specs.declared.fault.ScheduleFault.TheVariants.{Unmatched, Value, Memory}
+use Rattle.cosem_names.specs.WriteFault.{told, values}
+use Rattle.cosem_names.specs.declared.write_fault.WriteFault.{WriteFault}
+use Rattle.cosem_names.specs.declared.write_fault.WriteFault.TheVariants.{Unmatched, Value}
 use Rattle.action_schedule.specs.declared.kind.ScheduleType.{ScheduleType}
 
 -- executed_script: a selector in the script table
-unfoldable pub selector_of : Data → Result ℕ ScheduleFault
+unfoldable pub selector_of : Data → Result ℕ WriteFault
 selector_of value = do
   parts ← ok_or (script_parts_of value) Unmatched
   guard (bytes_eq parts.0.0 script_table.0) Value
   Ok parts.1
 
 -- type: 1 to 5
-unfoldable pub kind_of : Data → Result ScheduleType ScheduleFault
+unfoldable pub kind_of : Data → Result ScheduleType WriteFault
 kind_of value = do
   number ← ok_or (enumerated_of value) Unmatched
   ok_or (type_of_number number) Value
 
 -- an entry of execution_time, whose time and date have no fault
-unfoldable pub entry_of : Data → Result EntryPattern ScheduleFault
+unfoldable pub entry_of : Data → Result EntryPattern WriteFault
 entry_of value = do
   parts ← ok_or (entry_parts_of value) Unmatched
   time ← ok_or (result_ok (time_of parts.0)) Value
   date ← ok_or (result_ok (date_of parts.1)) Value
   Ok (record { time = time; date = date })
 
--- the value is of another type
-abbrev pub is_unmatched : {A : Type 0} → Result A ScheduleFault → Bool
-is_unmatched (Ok x) = false
-is_unmatched (Err Unmatched) = true
-is_unmatched (Err Value) = false
-is_unmatched (Err Memory) = false
-
--- the fault of several values: another type of one is told before any other fault
-unfoldable pub told : {A B : Type 0} → (A → Result B ScheduleFault) → List A → Result (Unit {0}) ScheduleFault
-told read items =
-    if list_any (λ item. is_unmatched (read item)) items then Err Unmatched
-    else if list_any (λ item. is_err (read item)) items then Err Value
-    else Ok tt
-
--- the values of those that have no fault
-abbrev pub values : {A B : Type 0} → (A → Result B ScheduleFault) → List A → List B
-values read items = filter_map (λ item. result_ok (read item)) items
-
 -- the most entries that a schedule has
 abbrev pub max_entries : ℕ
 max_entries = 16
 
 -- the fault of the Datas of entries: there are sixteen at most
-unfoldable pub judged_entries : List Data → Result (Unit {0}) ScheduleFault
+unfoldable pub judged_entries : List Data → Result (Unit {0}) WriteFault
 judged_entries items = do
   told entry_of items
   guard (nat_le (length items) max_entries) Value
 
 -- execution_time: entries
-unfoldable pub entries_of : Data → Result (List EntryPattern) ScheduleFault
+unfoldable pub entries_of : Data → Result (List EntryPattern) WriteFault
 entries_of value = do
   items ← ok_or (array_of value) Unmatched
   judged_entries items

@@ -3,7 +3,7 @@ use Rattle.std.specs.Prelude.{ℕ, ◌≤◌, List, [], length, Result, Ok, Err}
 use Rattle.std.specs.List.{All}
 use Rattle.cosem_datetime.specs.Fields.{IsTimeFields, IsDateFields}
 use Rattle.cosem_datetime.specs.declared.entry.EntryPattern.{EntryPattern}
-use Rattle.action_schedule.specs.declared.fault.ScheduleFault.{ScheduleFault}
+use Rattle.cosem_names.specs.declared.write_fault.WriteFault.{WriteFault}
 use Rattle.action_schedule.specs.declared.kind.ScheduleType.{ScheduleType}
 use Rattle.action_schedule.specs.declared.kind.ScheduleType.TheVariants.{Type5}
 use Rattle.action_schedule.specs.Reading.{max_entries}
@@ -29,21 +29,21 @@ abbrev pub new_schedule : Schedule
 new_schedule = record { selector = 0; kind = Type5; entries = [] }
 
 -- what a write answers: nothing, or why it is refused
-abbrev pub answer_of : {A : Type 0} → Result A ScheduleFault → Result (Unit {0}) ScheduleFault
+abbrev pub answer_of : {A : Type 0} → Result A WriteFault → Result (Unit {0}) WriteFault
 answer_of (Ok x) = Ok tt
 answer_of (Err fault) = Err fault
 
 -- a schedule after a write of its script, which changes nothing where it is refused
-abbrev pub with_selector : Result ℕ ScheduleFault → Schedule → Schedule
+abbrev pub with_selector : Result ℕ WriteFault → Schedule → Schedule
 with_selector (Ok selector) schedule = record schedule { selector = selector }
 with_selector (Err fault) schedule = schedule
 
 -- a schedule after a write of its type
-abbrev pub with_kind : Result ScheduleType ScheduleFault → Schedule → Schedule
+abbrev pub with_kind : Result ScheduleType WriteFault → Schedule → Schedule
 with_kind (Ok kind) schedule = record schedule { kind = kind }
 with_kind (Err fault) schedule = schedule
 
 -- a schedule after a write of its entries
-abbrev pub with_entries : Result (List EntryPattern) ScheduleFault → Schedule → Schedule
+abbrev pub with_entries : Result (List EntryPattern) WriteFault → Schedule → Schedule
 with_entries (Ok entries) schedule = record schedule { entries = entries }
 with_entries (Err fault) schedule = schedule

@@ -6,7 +6,6 @@
 #![tactic(auto)]
 
 mod attribute;
-mod fault;
 mod fitting;
 mod forms;
 mod kind;
@@ -16,7 +15,7 @@ mod schedule;
 mod writing;
 
 pub use attribute::ScheduleAttribute;
-pub use fault::ScheduleFault;
+pub use cosem_names::WriteFault as ScheduleFault;
 pub use fitting::SECONDS_LOOKED_BACK;
 pub use kind::ScheduleType;
 pub use schedule::{ActionSchedule, MAX_ENTRIES};

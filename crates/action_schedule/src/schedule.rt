@@ -1,19 +1,19 @@
 ghost use Rattle.std.specs.Prelude.{◌≡◌, ◌↔◌, [], IsOk, IfOk, OnErr, IsErrOf, IsTrue, Err};
 ghost use Rattle.action_schedule.specs.declared.attribute.ScheduleAttribute.TheVariants.{Kind};
-ghost use Rattle.action_schedule.specs.declared.fault.ScheduleFault.TheVariants.{Unmatched, Value};
+ghost use Rattle.cosem_names.specs.declared.write_fault.WriteFault.TheVariants.{Unmatched, Value};
 ghost use Rattle.action_schedule.specs.Fitting.{fits, is_due, IsDue};
 ghost use Rattle.action_schedule.specs.Reading.{selector_of, kind_of, entries_of};
 ghost use Rattle.action_schedule.specs.Schedule.{new_schedule, answer_of, with_selector, with_kind, with_entries};
 ghost use Rattle.action_schedule.specs.Writing.{data_at, ReadsBack};
 
 use crate::attribute::ScheduleAttribute;
-use crate::fault::ScheduleFault;
 use crate::fitting::{fits_type, has_match, window_start};
 use crate::kind::ScheduleType;
 use crate::reading::{judge_entries, read_entries, read_kind, read_selector};
 use crate::writing::{write_entries, write_script};
 use cosem_axdr::Data;
 use cosem_datetime::EntryPattern;
+use cosem_names::WriteFault;
 use listed::Listed;
 use std::alloc::{AllocError, Global};
 use std::marker::Model;
@@ -64,38 +64,38 @@ impl ActionSchedule {
     }
 
     /// Writes attribute 2, executed_script: a structure of the script table's logical name and a long-unsigned
-    /// selector. It takes no memory. Where it is refused nothing changes.
-    pub fn set_script(&mut self, value: &Data) -> Result<(), ScheduleFault>
+    /// selector. A script of another table isn't taken. It takes no memory. Where it is refused nothing changes.
+    pub fn set_script(&mut self, value: &Data) -> Result<(), WriteFault>
         ensures schedule { self.new ≡ with_selector (selector_of value.now) self.old }
         ensures answer { result ≡ answer_of (selector_of value.now) }
-        ensures no_memory { ¬ IsErrOf result ScheduleFault.Memory }
+        ensures no_memory { ¬ IsErrOf result WriteFault.Memory }
     {
         self.selector = read_selector(value)?;
         Ok(())
     }
 
     /// Writes attribute 3, type: an enum from 1 to 5. It takes no memory. Where it is refused nothing changes.
-    pub fn set_kind(&mut self, value: &Data) -> Result<(), ScheduleFault>
+    pub fn set_kind(&mut self, value: &Data) -> Result<(), WriteFault>
         ensures schedule { self.new ≡ with_kind (kind_of value.now) self.old }
         ensures answer { result ≡ answer_of (kind_of value.now) }
-        ensures no_memory { ¬ IsErrOf result ScheduleFault.Memory }
+        ensures no_memory { ¬ IsErrOf result WriteFault.Memory }
     {
         self.kind = read_kind(value)?;
         Ok(())
     }
 
     /// Writes attribute 4, execution_time: an array of structures, each of a time and a date, these as octet-strings or
-    /// in their own types. Another type anywhere is told before any value that isn't taken, and either before want of
-    /// memory. Where it is refused nothing changes.
+    /// in their own types. Another type anywhere is told before any value that isn't taken: too many entries, or a time or
+    /// date out of its range. Either is told before want of memory. Where it is refused nothing changes.
     #[tactic(auto, unfolding(crate::specs::Reading::entries_of))]
-    pub fn set_entries(&mut self, alloc: Global, value: &Data) -> Result<(), ScheduleFault>
+    pub fn set_entries(&mut self, alloc: Global, value: &Data) -> Result<(), WriteFault>
         ensures ok { IfOk result (λ _. (self.new ≡ with_entries (entries_of value.now) self.old) × IsOk (entries_of value.now)) }
         ensures err { OnErr result (self.new ≡ self.old) }
-        ensures unmatched { IsErrOf result ScheduleFault.Unmatched ↔ (entries_of value.now ≡ Err Unmatched) }
-        ensures value { IsErrOf result ScheduleFault.Value ↔ (entries_of value.now ≡ Err Value) }
-        ensures memory { IsErrOf result ScheduleFault.Memory → IsOk (entries_of value.now) }
+        ensures unmatched { IsErrOf result WriteFault.Unmatched ↔ (entries_of value.now ≡ Err Unmatched) }
+        ensures value { IsErrOf result WriteFault.Value ↔ (entries_of value.now ≡ Err Value) }
+        ensures memory { IsErrOf result WriteFault.Memory → IsOk (entries_of value.now) }
     {
-        let items = value.array().ok_or(ScheduleFault::Unmatched)?;
+        let items = value.array().ok_or(WriteFault::Unmatched)?;
         judge_entries(items)?;
         self.entries = read_entries(alloc, items)?;
         Ok(())

@@ -2,3 +2,4 @@ pub mod ObjectList
 pub mod Objects
 pub mod ResultCode
 pub mod Table
+pub mod WriteFault

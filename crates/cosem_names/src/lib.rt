@@ -11,6 +11,7 @@ mod object_entries;
 mod objects;
 mod result_code;
 mod service;
+mod write_fault;
 
 pub use access::{attribute, find, may_execute, object, rights};
 pub use laws::tables_are_told;
@@ -23,3 +24,4 @@ pub use objects::{
 };
 pub use result_code::ResultCode;
 pub use service::{AttributeSelection, GetResult};
+pub use write_fault::WriteFault;

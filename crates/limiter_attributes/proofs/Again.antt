@@ -1,31 +1,19 @@
 -- An attribute that is read is what a write of it sets.
-use Rattle.std.proofs.Common.{◌≡◌, ℕ, ◌≤◌, true, nat_le, List, [], ◌∷◌, map, length, Option, Some, None, ok_or, Result, Ok, length-append, refl, ap, ap₂, ◌∙◌, arith}
+use Rattle.std.proofs.Common.{◌≡◌, ℕ, ◌≤◌, true, nat_le, List, [], ◌∷◌, map, length, Result, Ok, refl, ap, ap₂, ◌∙◌, arith}
 use Rattle.std.proofs.lemmas.Bool.Decides.{nat_tests}
 use Rattle.std.proofs.lemmas.List.{length-map}
-use Rattle.std.specs.Prelude.{ℤ}
 use Rattle.std.specs.List.{filter_map}
-use Rattle.std.specs.Result.{result_ok, result_map_both}
-use Rattle.byte_reading.specs.Outcome.{◌>>=◌, ◌>>◌, guard}
+use Rattle.byte_reading.specs.Outcome.{◌>>◌, guard}
 use Rattle.byte_reading.proofs.OutcomeLemmas.{done}
 use Rattle.cosem_axdr.specs.Forms.{long_unsigned_of}
 use Rattle.cosem_axdr.specs.declared.value.Data.{Data}
 use Rattle.cosem_axdr.specs.declared.value.Data.TheVariants.{LongUnsigned}
 use Rattle.cosem_axdr.proofs.OneTree.{list_of_trees}
-use Rattle.cosem_datetime.specs.Fields.{DateTimeFields, IsDateTimeFields, date_time_bytes, year_bytes, deviation_bytes}
-use Rattle.cosem_datetime.specs.Reading.{date_time_of}
-use Rattle.cosem_datetime.proofs.Spelled.{date_time_again}
+use Rattle.cosem_names.specs.declared.write_fault.WriteFault.{WriteFault}
+use Rattle.cosem_names.specs.declared.write_fault.WriteFault.TheVariants.{Unmatched, Value}
 use Rattle.limiter_core.specs.declared.settings.Actions.{Actions}
-use Rattle.limiter_core.specs.declared.settings.Profile.{Profile}
-use Rattle.script_steps.specs.Reading as script
-use Rattle.script_steps.specs.Writing.{profile_data}
-use Rattle.script_steps.proofs.Profiles.{profile_parts_again}
-use Rattle.script_steps.specs.declared.fault.ScriptFault.{ScriptFault}
-use Rattle.script_steps.specs.declared.fault.ScriptFault.TheVariants as fault
-use Rattle.limiter_attributes.specs.Faults.{fault_of}
-use Rattle.limiter_attributes.specs.Reading.{are_ids, max_groups, judged_groups, groups_of, profile_of, actions_of}
+use Rattle.limiter_attributes.specs.Reading.{are_ids, max_groups, judged_groups, groups_of, actions_of}
 use Rattle.limiter_attributes.specs.Writing.{groups_data, actions_data}
-use Rattle.limiter_attributes.specs.declared.fault.SettingFault.{SettingFault}
-use Rattle.limiter_attributes.specs.declared.fault.SettingFault.TheVariants.{Unmatched, Value}
 
 -- actions that are written
 pub actions_again : (actions : Actions) → actions_of (actions_data actions) ≡ Ok actions
@@ -43,7 +31,7 @@ ids_again [] = refl
 ids_again (id ∷ ids) = ap (λ xs. id ∷ xs) (ids_again ids)
 
 -- items, judged and read
-abbrev with_items : List Data → Result (List ℕ) SettingFault
+abbrev with_items : List Data → Result (List ℕ) WriteFault
 with_items items = judged_groups items >> Ok (filter_map long_unsigned_of items)
 
 -- group ids that are written
@@ -52,35 +40,8 @@ unfolding groups_of groups_data judged_groups
 groups_again ids few =
     let items = map LongUnsigned ids in
     ap (λ read. with_items read) (list_of_trees items)
-    ∙ ap₂ (λ typed within. (guard typed Unmatched >> guard within Value) >> done SettingFault (filter_map long_unsigned_of items)) (ids_typed ids) within
-    ∙ ap (λ xs. done SettingFault xs) (ids_again ids)
+    ∙ ap₂ (λ typed within. (guard typed Unmatched >> guard within Value) >> done WriteFault (filter_map long_unsigned_of items)) (ids_typed ids) within
+    ∙ ap (λ xs. done WriteFault xs) (ids_again ids)
   where
     within : nat_le (length (map LongUnsigned ids)) max_groups ≡ true
     within = grind (arith, nat_tests, few, length-map)
-
--- a date-time has twelve bytes
-two_of_year : (year : Option ℕ) → length (year_bytes year) ≡ 2
-two_of_year None = refl
-two_of_year (Some y) = refl
-
-two_of_deviation : (deviation : Option ℤ) → length (deviation_bytes deviation) ≡ 2
-two_of_deviation None = refl
-two_of_deviation (Some d) = refl
-
-twelve_bytes : (p : DateTimeFields) → length (date_time_bytes p) ≡ 12
-twelve_bytes p = simp length-append (omega (arith, two_of_year p.date.year, two_of_deviation p.deviation))
-
--- a profile of its parts, and of its start
-abbrev with_parts : ℕ × List ℕ × ℕ → Result Profile ScriptFault
-with_parts parts = ok_or (result_ok (date_time_of parts.1)) fault.Value >>= λ start. done ScriptFault (record { id = parts.0; start = start; duration = parts.2 })
-
--- a profile that is written, by the rules of a step's parameter
-parameter_again : (profile : Profile) → IsDateTimeFields profile.start → script.profile_of (profile_data profile) ≡ Ok profile
-unfolding script.profile_of
-parameter_again profile fits =
-    ap (λ o. ok_or o fault.Unmatched >>= with_parts) (profile_parts_again profile.id profile.duration (date_time_bytes profile.start) (twelve_bytes profile.start))
-    ∙ ap (λ r. ok_or (result_ok r) fault.Value >>= λ start. done ScriptFault (record { id = profile.id; start = start; duration = profile.duration })) (date_time_again profile.start fits)
-
--- a profile that is written
-pub profile_again : (profile : Profile) → IsDateTimeFields profile.start → profile_of (profile_data profile) ≡ Ok profile
-profile_again profile fits = ap (λ r. result_map_both (λ p. p) fault_of r) (parameter_again profile fits)

@@ -1,5 +1,4 @@
 pub mod Attributes
-pub mod Faults
 pub mod Forms
 pub mod Law
 pub mod Reading

@@ -1,51 +1,40 @@
 -- A Data as an attribute of a limiter (IEC 62056-6-2, class 71), or why it is refused. Another type anywhere is told before any value: that order is this meter's.
 use Rattle.std.specs.Prelude.{ℕ, Bool, ◌&&◌, nat_le, List, length, Option, Some, None, is_some, ok_or, Result, Ok}
 use Rattle.std.specs.List.{list_all, filter_map}
-use Rattle.std.specs.Result.{result_map_both}
 use Rattle.std.specs.Str.{bytes_eq}
 use Rattle.byte_reading.specs.Outcome.{◌>>=◌, ◌>>◌, guard}
 use Rattle.cosem_axdr.specs.declared.value.Data.{Data}
-use Rattle.cosem_axdr.specs.Forms.{array_of, double_long_unsigned_of, long_unsigned_of}
+use Rattle.cosem_axdr.specs.Forms.{array_of, long_unsigned_of}
 use Rattle.limiter_core.specs.declared.settings.Actions.{Actions}
-use Rattle.limiter_core.specs.declared.settings.Profile.{Profile}
-use Rattle.script_steps.specs.Reading as script
-use Rattle.limiter_attributes.specs.Faults.{fault_of}
+use Rattle.script_steps.specs.Reading.{number_of, profile_of}
 use Rattle.limiter_attributes.specs.Forms.{script_table, scripts_of}
 use Rattle.limiter_attributes.specs.declared.attribute.LimiterAttribute.{LimiterAttribute}
 use Rattle.limiter_attributes.specs.declared.attribute.LimiterAttribute.TheVariants as attribute
-use Rattle.limiter_attributes.specs.declared.fault.SettingFault.{SettingFault}
-use Rattle.limiter_attributes.specs.declared.fault.SettingFault.TheVariants.{Unmatched, Value}
+use Rattle.cosem_names.specs.declared.write_fault.WriteFault.{WriteFault}
+use Rattle.cosem_names.specs.declared.write_fault.WriteFault.TheVariants.{Unmatched, Value}
 use Rattle.limiter_attributes.specs.declared.forms.NamedScript.{NamedScript}
 use Rattle.limiter_attributes.specs.declared.setting.Setting.{Setting}
 use Rattle.limiter_attributes.specs.declared.setting.Setting.TheVariants as setting
-
--- a threshold in watts or a duration in seconds
-abbrev pub watts_or_seconds_of : Data → Result ℕ SettingFault
-watts_or_seconds_of value = ok_or (double_long_unsigned_of value) Unmatched
-
--- an emergency profile
-abbrev pub profile_of : Data → Result Profile SettingFault
-profile_of value = result_map_both (λ profile. profile) fault_of (script.profile_of value)
 
 -- the script is one of the script table
 abbrev pub is_listed : NamedScript → Bool
 is_listed script = bytes_eq script.table.0 script_table.0
 
 -- actions: two selectors in the script table
-unfoldable pub actions_of : Data → Result Actions SettingFault
+unfoldable pub actions_of : Data → Result Actions WriteFault
 actions_of value = do
   scripts ← ok_or (scripts_of value) Unmatched
   guard (is_listed scripts.0 && is_listed scripts.1) Value
   Ok (record { over = scripts.0.selector; under = scripts.1.selector })
 
 -- what a write of an attribute sets: nothing for those that aren't written, and for the group ids
-unfoldable pub setting_of : LimiterAttribute → Data → Result (Option Setting) SettingFault
+unfoldable pub setting_of : LimiterAttribute → Data → Result (Option Setting) WriteFault
 setting_of attribute.MonitoredValue value = Ok None
 setting_of attribute.ThresholdActive value = Ok None
-setting_of attribute.ThresholdNormal value = watts_or_seconds_of value >>= λ watts. Ok (Some (setting.NormalThreshold watts))
-setting_of attribute.ThresholdEmergency value = watts_or_seconds_of value >>= λ watts. Ok (Some (setting.EmergencyThreshold watts))
-setting_of attribute.MinOverThresholdDuration value = watts_or_seconds_of value >>= λ seconds. Ok (Some (setting.MinOverDuration seconds))
-setting_of attribute.MinUnderThresholdDuration value = watts_or_seconds_of value >>= λ seconds. Ok (Some (setting.MinUnderDuration seconds))
+setting_of attribute.ThresholdNormal value = number_of value >>= λ watts. Ok (Some (setting.NormalThreshold watts))
+setting_of attribute.ThresholdEmergency value = number_of value >>= λ watts. Ok (Some (setting.EmergencyThreshold watts))
+setting_of attribute.MinOverThresholdDuration value = number_of value >>= λ seconds. Ok (Some (setting.MinOverDuration seconds))
+setting_of attribute.MinUnderThresholdDuration value = number_of value >>= λ seconds. Ok (Some (setting.MinUnderDuration seconds))
 setting_of attribute.EmergencyProfile value = profile_of value >>= λ profile. Ok (Some (setting.Profile profile))
 setting_of attribute.EmergencyProfileGroupIdList value = Ok None
 setting_of attribute.EmergencyProfileActive value = Ok None
@@ -60,13 +49,13 @@ abbrev pub max_groups : ℕ
 max_groups = 32
 
 -- the fault of the Datas of group ids
-unfoldable pub judged_groups : List Data → Result (Unit {0}) SettingFault
+unfoldable pub judged_groups : List Data → Result (Unit {0}) WriteFault
 judged_groups items = do
   guard (are_ids items) Unmatched
   guard (nat_le (length items) max_groups) Value
 
 -- group ids
-unfoldable pub groups_of : Data → Result (List ℕ) SettingFault
+unfoldable pub groups_of : Data → Result (List ℕ) WriteFault
 groups_of value = do
   items ← ok_or (array_of value) Unmatched
   judged_groups items

@@ -1,12 +1,12 @@
 ghost use Rattle.std.specs.Prelude.{◌≡◌, ◌↔◌, ◌≤◌, length, Ok, Err, IsOk, IfOk, IsErrOf};
 ghost use Rattle.std.specs.List.{filter_map};
 ghost use Rattle.cosem_axdr.specs.Forms.{long_unsigned_of};
-ghost use Rattle.limiter_attributes.specs.declared.fault.SettingFault.TheVariants.{Unmatched, Value};
+ghost use Rattle.cosem_names.specs.declared.write_fault.WriteFault.TheVariants.{Unmatched, Value};
 ghost use Rattle.limiter_attributes.specs.Reading.{are_ids, max_groups, judged_groups, groups_of};
 ghost use Rattle.limiter_attributes.specs.Settings.{limiter_with_groups};
 
-use crate::fault::SettingFault;
 use cosem_axdr::Data;
+use cosem_names::WriteFault;
 use limiter_core::{Limiter, MAX_GROUPS};
 use std::alloc::{AllocError, Global};
 
@@ -19,15 +19,15 @@ fn are_ids(items: &[Data]) -> bool
 
 /// The fault of group ids: another type of one is told before their number.
 #[tactic(auto, unfolding(crate::specs::Reading::judged_groups))]
-fn judge_groups(items: &[Data]) -> Result<(), SettingFault>
+fn judge_groups(items: &[Data]) -> Result<(), WriteFault>
     ensures exact { result ≡ judged_groups items.now }
-    ensures no_memory { ¬ IsErrOf result SettingFault.Memory }
+    ensures no_memory { ¬ IsErrOf result WriteFault.Memory }
     ensures few { IfOk result (λ _. length items.now ≤ max_groups) }
 {
     if !are_ids(items) {
-        Err(SettingFault::Unmatched)
+        Err(WriteFault::Unmatched)
     } else if items.len() > MAX_GROUPS {
-        Err(SettingFault::Value)
+        Err(WriteFault::Value)
     } else {
         Ok(())
     }
@@ -49,14 +49,14 @@ fn read_ids(alloc: Global, items: &[Data]) -> Result<Vec<u16>, AllocError>
 ///
 /// An item of another type is told before their number, and either before want of memory.
 #[tactic(auto, unfolding(crate::specs::Reading::groups_of))]
-pub fn read_groups(alloc: Global, value: &Data) -> Result<Limiter, SettingFault>
+pub fn read_groups(alloc: Global, value: &Data) -> Result<Limiter, WriteFault>
     ensures groups { IfOk result (λ limiter. groups_of value.now ≡ Ok limiter.settings.groups) }
     ensures limiter { IfOk result (λ limiter. limiter ≡ limiter_with_groups limiter.settings.groups) }
-    ensures unmatched { IsErrOf result SettingFault.Unmatched ↔ (groups_of value.now ≡ Err Unmatched) }
-    ensures value { IsErrOf result SettingFault.Value ↔ (groups_of value.now ≡ Err Value) }
-    ensures memory { IsErrOf result SettingFault.Memory → IsOk (groups_of value.now) }
+    ensures unmatched { IsErrOf result WriteFault.Unmatched ↔ (groups_of value.now ≡ Err Unmatched) }
+    ensures value { IsErrOf result WriteFault.Value ↔ (groups_of value.now ≡ Err Value) }
+    ensures memory { IsErrOf result WriteFault.Memory → IsOk (groups_of value.now) }
 {
-    let items = value.array().ok_or(SettingFault::Unmatched)?;
+    let items = value.array().ok_or(WriteFault::Unmatched)?;
     judge_groups(items)?;
     let ids = read_ids(alloc, items)?;
     let mut limiter = Limiter::new(alloc);

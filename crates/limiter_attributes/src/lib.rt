@@ -5,7 +5,6 @@
 #![tactic(auto)]
 
 mod attribute;
-mod fault;
 mod forms;
 mod groups;
 mod laws;
@@ -15,7 +14,7 @@ mod setting;
 mod writing;
 
 pub use attribute::LimiterAttribute;
-pub use fault::SettingFault;
+pub use cosem_names::WriteFault as SettingFault;
 pub use groups::read_groups;
 pub use laws::limiters_are_in_the_table;
 pub use reading::read_setting;

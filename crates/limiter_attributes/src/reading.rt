@@ -1,31 +1,32 @@
 ghost use Rattle.std.specs.Prelude.{◌≡◌, IsErrOf};
-ghost use Rattle.limiter_attributes.specs.Reading.{watts_or_seconds_of, actions_of, setting_of};
+ghost use Rattle.limiter_attributes.specs.Reading.{actions_of, setting_of};
+ghost use Rattle.script_steps.specs.Reading.{number_of};
 
 use crate::attribute::LimiterAttribute;
-use crate::fault::SettingFault;
 use crate::forms::scripts_in;
 use crate::names::SCRIPT_TABLE_NAME;
 use crate::setting::Setting;
 use cosem_axdr::Data;
+use cosem_names::WriteFault;
 use limiter_core::Actions;
 use script_steps::read_profile;
 
 /// A threshold in watts or a duration in seconds.
-fn read_number(value: &Data) -> Result<u32, SettingFault>
-    ensures { result ≡ watts_or_seconds_of value.now }
+fn read_number(value: &Data) -> Result<u32, WriteFault>
+    ensures { result ≡ number_of value.now }
 {
-    value.double_long_unsigned().ok_or(SettingFault::Unmatched)
+    value.double_long_unsigned().ok_or(WriteFault::Unmatched)
 }
 
 /// The scripts of both actions.
 #[tactic(auto, unfolding(crate::specs::Reading::actions_of))]
-fn read_actions(value: &Data) -> Result<Actions, SettingFault>
+fn read_actions(value: &Data) -> Result<Actions, WriteFault>
     ensures exact { result ≡ actions_of value.now }
-    ensures no_memory { ¬ IsErrOf result SettingFault.Memory }
+    ensures no_memory { ¬ IsErrOf result WriteFault.Memory }
 {
-    let (over, under) = scripts_in(value).ok_or(SettingFault::Unmatched)?;
+    let (over, under) = scripts_in(value).ok_or(WriteFault::Unmatched)?;
     if over.table != SCRIPT_TABLE_NAME || under.table != SCRIPT_TABLE_NAME {
-        return Err(SettingFault::Value);
+        return Err(WriteFault::Value);
     }
     Ok(Actions {
         over: over.selector,
@@ -39,14 +40,14 @@ fn read_actions(value: &Data) -> Result<Actions, SettingFault>
 /// Thresholds and durations are double-long-unsigned. An emergency profile is a structure of long-unsigned id,
 /// octet-string or date-time start, and double-long-unsigned duration. Actions are a structure of two structures, each
 /// of the script table's logical name and a long-unsigned selector. Another type anywhere is told before any value that
-/// isn't taken.
+/// isn't taken: a start of an emergency profile out of its range, or an action of another script table.
 #[tactic(auto, unfolding(crate::specs::Reading::setting_of))]
 pub fn read_setting(
     attribute: LimiterAttribute,
     value: &Data,
-) -> Result<Option<Setting>, SettingFault>
+) -> Result<Option<Setting>, WriteFault>
     ensures exact { result ≡ setting_of attribute value.now }
-    ensures no_memory { ¬ IsErrOf result SettingFault.Memory }
+    ensures no_memory { ¬ IsErrOf result WriteFault.Memory }
 {
     Ok(Some(match attribute {
         LimiterAttribute::ThresholdNormal => Setting::NormalThreshold(read_number(value)?),

@@ -2,9 +2,10 @@ ghost use Rattle.std.specs.Prelude.{◌≡◌, ◌≤◌, map, length, Ok, IsOk,
 ghost use Rattle.cosem_axdr.specs.declared.value.Data.TheVariants.{LongUnsigned};
 ghost use Rattle.limiter_attributes.specs.Attributes.{is_plain};
 ghost use Rattle.limiter_attributes.specs.declared.attribute.LimiterAttribute.TheVariants.{EmergencyProfileGroupIdList};
-ghost use Rattle.limiter_attributes.specs.Reading.{max_groups, groups_of, profile_of, actions_of, setting_of};
+ghost use Rattle.limiter_attributes.specs.Reading.{max_groups, groups_of, actions_of, setting_of};
 ghost use Rattle.limiter_attributes.specs.Settings.{setting_at};
 ghost use Rattle.limiter_attributes.specs.Writing.{register_name, monitored_data, groups_data, script_data, actions_data, data_at};
+ghost use Rattle.script_steps.specs.Reading.{profile_of};
 ghost use Rattle.script_steps.specs.Writing.{profile_data};
 
 use crate::attribute::LimiterAttribute;
@@ -41,7 +42,7 @@ fn write_monitored(alloc: Global, which: Which) -> Result<Data, AllocError>
 }
 
 /// An emergency profile.
-#[tactic(auto, using(crate::proofs::Again::profile_again))]
+#[tactic(auto, using(script_steps::proofs::Again::profile_again))]
 fn write_emergency_profile(alloc: Global, profile: &Profile) -> Result<Data, AllocError>
     ensures value { IfOk result (λ value. value ≡ profile_data profile.now) }
     ensures again { IfOk result (λ value. profile_of value ≡ Ok profile.now) }

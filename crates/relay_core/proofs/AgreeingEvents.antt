@@ -23,7 +23,7 @@ use Rattle.disconnect_control.specs.Transitions.{is_state}
 use Rattle.disconnect_control.specs.Control.{Control}
 use Rattle.limiter_attributes.specs.declared.attribute.LimiterAttribute.{LimiterAttribute}
 use Rattle.limiter_attributes.specs.declared.attribute.LimiterAttribute.TheVariants as attribute
-use Rattle.limiter_attributes.specs.declared.fault.SettingFault.{SettingFault}
+use Rattle.cosem_names.specs.declared.write_fault.WriteFault.{WriteFault}
 use Rattle.limiter_attributes.specs.declared.setting.Setting.{Setting}
 use Rattle.limiter_attributes.specs.Attributes.{attribute_numbered}
 use Rattle.limiter_attributes.specs.Reading.{groups_of}
@@ -47,7 +47,6 @@ use Rattle.relay_core.specs.Switch.{at_trigger}
 use Rattle.relay_core.specs.World.{World, Outcome}
 use Rattle.relay_core.specs.Writing.{refused, at_mode_form, mode_form, at_scripts, at_setting_form, at_groups, at_limiter, at_schedule, at_write, write_at, at_set}
 use Rattle.relay_core.proofs.Agreeing.{Alike, AreAlike, of_rows, trigger_alike, mode_alike, setting_alike, script_alike, steps_in_range, running_in_range, samples_alike, either_alike}
-use Rattle.script_steps.specs.declared.fault.ScriptFault.{ScriptFault}
 use Rattle.script_steps.specs.declared.step.Script.{Script}
 use Rattle.script_steps.specs.declared.step.Step.{Step}
 use Rattle.script_steps.specs.Reading.{table_of}
@@ -91,7 +90,7 @@ gets_alike level (item ∷ items) v w agree =
     ∙ ap (λ (rest : List GetResult). get_result level item.attr item.selected w ∷ rest) (gets_alike level items v w agree)
 
 -- what is written to agreeing worlds
-scripts_alike : (read : Result (List Script) ScriptFault) (v w : World) → IfOk read AreScriptsInRange → IsWorld v → Agree v w
+scripts_alike : (read : Result (List Script) WriteFault) (v w : World) → IfOk read AreScriptsInRange → IsWorld v → Agree v w
     → Alike (at_scripts read v) (at_scripts read w)
 scripts_alike (Err fault) v w small range agree = refused_alike _ v w range agree
 scripts_alike (Ok scripts) v w small range agree = of_rows (λ w. Alike (at_scripts (Ok scripts) v) (at_scripts (Ok scripts) w)) v w agree
@@ -101,14 +100,14 @@ scripts_alike (Ok scripts) v w small range agree = of_rows (λ w. Alike (at_scri
       range = record { import = range.import; export = range.export; scripts = small };
     })
 
-setting_form_alike : (which : Which) (read : Result (Option Setting) SettingFault) (v w : World)
+setting_form_alike : (which : Which) (read : Result (Option Setting) WriteFault) (v w : World)
     → IfOk read (λ setting. IfSome setting IsSettingInRange) → IsWorld v → Agree v w
     → Alike (at_setting_form which read v) (at_setting_form which read w)
 setting_form_alike which (Err fault) v w small range agree = refused_alike _ v w range agree
 setting_form_alike which (Ok None) v w small range agree = refused_alike _ v w range agree
 setting_form_alike which (Ok (Some one)) v w small range agree = setting_alike which one v w small range agree
 
-groups_alike : (which : Which) (read : Result (List ℕ) SettingFault) (v w : World) → IsWorld v → Agree v w
+groups_alike : (which : Which) (read : Result (List ℕ) WriteFault) (v w : World) → IsWorld v → Agree v w
     → Alike (at_groups which read v) (at_groups which read w)
 groups_alike which (Err fault) v w range agree = refused_alike _ v w range agree
 groups_alike Import (Ok ids) v w range agree = of_rows (λ w. Alike (at_groups Import (Ok ids) v) (at_groups Import (Ok ids) w)) v w agree

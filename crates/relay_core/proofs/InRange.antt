@@ -4,17 +4,17 @@ use Rattle.byte_reading.specs.Outcome.{◌>>=◌}
 use Rattle.byte_reading.proofs.OutcomeLemmas.{done}
 use Rattle.cosem_axdr.specs.Forms.{double_long_unsigned_of}
 use Rattle.cosem_axdr.specs.declared.value.Data.{Data}
-use Rattle.limiter_attributes.specs.Reading.{watts_or_seconds_of, profile_of, actions_of, setting_of}
+use Rattle.limiter_attributes.specs.Reading.{actions_of, setting_of}
 use Rattle.limiter_attributes.specs.declared.attribute.LimiterAttribute.{LimiterAttribute}
 use Rattle.limiter_attributes.specs.declared.attribute.LimiterAttribute.TheVariants as attribute
-use Rattle.limiter_attributes.specs.declared.fault.SettingFault.{SettingFault}
-use Rattle.limiter_attributes.specs.declared.fault.SettingFault.TheVariants.{Unmatched}
+use Rattle.cosem_names.specs.declared.write_fault.WriteFault.{WriteFault}
+use Rattle.cosem_names.specs.declared.write_fault.WriteFault.TheVariants.{Unmatched}
 use Rattle.limiter_attributes.specs.declared.setting.Setting.{Setting}
 use Rattle.limiter_attributes.specs.declared.setting.Setting.TheVariants as setting
 use Rattle.relay_core.specs.Agreeing.{IsSettingInRange, IsValue}
 use Rattle.script_steps.proofs.InRange.{table_in_range, read_some}
 use Rattle.script_steps.proofs.Within.{Within, number_within}
-use Rattle.script_steps.specs.Reading.{table_of}
+use Rattle.script_steps.specs.Reading.{number_of, profile_of, table_of}
 
 -- what is so of each value that a reading can have is so of the one that it has
 if_read : {A F : Type 0} (P : A → Type 0) (read : Result A F) → ((x : A) → read ≡ Ok x → P x) → IfOk read P
@@ -22,24 +22,24 @@ if_read P (Ok x) each = each x refl
 if_read P (Err fault) each = tt
 
 -- what a reading sets
-set_by : {A : Type 0} (read : Result A SettingFault) (make : A → Setting) → ((x : A) → read ≡ Ok x → IsSettingInRange (make x))
-    → IfOk (read >>= λ x. done SettingFault (Some (make x))) (λ set. IfSome set IsSettingInRange)
+set_by : {A : Type 0} (read : Result A WriteFault) (make : A → Setting) → ((x : A) → read ≡ Ok x → IsSettingInRange (make x))
+    → IfOk (read >>= λ x. done WriteFault (Some (make x))) (λ set. IfSome set IsSettingInRange)
 set_by (Ok x) make each = each x refl
 set_by (Err fault) make each = tt
 
-seconds_small : (value : Data) (n : ℕ) → Within value → watts_or_seconds_of value ≡ Ok n → n < 4294967296
+seconds_small : (value : Data) (n : ℕ) → Within value → number_of value ≡ Ok n → n < 4294967296
 seconds_small value n within e = number_within value n within (read_some (double_long_unsigned_of value) Unmatched n e)
 
 setting_in_range : (value : Data) (a : LimiterAttribute) → Within value → IfOk (setting_of a value) (λ set. IfSome set IsSettingInRange)
 unfolding setting_of
 setting_in_range value attribute.MonitoredValue within = tt
 setting_in_range value attribute.ThresholdActive within = tt
-setting_in_range value attribute.ThresholdNormal within = set_by (watts_or_seconds_of value) (λ n. setting.NormalThreshold n) (λ n e. tt)
-setting_in_range value attribute.ThresholdEmergency within = set_by (watts_or_seconds_of value) (λ n. setting.EmergencyThreshold n) (λ n e. tt)
+setting_in_range value attribute.ThresholdNormal within = set_by (number_of value) (λ n. setting.NormalThreshold n) (λ n e. tt)
+setting_in_range value attribute.ThresholdEmergency within = set_by (number_of value) (λ n. setting.EmergencyThreshold n) (λ n e. tt)
 setting_in_range value attribute.MinOverThresholdDuration within =
-    set_by (watts_or_seconds_of value) (λ n. setting.MinOverDuration n) (λ n e. seconds_small value n within e)
+    set_by (number_of value) (λ n. setting.MinOverDuration n) (λ n e. seconds_small value n within e)
 setting_in_range value attribute.MinUnderThresholdDuration within =
-    set_by (watts_or_seconds_of value) (λ n. setting.MinUnderDuration n) (λ n e. seconds_small value n within e)
+    set_by (number_of value) (λ n. setting.MinUnderDuration n) (λ n e. seconds_small value n within e)
 setting_in_range value attribute.EmergencyProfile within = set_by (profile_of value) (λ p. setting.Profile p) (λ p e. tt)
 setting_in_range value attribute.EmergencyProfileGroupIdList within = tt
 setting_in_range value attribute.EmergencyProfileActive within = tt

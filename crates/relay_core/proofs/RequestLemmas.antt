@@ -1,13 +1,11 @@
 -- A step of a script does what a request does that names the same.
 use Rattle.std.proofs.Common.{◌≡◌, Some, Result, Ok, refl, ap, sym}
-use Rattle.std.specs.Result.{result_map_both}
 use Rattle.byte_reading.specs.Outcome.{◌>>=◌}
 use Rattle.cosem_names.specs.Objects.{object_of, class_attribute_of, class_method_of, attribute_of, method_of, rights_of, may_execute_of}
 use Rattle.cosem_names.specs.declared.objects.Which.{Which}
 use Rattle.cosem_names.specs.declared.objects.Which.TheVariants.{Import, Export}
 use Rattle.disconnect_control.specs.declared.state.ControlMode.TheVariants.{Mode0, Mode1, Mode2, Mode3, Mode4, Mode5, Mode6}
 use Rattle.limiter_attributes.specs.Attributes.{attribute_numbered}
-use Rattle.limiter_attributes.specs.Faults.{fault_of}
 use Rattle.limiter_attributes.specs.Reading.{setting_of}
 use Rattle.limiter_attributes.specs.declared.setting.Setting.TheVariants as setting
 use Rattle.limiter_core.specs.declared.settings.Profile.{Profile}
@@ -20,13 +18,13 @@ use Rattle.relay_core.specs.Writing.{mode_form, at_setting_form, at_write, at_se
 use Rattle.relay_core.specs.declared.scripts.Origin.TheVariants.{Remote}
 use Rattle.script_steps.proofs.Again.{profile_again}
 use Rattle.script_steps.specs.Table.{IsStep}
-use Rattle.script_steps.specs.declared.fault.ScriptFault.{ScriptFault}
+use Rattle.cosem_names.specs.declared.write_fault.WriteFault.{WriteFault}
 use Rattle.script_steps.specs.declared.step.Step.{Step}
 use Rattle.script_steps.specs.declared.step.Step.TheVariants as step
 
 -- a write of an emergency profile, by what its Data was read as
-abbrev written : Which → World → Result Profile ScriptFault → Outcome
-written which w read = at_setting_form which (result_map_both (λ profile. profile) fault_of read >>= λ profile. Ok (Some (setting.Profile profile))) w
+abbrev written : Which → World → Result Profile WriteFault → Outcome
+written which w read = at_setting_form which (read >>= λ profile. Ok (Some (setting.Profile profile))) w
 
 pub step_is_request : (s : Step) (w : World) → IsStep s → at_step Remote s w ≡ at_request s w
 unfolding at_request at_set at_execute at_write at_method at_step target_of rights_of may_execute_of attribute_of method_of object_of class_attribute_of class_method_of attribute_numbered setting_of mode_form switch_trigger

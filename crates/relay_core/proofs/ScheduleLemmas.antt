@@ -1,9 +1,9 @@
 use Rattle.std.proofs.Common.{◌≡◌, Result, Ok, Err, refl}
-use Rattle.action_schedule.specs.declared.fault.ScheduleFault.{ScheduleFault}
+use Rattle.cosem_names.specs.declared.write_fault.WriteFault.{WriteFault}
 use Rattle.action_schedule.specs.Schedule.{answer_of}
 use Rattle.relay_core.specs.Schedules.{write_code}
 
 -- an answer has the result of what was read
-pub code_of_answer : {A : Type 0} (r : Result A ScheduleFault) → write_code (answer_of r) ≡ write_code r
+pub code_of_answer : {A : Type 0} (r : Result A WriteFault) → write_code (answer_of r) ≡ write_code r
 code_of_answer (Ok x) = refl
 code_of_answer (Err fault) = refl

@@ -1,5 +1,5 @@
 use Rattle.std.proofs.Common.{arith, ◌≡◌, ℕ, Bool, true, false, List, Some, Result, Ok, Err, IsOk, ◌==◌, if◌then◌else◌, refl, ap, sym, subst}
-use Rattle.action_schedule.specs.declared.fault.ScheduleFault.{ScheduleFault}
+use Rattle.cosem_names.specs.declared.write_fault.WriteFault.{WriteFault}
 use Rattle.action_schedule.specs.Reading.{entries_of}
 use Rattle.action_schedule.specs.Schedule.{Schedule as ScheduleState, with_entries}
 use Rattle.cosem_axdr.specs.declared.value.Data.{Data}
@@ -13,7 +13,6 @@ use Rattle.cosem_names.specs.declared.result_code.ResultCode.{ResultCode}
 use Rattle.cosem_names.specs.declared.result_code.ResultCode.TheVariants.{Success, ReadWriteDenied}
 use Rattle.limiter_attributes.specs.declared.attribute.LimiterAttribute.{LimiterAttribute}
 use Rattle.limiter_attributes.specs.declared.attribute.LimiterAttribute.TheVariants as attribute
-use Rattle.limiter_attributes.specs.declared.fault.SettingFault.{SettingFault}
 use Rattle.limiter_attributes.specs.Attributes.{number_of, attribute_numbered}
 use Rattle.limiter_attributes.specs.Reading.{setting_of, groups_of}
 use Rattle.limiter_attributes.specs.declared.setting.Setting.{Setting}
@@ -30,7 +29,6 @@ use Rattle.relay_core.specs.Schedules.{schedule_of, with_schedule, schedule_writ
 use Rattle.relay_core.specs.Stands.{StandsFor}
 use Rattle.relay_core.specs.World.{World, Outcome, IsDeviceName}
 use Rattle.relay_core.specs.Writing.{refused, at_scripts, at_setting_form, at_groups, at_limiter, at_schedule, at_write, with_schedule_entries}
-use Rattle.script_steps.specs.declared.fault.ScriptFault.{ScriptFault}
 use Rattle.script_steps.specs.declared.step.Script.{Script}
 use Rattle.script_steps.specs.Reading.{table_of}
 
@@ -74,10 +72,10 @@ pub scripts_moved : (number : ℕ) (value : Data) (scripts : List Script) (w : W
     → at_write ScriptTable number value w ≡ record { world = record w { scripts = scripts }; code = Success }
 unfolding parts_read at_write
 scripts_moved number value scripts w is =
-    let Moved : Bool → Result (List Script) ScriptFault → Type 0 = λ b r.
+    let Moved : Bool → Result (List Script) WriteFault → Type 0 = λ b r.
     part.Scripts scripts ≡ parts_or_plain (if b then scripts_part r else Ok part.Plain)
     → (if b then at_scripts r w else refused ReadWriteDenied w) ≡ record { world = record w { scripts = scripts }; code = Success } in
-    let cases : (b : Bool) (r : Result (List Script) ScriptFault) → Moved b r =
+    let cases : (b : Bool) (r : Result (List Script) WriteFault) → Moved b r =
     λ b r. elim b as (λ b. Moved b r) [ true ↦ elim r as (Moved true) [ Ok found ↦ λ same. cc | Err fault ↦ λ other. absurd (cc) ] | false ↦ λ other. absurd (cc) ] in
     cases (number == 2) (table_of value) is
 
@@ -106,10 +104,10 @@ pub scripts_kept : (number : ℕ) (value : Data) (parts : Parts) (w : World)
     → Kept (at_write ScriptTable number value w) (parts_read ScriptTable number value) w
 unfolding parts_read at_write
 scripts_kept number value parts w is other =
-    let Keep : Bool → Result (List Script) ScriptFault → Type 0 = λ b r.
+    let Keep : Bool → Result (List Script) WriteFault → Type 0 = λ b r.
     parts ≡ parts_or_plain (if b then scripts_part r else Ok part.Plain)
     → Kept (if b then at_scripts r w else refused ReadWriteDenied w) (if b then scripts_part r else Ok part.Plain) w in
-    let cases : (b : Bool) (r : Result (List Script) ScriptFault) → Keep b r =
+    let cases : (b : Bool) (r : Result (List Script) WriteFault) → Keep b r =
     λ b r. elim b as (λ b. Keep b r) [
       | true ↦ elim r as (Keep true) [ Ok found ↦ λ same. absurd (other found same) | Err fault ↦ λ same. record { world = refl; code = λ ok. absurd (cc) } ]
       | false ↦ λ same. record { world = refl; code = λ ok. refl }
@@ -122,9 +120,9 @@ pub groups_moved : (which : Which) (number : ℕ) (value : Data) (groups : State
     → at_write (Limiter which) number value w ≡ at_groups which (Ok groups.settings.groups) w
 unfolding parts_read at_write attribute_numbered
 groups_moved which number value groups w nine is =
-    let Moved : Result (List ℕ) SettingFault → Type 0 = λ r.
+    let Moved : Result (List ℕ) WriteFault → Type 0 = λ r.
     part.Groups groups ≡ parts_or_plain (groups_part r) → at_groups which r w ≡ at_groups which (Ok groups.settings.groups) w in
-    let cases : (r : Result (List ℕ) SettingFault) → Moved r =
+    let cases : (r : Result (List ℕ) WriteFault) → Moved r =
     λ r. elim r as Moved [
       | Ok ids ↦ λ same.
           let settings : Parts → List ℕ = λ p. elim p [ part.Groups g ↦ g.settings.groups | _ ↦ ids ] in
@@ -140,9 +138,9 @@ pub groups_kept : (which : Which) (number : ℕ) (value : Data) (parts : Parts) 
     → Kept (at_write (Limiter which) number value w) (parts_read (Limiter which) number value) w
 unfolding parts_read at_write attribute_numbered
 groups_kept which number value parts w nine is other =
-    let Keep : Result (List ℕ) SettingFault → Type 0 = λ r.
+    let Keep : Result (List ℕ) WriteFault → Type 0 = λ r.
     parts ≡ parts_or_plain (groups_part r) → Kept (at_groups which r w) (groups_part r) w in
-    let cases : (r : Result (List ℕ) SettingFault) → Keep r =
+    let cases : (r : Result (List ℕ) WriteFault) → Keep r =
     λ r. elim r as Keep [ Ok ids ↦ λ same. absurd (other _ same) | Err fault ↦ λ same. record { world = refl; code = λ ok. absurd (cc) } ] in
     let P : ℕ → Type 0 = λ n. parts ≡ parts_or_plain (parts_read (Limiter which) n value)
     → Kept (at_write (Limiter which) n value w) (parts_read (Limiter which) n value) w in
@@ -156,7 +154,7 @@ same_schedule Third s = refl
 same_schedule Fourth s = refl
 
 -- what a write of entries does
-entries_at : ScheduleNumber → Result (List EntryPattern) ScheduleFault → World → Outcome
+entries_at : ScheduleNumber → Result (List EntryPattern) WriteFault → World → Outcome
 entries_at which r w = record {
   world = record w { schedules = with_schedule which (with_entries r (schedule_of which w.schedules)) w.schedules };
   code = write_code r;
@@ -168,9 +166,9 @@ pub entries_moved : (which : ScheduleNumber) (number : ℕ) (value : Data) (othe
     → at_write (Schedule which) number value w ≡ record { world = with_schedule_entries which other.entries w; code = Success }
 unfolding parts_read at_write at_schedule schedule_written schedule_code entries_at
 entries_moved which number value other w four is =
-    let Moved : Result (List EntryPattern) ScheduleFault → Type 0 = λ r.
+    let Moved : Result (List EntryPattern) WriteFault → Type 0 = λ r.
     part.Entries other ≡ parts_or_plain (entries_part r) → entries_at which r w ≡ record { world = with_schedule_entries which other.entries w; code = Success } in
-    let cases : (r : Result (List EntryPattern) ScheduleFault) → Moved r =
+    let cases : (r : Result (List EntryPattern) WriteFault) → Moved r =
     λ r. elim r as Moved [
       | Ok entries ↦ λ same.
           let read : Parts → List EntryPattern = λ p. elim p [ part.Entries e ↦ e.entries | _ ↦ entries ] in
@@ -187,9 +185,9 @@ pub entries_kept : (which : ScheduleNumber) (number : ℕ) (value : Data) (parts
     → Kept (at_write (Schedule which) number value w) (parts_read (Schedule which) number value) w
 unfolding parts_read at_write at_schedule schedule_written schedule_code entries_at
 entries_kept which number value parts w four is other =
-    let Keep : Result (List EntryPattern) ScheduleFault → Type 0 = λ r.
+    let Keep : Result (List EntryPattern) WriteFault → Type 0 = λ r.
     parts ≡ parts_or_plain (entries_part r) → Kept (entries_at which r w) (entries_part r) w in
-    let cases : (r : Result (List EntryPattern) ScheduleFault) → Keep r =
+    let cases : (r : Result (List EntryPattern) WriteFault) → Keep r =
     λ r. elim r as Keep [
       | Ok entries ↦ λ same. absurd (other _ same)
       | Err fault ↦ λ same. record { world = ap (λ (s : Schedules). record w { schedules = s }) (same_schedule which w.schedules); code = λ ok. absurd (cc) }
@@ -206,8 +204,8 @@ schedule_refusal : (which : ScheduleNumber) (number : ℕ) (value : Data) (refus
     → parts_read (Schedule which) number value ≡ Err refusal → IsRefused (at_write (Schedule which) number value w) refusal w
 unfolding parts_read at_write at_schedule schedule_written schedule_code entries_at
 schedule_refusal which number value refusal w is =
-    let Told : Result (List EntryPattern) ScheduleFault → Type 0 = λ r. entries_part r ≡ Err refusal → IsRefused (entries_at which r w) refusal w in
-    let cases : (r : Result (List EntryPattern) ScheduleFault) → Told r =
+    let Told : Result (List EntryPattern) WriteFault → Type 0 = λ r. entries_part r ≡ Err refusal → IsRefused (entries_at which r w) refusal w in
+    let cases : (r : Result (List EntryPattern) WriteFault) → Told r =
     λ r. elim r as Told [
       | Ok entries ↦ λ same. absurd (cc)
       | Err fault ↦ λ same. record { world = ap (λ (s : Schedules). record w { schedules = s }) (same_schedule which w.schedules); code = cc }
@@ -226,8 +224,8 @@ groups_refusal : (which : Which) (number : ℕ) (value : Data) (refusal : Result
     → parts_read (Limiter which) number value ≡ Err refusal → IsRefused (at_write (Limiter which) number value w) refusal w
 unfolding parts_read at_write attribute_numbered
 groups_refusal which number value refusal w is =
-    let Told : Result (List ℕ) SettingFault → Type 0 = λ r. groups_part r ≡ Err refusal → IsRefused (at_groups which r w) refusal w in
-    let cases : (r : Result (List ℕ) SettingFault) → Told r =
+    let Told : Result (List ℕ) WriteFault → Type 0 = λ r. groups_part r ≡ Err refusal → IsRefused (at_groups which r w) refusal w in
+    let cases : (r : Result (List ℕ) WriteFault) → Told r =
     λ r. elim r as Told [ Ok ids ↦ λ same. absurd (cc) | Err fault ↦ λ same. record { world = refl; code = cc } ] in
     let P : ℕ → Type 0 = λ n. parts_read (Limiter which) n value ≡ Err refusal → IsRefused (at_write (Limiter which) n value w) refusal w in
     let by_test : (b : Bool) → (number == 9) ≡ b → (if b then groups_part (groups_of value) else Ok part.Plain) ≡ Err refusal
@@ -248,9 +246,9 @@ refusal_told DeviceName number value refusal w is = absurd (cc)
 refusal_told (Register which) number value refusal w is = absurd (cc)
 refusal_told DisconnectControl number value refusal w is = absurd (cc)
 refusal_told ScriptTable number value refusal w is =
-    let Told : Bool → Result (List Script) ScriptFault → Type 0 = λ b r.
+    let Told : Bool → Result (List Script) WriteFault → Type 0 = λ b r.
     (if b then scripts_part r else Ok part.Plain) ≡ Err refusal → IsRefused (if b then at_scripts r w else refused ReadWriteDenied w) refusal w in
-    let cases : (b : Bool) (r : Result (List Script) ScriptFault) → Told b r =
+    let cases : (b : Bool) (r : Result (List Script) WriteFault) → Told b r =
     λ b r. elim b as (λ b. Told b r) [
       | true ↦ elim r as (Told true) [ Ok found ↦ λ same. absurd (cc) | Err fault ↦ λ same. record { world = refl; code = cc } ]
       | false ↦ λ same. absurd (cc)

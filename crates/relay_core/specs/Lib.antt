@@ -4,6 +4,7 @@ pub mod Agreeing
 pub mod Clock
 pub mod Limiters
 pub mod Machine
+pub mod Memory
 pub mod Moving
 pub mod Opening
 pub mod Reading

@@ -7,10 +7,11 @@ use Rattle.relay_core.specs.declared.event.Reply.{Reply}
 use Rattle.relay_core.specs.declared.event.Reply.TheVariants.{Value, Values, Code, Sampled, SampledBoth, Ran, Stale}
 use Rattle.relay_core.specs.Acting.{at_execute, at_button}
 use Rattle.relay_core.specs.Clock.{at_moment}
-use Rattle.relay_core.specs.Reading.{get_result, get_results, reads_plainly}
+use Rattle.relay_core.specs.Memory.{reads_plainly, writes_plainly}
+use Rattle.relay_core.specs.Reading.{get_result, get_results}
 use Rattle.relay_core.specs.Sampling.{at_samples}
 use Rattle.relay_core.specs.World.{World, Outcome, Stepped}
-use Rattle.relay_core.specs.Writing.{at_set, writes_plainly}
+use Rattle.relay_core.specs.Writing.{at_set}
 
 -- the reply to a Get
 abbrev pub reply_of : GetResult → Reply

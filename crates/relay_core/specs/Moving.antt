@@ -1,6 +1,7 @@
 -- The owned values that a write moves in, apart from the write itself.
 use Rattle.std.specs.Prelude.{ℕ, Bool, List, Result, Ok, Err, ◌==◌, if◌then◌else◌}
-use Rattle.action_schedule.specs.declared.fault.ScheduleFault.{ScheduleFault}
+use Rattle.cosem_names.specs.WriteFault.{fault_code}
+use Rattle.cosem_names.specs.declared.write_fault.WriteFault.{WriteFault}
 use Rattle.action_schedule.specs.Reading.{entries_of}
 use Rattle.action_schedule.specs.Schedule.{new_schedule}
 use Rattle.cosem_axdr.specs.declared.value.Data.{Data}
@@ -11,7 +12,6 @@ use Rattle.cosem_names.specs.declared.objects.Instance.{Instance}
 use Rattle.cosem_names.specs.declared.objects.Instance.TheVariants.{ScriptTable, Schedule, Limiter}
 use Rattle.cosem_names.specs.declared.result_code.ResultCode.{ResultCode}
 use Rattle.cosem_names.specs.Objects.{rights_of}
-use Rattle.limiter_attributes.specs.declared.fault.SettingFault.{SettingFault}
 use Rattle.limiter_attributes.specs.Reading.{groups_of}
 use Rattle.limiter_attributes.specs.Settings.{limiter_with_groups}
 use Rattle.relay_core.specs.declared.event.Event.{Event}
@@ -19,24 +19,21 @@ use Rattle.relay_core.specs.declared.event.Event.TheVariants.{Set}
 use Rattle.relay_core.specs.declared.parts.Parts.{Parts}
 use Rattle.relay_core.specs.declared.parts.Parts.TheVariants as part
 use Rattle.relay_core.specs.Access.{target_of}
-use Rattle.relay_core.specs.Schedules.{fault_code}
-use Rattle.relay_core.specs.Writing.{script_fault_code, setting_fault_code}
-use Rattle.script_steps.specs.declared.fault.ScriptFault.{ScriptFault}
 use Rattle.script_steps.specs.declared.step.Script.{Script}
 use Rattle.script_steps.specs.Reading.{table_of}
 
 -- scripts, entries and group ids that are moved in, or why they are refused
-abbrev pub scripts_part : Result (List Script) ScriptFault → Result Parts ResultCode
+abbrev pub scripts_part : Result (List Script) WriteFault → Result Parts ResultCode
 scripts_part (Ok scripts) = Ok (part.Scripts scripts)
-scripts_part (Err fault) = Err (script_fault_code fault)
+scripts_part (Err fault) = Err (fault_code fault)
 
-abbrev pub entries_part : Result (List EntryPattern) ScheduleFault → Result Parts ResultCode
+abbrev pub entries_part : Result (List EntryPattern) WriteFault → Result Parts ResultCode
 entries_part (Ok entries) = Ok (part.Entries (record new_schedule { entries = entries }))
 entries_part (Err fault) = Err (fault_code fault)
 
-abbrev pub groups_part : Result (List ℕ) SettingFault → Result Parts ResultCode
+abbrev pub groups_part : Result (List ℕ) WriteFault → Result Parts ResultCode
 groups_part (Ok ids) = Ok (part.Groups (limiter_with_groups ids))
-groups_part (Err fault) = Err (setting_fault_code fault)
+groups_part (Err fault) = Err (fault_code fault)
 
 -- what a write of an attribute moves in: a list alone is moved
 unfoldable pub parts_read : Instance → ℕ → Data → Result Parts ResultCode

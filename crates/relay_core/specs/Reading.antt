@@ -1,4 +1,4 @@
-use Rattle.std.specs.Prelude.{ℕ, pos, Bool, true, List, [], ◌∷◌, Result, Ok, Err, ◌==◌, ◌||◌, ◌&&◌, not, map, Option, Some, None, if◌then◌else◌}
+use Rattle.std.specs.Prelude.{ℕ, pos, Bool, List, [], ◌∷◌, Result, Ok, Err, ◌==◌, map, Option, Some, None, if◌then◌else◌}
 use Rattle.cosem_axdr.specs.declared.value.Data.{Data}
 use Rattle.cosem_axdr.specs.declared.value.Data.TheVariants.{OctetString, Boolean, Enum, Integer, DoubleLongUnsigned}
 use Rattle.cosem_names.specs.declared.name.AttrRef.{AttrRef}
@@ -17,7 +17,7 @@ use Rattle.disconnect_control.specs.Control.{Control}
 use Rattle.disconnect_control.specs.Transitions.{state_number, mode_number, is_state}
 use Rattle.cosem_names.specs.declared.objects.Which.{Which}
 use Rattle.limiter_attributes.specs.declared.attribute.LimiterAttribute.{LimiterAttribute}
-use Rattle.limiter_attributes.specs.Attributes.{attribute_numbered, is_plain as is_plain_limiter}
+use Rattle.limiter_attributes.specs.Attributes.{attribute_numbered}
 use Rattle.limiter_attributes.specs.Writing.{data_at}
 use Rattle.limiter_core.specs.declared.settings.Settings.{Settings}
 use Rattle.relay_core.specs.Access.{target_of}
@@ -76,27 +76,3 @@ get_result level attr selected w = read_at level (target_of attr.name attr.class
 -- what it reads of several, all of them of one world
 abbrev pub get_results : Level → List AttributeSelection → World → List GetResult
 get_results level items w = map (λ item. get_result level item.attr item.selected w) items
-
--- whether an attribute of a limiter takes no memory to read
-abbrev pub is_plain_attribute : Option LimiterAttribute → Bool
-is_plain_attribute None = true
-is_plain_attribute (Some attribute) = is_plain_limiter attribute
-
--- whether the value of an attribute is a boolean, an enum or a number, which takes no memory
-abbrev pub is_plain : Instance → ℕ → Bool
-is_plain Association number = not (number == 1 || number == 2)
-is_plain DeviceName number = not (number == 1 || number == 2)
-is_plain (Register which) number = not (number == 1 || number == 3)
-is_plain ScriptTable number = not (number == 1 || number == 2)
-is_plain (Schedule which) number = not (number == 1 || (number == 2 || number == 4))
-is_plain DisconnectControl number = not (number == 1)
-is_plain (Limiter which) number = not (number == 1) && is_plain_attribute (attribute_numbered number)
-
--- whether a read of an object that was reached takes no memory
-abbrev pub is_plain_at : Result Instance ResultCode → ℕ → Bool
-is_plain_at (Err refusal) number = true
-is_plain_at (Ok instance) number = is_plain instance number
-
--- whether a read takes no memory: it is refused, or its value is plain
-unfoldable pub reads_plainly : Level → AttrRef → Bool → Bool
-reads_plainly level attr selected = is_plain_at (target_of attr.name attr.class (rights_of level attr).read selected) attr.number

@@ -1,8 +1,8 @@
 -- The four single action schedules, and their attributes as they are read and written (IEC 62056-6-2, class 22).
 use Rattle.std.specs.Prelude.{ℕ, List, [], ◌∷◌, Result, Ok, Err, ◌==◌, if◌then◌else◌}
 use Rattle.action_schedule.specs.declared.attribute.ScheduleAttribute.TheVariants.{ExecutedScript, Kind, ExecutionTime}
-use Rattle.action_schedule.specs.declared.fault.ScheduleFault.{ScheduleFault}
-use Rattle.action_schedule.specs.declared.fault.ScheduleFault.TheVariants as fault
+use Rattle.cosem_names.specs.WriteFault.{fault_code}
+use Rattle.cosem_names.specs.declared.write_fault.WriteFault.{WriteFault}
 use Rattle.action_schedule.specs.Reading.{selector_of, kind_of, entries_of}
 use Rattle.action_schedule.specs.Schedule.{Schedule, with_selector, with_kind, with_entries}
 use Rattle.action_schedule.specs.Writing.{data_at}
@@ -10,7 +10,7 @@ use Rattle.cosem_axdr.specs.declared.value.Data.{Data}
 use Rattle.cosem_names.specs.declared.objects.ScheduleNumber.{ScheduleNumber}
 use Rattle.cosem_names.specs.declared.objects.ScheduleNumber.TheVariants.{First, Second, Third, Fourth}
 use Rattle.cosem_names.specs.declared.result_code.ResultCode.{ResultCode}
-use Rattle.cosem_names.specs.declared.result_code.ResultCode.TheVariants.{Success, ReadWriteDenied, TypeUnmatched, OtherReason}
+use Rattle.cosem_names.specs.declared.result_code.ResultCode.TheVariants.{Success, ReadWriteDenied}
 use Rattle.cosem_names.specs.declared.service.GetResult.{GetResult}
 use Rattle.cosem_names.specs.declared.service.GetResult.TheVariants.{Value, Code}
 use Rattle.relay_core.specs.declared.schedules.Schedules.{Schedules}
@@ -41,14 +41,8 @@ schedule_value schedule number =
     else if number == 4 then Value (data_at ExecutionTime schedule)
     else Code ReadWriteDenied
 
--- why a written attribute is refused; memory is no fault of what is written
-abbrev pub fault_code : ScheduleFault → ResultCode
-fault_code fault.Unmatched = TypeUnmatched
-fault_code fault.Value = OtherReason
-fault_code fault.Memory = OtherReason
-
 -- the result of a write
-abbrev pub write_code : {A : Type 0} → Result A ScheduleFault → ResultCode
+abbrev pub write_code : {A : Type 0} → Result A WriteFault → ResultCode
 write_code (Ok x) = Success
 write_code (Err fault) = fault_code fault
 

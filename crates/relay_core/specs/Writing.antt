@@ -1,5 +1,5 @@
 -- What a client's write does (IEC 62056-5-3, SET; IEC 62056-6-2, classes 9, 22, 70 and 71).
-use Rattle.std.specs.Prelude.{ℕ, Bool, true, not, List, Option, Some, None, Result, Ok, Err, ◌==◌, if◌then◌else◌}
+use Rattle.std.specs.Prelude.{ℕ, Bool, List, Option, Some, None, Result, Ok, Err, ◌==◌, if◌then◌else◌}
 use Rattle.cosem_axdr.specs.declared.value.Data.{Data}
 use Rattle.cosem_datetime.specs.declared.entry.EntryPattern.{EntryPattern}
 use Rattle.cosem_axdr.specs.Forms.{enumerated_of}
@@ -17,8 +17,8 @@ use Rattle.disconnect_control.specs.Transitions.{mode_of}
 use Rattle.disconnect_control.specs.Control.{with_mode, mode_result}
 use Rattle.limiter_attributes.specs.declared.attribute.LimiterAttribute.{LimiterAttribute}
 use Rattle.limiter_attributes.specs.declared.attribute.LimiterAttribute.TheVariants.{EmergencyProfileGroupIdList}
-use Rattle.limiter_attributes.specs.declared.fault.SettingFault.{SettingFault}
-use Rattle.limiter_attributes.specs.declared.fault.SettingFault.TheVariants as setting_fault
+use Rattle.cosem_names.specs.declared.write_fault.WriteFault.{WriteFault}
+use Rattle.cosem_names.specs.WriteFault.{fault_code}
 use Rattle.limiter_attributes.specs.declared.setting.Setting.{Setting}
 use Rattle.limiter_attributes.specs.Attributes.{attribute_numbered}
 use Rattle.limiter_attributes.specs.Reading.{setting_of, groups_of}
@@ -27,8 +27,6 @@ use Rattle.relay_core.specs.Access.{target_of}
 use Rattle.relay_core.specs.Limiters.{metered_of, with_metered, with_settings}
 use Rattle.relay_core.specs.Schedules.{schedule_of, with_schedule, schedule_written, schedule_code}
 use Rattle.relay_core.specs.World.{World, Outcome}
-use Rattle.script_steps.specs.declared.fault.ScriptFault.{ScriptFault}
-use Rattle.script_steps.specs.declared.fault.ScriptFault.TheVariants as script_fault
 use Rattle.script_steps.specs.declared.step.Script.{Script}
 use Rattle.script_steps.specs.Reading.{table_of}
 
@@ -56,20 +54,9 @@ abbrev pub at_mode_form : Result ControlMode ResultCode → World → Outcome
 at_mode_form (Err refusal) w = refused refusal w
 at_mode_form (Ok mode) w = at_mode mode w
 
--- why a script table or a limiter's attribute is refused; memory is no fault of what is written
-abbrev pub script_fault_code : ScriptFault → ResultCode
-script_fault_code script_fault.Unmatched = TypeUnmatched
-script_fault_code script_fault.Value = OtherReason
-script_fault_code script_fault.Memory = OtherReason
-
-abbrev pub setting_fault_code : SettingFault → ResultCode
-setting_fault_code setting_fault.Unmatched = TypeUnmatched
-setting_fault_code setting_fault.Value = OtherReason
-setting_fault_code setting_fault.Memory = OtherReason
-
 -- a write of the script table's scripts
-abbrev pub at_scripts : Result (List Script) ScriptFault → World → Outcome
-at_scripts (Err fault) w = refused (script_fault_code fault) w
+abbrev pub at_scripts : Result (List Script) WriteFault → World → Outcome
+at_scripts (Err fault) w = refused (fault_code fault) w
 at_scripts (Ok scripts) w = record { world = record w { scripts = scripts }; code = Success }
 
 -- a setting of a limiter
@@ -79,14 +66,14 @@ at_setting which setting w = record {
   code = Success;
 }
 
-abbrev pub at_setting_form : Which → Result (Option Setting) SettingFault → World → Outcome
-at_setting_form which (Err fault) w = refused (setting_fault_code fault) w
+abbrev pub at_setting_form : Which → Result (Option Setting) WriteFault → World → Outcome
+at_setting_form which (Err fault) w = refused (fault_code fault) w
 at_setting_form which (Ok None) w = refused ReadWriteDenied w
 at_setting_form which (Ok (Some setting)) w = at_setting which setting w
 
 -- group ids of a limiter
-abbrev pub at_groups : Which → Result (List ℕ) SettingFault → World → Outcome
-at_groups which (Err fault) w = refused (setting_fault_code fault) w
+abbrev pub at_groups : Which → Result (List ℕ) WriteFault → World → Outcome
+at_groups which (Err fault) w = refused (fault_code fault) w
 at_groups which (Ok ids) w = record {
   world = with_metered which (with_settings (record (metered_of which w).settings { groups = ids }) (metered_of which w)) w;
   code = Success;
@@ -128,19 +115,3 @@ write_at (Ok instance) number value w = at_write instance number value w
 -- a client's write of an attribute
 unfoldable pub at_set : Level → AttrRef → Bool → Data → World → Outcome
 at_set level attr selected value w = write_at (target_of attr.name attr.class (rights_of level attr).write selected) attr.number value w
-
--- whether a write of an attribute moves no list in
-abbrev pub writes_plainly_in : Instance → ℕ → Bool
-writes_plainly_in ScriptTable number = not (number == 2)
-writes_plainly_in (Schedule which) number = not (number == 4)
-writes_plainly_in (Limiter which) number = not (number == 9)
-writes_plainly_in _ number = true
-
--- whether a write of an object that was reached takes no memory
-abbrev pub writes_plainly_at : Result Instance ResultCode → ℕ → Bool
-writes_plainly_at (Err refusal) number = true
-writes_plainly_at (Ok instance) number = writes_plainly_in instance number
-
--- whether a write takes no memory: it is refused before its value is looked at, or its value is no list
-unfoldable pub writes_plainly : Level → AttrRef → Bool → Bool
-writes_plainly level attr selected = writes_plainly_at (target_of attr.name attr.class (rights_of level attr).write selected) attr.number

@@ -1,7 +1,7 @@
 ghost use Rattle.std.specs.Prelude.{◌≡◌, IfOk, IsOk, IsTrue};
 ghost use Rattle.relay_core.specs.Machine.{is_sure};
 ghost use Rattle.relay_core.specs.Moving.{scripts_part, entries_part, groups_part, parts_read, parts_or_plain, set_parts, parts_of};
-ghost use Rattle.relay_core.specs.Writing.{writes_plainly_in, writes_plainly};
+ghost use Rattle.relay_core.specs.Memory.{writes_plainly_in, writes_plainly};
 ghost use Rattle.action_schedule.specs.Reading.{entries_of};
 ghost use Rattle.limiter_attributes.specs.Reading.{groups_of};
 ghost use Rattle.script_steps.specs.Reading.{table_of};
@@ -9,12 +9,12 @@ ghost use Rattle.script_steps.specs.Reading.{table_of};
 use crate::access::target;
 use crate::event::Event;
 use crate::relay::RelayCore;
-use action_schedule::{ActionSchedule, ScheduleFault};
+use action_schedule::ActionSchedule;
 use cosem_axdr::Data;
-use cosem_names::{AttrRef, Instance, Level, ResultCode, rights};
-use limiter_attributes::{SettingFault, read_groups};
+use cosem_names::{AttrRef, Instance, Level, ResultCode, WriteFault, rights};
+use limiter_attributes::read_groups;
 use limiter_core::Limiter;
-use script_steps::{ScriptFault, ScriptTable};
+use script_steps::ScriptTable;
 use std::alloc::{AllocError, Global};
 
 /// The owned values that an event's write moves in. All that such a write takes of memory is in them.
@@ -36,9 +36,9 @@ fn read_scripts(alloc: Global, value: &Data) -> Result<Result<Parts, ResultCode>
 {
     Ok(match ScriptTable::from_data(alloc, value) {
         Ok(scripts) => Ok(Parts::Scripts(scripts)),
-        Err(ScriptFault::Unmatched) => Err(ResultCode::TypeUnmatched),
-        Err(ScriptFault::Value) => Err(ResultCode::OtherReason),
-        Err(ScriptFault::Memory) => return Err(AllocError),
+        Err(WriteFault::Unmatched) => Err(ResultCode::TypeUnmatched),
+        Err(WriteFault::Value) => Err(ResultCode::OtherReason),
+        Err(WriteFault::Memory) => return Err(AllocError),
     })
 }
 
@@ -49,9 +49,9 @@ fn read_entries(alloc: Global, value: &Data) -> Result<Result<Parts, ResultCode>
     let mut schedule = ActionSchedule::new(alloc);
     Ok(match schedule.set_entries(alloc, value) {
         Ok(()) => Ok(Parts::Entries(schedule)),
-        Err(ScheduleFault::Unmatched) => Err(ResultCode::TypeUnmatched),
-        Err(ScheduleFault::Value) => Err(ResultCode::OtherReason),
-        Err(ScheduleFault::Memory) => return Err(AllocError),
+        Err(WriteFault::Unmatched) => Err(ResultCode::TypeUnmatched),
+        Err(WriteFault::Value) => Err(ResultCode::OtherReason),
+        Err(WriteFault::Memory) => return Err(AllocError),
     })
 }
 
@@ -61,9 +61,9 @@ fn read_group_ids(alloc: Global, value: &Data) -> Result<Result<Parts, ResultCod
 {
     Ok(match read_groups(alloc, value) {
         Ok(limiter) => Ok(Parts::Groups(limiter)),
-        Err(SettingFault::Unmatched) => Err(ResultCode::TypeUnmatched),
-        Err(SettingFault::Value) => Err(ResultCode::OtherReason),
-        Err(SettingFault::Memory) => return Err(AllocError),
+        Err(WriteFault::Unmatched) => Err(ResultCode::TypeUnmatched),
+        Err(WriteFault::Value) => Err(ResultCode::OtherReason),
+        Err(WriteFault::Memory) => return Err(AllocError),
     })
 }
 
@@ -87,7 +87,7 @@ pub(crate) fn read_parts(
 }
 
 /// What a client's write moves in.
-#[tactic(auto, unfolding(crate::specs::Moving::set_parts, crate::specs::Writing::writes_plainly))]
+#[tactic(auto, unfolding(crate::specs::Moving::set_parts, crate::specs::Memory::writes_plainly))]
 fn read_set_parts(
     alloc: Global,
     level: Level,

@@ -3,7 +3,8 @@ ghost use Rattle.relay_core.specs.World.{World};
 ghost use Rattle.relay_core.specs.Stands.{StandsFor};
 ghost use Rattle.limiter_attributes.specs.Attributes.{attribute_numbered};
 ghost use Rattle.relay_core.specs.Limiters.{metered_of};
-ghost use Rattle.relay_core.specs.Reading.{control_value, register_value, limiter_value, is_plain_attribute, scaler_unit, own_value_in, value_in, get_result, get_results, is_plain, reads_plainly};
+ghost use Rattle.relay_core.specs.Memory.{is_plain_attribute, is_plain, reads_plainly};
+ghost use Rattle.relay_core.specs.Reading.{control_value, register_value, limiter_value, scaler_unit, own_value_in, value_in, get_result, get_results};
 
 use crate::access::target;
 use crate::relay::RelayCore;
@@ -125,7 +126,7 @@ impl RelayCore {
     }
 
     /// What a client of this level reads of an attribute.
-    #[tactic(auto, unfolding(crate::specs::Reading::get_result, crate::specs::Reading::reads_plainly))]
+    #[tactic(auto, unfolding(crate::specs::Reading::get_result, crate::specs::Memory::reads_plainly))]
     pub(crate) fn get(
         &self,
         alloc: Global,

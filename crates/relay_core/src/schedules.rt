@@ -7,9 +7,9 @@ ghost use Rattle.relay_core.specs.World.{World, new_schedules};
 ghost use Rattle.relay_core.specs.Writing.{at_schedule, with_schedule_entries};
 
 use crate::relay::RelayCore;
-use action_schedule::{ActionSchedule, ScheduleAttribute, ScheduleFault};
+use action_schedule::{ActionSchedule, ScheduleAttribute};
 use cosem_axdr::Data;
-use cosem_names::{GetResult, ResultCode, ScheduleNumber};
+use cosem_names::{GetResult, ResultCode, ScheduleNumber, WriteFault};
 use std::alloc::{AllocError, Global};
 
 /// The four single action schedules, in the order in which they run.
@@ -79,13 +79,12 @@ pub(crate) fn read_schedule(
 }
 
 /// The result of a write that takes no memory.
-fn code_of(answer: Result<(), ScheduleFault>) -> ResultCode
+fn code_of(answer: Result<(), WriteFault>) -> ResultCode
     ensures { result ≡ write_code answer }
 {
     match answer {
         Ok(()) => ResultCode::Success,
-        Err(ScheduleFault::Unmatched) => ResultCode::TypeUnmatched,
-        Err(ScheduleFault::Value | ScheduleFault::Memory) => ResultCode::OtherReason,
+        Err(fault) => fault.code(),
     }
 }
 

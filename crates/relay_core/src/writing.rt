@@ -4,7 +4,8 @@ ghost use Rattle.relay_core.specs.Stands.{StandsFor};
 ghost use Rattle.limiter_attributes.specs.Attributes.{attribute_numbered};
 ghost use Rattle.cosem_names.specs.declared.objects.Instance.TheVariants.{ScriptTable, Schedule, DisconnectControl};
 ghost use Rattle.relay_core.specs.Moving.{parts_read, parts_or_plain, set_parts};
-ghost use Rattle.relay_core.specs.Writing.{mode_form, setting_fault_code, at_mode, at_setting, at_groups, at_limiter, at_write, at_set, writes_plainly_in, writes_plainly};
+ghost use Rattle.relay_core.specs.Writing.{mode_form, at_mode, at_setting, at_groups, at_limiter, at_write, at_set};
+ghost use Rattle.relay_core.specs.Memory.{writes_plainly_in, writes_plainly};
 
 use crate::access::target;
 use crate::parts::{Parts, read_parts};
@@ -12,7 +13,7 @@ use crate::relay::RelayCore;
 use cosem_axdr::Data;
 use cosem_names::{AttrRef, Instance, Level, ResultCode, ScheduleNumber, Which, rights};
 use disconnect_control::ControlMode;
-use limiter_attributes::{LimiterAttribute, Setting, SettingFault, read_setting};
+use limiter_attributes::{LimiterAttribute, Setting, read_setting};
 use limiter_core::Limiter;
 use std::alloc::{AllocError, Global};
 
@@ -56,19 +57,7 @@ impl RelayCore {
         }
         ResultCode::Success
     }
-}
 
-/// The result of a write of a limiter's attribute that moves nothing in.
-fn setting_refusal(fault: SettingFault) -> ResultCode
-    ensures { result ≡ setting_fault_code fault }
-{
-    match fault {
-        SettingFault::Unmatched => ResultCode::TypeUnmatched,
-        SettingFault::Value | SettingFault::Memory => ResultCode::OtherReason,
-    }
-}
-
-impl RelayCore {
     /// Writes an attribute of a limiter that moves nothing in.
     #[tactic(auto, using(crate::proofs::WriteLemmas::limiter_written))]
     fn write_limiter(&mut self, which: Which, number: u8, value: &Data) -> ResultCode
@@ -82,7 +71,7 @@ impl RelayCore {
         match read_setting(attribute, value) {
             Ok(Some(setting)) => self.set_limiter(which, setting),
             Ok(None) => ResultCode::ReadWriteDenied,
-            Err(fault) => setting_refusal(fault),
+            Err(fault) => fault.code(),
         }
     }
 
@@ -215,7 +204,7 @@ impl RelayCore {
     }
 
     /// A client's write of an attribute.
-    #[tactic(auto, unfolding(crate::specs::Writing::at_set, crate::specs::Writing::writes_plainly))]
+    #[tactic(auto, unfolding(crate::specs::Writing::at_set, crate::specs::Memory::writes_plainly))]
     pub(crate) fn set(
         &mut self,
         alloc: Global,

@@ -1,10 +1,8 @@
 -- A table that is written is read again.
-use Rattle.std.proofs.Common.{◌≡◌, ℕ, ◌==◌, true, false, not, ◌&&◌, ◌||◌, cond, nat_le, List, [], ◌∷◌, map, length, Option, Some, None, ok_or, Result, Ok, Err, is_err, length-append, refl, ap, ap₂, ◌∙◌, arith}
+use Rattle.std.proofs.Common.{◌≡◌, ℕ, ◌==◌, true, not, ◌&&◌, nat_le, List, map, length, Option, Some, None, ok_or, Result, Ok, Err, length-append, refl, ap, ap₂, ◌∙◌, arith}
 use Rattle.std.proofs.lemmas.List.{length-map}
 use Rattle.std.proofs.lemmas.Bool.Decides.{nat_tests}
 use Rattle.std.specs.Prelude.{ℤ, IfOk}
-use Rattle.std.proofs.lemmas.List.Elements.{All-head, All-tail}
-use Rattle.std.specs.List.{All, list_any, cons_option}
 use Rattle.std.specs.Result.{result_ok}
 use Rattle.byte_reading.specs.Outcome.{◌>>=◌, ◌>>◌, guard}
 use Rattle.byte_reading.proofs.OutcomeLemmas.{done}
@@ -19,15 +17,17 @@ use Rattle.disconnect_control.specs.Transitions.{mode_of, mode_number}
 use Rattle.limiter_core.specs.declared.settings.Profile.{Profile}
 use Rattle.script_steps.specs.Addresses.{action_at, address_of, action_of}
 use Rattle.script_steps.specs.Forms.{step_parts_of, script_parts_of, identifier_of}
-use Rattle.script_steps.specs.Reading.{max_scripts, max_steps, is_unmatched, told, values, profile_of, step_with, step_of, script_of, judged_script, judged_scripts, are_distinct, table_of}
+use Rattle.cosem_names.specs.WriteFault.{told, values}
+use Rattle.script_steps.specs.Reading.{max_scripts, max_steps, profile_of, step_with, step_of, script_of, judged_script, judged_scripts, are_distinct, table_of}
 use Rattle.script_steps.specs.Table.{IsStep, IsScript, IsTable}
 use Rattle.script_steps.specs.Writing.{profile_data, parameter_of, step_data, script_data, data_of}
 use Rattle.script_steps.proofs.Listed.{action_again}
 use Rattle.script_steps.proofs.Profiles.{profile_parts_again}
+use Rattle.cosem_names.proofs.SeveralRead.{AreRead, all_again, told_again}
 use Rattle.script_steps.proofs.Tables.{same_distinct}
 use Rattle.script_steps.specs.declared.action.Address.{Address}
-use Rattle.script_steps.specs.declared.fault.ScriptFault.{ScriptFault}
-use Rattle.script_steps.specs.declared.fault.ScriptFault.TheVariants.{Unmatched, Value}
+use Rattle.cosem_names.specs.declared.write_fault.WriteFault.{WriteFault}
+use Rattle.cosem_names.specs.declared.write_fault.WriteFault.TheVariants.{Unmatched, Value}
 use Rattle.script_steps.specs.declared.step.Script.{Script}
 use Rattle.script_steps.specs.declared.step.Step.{Step}
 use Rattle.script_steps.specs.declared.step.Step.TheVariants as step
@@ -73,30 +73,30 @@ parts_again step.Disconnect = refl
 parts_again step.Reconnect = refl
 
 -- a profile of its parts
-abbrev with_parts : ℕ × List ℕ × ℕ → Result Profile ScriptFault
-with_parts parts = ok_or (result_ok (date_time_of parts.1)) Value >>= λ start. done ScriptFault (record { id = parts.0; start = start; duration = parts.2 })
+abbrev with_parts : ℕ × List ℕ × ℕ → Result Profile WriteFault
+with_parts parts = ok_or (result_ok (date_time_of parts.1)) Value >>= λ start. done WriteFault (record { id = parts.0; start = start; duration = parts.2 })
 
 -- a profile that is written
 pub profile_again : (profile : Profile) → IsDateTimeFields profile.start → profile_of (profile_data profile) ≡ Ok profile
 unfolding profile_of
 profile_again profile fits =
     ap (λ o. ok_or o Unmatched >>= with_parts) (profile_parts_again profile.id profile.duration (date_time_bytes profile.start) (twelve_bytes profile.start))
-    ∙ ap (λ r. ok_or (result_ok r) Value >>= λ start. done ScriptFault (record { id = profile.id; start = start; duration = profile.duration })) (date_time_again profile.start fits)
+    ∙ ap (λ r. ok_or (result_ok r) Value >>= λ start. done WriteFault (record { id = profile.id; start = start; duration = profile.duration })) (date_time_again profile.start fits)
 
 -- the parameter of a step that is written
 parameter_again : (s : Step) → IsStep s → step_with (action_of s) (parameter_of s) ≡ Ok s
 unfolding step_with
-parameter_again (step.WriteMode mode) fits = ap (λ o. ok_or o Value >>= λ m. done ScriptFault (step.WriteMode m)) (mode_again mode)
+parameter_again (step.WriteMode mode) fits = ap (λ o. ok_or o Value >>= λ m. done WriteFault (step.WriteMode m)) (mode_again mode)
 parameter_again (step.WriteNormal which watts) fits = refl
 parameter_again (step.WriteEmergency which watts) fits = refl
 parameter_again (step.WriteMinOver which seconds) fits = refl
 parameter_again (step.WriteMinUnder which seconds) fits = refl
-parameter_again (step.WriteProfile which profile) fits = ap (λ r. r >>= λ p. done ScriptFault (step.WriteProfile which p)) (profile_again profile fits)
+parameter_again (step.WriteProfile which profile) fits = ap (λ r. r >>= λ p. done WriteFault (step.WriteProfile which p)) (profile_again profile fits)
 parameter_again step.Disconnect fits = refl
 parameter_again step.Reconnect fits = refl
 
 -- a step of its parts
-abbrev with_action : Address × Data → Result Step ScriptFault
+abbrev with_action : Address × Data → Result Step WriteFault
 with_action parts = ok_or (action_at parts.0) Value >>= λ a. step_with a parts.1
 
 -- a step that is written
@@ -105,37 +105,13 @@ unfolding step_of
 step_again s fits =
     ap (λ o. ok_or o Unmatched >>= with_action) (parts_again s) ∙ ap (λ o. ok_or o Value >>= λ a. step_with a (parameter_of s)) (action_again (action_of s)) ∙ parameter_again s fits
 
--- several Datas have no fault, and these are their values
-record AreRead {A B : Type 0} (read : A → Result B ScriptFault) (items : List A) (xs : List B) : Type 0 where
-  typed : list_any (λ item. is_unmatched (read item)) items ≡ false
-  faultless : list_any (λ item. is_err (read item)) items ≡ false
-  are : values read items ≡ xs
-
--- where each that is written is read again, all are
-all_again : {A B : Type 0} (read : A → Result B ScriptFault) (write : B → A) (P : B → Type 0) → ((x : B) → P x → read (write x) ≡ Ok x)
-    → (xs : List B) → All P xs → AreRead read (map write xs) xs
-all_again read write P again [] all = record { typed = refl; faultless = refl; are = refl }
-all_again read write P again (x ∷ xs) all =
-    let one = again x (All-head P x xs all) in
-    let rest = all_again read write P again xs (All-tail P x xs all) in
-    record {
-      typed = ap₂ (λ r b. is_unmatched r || b) one rest.typed;
-      faultless = ap₂ (λ r b. is_err r || b) one rest.faultless;
-      are = ap₂ (λ r ys. cons_option (result_ok r) ys) one rest.are;
-    }
-
--- nothing is told of these
-told_again : {A B : Type 0} {read : A → Result B ScriptFault} {items : List A} {xs : List B} → AreRead read items xs → told read items ≡ Ok tt
-unfolding told
-told_again are = ap₂ (λ a b. cond a (Err Unmatched) (cond b (Err Value) (done ScriptFault tt))) are.typed are.faultless
-
 -- the parts of a script that is written
 script_parts_again : (s : Script) → script_parts_of (script_data s) ≡ Some (s.identifier, map step_data s.steps)
 unfolding script_data
 script_parts_again s = ap (λ items. Some (s.identifier, items)) (list_of_trees (map step_data s.steps))
 
 -- a script's parts, judged
-abbrev judged_with : ℕ × List Data → Result (ℕ × List Data) ScriptFault
+abbrev judged_with : ℕ × List Data → Result (ℕ × List Data) WriteFault
 judged_with parts = told step_of parts.1 >> (guard (not (parts.0 == 0) && nat_le (length parts.1) max_steps) Value >> Ok parts)
 
 -- the limits of a script hold of its parts
@@ -143,7 +119,7 @@ within : (s : Script) → IsScript s → not (s.identifier == 0) && nat_le (leng
 within s fits = grind (arith, nat_tests, fits.named, fits.few, length-map)
 
 -- a script of its parts
-abbrev as_script : Result (ℕ × List Data) ScriptFault → Result Script ScriptFault
+abbrev as_script : Result (ℕ × List Data) WriteFault → Result Script WriteFault
 as_script judged = judged >>= λ parts. Ok (record { identifier = parts.0; steps = values step_of parts.1 })
 
 -- a script that is written
@@ -153,9 +129,9 @@ script_again s fits =
     let parts : ℕ × List Data = (s.identifier, map step_data s.steps) in
     let are = all_again step_of step_data IsStep step_again s.steps fits.fit in
     ap (λ o. as_script (ok_or o Unmatched >>= judged_with)) (script_parts_again s)
-    ∙ ap (λ r. as_script (r >> (guard (not (parts.0 == 0) && nat_le (length parts.1) max_steps) Value >> done ScriptFault parts))) (told_again are)
-    ∙ ap (λ b. as_script (guard b Value >> done ScriptFault parts)) (within s fits)
-    ∙ ap (λ steps. done ScriptFault (record { identifier = s.identifier; steps = steps })) are.are
+    ∙ ap (λ r. as_script (r >> (guard (not (parts.0 == 0) && nat_le (length parts.1) max_steps) Value >> done WriteFault parts))) (told_again are)
+    ∙ ap (λ b. as_script (guard b Value >> done WriteFault parts)) (within s fits)
+    ∙ ap (λ steps. done WriteFault (record { identifier = s.identifier; steps = steps })) are.are
 
 -- the limits of a table hold of its Datas
 table_within : (scripts : List Script) → IsTable scripts → AreRead script_of (map script_data scripts) scripts
@@ -167,7 +143,7 @@ table_within scripts fits are =
     few = grind (arith, nat_tests, fits.few, length-map)
 
 -- a table's items, judged and read
-abbrev with_items : List Data → Result (List Script) ScriptFault
+abbrev with_items : List Data → Result (List Script) WriteFault
 with_items items = judged_scripts items >> Ok (values script_of items)
 
 -- a table that is written
@@ -177,9 +153,9 @@ table_again scripts fits =
     let items = map script_data scripts in
     let are = all_again script_of script_data IsScript script_again scripts fits.fit in
     ap (λ read. with_items read) (list_of_trees items)
-    ∙ ap (λ r. (r >> guard (nat_le (length items) max_scripts && are_distinct identifier_of items) Value) >> done ScriptFault (values script_of items)) (told_again are)
-    ∙ ap (λ b. guard b Value >> done ScriptFault (values script_of items)) (table_within scripts fits are)
-    ∙ ap (λ xs. done ScriptFault xs) are.are
+    ∙ ap (λ r. (r >> guard (nat_le (length items) max_scripts && are_distinct identifier_of items) Value) >> done WriteFault (values script_of items)) (told_again are)
+    ∙ ap (λ b. guard b Value >> done WriteFault (values script_of items)) (table_within scripts fits are)
+    ∙ ap (λ xs. done WriteFault xs) are.are
 
 -- a table that was written, if memory sufficed
 pub written_again : {E : Type 0} (result : Result Data E) (written scripts table : List Script) → IsTable scripts → written ≡ scripts → scripts ≡ table

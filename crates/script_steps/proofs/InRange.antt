@@ -12,11 +12,12 @@ use Rattle.script_steps.proofs.Tables.{judged_parts}
 use Rattle.script_steps.proofs.Within.{Within, AllWithin, array_within, number_within, parameter_within, steps_within}
 use Rattle.disconnect_control.specs.Transitions.{mode_of}
 use Rattle.script_steps.specs.Addresses.{action_at}
-use Rattle.script_steps.specs.Reading.{number_of, profile_of, method_parameter_of, step_with, step_of, values, judged_script, script_of, judged_scripts, table_of}
+use Rattle.cosem_names.specs.WriteFault.{values}
+use Rattle.script_steps.specs.Reading.{number_of, profile_of, method_parameter_of, step_with, step_of, judged_script, script_of, judged_scripts, table_of}
 use Rattle.script_steps.specs.declared.action.Action.{Action}
 use Rattle.script_steps.specs.declared.action.Action.TheVariants as action
-use Rattle.script_steps.specs.declared.fault.ScriptFault.{ScriptFault}
-use Rattle.script_steps.specs.declared.fault.ScriptFault.TheVariants.{Unmatched, Value}
+use Rattle.cosem_names.specs.declared.write_fault.WriteFault.{WriteFault}
+use Rattle.cosem_names.specs.declared.write_fault.WriteFault.TheVariants.{Unmatched, Value}
 use Rattle.script_steps.specs.declared.step.Script.{Script}
 use Rattle.script_steps.specs.declared.step.Step.{Step}
 use Rattle.script_steps.specs.declared.step.Step.TheVariants as step
@@ -27,18 +28,18 @@ read_some (Some y) fault x e = cc
 
 -- a number that becomes a duration
 seconds_of : (parameter : Data) (make : ℕ → Step) (s : Step) → Within parameter → ((n : ℕ) → n < 4294967296 → IsStepInRange (make n))
-    → (number_of parameter >>= λ n. done ScriptFault (make n)) ≡ Ok s → IsStepInRange s
+    → (number_of parameter >>= λ n. done WriteFault (make n)) ≡ Ok s → IsStepInRange s
 seconds_of parameter make s within small e =
-    let found = bind_ok (number_of parameter) (λ n. done ScriptFault (make n)) s e in
+    let found = bind_ok (number_of parameter) (λ n. done WriteFault (make n)) s e in
     let number = read_some (double_long_unsigned_of parameter) Unmatched found.0 found.1 in
-    subst IsStepInRange (ok_is {F = ScriptFault} (make found.0) s found.2) (small found.0 (number_within parameter found.0 within number))
+    subst IsStepInRange (ok_is {F = WriteFault} (make found.0) s found.2) (small found.0 (number_within parameter found.0 within number))
 
 -- a number or a profile that becomes no duration
-no_seconds : {A : Type 0} (read : Result A ScriptFault) (make : A → Step) (s : Step) → ((x : A) → IsStepInRange (make x))
-    → (read >>= λ x. done ScriptFault (make x)) ≡ Ok s → IsStepInRange s
+no_seconds : {A : Type 0} (read : Result A WriteFault) (make : A → Step) (s : Step) → ((x : A) → IsStepInRange (make x))
+    → (read >>= λ x. done WriteFault (make x)) ≡ Ok s → IsStepInRange s
 no_seconds read make s none e =
-    let found = bind_ok read (λ x. done ScriptFault (make x)) s e in
-    subst IsStepInRange (ok_is {F = ScriptFault} (make found.0) s found.2) (none found.0)
+    let found = bind_ok read (λ x. done WriteFault (make x)) s e in
+    subst IsStepInRange (ok_is {F = WriteFault} (make found.0) s found.2) (none found.0)
 
 with_in_range : (a : Action) (parameter : Data) (s : Step) → Within parameter → step_with a parameter ≡ Ok s → IsStepInRange s
 unfolding step_with
@@ -62,7 +63,7 @@ step_in_range value s within e =
     with_in_range acts.0 parts.0.1 s (parameter_within value parts.0 within known) acts.2
 
 -- the steps of several, those with a fault left out
-one_step : (r : Result Step ScriptFault) (others : List Step) → ((s : Step) → r ≡ Ok s → IsStepInRange s) → AreStepsInRange others → AreStepsInRange (cons_option (result_ok r) others)
+one_step : (r : Result Step WriteFault) (others : List Step) → ((s : Step) → r ≡ Ok s → IsStepInRange s) → AreStepsInRange others → AreStepsInRange (cons_option (result_ok r) others)
 one_step (Ok s) others first rest = (first s refl, rest)
 one_step (Err fault) others first rest = rest
 
@@ -76,12 +77,12 @@ steps_in_range (item ∷ items) within =
 script_in_range : (value : Data) (script : Script) → Within value → script_of value ≡ Ok script → AreStepsInRange script.steps
 unfolding script_of
 script_in_range value script within e =
-    let b = bind_ok (judged_script value) (λ parts. done ScriptFault (record { identifier = parts.0; steps = values step_of parts.1 })) script e in
-    let same = ok_is {F = ScriptFault} (record { identifier = b.0.0; steps = values step_of b.0.1 }) script b.2 in
+    let b = bind_ok (judged_script value) (λ parts. done WriteFault (record { identifier = parts.0; steps = values step_of parts.1 })) script e in
+    let same = ok_is {F = WriteFault} (record { identifier = b.0.0; steps = values step_of b.0.1 }) script b.2 in
     let items = steps_within value b.0 within (judged_parts value b.0 b.1) in
     subst (λ (s : Script). AreStepsInRange s.steps) same (steps_in_range b.0.1 items)
 
-one_script : (r : Result Script ScriptFault) (others : List Script) → ((s : Script) → r ≡ Ok s → AreStepsInRange s.steps) → AreScriptsInRange others
+one_script : (r : Result Script WriteFault) (others : List Script) → ((s : Script) → r ≡ Ok s → AreStepsInRange s.steps) → AreScriptsInRange others
     → AreScriptsInRange (cons_option (result_ok r) others)
 one_script (Ok s) others first rest = (first s refl, rest)
 one_script (Err fault) others first rest = rest
@@ -95,7 +96,7 @@ scripts_in_range (item ∷ items) within =
 pub table_in_range : (value : Data) (scripts : List Script) → Within value → table_of value ≡ Ok scripts → AreScriptsInRange scripts
 unfolding table_of
 table_in_range value scripts within e =
-    let items = bind_ok (ok_or (array_of value) Unmatched) (λ items. judged_scripts items >> done ScriptFault (values script_of items)) scripts e in
+    let items = bind_ok (ok_or (array_of value) Unmatched) (λ items. judged_scripts items >> done WriteFault (values script_of items)) scripts e in
     let known = read_some (array_of value) Unmatched items.0 items.1 in
-    let judged = bind_ok (judged_scripts items.0) (λ _. done ScriptFault (values script_of items.0)) scripts items.2 in
-    subst AreScriptsInRange (ok_is {F = ScriptFault} (values script_of items.0) scripts judged.2) (scripts_in_range items.0 (array_within value items.0 within known))
+    let judged = bind_ok (judged_scripts items.0) (λ _. done WriteFault (values script_of items.0)) scripts items.2 in
+    subst AreScriptsInRange (ok_is {F = WriteFault} (values script_of items.0) scripts judged.2) (scripts_in_range items.0 (array_within value items.0 within known))

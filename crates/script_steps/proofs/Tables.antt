@@ -6,11 +6,13 @@ use Rattle.std.specs.Result.{result_ok}
 use Rattle.byte_reading.specs.Outcome.{◌>>◌, guard}
 use Rattle.byte_reading.proofs.OutcomeLemmas.{bind_ok, guard_ok, done, ok_is}
 use Rattle.cosem_axdr.specs.declared.value.Data.{Data}
+use Rattle.cosem_names.proofs.SeveralRead.{told_ok}
 use Rattle.script_steps.specs.Forms.{script_parts_of, identifier_of}
-use Rattle.script_steps.specs.Reading.{max_scripts, max_steps, is_unmatched, told, values, step_of, script_of, judged_script, judged_scripts, are_distinct}
+use Rattle.cosem_names.specs.WriteFault.{told, values}
+use Rattle.script_steps.specs.Reading.{max_scripts, max_steps, step_of, script_of, judged_script, judged_scripts, are_distinct}
 use Rattle.script_steps.specs.Table.{IsScript, IsTable}
-use Rattle.script_steps.specs.declared.fault.ScriptFault.{ScriptFault}
-use Rattle.script_steps.specs.declared.fault.ScriptFault.TheVariants.{Unmatched, Value}
+use Rattle.cosem_names.specs.declared.write_fault.WriteFault.{WriteFault}
+use Rattle.cosem_names.specs.declared.write_fault.WriteFault.TheVariants.{Unmatched, Value}
 use Rattle.script_steps.specs.declared.step.Script.{Script}
 
 found_or_rest : {A : Type 0} (P : A → Type 0) (b : Bool) (x : A) (rest : Option A) → P x → IfSome rest P → IfSome (cond b (Some x) rest) P
@@ -28,8 +30,8 @@ unfolding judged_script
 judged_parts value parts e =
     let b = bind_ok (ok_or (script_parts_of value) Unmatched) (λ p. told step_of p.1 >> (guard (not (p.0 == 0) && nat_le (length p.1) max_steps) Value >> Ok p)) parts e in
     let t = bind_ok (told step_of b.0.1) (λ _. guard (not (b.0.0 == 0) && nat_le (length b.0.1) max_steps) Value >> Ok b.0) parts b.2 in
-    let g = guard_ok (not (b.0.0 == 0) && nat_le (length b.0.1) max_steps) Value (done ScriptFault b.0) parts t.2 in
-    there (script_parts_of value) b.0 b.1 ∙ ap (λ p. Some p) (ok_is {F = ScriptFault} b.0 parts g.1)
+    let g = guard_ok (not (b.0.0 == 0) && nat_le (length b.0.1) max_steps) Value (done WriteFault b.0) parts t.2 in
+    there (script_parts_of value) b.0 b.1 ∙ ap (λ p. Some p) (ok_is {F = WriteFault} b.0 parts g.1)
   where
     there : (o : Option (ℕ × List Data)) (p : ℕ × List Data) → ok_or o Unmatched ≡ Ok p → o ≡ Some p
     there None p e = absurd cc
@@ -39,8 +41,8 @@ judged_parts value parts e =
 pub named : (value : Data) (script : Script) → script_of value ≡ Ok script → script.identifier ≡ identifier_of value
 unfolding script_of
 named value script e =
-    let b = bind_ok (judged_script value) (λ parts. done ScriptFault (record { identifier = parts.0; steps = values step_of parts.1 })) script e in
-    let same = ok_is {F = ScriptFault} (record { identifier = b.0.0; steps = values step_of b.0.1 }) script b.2 in
+    let b = bind_ok (judged_script value) (λ parts. done WriteFault (record { identifier = parts.0; steps = values step_of parts.1 })) script e in
+    let same = ok_is {F = WriteFault} (record { identifier = b.0.0; steps = values step_of b.0.1 }) script b.2 in
     sym (ap (λ (s : Script). s.identifier) same) ∙ sym (ap (λ o. unwrap_or (option_map (λ (parts : ℕ × List Data). parts.0) o) 0) (judged_parts value b.0 b.1))
 
 -- the first of several Datas, and all others, have no fault
@@ -49,7 +51,7 @@ first_read true rest e = absurd cc
 first_read false rest e = (refl, e)
 
 -- a Data without a fault is a script
-is_read : (r : Result Script ScriptFault) → is_err r ≡ false → (script : Script) × (r ≡ Ok script)
+is_read : (r : Result Script WriteFault) → is_err r ≡ false → (script : Script) × (r ≡ Ok script)
 is_read (Ok script) e = (script, refl)
 is_read (Err fault) e = absurd cc
 
@@ -86,16 +88,6 @@ few_values (item ∷ items) = here (result_ok (script_of item)) (few_values item
     here : (o : Option Script) → length (values script_of items) ≤ length items → length (cons_option o (values script_of items)) ≤ length (item ∷ items)
     here None fewer = omega arith
     here (Some script) fewer = omega arith
-
--- of several that are told to have no fault, none has one
-told_ok : {A B : Type 0} (read : A → Result B ScriptFault) (items : List A) (u : Unit {0}) → told read items ≡ Ok u → list_any (λ item. is_err (read item)) items ≡ false
-unfolding told
-told_ok read items u e = here (list_any (λ item. is_unmatched (read item)) items) (list_any (λ item. is_err (read item)) items) e
-  where
-    here : (a b : Bool) → cond a (Err Unmatched) (cond b (Err Value) (done ScriptFault tt)) ≡ Ok u → b ≡ false
-    here true b e = absurd cc
-    here false true e = absurd cc
-    here false false e = refl
 
 -- both tests hold
 both : (a b : Bool) → a && b ≡ true → (a ≡ true) × (b ≡ true)

@@ -1,7 +1,7 @@
 -- A Data as a script table (IEC 62056-6-2, class 9, scripts): its scripts, or why it is refused. Another type anywhere is told before any value: that order is this
 -- meter's.
-use Rattle.std.specs.Prelude.{ℕ, Bool, true, false, not, ◌&&◌, ◌==◌, nat_le, List, [], ◌∷◌, length, ok_or, Result, Ok, Err, is_err, if◌then◌else◌}
-use Rattle.std.specs.List.{list_any, filter_map}
+use Rattle.std.specs.Prelude.{ℕ, Bool, true, not, ◌&&◌, ◌==◌, nat_le, List, [], ◌∷◌, length, ok_or, Result, Ok, Err}
+use Rattle.std.specs.List.{list_any}
 use Rattle.std.specs.Result.{result_ok}
 use Rattle.byte_reading.specs.Outcome.{◌>>=◌, ◌>>◌, guard}
 use Rattle.cosem_axdr.specs.declared.value.Data.{Data}
@@ -14,8 +14,9 @@ use Rattle.script_steps.specs.Addresses.{action_at}
 use Rattle.script_steps.specs.Forms.{step_parts_of, script_parts_of, profile_parts_of, identifier_of}
 use Rattle.script_steps.specs.declared.action.Action.{Action}
 use Rattle.script_steps.specs.declared.action.Action.TheVariants as action
-use Rattle.script_steps.specs.declared.fault.ScriptFault.{ScriptFault}
-use Rattle.script_steps.specs.declared.fault.ScriptFault.TheVariants.{Unmatched, Value, Memory}
+use Rattle.cosem_names.specs.WriteFault.{told, values}
+use Rattle.cosem_names.specs.declared.write_fault.WriteFault.{WriteFault}
+use Rattle.cosem_names.specs.declared.write_fault.WriteFault.TheVariants.{Unmatched, Value}
 use Rattle.script_steps.specs.declared.step.Script.{Script}
 use Rattle.script_steps.specs.declared.step.Step.{Step}
 use Rattle.script_steps.specs.declared.step.Step.TheVariants.{WriteMode, WriteNormal, WriteEmergency, WriteMinOver, WriteMinUnder, WriteProfile, Disconnect, Reconnect}
@@ -28,24 +29,24 @@ abbrev pub max_steps : ℕ
 max_steps = 8
 
 -- a threshold in watts or a duration in seconds
-abbrev pub number_of : Data → Result ℕ ScriptFault
+abbrev pub number_of : Data → Result ℕ WriteFault
 number_of value = ok_or (double_long_unsigned_of value) Unmatched
 
 -- an emergency profile (IEC 62056-6-2, class 71, emergency_profile), whose start is a date-time without a fault
-unfoldable pub profile_of : Data → Result Profile ScriptFault
+unfoldable pub profile_of : Data → Result Profile WriteFault
 profile_of value = do
   parts ← ok_or (profile_parts_of value) Unmatched
   start ← ok_or (result_ok (date_time_of parts.1)) Value
   Ok (record { id = parts.0; start = start; duration = parts.2 })
 
 -- the parameter of a method: null-data or an integer
-abbrev pub method_parameter_of : Data → Result (Unit {0}) ScriptFault
+abbrev pub method_parameter_of : Data → Result (Unit {0}) WriteFault
 method_parameter_of Null = Ok tt
 method_parameter_of (Integer n) = Ok tt
 method_parameter_of _ = Err Unmatched
 
 -- the step of an action, with its parameter
-unfoldable pub step_with : Action → Data → Result Step ScriptFault
+unfoldable pub step_with : Action → Data → Result Step WriteFault
 step_with action.Mode parameter = do
   number ← ok_or (enumerated_of parameter) Unmatched
   mode ← ok_or (mode_of number) Value
@@ -59,32 +60,14 @@ step_with action.Disconnect parameter = method_parameter_of parameter >>= λ _. 
 step_with action.Reconnect parameter = method_parameter_of parameter >>= λ _. Ok Reconnect
 
 -- a step, which is of its type whatever its parameter is where it isn't listed
-unfoldable pub step_of : Data → Result Step ScriptFault
+unfoldable pub step_of : Data → Result Step WriteFault
 step_of value = do
   parts ← ok_or (step_parts_of value) Unmatched
   action ← ok_or (action_at parts.0) Value
   step_with action parts.1
 
--- the value is of another type
-abbrev pub is_unmatched : {A : Type 0} → Result A ScriptFault → Bool
-is_unmatched (Ok x) = false
-is_unmatched (Err Unmatched) = true
-is_unmatched (Err Value) = false
-is_unmatched (Err Memory) = false
-
--- the fault of several values: another type of one is told before any other fault
-unfoldable pub told : {A B : Type 0} → (A → Result B ScriptFault) → List A → Result (Unit {0}) ScriptFault
-told read items =
-    if list_any (λ item. is_unmatched (read item)) items then Err Unmatched
-    else if list_any (λ item. is_err (read item)) items then Err Value
-    else Ok tt
-
--- the values of those that have no fault
-abbrev pub values : {A B : Type 0} → (A → Result B ScriptFault) → List A → List B
-values read items = filter_map (λ item. result_ok (read item)) items
-
 -- a script's identifier and the Datas of its steps, once these are judged
-unfoldable pub judged_script : Data → Result (ℕ × List Data) ScriptFault
+unfoldable pub judged_script : Data → Result (ℕ × List Data) WriteFault
 judged_script value = do
   parts ← ok_or (script_parts_of value) Unmatched
   told step_of parts.1
@@ -92,7 +75,7 @@ judged_script value = do
   Ok parts
 
 -- a script: its identifier is not 0, and it has eight steps at most
-unfoldable pub script_of : Data → Result Script ScriptFault
+unfoldable pub script_of : Data → Result Script WriteFault
 script_of value = do
   parts ← judged_script value
   Ok (record { identifier = parts.0; steps = values step_of parts.1 })
@@ -103,13 +86,13 @@ are_distinct number [] = true
 are_distinct number (x ∷ xs) = not (list_any (λ other. number other == number x) xs) && are_distinct number xs
 
 -- the fault of the Datas of scripts: there are sixteen at most, each with an identifier of its own
-unfoldable pub judged_scripts : List Data → Result (Unit {0}) ScriptFault
+unfoldable pub judged_scripts : List Data → Result (Unit {0}) WriteFault
 judged_scripts items = do
   told script_of items
   guard (nat_le (length items) max_scripts && are_distinct identifier_of items) Value
 
 -- a script table
-unfoldable pub table_of : Data → Result (List Script) ScriptFault
+unfoldable pub table_of : Data → Result (List Script) WriteFault
 table_of value = do
   items ← ok_or (array_of value) Unmatched
   judged_scripts items

@@ -6,7 +6,6 @@
 #![tactic(auto)]
 
 mod action;
-mod fault;
 mod forms;
 mod laws;
 mod names;
@@ -15,8 +14,7 @@ mod step;
 mod table;
 mod writing;
 
-pub use cosem_names::Which;
-pub use fault::ScriptFault;
+pub use cosem_names::{Which, WriteFault as ScriptFault};
 pub use laws::{each_step_is_listed, read_table_is_in_range, written_table_is_read};
 pub use reading::read_profile;
 pub use step::{Script, Step};

@@ -3,38 +3,39 @@ ghost use Rattle.std.specs.Result.{result_map_both, result_ok};
 ghost use Rattle.cosem_datetime.specs.Fields.{IsDateTimeFields};
 ghost use Rattle.std.specs.List.{All, list_any};
 ghost use Rattle.script_steps.specs.Forms.{identifier_of};
-ghost use Rattle.script_steps.specs.Reading.{max_steps, number_of, profile_of, method_parameter_of, step_with, step_of, is_unmatched, told, values, judged_script, script_of, are_distinct, judged_scripts};
+ghost use Rattle.cosem_names.specs.WriteFault.{is_unmatched, told, values};
+ghost use Rattle.script_steps.specs.Reading.{max_steps, number_of, profile_of, method_parameter_of, step_with, step_of, judged_script, script_of, are_distinct, judged_scripts};
 ghost use Rattle.script_steps.specs.Table.{IsStep, IsScript};
 
 use crate::action::Action;
-use crate::fault::ScriptFault;
 use crate::forms::{identifier_in, profile_parts, script_parts, step_parts};
 use crate::step::{Script, Step};
 use crate::table::{MAX_SCRIPTS, MAX_STEPS};
 use cosem_axdr::Data;
 use cosem_datetime::read_date_time;
+use cosem_names::WriteFault;
 use disconnect_control::ControlMode;
 use limiter_core::Profile;
 use listed::Listed;
 use std::alloc::{AllocError, Global};
 
 /// A threshold in watts or a duration in seconds.
-fn read_number(value: &Data) -> Result<u32, ScriptFault>
+fn read_number(value: &Data) -> Result<u32, WriteFault>
     ensures { result ≡ number_of value.now }
 {
-    value.double_long_unsigned().ok_or(ScriptFault::Unmatched)
+    value.double_long_unsigned().ok_or(WriteFault::Unmatched)
 }
 
 /// Reads an emergency profile as attribute 8 of a limiter is written (IEC 62056-6-2, class 71): a structure of
 /// long-unsigned id, octet-string or date-time start, and double-long-unsigned duration. It takes no memory.
 #[tactic(auto, unfolding(crate::specs::Reading::profile_of))]
-pub fn read_profile(value: &Data) -> Result<Profile, ScriptFault>
+pub fn read_profile(value: &Data) -> Result<Profile, WriteFault>
     ensures exact { result ≡ profile_of value.now }
     ensures fit { IfOk result (λ profile. IsDateTimeFields profile.start) }
-    ensures no_memory { ¬ IsErrOf result ScriptFault.Memory }
+    ensures no_memory { ¬ IsErrOf result WriteFault.Memory }
 {
-    let (id, start, duration) = profile_parts(value).ok_or(ScriptFault::Unmatched)?;
-    let start = read_date_time(start).ok().ok_or(ScriptFault::Value)?;
+    let (id, start, duration) = profile_parts(value).ok_or(WriteFault::Unmatched)?;
+    let start = read_date_time(start).ok().ok_or(WriteFault::Value)?;
     Ok(Profile {
         id,
         start,
@@ -43,25 +44,25 @@ pub fn read_profile(value: &Data) -> Result<Profile, ScriptFault>
 }
 
 /// The parameter of a method: null-data or an integer.
-fn read_method_parameter(value: &Data) -> Result<(), ScriptFault>
+fn read_method_parameter(value: &Data) -> Result<(), WriteFault>
     ensures { result ≡ method_parameter_of value.now }
 {
     match value {
         Data::Null | Data::Integer(_) => Ok(()),
-        _ => Err(ScriptFault::Unmatched),
+        _ => Err(WriteFault::Unmatched),
     }
 }
 
 /// The step of an action, with its parameter.
 #[tactic(auto, unfolding(crate::specs::Reading::step_with))]
-fn step_with(action: Action, parameter: &Data) -> Result<Step, ScriptFault>
+fn step_with(action: Action, parameter: &Data) -> Result<Step, WriteFault>
     ensures exact { result ≡ step_with action parameter.now }
     ensures fit { IfOk result IsStep }
 {
     Ok(match action {
         Action::Mode => {
-            let number = parameter.enumerated().ok_or(ScriptFault::Unmatched)?;
-            Step::WriteMode(ControlMode::of_number(number).ok_or(ScriptFault::Value)?)
+            let number = parameter.enumerated().ok_or(WriteFault::Unmatched)?;
+            Step::WriteMode(ControlMode::of_number(number).ok_or(WriteFault::Value)?)
         }
         Action::Normal(which) => Step::WriteNormal(which, read_number(parameter)?),
         Action::Emergency(which) => Step::WriteEmergency(which, read_number(parameter)?),
@@ -81,12 +82,12 @@ fn step_with(action: Action, parameter: &Data) -> Result<Step, ScriptFault>
 
 /// A step.
 #[tactic(auto, unfolding(crate::specs::Reading::step_of))]
-fn read_step(value: &Data) -> Result<Step, ScriptFault>
+fn read_step(value: &Data) -> Result<Step, WriteFault>
     ensures exact { result ≡ step_of value.now }
     ensures fit { IfOk result IsStep }
 {
-    let (address, parameter) = step_parts(value).ok_or(ScriptFault::Unmatched)?;
-    let action = Action::at(address).ok_or(ScriptFault::Value)?;
+    let (address, parameter) = step_parts(value).ok_or(WriteFault::Unmatched)?;
+    let action = Action::at(address).ok_or(WriteFault::Value)?;
     step_with(action, parameter)
 }
 
@@ -94,7 +95,7 @@ fn read_step(value: &Data) -> Result<Step, ScriptFault>
 fn is_step_unmatched(value: &Data) -> bool
     ensures { result ≡ is_unmatched (step_of value.now) }
 {
-    matches!(read_step(value), Err(ScriptFault::Unmatched))
+    matches!(read_step(value), Err(WriteFault::Unmatched))
 }
 
 /// Whether a step has any fault.
@@ -119,15 +120,15 @@ fn has_faulty_step(items: &[Data]) -> bool
 }
 
 /// The fault of steps: another type of one is told before any other.
-#[tactic(auto, unfolding(crate::specs::Reading::told))]
-fn judge_steps(items: &[Data]) -> Result<(), ScriptFault>
+#[tactic(auto, unfolding(cosem_names::specs::WriteFault::told))]
+fn judge_steps(items: &[Data]) -> Result<(), WriteFault>
     ensures exact { result ≡ told step_of items.now }
-    ensures no_memory { ¬ IsErrOf result ScriptFault.Memory }
+    ensures no_memory { ¬ IsErrOf result WriteFault.Memory }
 {
     if has_unmatched_step(items) {
-        Err(ScriptFault::Unmatched)
+        Err(WriteFault::Unmatched)
     } else if has_faulty_step(items) {
-        Err(ScriptFault::Value)
+        Err(WriteFault::Value)
     } else {
         Ok(())
     }
@@ -135,14 +136,14 @@ fn judge_steps(items: &[Data]) -> Result<(), ScriptFault>
 
 /// The identifier of a script, and its steps, once these are judged.
 #[tactic(auto, unfolding(crate::specs::Reading::judged_script))]
-fn judge_script(value: &Data) -> Result<(u16, &[Data]), ScriptFault>
+fn judge_script(value: &Data) -> Result<(u16, &[Data]), WriteFault>
     ensures exact { result_map_both (λ parts. (parts.0, parts.1.now)) (λ fault. fault) result ≡ judged_script value.now }
     ensures fit { IfOk result (λ parts. (0 < parts.0) × (length parts.1.now ≤ max_steps)) }
 {
-    let (identifier, steps) = script_parts(value).ok_or(ScriptFault::Unmatched)?;
+    let (identifier, steps) = script_parts(value).ok_or(WriteFault::Unmatched)?;
     judge_steps(steps)?;
     if identifier == 0 || steps.len() > MAX_STEPS {
-        return Err(ScriptFault::Value);
+        return Err(WriteFault::Value);
     }
     Ok((identifier, steps))
 }
@@ -152,7 +153,7 @@ fn judge_script(value: &Data) -> Result<(u16, &[Data]), ScriptFault>
 fn is_script_unmatched(value: &Data) -> bool
     ensures { result ≡ is_unmatched (script_of value.now) }
 {
-    matches!(judge_script(value), Err(ScriptFault::Unmatched))
+    matches!(judge_script(value), Err(WriteFault::Unmatched))
 }
 
 /// Whether a script has any fault.
@@ -197,15 +198,15 @@ fn are_distinct(items: &[Data]) -> bool
 }
 
 /// The fault of scripts: another type of one is told before any other.
-#[tactic(auto, unfolding(crate::specs::Reading::told, crate::specs::Reading::judged_scripts))]
-pub(crate) fn judge_scripts(items: &[Data]) -> Result<(), ScriptFault>
+#[tactic(auto, unfolding(cosem_names::specs::WriteFault::told, crate::specs::Reading::judged_scripts))]
+pub(crate) fn judge_scripts(items: &[Data]) -> Result<(), WriteFault>
     ensures exact { result ≡ judged_scripts items.now }
-    ensures no_memory { ¬ IsErrOf result ScriptFault.Memory }
+    ensures no_memory { ¬ IsErrOf result WriteFault.Memory }
 {
     if has_unmatched_script(items) {
-        Err(ScriptFault::Unmatched)
+        Err(WriteFault::Unmatched)
     } else if has_faulty_script(items) || items.len() > MAX_SCRIPTS || !are_distinct(items) {
-        Err(ScriptFault::Value)
+        Err(WriteFault::Value)
     } else {
         Ok(())
     }

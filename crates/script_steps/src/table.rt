@@ -1,14 +1,14 @@
 ghost use Rattle.std.specs.Prelude.{◌≡◌, ◌↔◌, ◌+◌, ◌<◌, ◌≤◌, [], ◌∷◌, length, drop, Some, Ok, Err, IsOk, IfOk, IfSome, IsErrOf, option_map, slice_get};
-ghost use Rattle.script_steps.specs.declared.fault.ScriptFault.TheVariants.{Unmatched, Value, Memory};
+ghost use Rattle.cosem_names.specs.declared.write_fault.WriteFault.TheVariants.{Unmatched, Value, Memory};
 ghost use Rattle.script_steps.specs.Reading.{max_steps, table_of};
 ghost use Rattle.script_steps.specs.Table.{IsScript, IsTable, script_at, steps_at, running_steps};
 ghost use Rattle.script_steps.specs.Writing.{data_of};
 
-use crate::fault::ScriptFault;
 use crate::reading::{judge_scripts, read_scripts};
 use crate::step::{Script, Step};
 use crate::writing::write_scripts;
 use cosem_axdr::Data;
+use cosem_names::WriteFault;
 use listed::Listed;
 use std::alloc::{AllocError, Global};
 use std::marker::Model;
@@ -68,15 +68,17 @@ impl ScriptTable {
     /// The table that a Data is the written form of: an array of scripts, each a structure of its identifier and an
     /// array of its steps, each of these a structure of service_id, class_id, logical_name, index and parameter.
     ///
-    /// Another type anywhere is told before any value that isn't taken, and either before want of memory.
+    /// Another type anywhere is told before any value that isn't taken: too many scripts or steps, an identifier that is 0
+    /// or stands twice, a step that isn't listed, or a value that its attribute doesn't take. Either is told before want of
+    /// memory.
     #[tactic(auto, unfolding(crate::specs::Reading::table_of))]
-    pub fn from_data(alloc: Global, value: &Data) -> Result<ScriptTable, ScriptFault>
+    pub fn from_data(alloc: Global, value: &Data) -> Result<ScriptTable, WriteFault>
         ensures ok { IfOk result (λ table. table_of value.now ≡ Ok table) }
-        ensures unmatched { IsErrOf result ScriptFault.Unmatched ↔ (table_of value.now ≡ Err Unmatched) }
-        ensures value { IsErrOf result ScriptFault.Value ↔ (table_of value.now ≡ Err Value) }
-        ensures memory { IsErrOf result ScriptFault.Memory → IsOk (table_of value.now) }
+        ensures unmatched { IsErrOf result WriteFault.Unmatched ↔ (table_of value.now ≡ Err Unmatched) }
+        ensures value { IsErrOf result WriteFault.Value ↔ (table_of value.now ≡ Err Value) }
+        ensures memory { IsErrOf result WriteFault.Memory → IsOk (table_of value.now) }
     {
-        let items = value.array().ok_or(ScriptFault::Unmatched)?;
+        let items = value.array().ok_or(WriteFault::Unmatched)?;
         judge_scripts(items)?;
         let scripts = read_scripts(alloc, items)?;
         Ok(ScriptTable { scripts })

@@ -1,6 +1,6 @@
 use Rattle.std.proofs.Common.{ap, sym, ◌∙◌, arith}
 use Rattle.std.specs.Result.{result_ok}
-use Rattle.action_schedule.proofs.Steps.{HasRead-none, HasRead-one}
+use Rattle.cosem_names.proofs.SeveralRead.{HasRead-none, HasRead-one}
 use Rattle.action_schedule.proofs.reading.read_entries.Goals as goal
 
 pub loop-item-preserved-in_default : goal.loop-item-preserved-in_default

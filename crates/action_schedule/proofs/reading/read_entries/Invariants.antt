@@ -1,6 +1,6 @@
 use Rattle.action_schedule.specs.Reading.{entry_of}
 use Rattle.action_schedule.specs.Schedule.{IsEntry}
-use Rattle.action_schedule.proofs.Steps.{HasRead}
+use Rattle.cosem_names.proofs.SeveralRead.{HasRead}
 use Rattle.action_schedule.proofs.reading.read_entries.Given as goal
 
 abbrev pub invariant-loop-item : goal.invariant-loop-item

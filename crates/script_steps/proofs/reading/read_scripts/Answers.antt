@@ -1,5 +1,5 @@
 use Rattle.std.proofs.Common.{sym, ◌∙◌, arith, rules}
-use Rattle.script_steps.proofs.Steps.{HasRead-none, HasRead-one}
+use Rattle.cosem_names.proofs.SeveralRead.{HasRead-none, HasRead-one}
 use Rattle.script_steps.proofs.reading.read_scripts.Goals as goal
 
 pub loop-item-preserved-in_default : goal.loop-item-preserved-in_default

@@ -1,6 +1,6 @@
 use Rattle.script_steps.specs.Reading.{step_of}
 use Rattle.script_steps.specs.Table.{IsStep}
-use Rattle.script_steps.proofs.Steps.{HasRead}
+use Rattle.cosem_names.proofs.SeveralRead.{HasRead}
 use Rattle.script_steps.proofs.reading.read_steps.Given as goal
 
 abbrev pub invariant-loop-item : goal.invariant-loop-item

@@ -1,0 +1,51 @@
+ghost use Rattle.std.specs.Prelude.{◌≡◌};
+ghost use Rattle.cosem_names.specs.WriteFault.{fault_code};
+ghost use Rattle.cosem_names.specs.declared.write_fault.WriteFault.TheVariants.{Memory};
+
+use crate::result_code::ResultCode;
+use std::alloc::{AllocError, AllocFailed};
+use thiserror::Error;
+
+/// Why a Data is refused as the value of an attribute. Types are judged over the whole Data before any value, and either
+/// before want of memory.
+#[derive(Clone, Copy, Debug, PartialEq, Eq, Error)]
+pub enum WriteFault {
+    /// Another type, or another count or length.
+    #[error("a value of another type")]
+    Unmatched = 1,
+    /// A value that the attribute doesn't take.
+    #[error("a value that is not taken")]
+    Value = 2,
+    /// Memory ran out.
+    #[error("out of memory")]
+    Memory = 3,
+}
+
+impl WriteFault {
+    /// The result of a write that has this fault: type-unmatched, or other-reason. Want of memory is no fault of what is
+    /// written.
+    pub fn code(self) -> ResultCode
+        ensures { result ≡ fault_code self }
+    {
+        match self {
+            WriteFault::Unmatched => ResultCode::TypeUnmatched,
+            WriteFault::Value | WriteFault::Memory => ResultCode::OtherReason,
+        }
+    }
+}
+
+impl From<AllocError> for WriteFault {
+    ghost from_gives = { λ _ fault. fault ≡ Memory };
+
+    fn from(_error: AllocError) -> WriteFault {
+        WriteFault::Memory
+    }
+}
+
+impl<T: Drop> From<AllocFailed<T>> for WriteFault {
+    ghost from_gives = { λ _ fault. fault ≡ Memory };
+
+    fn from(_error: AllocFailed<T>) -> WriteFault {
+        WriteFault::Memory
+    }
+}

@@ -1,0 +1,51 @@
+-- Which reads and writes take no memory, so that they are always answered.
+use Rattle.std.specs.Prelude.{ℕ, Bool, true, Result, Ok, Err, ◌==◌, ◌||◌, ◌&&◌, not, Option, Some, None}
+use Rattle.cosem_names.specs.declared.name.AttrRef.{AttrRef}
+use Rattle.cosem_names.specs.declared.level.Level.{Level}
+use Rattle.cosem_names.specs.declared.objects.Instance.{Instance}
+use Rattle.cosem_names.specs.declared.objects.Instance.TheVariants.{Association, DeviceName, Register, ScriptTable, Schedule, DisconnectControl, Limiter}
+use Rattle.cosem_names.specs.declared.result_code.ResultCode.{ResultCode}
+use Rattle.cosem_names.specs.Objects.{rights_of}
+use Rattle.limiter_attributes.specs.declared.attribute.LimiterAttribute.{LimiterAttribute}
+use Rattle.limiter_attributes.specs.Attributes.{attribute_numbered, is_plain as is_plain_limiter}
+use Rattle.relay_core.specs.Access.{target_of}
+
+-- whether an attribute of a limiter takes no memory to read
+abbrev pub is_plain_attribute : Option LimiterAttribute → Bool
+is_plain_attribute None = true
+is_plain_attribute (Some attribute) = is_plain_limiter attribute
+
+-- whether the value of an attribute is a boolean, an enum or a number, which takes no memory
+abbrev pub is_plain : Instance → ℕ → Bool
+is_plain Association number = not (number == 1 || number == 2)
+is_plain DeviceName number = not (number == 1 || number == 2)
+is_plain (Register which) number = not (number == 1 || number == 3)
+is_plain ScriptTable number = not (number == 1 || number == 2)
+is_plain (Schedule which) number = not (number == 1 || (number == 2 || number == 4))
+is_plain DisconnectControl number = not (number == 1)
+is_plain (Limiter which) number = not (number == 1) && is_plain_attribute (attribute_numbered number)
+
+-- whether a read of an object that was reached takes no memory
+abbrev pub is_plain_at : Result Instance ResultCode → ℕ → Bool
+is_plain_at (Err refusal) number = true
+is_plain_at (Ok instance) number = is_plain instance number
+
+-- whether a read takes no memory: it is refused, or its value is plain
+unfoldable pub reads_plainly : Level → AttrRef → Bool → Bool
+reads_plainly level attr selected = is_plain_at (target_of attr.name attr.class (rights_of level attr).read selected) attr.number
+
+-- whether a write of an attribute moves no list in
+abbrev pub writes_plainly_in : Instance → ℕ → Bool
+writes_plainly_in ScriptTable number = not (number == 2)
+writes_plainly_in (Schedule which) number = not (number == 4)
+writes_plainly_in (Limiter which) number = not (number == 9)
+writes_plainly_in _ number = true
+
+-- whether a write of an object that was reached takes no memory
+abbrev pub writes_plainly_at : Result Instance ResultCode → ℕ → Bool
+writes_plainly_at (Err refusal) number = true
+writes_plainly_at (Ok instance) number = writes_plainly_in instance number
+
+-- whether a write takes no memory: it is refused before its value is looked at, or its value is no list
+unfoldable pub writes_plainly : Level → AttrRef → Bool → Bool
+writes_plainly level attr selected = writes_plainly_at (target_of attr.name attr.class (rights_of level attr).write selected) attr.number
