@@ -26,4 +26,4 @@ pub use measuring::text_len;
 pub use octets::Octets;
 pub use reading::read;
 pub use value::{Data, Items};
-pub use writing::write;
+pub use writing::{append, write};

@@ -20,6 +20,13 @@ pub fn write(alloc: Global, value: &Data, out: &mut Octets) -> Result<(), AllocE
     out.extend_from_slice(text.as_slice())
 }
 
+/// Writes the same text, where it comes to lie: it takes no memory but what is put behind `out`. Where memory runs out a part of it may have been written.
+pub fn append(value: &Data, out: &mut Octets) -> Result<(), AllocError>
+    ensures { OnOk result (out.new ≡ out.old ++ text (tree_of value.now)) }
+{
+    put_value(value, out)
+}
+
 // Writes a value: its tag and what stands behind it.
 #[cycle(writing)]
 fn put_value(value: &Data, out: &mut Octets) -> Result<(), AllocError>

@@ -16,4 +16,4 @@ pub use fault::WrapperFault;
 pub use header::{HEADER_SIZE, Head};
 pub use law::one_reading;
 pub use parts::Frame;
-pub use text::frame;
+pub use text::{frame, framed};

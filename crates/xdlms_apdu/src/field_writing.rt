@@ -10,7 +10,7 @@ use crate::length::put_length;
 use crate::tag::{ABSENT, PRESENT, choice};
 use cosem_axdr::{Data, Octets};
 use cosem_names::{AttrRef, AttributeSelection, ClassId, GetResult, MethodRef, Obis};
-use std::alloc::{AllocError, Global};
+use std::alloc::AllocError;
 
 /// How an APDU begins: its tag, its form and the invoke-id-and-priority.
 pub(crate) fn put_head(tag: u8, form: u8, id: InvokeId, out: &mut Octets) -> Result<(), AllocError>
@@ -93,17 +93,13 @@ pub(crate) fn put_target(target: &AttributeSelection, out: &mut Octets) -> Resul
 }
 
 /// The parameter of a method, if it has one.
-pub(crate) fn put_parameter(
-    alloc: Global,
-    parameter: &Option<Data>,
-    out: &mut Octets,
-) -> Result<(), AllocError>
+pub(crate) fn put_parameter(parameter: &Option<Data>, out: &mut Octets) -> Result<(), AllocError>
     ensures { OnOk result (out.new ≡ out.old ++ parameter_text parameter.now) }
 {
     match parameter {
         Some(value) => {
             out.push(PRESENT)?;
-            cosem_axdr::write(alloc, value, out)
+            cosem_axdr::append(value, out)
         }
         None => out.push(ABSENT),
     }
@@ -119,17 +115,13 @@ pub(crate) fn put_block(block: &Block, out: &mut Octets) -> Result<(), AllocErro
 }
 
 /// Get-Data-Result.
-pub(crate) fn put_result(
-    alloc: Global,
-    outcome: &GetResult,
-    out: &mut Octets,
-) -> Result<(), AllocError>
+pub(crate) fn put_result(outcome: &GetResult, out: &mut Octets) -> Result<(), AllocError>
     ensures { OnOk result (out.new ≡ out.old ++ result_text outcome.now) }
 {
     match outcome {
         GetResult::Value(value) => {
             out.push(choice::DATA)?;
-            cosem_axdr::write(alloc, value, out)
+            cosem_axdr::append(value, out)
         }
         GetResult::Code(code) => {
             out.push(choice::RESULT)?;

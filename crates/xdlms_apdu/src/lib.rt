@@ -28,4 +28,4 @@ pub use request_reading::read_request;
 pub use request_writing::write_request;
 pub use response::{Exception, Response};
 pub use response_reading::read_response;
-pub use response_writing::write_response;
+pub use response_writing::{append_response, write_response};

@@ -6,7 +6,7 @@ use crate::field_writing::{put_result, put_target};
 use crate::length::put_length;
 use cosem_axdr::Octets;
 use cosem_names::{AttributeSelection, GetResult};
-use std::alloc::{AllocError, Global};
+use std::alloc::AllocError;
 
 /// How many attributes there are, and the attributes.
 pub(crate) fn put_targets(
@@ -23,16 +23,12 @@ pub(crate) fn put_targets(
 }
 
 /// How many results there are, and the results.
-pub(crate) fn put_results(
-    alloc: Global,
-    results: &[GetResult],
-    out: &mut Octets,
-) -> Result<(), AllocError>
+pub(crate) fn put_results(results: &[GetResult], out: &mut Octets) -> Result<(), AllocError>
     ensures { OnOk result (out.new ≡ out.old ++ list_text result_text results.now) }
 {
     put_length(results.len(), out)?;
     for outcome in results {
-        put_result(alloc, outcome, out)?;
+        put_result(outcome, out)?;
     }
     Ok(())
 }

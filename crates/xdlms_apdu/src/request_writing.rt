@@ -22,7 +22,7 @@ pub fn write_request(alloc: Global, request: &Request) -> Result<Octets, AllocEr
 {
     let mut out = Octets::new(alloc);
     put_request_head(request, &mut out)?;
-    put_request_body(alloc, request, &mut out)?;
+    put_request_body(request, &mut out)?;
     Ok(out)
 }
 
@@ -45,7 +45,7 @@ fn put_request_head(request: &Request, out: &mut Octets) -> Result<(), AllocErro
 }
 
 // What stands behind the first bytes of a request.
-fn put_request_body(alloc: Global, request: &Request, out: &mut Octets) -> Result<(), AllocError>
+fn put_request_body(request: &Request, out: &mut Octets) -> Result<(), AllocError>
     ensures { OnOk result (out.new ≡ out.old ++ request_body request.now) }
 {
     match request {
@@ -54,7 +54,7 @@ fn put_request_body(alloc: Global, request: &Request, out: &mut Octets) -> Resul
         Request::GetList { targets, .. } => put_targets(targets.as_slice(), out),
         Request::Set { target, value, .. } => {
             put_target(target, out)?;
-            cosem_axdr::write(alloc, value, out)
+            cosem_axdr::append(value, out)
         }
         Request::SetFirst { target, block, .. } => {
             put_target(target, out)?;
@@ -66,7 +66,7 @@ fn put_request_body(alloc: Global, request: &Request, out: &mut Octets) -> Resul
             ..
         } => {
             put_method(method, out)?;
-            put_parameter(alloc, parameter, out)
+            put_parameter(parameter, out)
         }
         Request::ActionFirst { method, block, .. } => {
             put_method(method, out)?;

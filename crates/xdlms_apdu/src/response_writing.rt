@@ -17,14 +17,21 @@ use std::alloc::{AllocError, Global};
 /// Writes a response, each length in its shortest form.
 ///
 /// Of a length or count of 2^32 or more the lowest four bytes are written, and a Data past the limits of a reader is written too: such a text is not read back.
-#[tactic(auto, unfolding(crate::specs::Text::response_text))]
 pub fn write_response(alloc: Global, response: &Response) -> Result<Octets, AllocError>
     ensures { IfOk result (λ text. text ≡ response_text response.now) }
 {
     let mut out = Octets::new(alloc);
-    put_response_head(response, &mut out)?;
-    put_response_body(alloc, response, &mut out)?;
+    append_response(response, &mut out)?;
     Ok(out)
+}
+
+/// Writes the same text behind what is there. Where memory runs out a part of it may have been written.
+#[tactic(auto, unfolding(crate::specs::Text::response_text))]
+pub fn append_response(response: &Response, out: &mut Octets) -> Result<(), AllocError>
+    ensures { OnOk result (out.new ≡ out.old ++ response_text response.now) }
+{
+    put_response_head(response, out)?;
+    put_response_body(response, out)
 }
 
 // The first bytes of a response.
@@ -48,14 +55,14 @@ fn put_response_head(response: &Response, out: &mut Octets) -> Result<(), AllocE
 }
 
 // What stands behind the first bytes of a response.
-fn put_response_body(alloc: Global, response: &Response, out: &mut Octets) -> Result<(), AllocError>
+fn put_response_body(response: &Response, out: &mut Octets) -> Result<(), AllocError>
     ensures { OnOk result (out.new ≡ out.old ++ response_body response.now) }
 {
     match response {
         Response::Get {
             result: outcome,
             ..
-        } => put_result(alloc, outcome, out),
+        } => put_result(outcome, out),
         Response::GetBlock { block, .. } => {
             put_flag(block.last, out)?;
             put_number(block.number, out)?;
@@ -73,7 +80,7 @@ fn put_response_body(alloc: Global, response: &Response, out: &mut Octets) -> Re
             out.push(choice::RESULT)?;
             put_code(*code, out)
         }
-        Response::GetList { results, .. } => put_results(alloc, results.as_slice(), out),
+        Response::GetList { results, .. } => put_results(results.as_slice(), out),
         Response::Set { code, .. } => put_code(*code, out),
         Response::SetBlock { number, .. } | Response::ActionBlock { number, .. } => put_number(
             *number, out,
