@@ -60,7 +60,9 @@ fn connect_timeout<'a>(alloc: Global) -> Arg<'a> {
 fn progress<'a>(alloc: Global) -> Arg<'a> {
     Arg::new(alloc, "progress")
         .long("progress")
-        .help("Tells on standard error how far the campaign is, as it does anyway where that is a terminal")
+        .help(
+            "Tells on standard error how far the campaign is, as it does anyway where that is a terminal",
+        )
         .action(ArgAction::SetTrue)
 }
 

@@ -31,7 +31,10 @@ impl Progress {
             return None;
         };
         let rest = self.all.saturating_sub(done) as u64;
-        passed.as_secs().saturating_mul(rest).checked_div(done as u64)
+        passed
+            .as_secs()
+            .saturating_mul(rest)
+            .checked_div(done as u64)
     }
 }
 

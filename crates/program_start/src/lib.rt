@@ -10,10 +10,9 @@ use clap::Error;
 use clap::error::ErrorKind;
 use program_fault::Fault;
 use std::alloc::AllocGlobal;
-use std::env;
-use std::io;
 use std::process::ExitCode;
 use std::rt::Env;
+use std::{env, io};
 
 /// The fault of a command line that can't be had.
 fn words_fault(kind: io::ErrorKind) -> Fault
