@@ -95,12 +95,15 @@ fn state_number(state: ControlState) -> u64
     }
 }
 
+/// Most lines have at most so many bytes: a longer one takes memory more than once.
+const USUAL_BYTES: usize = 64;
+
 /// The text of a line.
 #[tactic(auto, unfolding(crate::specs::Replies::line_text))]
 fn line_text(alloc: Global, number: u64, line: &Line) -> Result<Vec<u8>, AllocError>
     ensures { IfOk result (λ text. text.items ≡ line_text number line.now) }
 {
-    let mut text = Vec::new(alloc);
+    let mut text = Vec::with_capacity(alloc, USUAL_BYTES)?;
     write_number(&mut text, number)?;
     text.push(b':')?;
     add_reply(alloc, &mut text, &line.reply)?;

@@ -31,7 +31,7 @@ fn pair_from(word: &[u8], words: &mut Words) -> Result<(u32, u32), RowFault>
 pub(crate) fn values(alloc: Global, words: &mut Words) -> Result<Vec<u32>, RowFault>
     ensures { Gives Memory (λ values. values.items) result (all_at value_from MAX_VALUES words.old) }
 {
-    let mut values = Vec::new(alloc);
+    let mut values = Vec::with_capacity(alloc, MAX_VALUES)?;
     'items: while let Some(word) = words.next() {
         if values.len() == MAX_VALUES {
             return Err(RowFault::Wrong);

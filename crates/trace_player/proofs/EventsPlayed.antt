@@ -1,6 +1,6 @@
--- Events taken and answered by their lines, one after the other.
-use Rattle.std.proofs.Common.{◌≡◌, ℕ, suc, ◌+◌, ◌<◌, ◌≤◌, List, [], ◌∷◌, ◌++◌, length, take, get_or, refl, sym, ap, ◌∙◌, subst, append_assoc, arith}
-use Rattle.std.proofs.lemmas.List.{length-take-le, take_more, take_all}
+-- Events read, taken and answered by their lines, one after the other.
+use Rattle.std.proofs.Common.{◌≡◌, ℕ, suc, ◌+◌, ◌<◌, ◌≤◌, List, [], ◌∷◌, ◌++◌, length, refl, sym, ap, ◌∙◌, subst, append_assoc, arith}
+use Rattle.std.proofs.lemmas.List.{length-append}
 use Rattle.relay_core.specs.Machine.{at_event}
 use Rattle.relay_core.specs.Runs.{line_at, lines_of, world_after}
 use Rattle.relay_core.specs.Stands.{StandsFor}
@@ -9,8 +9,12 @@ use Rattle.relay_core.specs.declared.event.Event.{Event}
 use Rattle.relay_core.specs.declared.event.Line.{Line}
 use Rattle.relay_core.specs.declared.relay.RelayCore.{RelayCore}
 use Rattle.relay_core.proofs.RunLemmas.{world_after-append, lines_of-append}
+use Rattle.trace_lines.specs.Places.{Place}
 use Rattle.trace_lines.specs.Replies.{line_text}
-use Rattle.trace_player.specs.Playing.{lines_text}
+use Rattle.trace_lines.specs.declared.version.Version.{Version}
+use Rattle.trace_player.specs.Playing.{PlaysEvent, PlaysEvents, lines_text}
+use Rattle.trace_player.specs.Traces.{events_at}
+use Rattle.trace_player.proofs.EventsRead.{EventsRead, none_read, event_read, events_read}
 
 -- the lines of a run and one more
 lines_text-push : (number : ℕ) (lines : List Line) (line : Line) → lines_text number (lines ++ line ∷ []) ≡ lines_text number lines ++ line_text (length lines + number) line ++ 10 ∷ []
@@ -33,41 +37,51 @@ lines_length : (events : List Event) (w : World) → length (lines_of events w) 
 lines_length [] w = refl
 lines_length (event ∷ events) w = ap suc (lines_length events (at_event event w).world)
 
--- the first i events were taken and answered
-pub record Underway (events : List Event) (i : ℕ) (old now : RelayCore) (out : List ℕ) : Type 0 where
-  pub world : (w : World) → StandsFor old w → StandsFor now (world_after (take i events) w)
-  pub wrote : (w : World) → StandsFor old w → out ≡ lines_text 1 (lines_of (take i events) w)
+-- of so many events the first i were read, taken and answered
+pub record Underway (version : Version) (count i : ℕ) (start place : Place) (old now : RelayCore) (out : List ℕ) : Type 0 where
+  pub events : List Event
+  pub read : EventsRead version count i events place (events_at version count start)
+  pub counted : i ≡ length events
+  pub within : i ≤ count
+  pub world : (w : World) → StandsFor old w → StandsFor now (world_after events w)
+  pub wrote : (w : World) → StandsFor old w → out ≡ lines_text 1 (lines_of events w)
 
 -- none was
-pub none_played : (events : List Event) (core : RelayCore) → Underway events 0 core core []
+pub none_played : (version : Version) (count : ℕ) (start : Place) (core : RelayCore) → Underway version count 0 start start core core []
 unfolding lines_text
-none_played [] core = record { world = λ w stands. stands; wrote = λ w stands. refl }
-none_played (event ∷ events) core = record { world = λ w stands. stands; wrote = λ w stands. refl }
+none_played version count start core =
+    record { events = []; read = none_read version count start; counted = refl; within = omega arith; world = λ w stands. stands; wrote = λ w stands. refl }
 
 -- one more
-pub event_played : (events : List Event) (i number : ℕ) (event d : Event) (old now next : RelayCore) (out out' : List ℕ) → i < length events → number ≡ suc i → event ≡ get_or events i d
-    → ((w : World) → StandsFor now w → StandsFor next (at_event event w).world)
-    → ((w : World) → StandsFor now w → out' ≡ out ++ line_text number (line_at event w) ++ 10 ∷ [])
-    → Underway events i old now out → Underway events (i + 1) old next out'
-event_played events i number event d old now next out out' lt numbered is goes wrote so_far =
-    let front = take i events in
-    let more : take (i + 1) events ≡ front ++ event ∷ [] = take_more events i d lt ∙ ap (λ (e : Event). front ++ e ∷ []) (sym is) in
+pub event_played : (version : Version) (count i number : ℕ) (start place after : Place) (old now next : RelayCore) (out out' : List ℕ) → i < count → number ≡ i + 1
+    → PlaysEvent version number place after now next out out' → Underway version count i start place old now out → Underway version count (i + 1) start after old next out'
+event_played version count i number start place after old now next out out' lt numbered one so_far =
+    let front = so_far.events in
+    let event = one.event in
     record {
-      world = λ w stands. subst (λ (es : List Event). StandsFor next (world_after es w)) (sym more)
-          (subst (λ (v : World). StandsFor next v) (sym (world_after-append front (event ∷ []) w)) (goes (world_after front w) (so_far.world w stands)));
+      events = front ++ event ∷ [];
+      read = event_read version count i front (front ++ event ∷ []) place after event (events_at version count start) lt one.read refl so_far.read;
+      counted = omega (arith, length-append front (event ∷ []), so_far.counted);
+      within = omega arith;
+      world = λ w stands. subst (λ (v : World). StandsFor next v) (sym (world_after-append front (event ∷ []) w)) (one.world (world_after front w) (so_far.world w stands));
       wrote = λ w stands.
           let before = world_after front w in
           let line = line_at event before in
-          let at : length (lines_of front w) + 1 ≡ number = omega (arith, lines_length front w, length-take-le i events (omega arith), numbered) in
-          wrote before (so_far.world w stands)
+          let at : length (lines_of front w) + 1 ≡ number = omega (arith, lines_length front w, so_far.counted, numbered) in
+          one.wrote before (so_far.world w stands)
           ∙ ap (λ (bytes : List ℕ). bytes ++ line_text number line ++ 10 ∷ []) (so_far.wrote w stands)
           ∙ ap (λ (n : ℕ). lines_text 1 (lines_of front w) ++ line_text n line ++ 10 ∷ []) (sym at)
           ∙ sym (lines_text-push 1 (lines_of front w) line)
-          ∙ ap (lines_text 1) (sym (lines_of-append front (event ∷ []) w))
-          ∙ ap (λ (es : List Event). lines_text 1 (lines_of es w)) (sym more);
+          ∙ ap (lines_text 1) (sym (lines_of-append front (event ∷ []) w));
     }
 
 -- all were
-pub events_played : (events : List Event) (i : ℕ) (old now : RelayCore) (out : List ℕ) → length events ≤ i → Underway events i old now out
-    → (w : World) → StandsFor old w → out ≡ lines_text 1 (lines_of events w)
-events_played events i old now out all so_far w stands = so_far.wrote w stands ∙ ap (λ (es : List Event). lines_text 1 (lines_of es w)) (take_all i events all)
+pub events_played : (version : Version) (count i : ℕ) (start place : Place) (old now : RelayCore) (out : List ℕ) → count ≤ i → Underway version count i start place old now out
+    → PlaysEvents version count start place old out
+events_played version count i start place old now out le so_far =
+    record {
+      events = so_far.events;
+      read = events_read version count i so_far.events place (events_at version count start) le so_far.read;
+      counted = omega (arith, so_far.counted, so_far.within);
+      wrote = so_far.wrote;
+    }

@@ -4,5 +4,6 @@ pub mod EventsPlayed
 pub mod EventsRead
 pub mod ExportedRuns
 pub mod Faults
-pub mod TraceAgain
+pub mod Outputs
+mod TraceAgain
 pub mod TraceBack

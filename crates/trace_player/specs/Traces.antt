@@ -1,10 +1,12 @@
 -- A trace as text: an opening, the number of its events, and the line of each.
 --     events_at        so many events, read from their lines
+--     trace_behind     a trace of an opening that was read, and of so many events, behind which nothing is left
 --     trace_of         the trace of a text, or its fault
 --     trace_text       the text that is written for a trace, in version 2
 use Rattle.std.specs.Prelude.{ℕ, zero, suc, nat_lt, if◌then◌else◌, codes, List, [], ◌∷◌, ◌++◌, length, map, Result, Ok, Err}
 use Rattle.byte_reading.specs.Outcome.{◌>>=◌}
 use Rattle.relay_core.specs.declared.event.Event.{Event}
+use Rattle.relay_core.specs.declared.opening.Opening.{Opening}
 use Rattle.relay_recorder.specs.declared.trace.Trace.{Trace}
 use Rattle.trace_lines.specs.Events.{event_of}
 use Rattle.trace_lines.specs.OpeningFields.{events_from}
@@ -29,6 +31,12 @@ events_at version (suc count) place = do
   event ← line_as (event_of version) place
   others ← events_at version count event.1
   Ok (event.0 ∷ others.0, others.1)
+
+-- a trace of this opening, and of so many events from here on, behind which nothing is left
+abbrev pub trace_behind : Version → ℕ → Opening → Place → Result Trace TraceFault
+trace_behind version count opening place = do
+  events ← events_at version count place
+  ended_at events.1 (record { opening = opening; events = events.0 })
 
 -- the opening, the number of the events, these, and nothing more
 unfoldable pub trace_from : Place → Result Trace TraceFault

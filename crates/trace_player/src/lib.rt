@@ -6,6 +6,7 @@
 
 mod fault;
 mod laws;
+mod output;
 mod player;
 mod playing;
 mod reading;

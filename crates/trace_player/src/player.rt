@@ -1,24 +1,22 @@
-ghost use Rattle.std.specs.Prelude.{IfOk};
-ghost use Rattle.relay_core.specs.Opening.{IsFitOpening};
 ghost use Rattle.trace_player.specs.Plays.{Plays, TakesTrace};
 
 use crate::fault::PlayFault;
-use crate::playing::play_trace;
-use crate::reading::{MAX_BYTES, read_trace};
+use crate::output::{Output, play_text};
+use crate::reading::MAX_BYTES;
 use byte_streams::{Reader, Writer, read_to_end_within};
-use relay_recorder::Trace;
 use std::alloc::Global;
 use trace_lines::TraceFault;
 
-/// The trace that the bytes of a reader tell.
-fn read_input<R: Reader>(alloc: Global, reader: &mut R) -> Result<Trace, PlayFault>
+/// What the trace that the bytes of a reader tell prints. Of these bytes nothing is held any more.
+fn play_input<R: Reader>(alloc: Global, reader: &mut R) -> Result<Output, PlayFault>
     requires { R.can_read reader.now }
-    ensures takes { TakesTrace (R.remaining reader.old) (R.failures reader.old) result (R.remaining reader.new) (R.failures reader.new) }
-    ensures fit { IfOk result (λ trace. IsFitOpening trace.opening) }
+    ensures { TakesTrace (R.remaining reader.old) (R.failures reader.old) result (R.remaining reader.new) (R.failures reader.new) }
 {
     let text = read_to_end_within(alloc, reader, MAX_BYTES)?;
-    match read_trace(alloc, text.as_slice()) {
-        Ok(trace) => Ok(trace),
+    let played = play_text(alloc, text.as_slice());
+    drop(text);
+    match played {
+        Ok(output) => Ok(output),
         Err(TraceFault::Line(number)) => Err(PlayFault::Line(number)),
         Err(TraceFault::Memory) => Err(PlayFault::Memory),
         Err(TraceFault::TooLong) => unreachable!(),
@@ -39,13 +37,9 @@ pub fn play<R: Reader, W: Writer>(
     requires writable { W.can_write writer.now }
     ensures { Plays R.remaining R.failures W.contents W.failures reader.old writer.old result reader.new writer.new }
 {
-    let trace = read_input(alloc, reader)?;
-    let count = trace.events.len() as u64;
-    let played = play_trace(alloc, &trace);
-    drop(trace);
-    let lines = played?;
+    let Output { lines, count } = play_input(alloc, reader)?;
     match writer.write_all(lines.as_slice()) {
-        Ok(()) => Ok(count),
+        Ok(()) => Ok(u64::from(count)),
         Err(_) => Err(PlayFault::Write),
     }
 }

@@ -1,20 +1,24 @@
-ghost use Rattle.std.specs.Prelude.{◌≡◌, ◌++◌, ◌∷◌, [], IfOk, OnOk};
+ghost use Rattle.std.specs.Prelude.{◌≡◌, ◌++◌, ◌∷◌, [], IfErr, IfOk, OnOk};
+ghost use Rattle.byte_reading.specs.Outcome.{Fails};
 ghost use Rattle.relay_core.specs.Machine.{at_event};
 ghost use Rattle.relay_core.specs.Opening.{IsFitOpening, opened};
-ghost use Rattle.relay_core.specs.Runs.{line_at, lines_of};
+ghost use Rattle.relay_core.specs.Runs.{line_at};
 ghost use Rattle.relay_core.specs.Stands.{StandsFor};
 ghost use Rattle.relay_core.specs.World.{World};
+ghost use Rattle.trace_lines.specs.Events.{event_of};
+ghost use Rattle.trace_lines.specs.Places.{line_as};
 ghost use Rattle.trace_lines.specs.Replies.{line_text};
-ghost use Rattle.trace_player.specs.Playing.{lines_text, played};
+ghost use Rattle.trace_lines.specs.declared.fault.TraceFault.TheVariants as trace_fault;
+ghost use Rattle.trace_player.specs.Playing.{PlaysEvent, PlaysEvents};
+ghost use Rattle.trace_player.specs.Traces.{events_at};
 
 use relay_core::{Event, Line, Opening, OpeningFault, RelayCore, line_after};
-use relay_recorder::Trace;
 use std::alloc::{AllocError, Global};
-use trace_lines::write_line;
+use trace_lines::{TraceFault, TraceLines, Version, next_event, write_line};
 use trace_text::end_line;
 
 /// A meter that stands as an opening says.
-fn opened_core(alloc: Global, opening: &Opening) -> Result<RelayCore, AllocError>
+pub(crate) fn opened_core(alloc: Global, opening: &Opening) -> Result<RelayCore, AllocError>
     requires { IsFitOpening opening.now }
     ensures { IfOk result (λ core. StandsFor core (opened opening.now)) }
 {
@@ -48,22 +52,38 @@ fn play_event(
     add_line(alloc, out, number, &line)
 }
 
-/// The lines of events that a meter takes, one after the other, the first of them with number 1.
-fn play_events(alloc: Global, events: &[Event], core: &mut RelayCore) -> Result<Vec<u8>, AllocError>
-    ensures { IfOk result (λ out. (w : World) → StandsFor core.old w → out.items ≡ lines_text 1 (lines_of events.now w)) }
+/// Reads the event of the next line, lets a meter take it, and writes the line of its reply.
+fn play_next(
+    alloc: Global,
+    version: Version,
+    number: u64,
+    lines: &mut TraceLines,
+    core: &mut RelayCore,
+    out: &mut Vec<u8>,
+) -> Result<(), TraceFault>
+    ensures ok { OnOk result (PlaysEvent version number lines.old lines.new core.old core.new out.old.items out.new.items) }
+    ensures err { IfErr result (λ fault. Fails trace_fault.Memory fault (line_as (event_of version) lines.old)) }
 {
-    let mut out = Vec::new(alloc);
-    'events: for i in 0..events.len() {
-        play_event(alloc, i as u64 + 1, &events[i], core, &mut out)?;
-    }
-    Ok(out)
+    let event = next_event(alloc, version, lines)?;
+    play_event(alloc, number, &event, core, out)?;
+    Ok(())
 }
 
-/// The output of a trace: a line for each of its events, with the reply to it and the switch after it.
-pub(crate) fn play_trace(alloc: Global, trace: &Trace) -> Result<Vec<u8>, AllocError>
-    requires { IsFitOpening trace.now.opening }
-    ensures { IfOk result (λ out. out.items ≡ played trace.now) }
+/// The lines of the next events, so many, each of which a meter takes as soon as it is read, the first of them with number 1. An event is let go before the next
+/// is read.
+pub(crate) fn play_events(
+    alloc: Global,
+    version: Version,
+    count: u32,
+    lines: &mut TraceLines,
+    core: &mut RelayCore,
+) -> Result<Vec<u8>, TraceFault>
+    ensures ok { IfOk result (λ out. PlaysEvents version count lines.old lines.new core.old out.items) }
+    ensures err { IfErr result (λ fault. Fails trace_fault.Memory fault (events_at version count lines.old)) }
 {
-    let mut core = opened_core(alloc, &trace.opening)?;
-    play_events(alloc, trace.events.as_slice(), &mut core)
+    let mut out = Vec::new(alloc);
+    'events: for i in 0..count {
+        play_next(alloc, version, u64::from(i) + 1, lines, core, &mut out)?;
+    }
+    Ok(out)
 }

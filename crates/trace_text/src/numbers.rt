@@ -1,47 +1,55 @@
-ghost use Rattle.std.specs.Prelude.{◌≡◌, ◌<◌, ◌≤◌, ◌^◌, ◌++◌, decimal, IfSome, IsTrue, SomeIff, OnOk, OnErr};
+ghost use Rattle.std.specs.Prelude.{◌≡◌, ◌≤◌, ◌+◌, ◌-◌, ◌*◌, ◌++◌, decimal, IfSome, IsTrue, SomeIff, OnOk, OnErr};
 ghost use Rattle.std.specs.Char.{is_ascii_digit};
-ghost use Rattle.std.specs.List.{list_all};
-ghost use Rattle.std.specs.Str.Parse.{digits_value};
-ghost use Rattle.trace_text.specs.Numbers.{is_decimal, number_of};
+ghost use Rattle.trace_text.specs.Numbers.{begins_number, value_of, number_of};
 
 use itoa::Buffer;
 use std::alloc::AllocError;
 
 /// The number that a word writes in decimal digits without leading zeros, if it is at most `limit`. The empty word and a sign write none.
-#[tactic(auto, using(crate::proofs::NumbersLemmas::reading), unfolding(crate::specs::Numbers::number_of))]
+#[tactic(auto, using(crate::proofs::NumbersLemmas::reading))]
 pub fn read_number(word: &[u8], limit: u64) -> Option<u64>
     ensures value { result ≡ number_of limit word.now }
     ensures within { IfSome result (λ number. number ≤ limit) }
 {
-    if !has_decimal_form(word) {
+    if !begins_number(word) {
         return None;
     }
-    let number = value_of(word)?;
-    if number <= limit { Some(number) } else { None }
+    value_of(word, limit)
 }
 
-// Whether a word is one decimal digit, or several that do not begin with 0.
-fn has_decimal_form(word: &[u8]) -> bool
-    ensures { result ≡ is_decimal word.now }
+// Whether a word has one byte, or several of which the first is not 0.
+fn begins_number(word: &[u8]) -> bool
+    ensures { result ≡ begins_number word.now }
 {
-    !word.is_empty() && all_digits(word) && (word.len() == 1 || word[0] != b'0')
+    match word {
+        [] => false,
+        [_] => true,
+        [first, ..] => *first != b'0',
+    }
 }
 
-// Whether each byte is a decimal digit.
-fn all_digits(word: &[u8]) -> bool
-    ensures { result ≡ list_all is_ascii_digit word.now }
+// The number that a word writes in digits alone, if it is at most `limit`. It is told as soon as the digits so far write a greater one.
+fn value_of(word: &[u8], limit: u64) -> Option<u64>
+    ensures { result ≡ value_of limit word.now }
 {
-    word.iter().all(|digit| digit.is_ascii_digit())
+    let mut number = 0;
+    'digits: for i in 0..word.len() {
+        number = with_digit(number, word[i], limit)?;
+    }
+    Some(number)
 }
 
-// The number that digits write, if it is below 2^64.
-#[tactic(auto, using(crate::proofs::NumbersLemmas::reading))]
-fn value_of(digits: &[u8]) -> Option<u64>
-    requires { IsTrue (is_decimal digits.now) }
-    ensures { SomeIff result (digits_value 10 digits.now < 2 ^ 64) (digits_value 10 digits.now) }
+// The number that the digits of a number and one digit more write, if it is at most `limit`.
+fn with_digit(number: u64, digit: u8, limit: u64) -> Option<u64>
+    ensures { SomeIff result (IsTrue (is_ascii_digit digit) × (number * 10 + (digit - 48) ≤ limit)) (number * 10 + (digit - 48)) }
 {
-    let text = str::from_utf8(digits).ok()?;
-    text.parse().ok()
+    if !digit.is_ascii_digit() {
+        return None;
+    }
+    let longer = number
+        .checked_mul(10)?
+        .checked_add(u64::from(digit - b'0'))?;
+    if longer <= limit { Some(longer) } else { None }
 }
 
 /// Writes a number in decimal digits behind what is there. Where memory runs out nothing is written.

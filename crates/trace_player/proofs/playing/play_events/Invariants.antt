@@ -1,6 +1,6 @@
--- So many events were taken and answered.
+-- So many events were read, taken and answered.
 use Rattle.trace_player.proofs.EventsPlayed.{Underway}
 use Rattle.trace_player.proofs.playing.play_events.Given as goal
 
 abbrev pub invariant-events : goal.invariant-events
-invariant-events l = Underway l.events l.i l.initial.core l.core l.out.items
+invariant-events l = Underway l.version l.count l.i l.initial.lines l.lines l.initial.core l.core l.out.items
