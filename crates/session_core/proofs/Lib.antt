@@ -1,3 +1,4 @@
 pub mod Short
 pub mod Meet
 pub mod Tasks
+pub mod Placed

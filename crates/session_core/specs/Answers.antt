@@ -7,6 +7,7 @@ use Rattle.session_core.specs.declared.answer.Answer.TheVariants.{Association, R
 use Rattle.session_core.specs.declared.answer.Way.{Way}
 use Rattle.session_core.specs.declared.answer.Way.TheVariants as way
 use Rattle.cosem_names.specs.declared.service.GetResult.TheVariants.{Value, Code}
+use Rattle.wrapper_frame.specs.Header.{header_size}
 use Rattle.wrapper_frame.specs.Text.{frame_text}
 use Rattle.xdlms_apdu.specs.Text.{response_text}
 use Rattle.xdlms_apdu.specs.declared.response.Response.{Response}
@@ -26,6 +27,11 @@ due_text to payload = frame_text (record { src = management_device; dst = to; pa
 abbrev pub way_text : Way → ℕ → List ℕ → List ℕ
 way_text way.Framed to payload = due_text to payload
 way_text way.Bare to payload = payload
+
+-- how many bytes it has before its payload
+abbrev pub way_size : Way → ℕ
+way_size way.Framed = header_size
+way_size way.Bare = 0
 
 -- a response without values, or with a block that has room in a PDU
 abbrev pub IsSmall : Response → Type 0

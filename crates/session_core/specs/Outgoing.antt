@@ -3,7 +3,7 @@
 --     continued, continued_response       the transfer after a GET-next, and the answer
 --     LongAnswer .. reply_response        the answer to the reply of an event
 --     begun_by, outgoing_by               the transfer that this answer begins
-use Rattle.std.specs.Prelude.{ℕ, ◌+◌, ◌-◌, ◌*◌, ◌==◌, ◌&&◌, nat_le, bit_and, not, true, if◌then◌else◌, Bool, Option, Some, None, option_and_then, List, length, drop}
+use Rattle.std.specs.Prelude.{ℕ, ◌+◌, ◌-◌, ◌*◌, ◌==◌, ◌&&◌, nat_le, bit_and, not, true, false, if◌then◌else◌, Bool, Option, Some, None, option_and_then, List, length, drop}
 use Rattle.acse_ber.specs.Conformance.{get_in_blocks}
 use Rattle.cosem_axdr.specs.declared.value.Data.{Data}
 use Rattle.cosem_names.specs.declared.result_code.ResultCode.{ResultCode}
@@ -116,6 +116,16 @@ reply_code (SampledBoth over under export_over export_under) = OtherReason
 reply_code (Ran count) = OtherReason
 reply_code (Stale last) = OtherReason
 
+-- a reply that has no value
+abbrev pub is_valueless : Reply → Bool
+is_valueless (Code code) = true
+is_valueless (Value value) = false
+is_valueless (Values results) = false
+is_valueless (Sampled over under) = true
+is_valueless (SampledBoth over under export_over export_under) = true
+is_valueless (Ran count) = true
+is_valueless (Stale last) = true
+
 -- the answer with a result alone
 abbrev pub code_response : ReplyForm → ResultCode → Response
 code_response (form.Get id) code = response.Get id (result.Code code)
@@ -123,6 +133,18 @@ code_response (form.GetList id) code = response.Get id (result.Code code)
 code_response (form.Set id) code = response.Set id code
 code_response (form.SetLastBlock id number) code = response.SetLastBlock id code number
 code_response (form.Action id) code = response.Action id code
+
+-- the form of the answer to what was asked
+abbrev pub form_of : Asked → ReplyForm
+form_of asked = asked.form
+
+-- where the result stands in an answer with a result alone
+abbrev pub code_place : ReplyForm → ℕ
+code_place (form.Get id) = 4
+code_place (form.GetList id) = 4
+code_place (form.Set id) = 3
+code_place (form.SetLastBlock id number) = 3
+code_place (form.Action id) = 3
 
 -- a text has room in an answer to the client
 abbrev pub has_room : Link → Response → Bool

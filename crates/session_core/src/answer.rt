@@ -1,15 +1,18 @@
-ghost use Rattle.std.specs.Prelude.{◌≡◌, ◌≤◌, length, IfOk};
-ghost use Rattle.session_core.specs.Answers.{answer_text, due_text, way_text};
+ghost use Rattle.std.specs.Prelude.{◌≡◌, ◌≤◌, length, drop, IfOk};
+ghost use Rattle.session_core.specs.Answers.{answer_text, due_text, way_size, way_text};
 ghost use Rattle.session_core.specs.Standard.{greatest_pdu};
+ghost use Rattle.xdlms_apdu.specs.Text.{response_text};
 
 use acse_ber::{Aare, RELEASE_RESPONSE, write_aare};
 use cosem_axdr::Octets;
 use std::alloc::{AllocError, Global};
-use wrapper_frame::{WrapperFault, frame};
-use xdlms_apdu::{Response, write_response};
+use wrapper_frame::{HEADER_SIZE, framed};
+use xdlms_apdu::{Response, append_response};
 
 /// The wrapper port of the server.
 pub(crate) const SERVER_PORT: u16 = 1;
+/// An answer is begun with memory for so many bytes. Most are shorter.
+const ROOM: usize = 64;
 
 /// What the server answers.
 #[derive(Debug, Drop)]
@@ -23,15 +26,16 @@ pub(crate) enum Answer {
 }
 
 impl Answer {
-    /// The bytes of the answer.
+    /// The bytes of the answer, behind those that are left for a header.
     #[tactic(auto, unfolding(crate::specs::Answers::answer_text))]
-    pub(crate) fn text(&self, alloc: Global) -> Result<Octets, AllocError>
-        ensures { IfOk result (λ text. text ≡ answer_text self.now) }
+    pub(crate) fn write(&self, alloc: Global, way: Way) -> Result<Octets, AllocError>
+        ensures header { IfOk result (λ text. way_size way ≤ length text) }
+        ensures payload { IfOk result (λ text. drop (way_size way) text ≡ answer_text self.now) }
     {
         match self {
-            Answer::Association(aare) => write_aare(alloc, aare),
-            Answer::Release => Octets::from_slice(alloc, &RELEASE_RESPONSE),
-            Answer::Service(response) => write_response(alloc, response),
+            Answer::Association(aare) => way.copy(alloc, write_aare(alloc, aare)?.as_slice()),
+            Answer::Release => way.copy(alloc, &RELEASE_RESPONSE),
+            Answer::Service(response) => way.write(alloc, response),
         }
     }
 }
@@ -46,27 +50,61 @@ pub(crate) enum Way {
 }
 
 impl Way {
-    /// A payload that goes out this way.
-    pub(crate) fn text(self, alloc: Global, to: u16, payload: Octets) -> Result<Octets, AllocError>
-        requires { length payload ≤ greatest_pdu }
-        ensures { IfOk result (λ text. text ≡ way_text self to payload) }
+    // Bytes for the header that a payload gets, with room for a short one behind them.
+    fn begin(self, alloc: Global) -> Result<Octets, AllocError>
+        ensures { IfOk result (λ text. length text ≡ way_size self) }
+    {
+        let mut text = Vec::with_capacity(alloc, ROOM)?;
+        match self {
+            Way::Framed => text.extend_from_slice(&[0; HEADER_SIZE])?,
+            Way::Bare => {}
+        }
+        Ok(Octets::from_vec(text))
+    }
+
+    /// The text of a response, behind the bytes that are left for a header.
+    #[tactic(auto, using(std::proofs::lemmas::List::drop_at))]
+    pub(crate) fn write(self, alloc: Global, response: &Response) -> Result<Octets, AllocError>
+        ensures header { IfOk result (λ text. way_size self ≤ length text) }
+        ensures payload { IfOk result (λ text. drop (way_size self) text ≡ response_text response.now) }
+    {
+        let mut text = self.begin(alloc)?;
+        append_response(response, &mut text)?;
+        Ok(text)
+    }
+
+    // A payload, behind the bytes that are left for a header.
+    #[tactic(auto, using(std::proofs::lemmas::List::drop_at))]
+    fn copy(self, alloc: Global, payload: &[u8]) -> Result<Octets, AllocError>
+        ensures header { IfOk result (λ text. way_size self ≤ length text) }
+        ensures payload { IfOk result (λ text. drop (way_size self) text ≡ payload.now) }
+    {
+        let mut text = self.begin(alloc)?;
+        text.extend_from_slice(payload)?;
+        Ok(text)
+    }
+
+    /// The payload of a text that was written for this way.
+    pub(crate) fn payload(self, text: &Octets) -> &[u8]
+        requires { way_size self ≤ length text.now }
+        ensures { result.now ≡ drop (way_size self) text.now }
     {
         match self {
-            Way::Framed => framed(alloc, to, &payload),
-            Way::Bare => Ok(payload),
+            Way::Framed => &text.as_slice()[HEADER_SIZE..],
+            Way::Bare => text.as_slice(),
         }
     }
-}
 
-// A frame of the server.
-#[tactic(auto, unfolding(crate::specs::Answers::due_text))]
-fn framed(alloc: Global, to: u16, payload: &Octets) -> Result<Octets, AllocError>
-    requires { length payload.now ≤ greatest_pdu }
-    ensures { IfOk result (λ text. text ≡ due_text to payload.now) }
-{
-    match frame(alloc, SERVER_PORT, to, payload.as_slice()) {
-        Ok(text) => Ok(text),
-        Err(WrapperFault::Memory) => Err(AllocError),
-        Err(WrapperFault::Version | WrapperFault::TooLong) => unreachable!(),
+    /// The text as it goes out: in a frame the header is put in front of its payload. It takes no memory.
+    #[tactic(auto, unfolding(crate::specs::Answers::due_text))]
+    pub(crate) fn end(self, to: u16, text: Octets) -> Octets
+        requires header { way_size self ≤ length text }
+        requires payload { length (drop (way_size self) text) ≤ greatest_pdu }
+        ensures { result ≡ way_text self to (drop (way_size self) text) }
+    {
+        match self {
+            Way::Framed => framed(SERVER_PORT, to, text),
+            Way::Bare => text,
+        }
     }
 }

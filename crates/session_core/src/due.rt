@@ -74,7 +74,7 @@ impl Due {
     pub(crate) fn text_by(&self, alloc: Global, way: Way) -> Result<Octets, AllocError>
         ensures { IfOk result (λ text. text ≡ way_text way self.now.to (answer_text self.now.answer)) }
     {
-        let payload = self.answer.text(alloc)?;
-        way.text(alloc, self.to, payload)
+        let text = self.answer.write(alloc, way)?;
+        Ok(way.end(self.to, text))
     }
 }

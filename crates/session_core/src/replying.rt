@@ -16,7 +16,7 @@ use cosem_axdr::Octets;
 use cosem_names::{GetResult, ResultCode};
 use relay_core::Reply;
 use std::alloc::{AllocError, Global};
-use xdlms_apdu::{InvokeId, Response, write_response};
+use xdlms_apdu::{InvokeId, Response};
 use xdlms_blocks::{BlockFault, GetBlocks};
 
 /// The bytes of a Get-Response-Normal before its value's.
@@ -123,7 +123,17 @@ fn answer_result(
     ensures outgoing { IfOk result (λ answered. answered.outgoing ≡ None) }
     ensures err { IfErr result (λ failed. failed.1 ≡ reply) }
 {
-    let code = match &reply {
+    match answer_code(alloc, asked, way, reply_code(&reply)) {
+        Ok(answered) => Ok(answered),
+        Err(error) => Err((error, reply)),
+    }
+}
+
+/// The result that a reply is. Any other reply is taken as one.
+pub(crate) fn reply_code(reply: &Reply) -> ResultCode
+    ensures { result ≡ reply_code reply.now }
+{
+    match reply {
         Reply::Code(code) => *code,
         Reply::Value(_)
         | Reply::Values(_)
@@ -131,15 +141,11 @@ fn answer_result(
         | Reply::SampledBoth { .. }
         | Reply::Ran(_)
         | Reply::Stale { .. } => ResultCode::OtherReason,
-    };
-    match answer_code(alloc, asked, way, code) {
-        Ok(answered) => Ok(answered),
-        Err(error) => Err((error, reply)),
     }
 }
 
-// The answer with a result alone.
-fn answer_code(
+/// The answer with a result alone.
+pub(crate) fn answer_code(
     alloc: Global,
     asked: Asked,
     way: Way,
@@ -178,14 +184,14 @@ fn answer_long(
     ensures text { IfOk result (λ answered. answered.text ≡ way_text way link.source (answer_text (Service (long_response link (answer_cut id normal.now header))))) }
     ensures outgoing { IfOk result (λ answered. answered.outgoing ≡ option_and_then (sent 1) (long_text link (answer_cut id normal.now header))) }
 {
-    let text = write_response(alloc, normal)?;
-    if text.len() <= usize::from(link.limit.bytes()) {
+    let text = way.write(alloc, normal)?;
+    if way.payload(&text).len() <= usize::from(link.limit.bytes()) {
         return Ok(Answered {
-            text: way.text(alloc, link.source, text)?,
+            text: way.end(link.source, text),
             outgoing: None,
         });
     }
-    let raw = &text.as_slice()[header..];
+    let raw = &way.payload(&text)[header..];
     if can_go_in_blocks(link, raw) {
         return begin(alloc, link, way, id, Octets::from_slice(alloc, raw)?);
     }

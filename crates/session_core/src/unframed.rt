@@ -6,9 +6,10 @@ ghost use Rattle.session_core.specs.Rules.{is_settled, step_outcome};
 ghost use Rattle.session_core.specs.Unframed.{unframed_of, unframed_outcome, is_unframed};
 ghost use Rattle.session_core.specs.declared.answer.Answer.TheVariants.{Service};
 
-use crate::answer::{Answer, Way};
+use crate::answer::Way;
 use crate::asked::Asked;
 use crate::conformance::{ACTION_REQUEST, GET_REQUEST, SET_REQUEST};
+use crate::due::Due;
 use crate::limit::{Limit, MAX_PDU};
 use crate::link::Link;
 use crate::replying::answer_reply;
@@ -19,7 +20,7 @@ use cosem_axdr::Octets;
 use cosem_names::Level;
 use relay_core::{Event, Reply};
 use std::alloc::{AllocError, Global};
-use xdlms_apdu::{Exception, Response};
+use xdlms_apdu::Exception;
 
 /// The port of the management client.
 const MANAGEMENT_PORT: u16 = 1;
@@ -40,8 +41,8 @@ pub fn ask_unframed(alloc: Global, payload: &[u8]) -> Result<Unframed, AllocErro
     ensures { IfOk result (λ unframed. unframed ≡ unframed_of (unframed_outcome payload.now)) }
 {
     if !is_unframed(payload) {
-        let answer = Answer::Service(Response::Exception(Exception::Unknown));
-        return Ok(Unframed::Say(answer.text(alloc)?));
+        let due = Due::exception(MANAGEMENT_PORT, Exception::Unknown);
+        return Ok(Unframed::Say(due.text_by(alloc, Way::Bare)?));
     }
     let link = Link {
         source: MANAGEMENT_PORT,
@@ -63,7 +64,7 @@ fn told(alloc: Global, step: Step) -> Result<Unframed, AllocError>
 {
     match step {
         Step::Ask(event, asked) => Ok(Unframed::Ask(event, asked)),
-        Step::Say(due) => Ok(Unframed::Say(due.answer.text(alloc)?)),
+        Step::Say(due) => Ok(Unframed::Say(due.text_by(alloc, Way::Bare)?)),
         Step::Join(_) => unreachable!(),
     }
 }

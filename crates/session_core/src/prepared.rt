@@ -1,0 +1,67 @@
+ghost use Rattle.std.specs.Prelude.{◌≡◌, IfOk};
+ghost use Rattle.session_core.specs.Answers.{answer_text};
+ghost use Rattle.session_core.specs.Outgoing.{code_place, code_response, form_of, reply_code};
+ghost use Rattle.session_core.specs.declared.answer.Answer.TheVariants.{Service};
+
+use crate::answer::Way;
+use crate::asked::{Asked, ReplyForm};
+use crate::replying::{Answered, answer_code, reply_code};
+use cosem_axdr::Octets;
+use cosem_names::ResultCode;
+use relay_core::Reply;
+use std::alloc::{AllocError, Global};
+use std::marker::Model;
+
+/// The answer of a request without a frame to a reply that has no value, made before its event: what is left to do takes no memory. Contracts see its form.
+#[derive(Debug, Drop)]
+pub struct PreparedAnswer {
+    form: ReplyForm,
+    text: Octets,
+}
+
+impl Model for PreparedAnswer {
+    ghost use Rattle.std.specs.Prelude.{◌≡◌};
+    ghost use Rattle.cosem_names.specs.declared.result_code.ResultCode.TheVariants.{Success};
+    ghost use Rattle.session_core.specs.Answers.{answer_text};
+    ghost use Rattle.session_core.specs.Outgoing.{code_response};
+    ghost use Rattle.session_core.specs.declared.answer.Answer.TheVariants.{Service};
+    ghost use Rattle.session_core.specs.declared.asked.ReplyForm.{ReplyForm};
+
+    ghost Value = { ReplyForm };
+
+    ghost view = { λ prepared. prepared.form };
+
+    ghost invariant = { λ prepared. prepared.text ≡ answer_text (Service (code_response prepared.form Success)) };
+}
+
+impl PreparedAnswer {
+    /// Takes the memory for an answer.
+    pub fn new(alloc: Global, asked: Asked) -> Result<PreparedAnswer, AllocError>
+        ensures { IfOk result (λ prepared. prepared ≡ form_of asked) }
+    {
+        let form = asked.form;
+        let Answered { text, .. } = answer_code(alloc, asked, Way::Bare, ResultCode::Success)?;
+        Ok(PreparedAnswer { form, text })
+    }
+
+    /// The answer to a reply: its result, or other-reason where it is none. It takes no memory.
+    #[tactic(auto, using(crate::proofs::Placed::placed, crate::proofs::Placed::within))]
+    pub fn finish(self, reply: &Reply) -> Octets
+        ensures { result ≡ answer_text (Service (code_response self (reply_code reply.now))) }
+    {
+        let PreparedAnswer { form, text } = self;
+        let mut bytes = text.into_vec();
+        bytes[code_place(form)] = reply_code(reply).code();
+        Octets::from_vec(bytes)
+    }
+}
+
+// Where the result stands in an answer without a value.
+fn code_place(form: ReplyForm) -> usize
+    ensures { result ≡ code_place form }
+{
+    match form {
+        ReplyForm::Get(_) | ReplyForm::GetList(_) => 4,
+        ReplyForm::Set(_) | ReplyForm::SetLastBlock(_, _) | ReplyForm::Action(_) => 3,
+    }
+}
