@@ -22,7 +22,10 @@ proved=$(fastest proved)
 plain=$(fastest plain)
 grep -h ' in, ' "$work/proved.txt" | head -1
 echo "proved $proved us, plain $plain us, ratio $(awk "BEGIN { printf \"%.2f\", $proved / $plain }")"
-python3 -c '
-import resource, subprocess, sys
-subprocess.run(sys.argv[1:], stdout=subprocess.DEVNULL, check=True)
-print("most memory held: %d KiB" % resource.getrusage(resource.RUSAGE_CHILDREN).ru_maxrss)' "$program" "$events"
+# (a small parent: what a process held before it became the program counts too)
+if [ -x /usr/bin/time ]; then
+    /usr/bin/time -o "$work/held" -f "most memory held: %M KiB" "$program" "$events" > /dev/null
+    cat "$work/held"
+else
+    echo "most memory held: not measured, there is no /usr/bin/time (Debian's package time)"
+fi
