@@ -5,3 +5,4 @@ pub mod HexSessions
 pub mod PortLemmas
 pub mod ServingAllLemmas
 pub mod Sent
+pub mod Valueless

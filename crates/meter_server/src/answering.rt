@@ -1,4 +1,4 @@
-ghost use Rattle.std.specs.Prelude.{◌≡◌, IfOk, IsTrue, OnOk, OnErr};
+ghost use Rattle.std.specs.Prelude.{◌≡◌, false, IfOk, IsTrue, OnOk, OnErr};
 ghost use Rattle.relay_core.specs.Machine.{at_event, is_read};
 ghost use Rattle.relay_core.specs.World.{World};
 ghost use Rattle.relay_core.specs.Stands.{StandsFor};
@@ -6,7 +6,7 @@ ghost use Rattle.meter_server.specs.Answering.{answered, replied};
 
 use cosem_axdr::Octets;
 use relay_core::{Event, RelayCore};
-use session_core::{Asked, Unframed, answer_unframed, ask_unframed};
+use session_core::{Asked, PreparedAnswer, Unframed, answer_unframed, ask_unframed};
 use std::alloc::{AllocError, Global};
 
 /// Answers one xDLMS request that comes without a frame and without an association: a GET, also with a list, a SET or an ACTION in one piece, at management level,
@@ -52,26 +52,22 @@ fn answer(
     answer_unframed(alloc, asked, reply)
 }
 
-// The same, but want of memory changes nothing.
+// The same for an event whose reply has no value: the memory for its answer is taken first, so want of memory changes nothing.
+#[tactic(auto, using(crate::proofs::Valueless::prepared_answer))]
 fn answer_or_stay(
     core: &mut RelayCore,
     alloc: Global,
     event: &Event,
     asked: Asked,
 ) -> Result<Octets, AllocError>
+    requires { is_read event.now ≡ false }
     ensures world { OnOk result ((w : World) → StandsFor core.old w → StandsFor core.new (at_event event.now w).world) }
     ensures text { IfOk result (λ text. (w : World) → StandsFor core.old w → text ≡ (replied asked (at_event event.now w)).text) }
     ensures err { OnErr result (core.new ≡ core.old) }
 {
-    let mut next = core.try_copy(alloc)?;
-    match answer(&mut next, alloc, event, asked) {
-        Ok(text) => {
-            *core = next;
-            Ok(text)
-        }
-        Err(error) => {
-            drop(next);
-            Err(error)
-        }
-    }
+    let prepared = PreparedAnswer::new(alloc, asked)?;
+    let given = core.step(alloc, event)?;
+    let text = prepared.finish(&given);
+    drop(given);
+    Ok(text)
 }
