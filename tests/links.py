@@ -4,11 +4,12 @@
 - A link leads to a file, and to a heading or an anchor in it.
 - A path in code or prose (docs/TRACE.md, bin/build, crates/NAME/..) is one of a file or folder.
 - `CRATE::NAME` is declared in that crate's sources; a crate of the toolchain's is not looked into.
-- `CRATE/EDIT` and each name in docs/WRONG_BODIES.md's last column is an edit, or a test; each edit stands there.
+- `CRATE/EDIT` and each name in docs/WRONG_BODIES.md's last column is an edit, or a test; its tables are what bin/wrong_page writes, so each edit stands there.
 - A definition that docs/DEFINITIONS.md names stands in a file of its row; each file of specs/ stands in docs/PROMISES.md.
 - Each crate has a README, whose example is a test that is there, or a file that the gate runs.
 """
 import re
+import subprocess
 import sys
 from pathlib import Path
 
@@ -107,17 +108,16 @@ def edits(text):
 
 
 def wrong_bodies(text):
-    named = set()
     for row in text.split("\n"):
         cells = row.split(" | ")
         if len(cells) == 2 and row.startswith("| "):
             for it in CODE.findall(cells[1]):
                 name = it.rpartition("/")[2]
-                named.add(name)
                 if re.fullmatch(r"\w+_\w+_\w+", name) and name not in ALL_EDITS | TESTS:
                     yield f"no edit or test {it}"
-    for it in sorted(ALL_EDITS - named):
-        yield f"the edit {it} is not told of"
+    told = subprocess.run([TOP / "bin" / "wrong_page", "--check"], capture_output=True, text=True)
+    if told.returncode:
+        yield (told.stdout + told.stderr).strip()
 
 
 def definitions(text):

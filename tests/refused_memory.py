@@ -1,6 +1,6 @@
 #!/usr/bin/env python3
 """Refuses each allocation in turn, over the executables that the gate left: in the tests of `refusal_tests` (the recorder's `apply`, a port's `call`, `serve_session`,
-`play`), in the programs, in a campaign, and in a meter that serves two clients. Prints how many were refused in each and what stood afterwards.
+`play`), in the programs, in a campaign, and in a meter that serves two clients; of that meter each thread too. Prints how many were refused in each and what stood afterwards.
 
 usage: tests/refused_memory.py [--long]     (--long: every allocation, in place of the first, the last and some between)"""
 
@@ -136,9 +136,9 @@ def talk(client):
         client.close()
 
 
-def served_refused(number):
+def served_refused(number, what="refuse_memory"):
     """What came of two clients that one after the other talk to a meter, and whether its trace tells what they saw."""
-    server = Server("--connections", "2", environment=refusing.environment(refuse_memory=number))
+    server = Server("--connections", "2", environment=refusing.environment(**{what: number}))
     if server.process.poll() is None:
         server.end_input()  # (where the server takes no client, it ends with its console)
     clients, whole = [], 0
@@ -170,6 +170,34 @@ def a_meter_that_serves_is_refused_memory(name):
     check(name, not any("WRONG" in what for what in found), found)
 
 
+# Of a meter that serves two clients these threads are begun: for the console, for the workers of blocks, moments and presses, and for the two clients.
+THREADS = 6
+
+
+def a_meter_that_serves_is_refused_threads(name):
+    ample = served_refused(0, "refuse_thread")
+    count = refusing.counts()[4]
+    check(f"{name}: none refused", (ample, count) == ("the trace tells all, 2 of 2 clients with all answers", THREADS), ample, count)
+    for number, wanted in enumerate(["the fault, 0 of 2 clients with all answers"] + 3 * ["the fault, and the trace tells all, 0 of 2 clients with all answers"]
+                                    + 2 * ["the fault, and the trace tells all, 1 of 2 clients with all answers"], start=1):
+        found = served_refused(number, "refuse_thread")
+        check(f"{name}: thread {number} of {THREADS}", found == wanted, found)
+
+
+def a_press_is_not_made_without_its_thread(name):
+    for number in (0, 2, 3, 4):
+        server = Server("--connections", "1", environment=refusing.environment(refuse_thread=number), console=b"button\n")
+        server.end_input()
+        try:
+            talk(Client(server.port))
+        except OSError:
+            pass
+        status, trace, errors = server.ended()
+        presses = [event for event, _ in played(trace)].count("button")
+        wanted = (4, 0) if number else (0, 1)
+        check(f"{name}: thread {number}", (status, presses) == wanted and ("fault: memory" in errors) == (number > 0), status, trace, errors)
+
+
 def main():
     global is_long, refusing
     parser = argparse.ArgumentParser()
@@ -181,7 +209,8 @@ def main():
             print("0 passed, 1 failed")
             return 1
     refusing = Refusing()
-    for function in (calls_are_refused_memory, programs_are_refused_memory, a_campaign_is_refused_memory, a_meter_that_serves_is_refused_memory):
+    for function in (calls_are_refused_memory, programs_are_refused_memory, a_campaign_is_refused_memory, a_meter_that_serves_is_refused_memory,
+                     a_meter_that_serves_is_refused_threads, a_press_is_not_made_without_its_thread):
         test(function)
     refusing.stop()
     print(f"{serving.passed} passed, {serving.failed} failed")

@@ -1,6 +1,6 @@
-/* Stands between a program and the C library, for tests/refusing.py: refuses one allocation, or fails, shortens or interrupts one read or write.
-   The environment says which, counted from 1: REFUSE_MEMORY, FAIL_STREAM, SHORT_STREAM, INTERRUPT_STREAM. At the program's end the file REFUSING_REPORT gets a
-   line of numbers: allocations, reads and writes, writes on the failed stream after its failure, and connections begun. Standard error is left alone. */
+/* Stands between a program and the C library, for tests/refusing.py: refuses one allocation or one thread, or fails, shortens or interrupts one read or write.
+   The environment says which, counted from 1: REFUSE_MEMORY, REFUSE_THREAD, FAIL_STREAM, SHORT_STREAM, INTERRUPT_STREAM. At the program's end the file REFUSING_REPORT
+   gets a line of numbers: allocations, reads and writes, writes on the failed stream after its failure, connections and threads begun. Standard error is left alone. */
 
 typedef unsigned long size;
 typedef long count;
@@ -11,13 +11,14 @@ extern void *__libc_realloc(void *, size);
 extern count syscall(count, ...);
 extern int *__errno_location(void);
 extern char *getenv(const char *);
+extern void *dlsym(void *, const char *);
 
 enum { READ = 0, WRITE = 1, OPEN = 2, CLOSE = 3, WRITEV = 20, CONNECT = 42, SENDTO = 44, RECVFROM = 45, SENDMSG = 46, EXIT_GROUP = 231 };
-enum { INTERRUPTED = 4, FAILED = 5, NO_MEMORY = 12 };
+enum { INTERRUPTED = 4, FAILED = 5, TRY_AGAIN = 11, NO_MEMORY = 12 };
 enum { STANDARD_ERROR = 2, NONE = -1 };
 
-static size refused, failing, shortened, interrupted;
-static size allocations, streams, late, connections;
+static size refused, refused_thread, failing, shortened, interrupted;
+static size allocations, streams, late, connections, threads;
 static int failed = NONE;
 
 static size number(const char *name) {
@@ -29,6 +30,7 @@ static size number(const char *name) {
 
 __attribute__((constructor)) static void begin(void) {
     refused = number("REFUSE_MEMORY");
+    refused_thread = number("REFUSE_THREAD");
     failing = number("FAIL_STREAM");
     shortened = number("SHORT_STREAM");
     interrupted = number("INTERRUPT_STREAM");
@@ -42,8 +44,10 @@ static char *digits(char *end, size value) {
 
 __attribute__((destructor)) static void report(void) {
     const char *name = getenv("REFUSING_REPORT");
-    char text[100], *end = text + sizeof text, *from = end;
+    char text[120], *end = text + sizeof text, *from = end;
     *--from = '\n';
+    from = digits(from, threads);
+    *--from = ' ';
     from = digits(from, connections);
     *--from = ' ';
     from = digits(from, late);
@@ -73,6 +77,12 @@ void *malloc(size bytes) { return is_refused() ? 0 : __libc_malloc(bytes); }
 void *calloc(size items, size bytes) { return is_refused() ? 0 : __libc_calloc(items, bytes); }
 
 void *realloc(void *old, size bytes) { return is_refused() ? 0 : __libc_realloc(old, bytes); }
+
+int pthread_create(void *thread, const void *attributes, void *(*work)(void *), void *argument) {
+    int (*next)(void *, const void *, void *(*)(void *), void *) = dlsym((void *)-1L, "pthread_create");
+    if (__sync_add_and_fetch(&threads, 1) == refused_thread) return TRY_AGAIN;
+    return next(thread, attributes, work, argument);
+}
 
 /* How many bytes this read or write may move: fewer where it is to be short, none where it fails. */
 static count allowed(int file, size bytes, int is_write) {

@@ -1,4 +1,4 @@
-"""Runs programs of which one allocation, read or write is refused: by tests/refusing.c between them and the C library, which the toolchain's own compiler builds."""
+"""Runs programs of which one allocation, thread, read or write is refused: by tests/refusing.c between them and the C library, which the toolchain's own compiler builds."""
 
 import os
 import pathlib
@@ -13,7 +13,7 @@ TARGET = "--target=x86_64-unknown-linux-gnu"
 
 
 class Ran(NamedTuple):
-    """What came of a program, how many allocations, and reads and writes it made, writes on a stream after that had failed, and connections."""
+    """What came of a program, how many allocations, and reads and writes it made, writes on a stream after that had failed, connections and threads."""
 
     status: int
     output: bytes
@@ -22,6 +22,7 @@ class Ran(NamedTuple):
     streams: int
     late: int
     connections: int
+    threads: int
 
 
 def toolchain():
@@ -50,7 +51,7 @@ class Refusing:
         self.report = self.folder / "report"
 
     def environment(self, **which):
-        """What has a program's one call refused: `refuse_memory`, `fail_stream`, `short_stream` or `interrupt_stream`, with its number."""
+        """What has a program's one call refused: `refuse_memory`, `refuse_thread`, `fail_stream`, `short_stream` or `interrupt_stream`, with its number."""
         self.report.unlink(missing_ok=True)
         named = {name.upper(): str(number) for name, number in which.items()}
         return {"LD_PRELOAD": str(self.library), "REFUSING_REPORT": str(self.report), **named}
@@ -60,7 +61,7 @@ class Refusing:
         try:
             return [int(number) for number in self.report.read_text().split()]
         except FileNotFoundError:
-            return [0, 0, 0, 0]
+            return [0, 0, 0, 0, 0]
 
     def run(self, words, text=b"", **which):
         environment = {**os.environ, **self.environment(**which)}

@@ -12,8 +12,6 @@ mod flags;
 mod serving;
 mod session;
 mod sessions;
-#[cfg(test)]
-mod tests;
 mod worker;
 
 pub use accepted::Accepted;
