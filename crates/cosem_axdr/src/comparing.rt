@@ -1,29 +1,7 @@
 ghost use Rattle.std.specs.Prelude.{◌≡◌, ◌↔◌, IsTrue};
 ghost use Rattle.cosem_axdr.specs.declared.value.Data.{Data};
 
-use crate::octets::Octets;
 use crate::value::{Data, Items};
-
-impl PartialEq for Octets {
-    ghost use Rattle.std.specs.Cmp.Lexicographic.{pointwise};
-    ghost use Rattle.std.specs.Cmp.{partial_equiv_from_equiv};
-    ghost use Rattle.std.specs.Prelude.{nat_eq};
-    ghost use Rattle.std.proofs.lemmas.Cmp.{nat_list_eq_equiv};
-
-    ghost eq = { pointwise nat_eq };
-
-    ghost laws = { partial_equiv_from_equiv nat_list_eq_equiv };
-
-    fn eq(&self, other: &Octets) -> bool {
-        self.as_slice() == other.as_slice()
-    }
-}
-
-impl Eq for Octets {
-    ghost use Rattle.std.proofs.lemmas.Cmp.{nat_list_eq_equiv};
-
-    ghost laws = { nat_list_eq_equiv };
-}
 
 impl PartialEq for Data {
     ghost use Rattle.std.specs.Cmp.{partial_equiv_from_equiv};

@@ -12,7 +12,6 @@ mod fitting;
 mod laws;
 mod limits;
 mod measuring;
-mod octets;
 mod reader;
 mod reading;
 mod tag;

@@ -3,7 +3,7 @@ ghost use Rattle.cosem_axdr.specs.Tree.{trees_of};
 ghost use Rattle.cosem_axdr.specs.View.{tree_of, all_trees};
 ghost use Rattle.cosem_axdr.specs.Spelling.{text, texts, contents_text, length_text, string_text};
 
-use crate::octets::Octets;
+use octets::Octets;
 use crate::value::Data;
 
 /// How many bytes the text of a value has, or `u64::MAX` where that is more.

@@ -7,7 +7,7 @@ ghost use Rattle.cosem_axdr.specs.Reading.{Reads, string_at, bits_at, leaf_at, i
 
 use crate::fault::DataFault;
 use crate::limits::{MAX_ITEMS, MAX_NESTING, bytes_for, clear_unused};
-use crate::octets::Octets;
+use octets::Octets;
 use crate::reader::Reader;
 use crate::tag;
 use crate::value::{Data, Items};

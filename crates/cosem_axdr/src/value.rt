@@ -2,7 +2,7 @@ ghost use Rattle.std.specs.Prelude.{◌≡◌, ◌↔◌, IsTrue};
 ghost use Rattle.cosem_axdr.specs.Tree.{trees_of, count_of, no_trees};
 ghost use Rattle.cosem_axdr.specs.View.{all_trees, list_of};
 
-use crate::octets::Octets;
+use octets::Octets;
 use std::marker::Model;
 
 /// A value of the DLMS/COSEM type Data, by its type (IEC 62056-6-2, common data types). Two are equal where their trees are.

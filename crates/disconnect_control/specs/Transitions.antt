@@ -39,15 +39,32 @@ g = record { trigger = LocalDisconnect; from = Connected; to = ReadyForReconnect
 abbrev pub h : Row
 h = record { trigger = LocalReconnect; from = ReadyForReconnection; to = Connected }
 
--- the transitions of each mode (IEC 62056-6-2, class 70, control_mode); mode 0 has none
+-- the transitions that have `true` in their column, a to h
+abbrev pub only_if : Bool → Row → List Row → List Row
+only_if true row rest = row ∷ rest
+only_if false row rest = rest
+
+abbrev pub columns : Bool → Bool → Bool → Bool → Bool → Bool → Bool → Bool → List Row
+columns has_a has_b has_c has_d has_e has_f has_g has_h =
+    only_if has_a a (only_if has_b b (only_if has_c c (only_if has_d d (only_if has_e e (only_if has_f f (only_if has_g g (only_if has_h h [])))))))
+
+-- yes and no, in the table below
+abbrev pub y : Bool
+y = true
+
+abbrev pub n : Bool
+n = false
+
+-- which transitions each mode has (IEC 62056-6-2, class 70, control_mode); mode 0 has none
 abbrev pub rows_of : ControlMode → List Row
-rows_of Mode0 = []
-rows_of Mode1 = b ∷ c ∷ f ∷ g ∷ d ∷ e ∷ []
-rows_of Mode2 = b ∷ c ∷ f ∷ g ∷ a ∷ e ∷ []
-rows_of Mode3 = b ∷ c ∷ g ∷ d ∷ e ∷ []
-rows_of Mode4 = b ∷ c ∷ g ∷ a ∷ e ∷ []
-rows_of Mode5 = b ∷ c ∷ f ∷ g ∷ d ∷ e ∷ h ∷ []
-rows_of Mode6 = b ∷ c ∷ g ∷ d ∷ e ∷ h ∷ []
+--                      a b c d e f g h
+rows_of Mode0 = columns n n n n n n n n
+rows_of Mode1 = columns n y y y y y y n
+rows_of Mode2 = columns y y y n y y y n
+rows_of Mode3 = columns n y y y y n y n
+rows_of Mode4 = columns y y y n y n y n
+rows_of Mode5 = columns n y y y y y y y
+rows_of Mode6 = columns n y y y y n y y
 
 -- the numbers of the states, as attribute 3 shows them (IEC 62056-6-2, class 70, control_state)
 abbrev pub state_number : ControlState → ℕ
@@ -67,8 +84,8 @@ mode_number Mode6 = 6
 
 -- the mode of a number
 abbrev pub mode_of : ℕ → Option ControlMode
-mode_of n = if n == 0 then Some Mode0 else if n == 1 then Some Mode1 else if n == 2 then Some Mode2 else if n == 3 then Some Mode3
-    else if n == 4 then Some Mode4 else if n == 5 then Some Mode5 else if n == 6 then Some Mode6 else None
+mode_of number = if number == 0 then Some Mode0 else if number == 1 then Some Mode1 else if number == 2 then Some Mode2 else if number == 3 then Some Mode3
+    else if number == 4 then Some Mode4 else if number == 5 then Some Mode5 else if number == 6 then Some Mode6 else None
 
 -- a number for each trigger, to tell them apart
 abbrev pub trigger_number : Trigger → ℕ

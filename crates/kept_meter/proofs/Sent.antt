@@ -8,7 +8,7 @@ use Rattle.std_heap.specs.contracts.GlobalAllocator.TheImpl.{ghosts}
 use Rattle.circular_buffer.proofs.cells.Cells.TheSendSync.{the_send as cells_send}
 use Rattle.circular_buffer.proofs.cells.Deed.TheSendSync.{the_send as deed_send}
 use Rattle.circular_buffer.specs.contracts.heap.HeapCircularBuffer as ring
-use Rattle.cosem_axdr.proofs.octets.Octets.TheSendSync.{the_send as octets_send}
+use Rattle.octets.proofs.Octets.TheSendSync.{the_send as octets_send}
 use Rattle.cosem_axdr.proofs.value.Items.TheLaws.TheKnot.{send-Data, send-Items}
 use Rattle.cosem_names.proofs.service.AttributeSelection.TheSendSync.{the_send as selection_send}
 use Rattle.lane_sampler.proofs.samples.Block.TheSendSync.{the_send as block_send}

@@ -1,7 +1,7 @@
 -- What goes to the threads of sessions and workers may go to a thread.
 use denote.Param.Send.{IsSend, sendable}
 use Rattle.std.proofs.Crossing.{crosses}
-use Rattle.cosem_axdr.proofs.octets.Octets.TheSendSync.{the_send as octets_send}
+use Rattle.octets.proofs.Octets.TheSendSync.{the_send as octets_send}
 use Rattle.cosem_axdr.proofs.value.Items.TheLaws.TheKnot.{send-Data, send-Items}
 use Rattle.cosem_names.proofs.service.AttributeSelection.TheSendSync.{the_send as selection_send}
 use Rattle.lane_sampler.proofs.samples.Block.TheSendSync.{the_send as block_send}

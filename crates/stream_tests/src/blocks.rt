@@ -1,4 +1,4 @@
-use cosem_axdr::Octets;
+use octets::Octets;
 use std::alloc::{AllocError, Global};
 use std::process::Abort;
 use std::test::Fail;

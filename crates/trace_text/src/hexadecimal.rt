@@ -3,7 +3,7 @@ ghost use Rattle.hex.specs.Hex.{encode_upper};
 ghost use Rattle.trace_text.specs.Hexadecimal.{bytes_of, is_capital_digit, is_hexadecimal};
 ghost use Rattle.std.specs.List.{list_all};
 
-use cosem_axdr::Octets;
+use octets::Octets;
 use hex::FromHexError;
 use std::alloc::{AllocError, Global};
 

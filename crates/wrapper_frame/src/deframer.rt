@@ -9,7 +9,7 @@ use crate::header::{DST_AT, HEADER_SIZE, Head, SRC_AT, judge};
 use crate::parts::Frame;
 use byteorder::{BigEndian, ByteOrder};
 use bytes::BytesMut;
-use cosem_axdr::Octets;
+use octets::Octets;
 use std::alloc::{AllocError, Global};
 use std::marker::Model;
 

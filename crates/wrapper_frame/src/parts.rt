@@ -1,4 +1,4 @@
-use cosem_axdr::Octets;
+use octets::Octets;
 
 /// One message of the wrapper: its ports and what it carries.
 #[derive(Debug, Drop)]

@@ -4,7 +4,7 @@ ghost use Rattle.wrapper_frame.specs.Text.{header_text, frame_text};
 
 use crate::fault::WrapperFault;
 use crate::header::{HEADER_SIZE, MAX_PAYLOAD, VERSION};
-use cosem_axdr::Octets;
+use octets::Octets;
 use std::alloc::Global;
 
 /// The text of a frame: its header, then its payload of at most 1,024 bytes.

@@ -1,4 +1,4 @@
-use cosem_axdr::Octets;
+use octets::Octets;
 
 /// How many blocks a text may have.
 pub(crate) const MAX_BLOCKS: usize = 4_294_967_295;

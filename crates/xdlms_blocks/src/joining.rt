@@ -4,7 +4,7 @@ ghost use Rattle.xdlms_blocks.specs.Limits.{max_joined};
 
 use crate::blocks::MAX_JOINED;
 use crate::fault::BlockFault;
-use cosem_axdr::Octets;
+use octets::Octets;
 use std::alloc::Global;
 use std::marker::Model;
 

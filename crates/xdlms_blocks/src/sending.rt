@@ -4,7 +4,7 @@ ghost use Rattle.xdlms_blocks.specs.Sending.{next_piece, after_next, sending_by}
 
 use crate::blocks::{MAX_BLOCKS, Piece};
 use crate::fault::BlockFault;
-use cosem_axdr::Octets;
+use octets::Octets;
 use std::alloc::Global;
 use std::marker::Model;
 
