@@ -158,6 +158,14 @@ inner_of tag inner body = do
   contents ← field_of tag body
   optional (tagged inner) contents
 
+-- what the field of a tag holds, which has to be there
+abbrev pub needed_field : ℕ → List ℕ → Result (List ℕ) AcseFault
+needed_field tag body = field_of tag body >>= needed
+
+-- the contents of an inner tag, which fill the field of a tag, which has to be there
+abbrev pub needed_inner : ℕ → ℕ → List ℕ → Result (List ℕ) AcseFault
+needed_inner tag inner body = inner_of tag inner body >>= needed
+
 -- ---- user information (IEC 62056-5-3, InitiateRequest, InitiateResponse and ConfirmedServiceError)
 
 -- a byte that says whether one more stands behind it, which is skipped
@@ -173,6 +181,14 @@ unfoldable pub conformance_at : List ℕ → Read ℕ
 conformance_at bytes = do
   head ← literal_at (0x5F ∷ 0x1F ∷ 0x04 ∷ 0x00 ∷ []) bytes
   read_as (λ bits. from_be_bytes w32 (0x00 ∷ bits)) (bytes_at 3 head.1)
+
+-- the version, the conformance and the size of an InitiateRequest
+unfoldable pub proposed_at : List ℕ → Read Proposal
+proposed_at bytes = do
+  version ← byte_at bytes
+  conformance ← conformance_at version.1
+  size ← size_at conformance.1
+  Ok (record { version = version.0; conformance = conformance.0; size = size.0 }, size.1)
 
 -- an InitiateRequest without a dedicated key
 unfoldable pub proposal_at : List ℕ → Read Proposal
@@ -230,6 +246,15 @@ is_response _ = false
 
 -- ---- whole APDUs
 
+-- the fields of an AARQ
+unfoldable pub aarq_in : List ℕ → Result Aarq AcseFault
+aarq_in body = do
+  context ← inner_of 0xA1 0x06 body >>= needed
+  mechanism ← field_of 0x8B body
+  password ← inner_of 0xAC 0x80 body
+  user ← inner_of 0xBE 0x04 body >>= needed
+  Ok (record { context = context; mechanism = unwrap_or mechanism []; password = password; user = user })
+
 -- an AARQ: the application context and user information are needed
 unfoldable pub aarq_of : List ℕ → Result Aarq AcseFault
 aarq_of bytes = do
@@ -250,6 +275,27 @@ diagnostic_at bytes = do
   source ← byte_at bytes
   guard (source.0 == 0xA1 || source.0 == 0xA2) Unreadable
   byte_behind (0x03 ∷ 0x02 ∷ 0x01 ∷ []) source.1
+
+-- the user information of an AARE, behind its result and its diagnostic
+unfoldable pub aare_told : ℕ → ℕ → List ℕ → Result Aare AcseFault
+aare_told outcome diagnostic body = do
+  user ← inner_of 0xBE 0x04 body
+  guard (not (outcome == 0) || is_response (info_of user)) Unreadable
+  Ok (record { result = outcome; diagnostic = diagnostic; info = info_of user })
+
+-- the diagnostic of an AARE and what follows it, behind its result
+unfoldable pub aare_judged : ℕ → List ℕ → Result Aare AcseFault
+aare_judged outcome body = do
+  diagnostic_field ← field_of 0xA3 body >>= needed
+  diagnostic ← whole (diagnostic_at diagnostic_field)
+  aare_told outcome diagnostic body
+
+-- the fields of an AARE
+unfoldable pub aare_in : List ℕ → Result Aare AcseFault
+aare_in body = do
+  result_field ← field_of 0xA2 body >>= needed
+  outcome ← whole (result_at result_field)
+  aare_judged outcome body
 
 -- an AARE: the result and the diagnostic are needed, and where it accepts a response too
 unfoldable pub aare_of : List ℕ → Result Aare AcseFault

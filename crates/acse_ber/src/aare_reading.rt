@@ -1,11 +1,11 @@
 ghost use Rattle.std.specs.Prelude.{◌≡◌, Ok, IfOk, option_map};
-ghost use Rattle.acse_ber.specs.Reading.{Reads, whole, byte_behind, result_at, diagnostic_at, response_at, initiate_error_at, info_in, info_of, is_response, aare_of};
+ghost use Rattle.acse_ber.specs.Reading.{Reads, whole, byte_behind, result_at, diagnostic_at, response_at, initiate_error_at, info_in, info_of, is_response, aare_told, aare_judged, aare_in, aare_of};
 ghost use Rattle.acse_ber.specs.Spelling.{SpellsAare};
 ghost use Rattle.acse_ber.specs.declared.aare.Aare.{Aare};
 
 use crate::aare::{Aare, Info};
 use crate::fault::AcseFault;
-use crate::field::{find_field, find_inner, read_tagged};
+use crate::field::{find_inner, find_needed, read_tagged};
 use crate::initiate::{INITIATE_ERROR_HEAD, RESPONSE_TAG, read_conformance, skip_optional_byte};
 use crate::reader::Reader;
 use crate::tag;
@@ -29,17 +29,36 @@ pub fn read_aare(_alloc: Global, bytes: &[u8]) -> Result<Aare, AcseFault>
 }
 
 // As `read_aare`, by the definition alone.
-#[tactic(auto, unfolding(crate::specs::Reading::aare_of))]
+#[tactic(auto, unfolding(crate::specs::Reading::aare_of, crate::specs::Reading::aare_in, crate::specs::Reading::aare_judged, crate::specs::Reading::aare_told))]
 fn read_whole(bytes: &[u8]) -> Result<Aare, AcseFault>
     ensures { result ≡ aare_of bytes.now }
 {
-    let body = read_tagged(tag::AARE, bytes)?;
-    let result_field = find_field(tag::aare::RESULT, body)?.ok_or(AcseFault::Unreadable)?;
-    let outcome = read_result(result_field)?;
-    let diagnostic_field = find_field(tag::aare::RESULT_SOURCE_DIAGNOSTIC, body)?.ok_or(
-        AcseFault::Unreadable,
-    )?;
-    let diagnostic = read_diagnostic(diagnostic_field)?;
+    read_fields(read_tagged(tag::AARE, bytes)?)
+}
+
+// The fields of an AARE.
+#[tactic(auto, unfolding(crate::specs::Reading::aare_in))]
+fn read_fields(body: &[u8]) -> Result<Aare, AcseFault>
+    ensures { result ≡ aare_in body.now }
+{
+    let outcome = read_result(find_needed(tag::aare::RESULT, body)?)?;
+    read_judged(outcome, body)
+}
+
+// The diagnostic and what follows it, behind this result.
+#[tactic(auto, unfolding(crate::specs::Reading::aare_judged))]
+fn read_judged(outcome: u8, body: &[u8]) -> Result<Aare, AcseFault>
+    ensures { result ≡ aare_judged outcome body.now }
+{
+    let diagnostic = read_diagnostic(find_needed(tag::aare::RESULT_SOURCE_DIAGNOSTIC, body)?)?;
+    read_told(outcome, diagnostic, body)
+}
+
+// The user information, behind this result and this diagnostic.
+#[tactic(auto, unfolding(crate::specs::Reading::aare_told))]
+fn read_told(outcome: u8, diagnostic: u8, body: &[u8]) -> Result<Aare, AcseFault>
+    ensures { result ≡ aare_told outcome diagnostic body.now }
+{
     let user = find_inner(tag::USER_INFORMATION, tag::OCTET_STRING, body)?;
     let info = read_info(user);
     if outcome == ACCEPTED && !is_response(info) {

@@ -1,12 +1,12 @@
 ghost use Rattle.std.specs.Prelude.{◌≡◌, IfOk, MatchResult, option_map};
 ghost use Rattle.byte_reading.specs.Outcome.{Gives};
-ghost use Rattle.acse_ber.specs.Reading.{aarq_of};
+ghost use Rattle.acse_ber.specs.Reading.{aarq_in, aarq_of};
 ghost use Rattle.acse_ber.specs.Spelling.{SpellsAarq};
 ghost use Rattle.acse_ber.specs.declared.aarq.Aarq.{Aarq};
 
 use crate::aarq::Aarq;
 use crate::fault::AcseFault;
-use crate::field::{find_field, find_inner, read_tagged};
+use crate::field::{find_field, find_inner, find_needed_inner, read_tagged};
 use crate::tag;
 use cosem_axdr::Octets;
 use std::alloc::{AllocError, Global};
@@ -28,23 +28,39 @@ pub fn read_aarq(alloc: Global, bytes: &[u8]) -> Result<Aarq, AcseFault>
 }
 
 // As `read_aarq`, by the definition alone.
-#[tactic(auto, unfolding(crate::specs::Reading::aarq_of))]
+#[tactic(auto, unfolding(crate::specs::Reading::aarq_of, crate::specs::Reading::aarq_in))]
 fn read_whole(alloc: Global, bytes: &[u8]) -> Result<Aarq, AcseFault>
     ensures { Gives AcseFault.Memory (λ aarq. aarq) result (aarq_of bytes.now) }
 {
-    let body = read_tagged(tag::AARQ, bytes)?;
-    let context = find_inner(tag::APPLICATION_CONTEXT_NAME, tag::OBJECT_IDENTIFIER, body)?.ok_or(
-        AcseFault::Unreadable,
-    )?;
+    read_fields(alloc, read_tagged(tag::AARQ, bytes)?)
+}
+
+// The fields of an AARQ.
+#[tactic(auto, unfolding(crate::specs::Reading::aarq_in))]
+fn read_fields(alloc: Global, body: &[u8]) -> Result<Aarq, AcseFault>
+    ensures { Gives AcseFault.Memory (λ aarq. aarq) result (aarq_in body.now) }
+{
+    let context = find_needed_inner(tag::APPLICATION_CONTEXT_NAME, tag::OBJECT_IDENTIFIER, body)?;
     let mechanism = find_field(tag::aarq::MECHANISM_NAME, body)?.unwrap_or(&[]);
     let password = find_inner(
         tag::aarq::CALLING_AUTHENTICATION_VALUE,
         tag::CHARSTRING,
         body,
     )?;
-    let user = find_inner(tag::USER_INFORMATION, tag::OCTET_STRING, body)?.ok_or(
-        AcseFault::Unreadable,
-    )?;
+    let user = find_needed_inner(tag::USER_INFORMATION, tag::OCTET_STRING, body)?;
+    Ok(copy_aarq(alloc, context, mechanism, password, user)?)
+}
+
+// An AARQ of these contents.
+fn copy_aarq(
+    alloc: Global,
+    context: &[u8],
+    mechanism: &[u8],
+    password: Option<&[u8]>,
+    user: &[u8],
+) -> Result<Aarq, AllocError>
+    ensures { IfOk result (λ aarq. aarq ≡ record { context = context.now; mechanism = mechanism.now; password = option_map (λ bytes. bytes.now) password.entry; user = user.now }) }
+{
     Ok(Aarq {
         context: Octets::from_slice(alloc, context)?,
         mechanism: Octets::from_slice(alloc, mechanism)?,

@@ -1,6 +1,6 @@
 //! The fields of an APDU: they come in any order.
 ghost use Rattle.std.specs.Prelude.{◌≡◌, option_map, is_ok};
-ghost use Rattle.acse_ber.specs.Reading.{Reads, Yields, field_at, tagged, fields_of, field_of, inner_of};
+ghost use Rattle.acse_ber.specs.Reading.{Reads, Yields, field_at, tagged, fields_of, field_of, inner_of, needed_field, needed_inner};
 
 use crate::fault::AcseFault;
 use crate::reader::Reader;
@@ -81,4 +81,18 @@ pub(crate) fn find_inner(tag: u8, inner: u8, body: &[u8]) -> Result<Option<&[u8]
         Some(contents) => Ok(Some(read_tagged(inner, contents)?)),
         None => Ok(None),
     }
+}
+
+/// The field of a tag, which has to be there.
+pub(crate) fn find_needed(tag: u8, body: &[u8]) -> Result<&[u8], AcseFault>
+    ensures { Yields (λ contents. contents.now) result (needed_field tag body.now) }
+{
+    find_field(tag, body)?.ok_or(AcseFault::Unreadable)
+}
+
+/// The contents of an inner tag, which fill the field of a tag. That has to be there.
+pub(crate) fn find_needed_inner(tag: u8, inner: u8, body: &[u8]) -> Result<&[u8], AcseFault>
+    ensures { Yields (λ contents. contents.now) result (needed_inner tag inner body.now) }
+{
+    find_inner(tag, inner, body)?.ok_or(AcseFault::Unreadable)
 }

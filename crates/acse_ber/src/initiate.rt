@@ -1,6 +1,6 @@
 //! The user information of an AARQ, an InitiateRequest, and its parts that an InitiateResponse has too (IEC 62056-5-3).
 ghost use Rattle.std.specs.Prelude.{◌≡◌};
-ghost use Rattle.acse_ber.specs.Reading.{Reads, Yields, optional_byte_at, conformance_at, proposal_of};
+ghost use Rattle.acse_ber.specs.Reading.{Reads, Yields, optional_byte_at, conformance_at, proposed_at, proposal_of};
 
 use crate::fault::AcseFault;
 use crate::reader::Reader;
@@ -40,7 +40,7 @@ pub(crate) struct Proposal {
 }
 
 /// Reads an InitiateRequest without a dedicated key; what response-allowed and the quality of service say is not looked at.
-#[tactic(auto, unfolding(crate::specs::Reading::proposal_of, crate::specs::Reading::proposal_at))]
+#[tactic(auto, unfolding(crate::specs::Reading::proposal_of, crate::specs::Reading::proposal_at, crate::specs::Reading::proposed_at))]
 pub(crate) fn read_proposal(bytes: &[u8]) -> Result<Proposal, AcseFault>
     ensures { Yields (λ proposal. proposal) result (proposal_of bytes.now) }
 {
@@ -48,10 +48,19 @@ pub(crate) fn read_proposal(bytes: &[u8]) -> Result<Proposal, AcseFault>
     reader.literal(&REQUEST_HEAD)?;
     skip_optional_byte(&mut reader)?;
     skip_optional_byte(&mut reader)?;
+    let proposal = read_proposed(&mut reader)?;
+    reader.finish(proposal)
+}
+
+// The version, the conformance and the size.
+#[tactic(auto, unfolding(crate::specs::Reading::proposed_at))]
+fn read_proposed(reader: &mut Reader) -> Result<Proposal, AcseFault>
+    ensures { Reads (λ proposal. proposal) result reader.new (proposed_at reader.old) }
+{
     let version = reader.byte()?;
-    let conformance = read_conformance(&mut reader)?;
+    let conformance = read_conformance(reader)?;
     let size = reader.size()?;
-    reader.finish(Proposal {
+    Ok(Proposal {
         version,
         conformance,
         size,

@@ -55,6 +55,7 @@ impl Kept {
     {
         let Kept { event, parts } = self;
         core.advance(&event, parts);
+        drop(event);
     }
 }
 

@@ -186,6 +186,15 @@ outgoing_by asked reply = option_and_then (sent 1) (begun_by asked reply)
 
 -- ---- what the code says of a long answer
 
+-- the answer with values that have no room in one: the first block of these bytes, else other-reason
+abbrev pub response_in_blocks : Link → InvokeId → List ℕ → Response
+response_in_blocks link id raw =
+    if can_go_in_blocks link raw then block_response id (next_piece (unsent_by link.limit raw)) else response.Get id (result.Code OtherReason)
+
+-- the text that it begins to send
+abbrev pub text_in_blocks : Link → List ℕ → Option Sending
+text_in_blocks link raw = if can_go_in_blocks link raw then Some (unsent_by link.limit raw) else None
+
 -- an answer of which so many bytes don't go in blocks
 abbrev pub answer_cut : InvokeId → Response → ℕ → LongAnswer
 answer_cut id normal header = record { id = id; normal = normal; raw = drop header (response_text normal) }

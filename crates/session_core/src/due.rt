@@ -77,4 +77,13 @@ impl Due {
         let text = self.answer.write(alloc, way)?;
         Ok(way.end(self.to, text))
     }
+
+    /// The answer as it goes out this way, where nothing else is done with it.
+    pub(crate) fn into_text(self, alloc: Global, way: Way) -> Result<Octets, AllocError>
+        ensures { IfOk result (λ text. text ≡ way_text way self.to (answer_text self.answer)) }
+    {
+        let text = self.text_by(alloc, way);
+        drop(self);
+        text
+    }
 }

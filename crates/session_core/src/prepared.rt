@@ -40,7 +40,13 @@ impl PreparedAnswer {
         ensures { IfOk result (λ prepared. prepared ≡ form_of asked) }
     {
         let form = asked.form;
-        let Answered { text, .. } = answer_code(alloc, asked, Way::Bare, ResultCode::Success)?;
+        let Answered { text, outgoing } = answer_code(
+            alloc,
+            asked,
+            Way::Bare,
+            ResultCode::Success,
+        )?;
+        drop(outgoing);
         Ok(PreparedAnswer { form, text })
     }
 

@@ -1,10 +1,10 @@
-ghost use Rattle.std.specs.Prelude.{◌≡◌, ◌≤◌, ◌<◌, ◌*◌, ◌-◌, None, length, option_and_then, IfOk, IfErr};
-ghost use Rattle.session_core.specs.Answers.{answer_text, way_text};
-ghost use Rattle.session_core.specs.Outgoing.{sent, unsent_by, can_go_in_blocks, long_response, long_text, block_response, code_response, reply_code, reply_response, answer_cut, reply_in, outgoing_by};
+ghost use Rattle.std.specs.Prelude.{◌≡◌, ◌≤◌, ◌<◌, ◌*◌, ◌-◌, None, length, option_and_then, true, IfOk, IfErr, OnOk};
+ghost use Rattle.session_core.specs.Answers.{answer_text, way_text, IsSmall};
+ghost use Rattle.session_core.specs.Outgoing.{sent, unsent_by, can_go_in_blocks, long_response, long_text, response_in_blocks, text_in_blocks, block_response, code_response, reply_code, reply_response, answer_cut, reply_in, outgoing_by};
 ghost use Rattle.session_core.specs.Standard.{block_header};
 ghost use Rattle.session_core.specs.declared.answer.Answer.TheVariants.{Service};
 ghost use Rattle.xdlms_blocks.specs.Limits.{max_blocks};
-ghost use Rattle.xdlms_blocks.specs.Sending.{next_piece};
+ghost use Rattle.xdlms_blocks.specs.Sending.{next_piece, after_next};
 
 use crate::answer::Way;
 use crate::asked::{Asked, ReplyForm};
@@ -154,7 +154,19 @@ pub(crate) fn answer_code(
     ensures text { IfOk result (λ answered. answered.text ≡ way_text way asked.link.source (answer_text (Service (code_response asked.form code)))) }
     ensures outgoing { IfOk result (λ answered. answered.outgoing ≡ None) }
 {
-    let response = match asked.form {
+    let due = Due::response(asked.link.source, code_response(asked.form, code));
+    Ok(Answered {
+        text: due.into_text(alloc, way)?,
+        outgoing: None,
+    })
+}
+
+// The response with a result alone.
+fn code_response(form: ReplyForm, code: ResultCode) -> Response
+    ensures response { result ≡ code_response form code }
+    ensures small { IsSmall result }
+{
+    match form {
         ReplyForm::Get(id) | ReplyForm::GetList(id) => Response::Get {
             id,
             result: GetResult::Code(code),
@@ -162,15 +174,10 @@ pub(crate) fn answer_code(
         ReplyForm::Set(id) => Response::Set { id, code },
         ReplyForm::SetLastBlock(id, number) => Response::SetLastBlock { id, code, number },
         ReplyForm::Action(id) => Response::Action { id, code },
-    };
-    let due = Due::response(asked.link.source, response);
-    Ok(Answered {
-        text: due.text_by(alloc, way)?,
-        outgoing: None,
-    })
+    }
 }
 
-// The answer with values: as it is where it has room, else its first block, else a refusal. So many of its bytes don't go in blocks.
+// The answer with values: as it is where it has room, else in blocks. So many of its bytes don't go in blocks.
 #[tactic(auto, unfolding(crate::specs::Answers::answer_text))]
 fn answer_long(
     alloc: Global,
@@ -192,17 +199,31 @@ fn answer_long(
         });
     }
     let raw = &way.payload(&text)[header..];
+    let answered = answer_in_blocks(alloc, link, way, id, raw);
+    drop(text);
+    answered
+}
+
+// The answer with values that have no room in one: the first block of these bytes, else a refusal.
+fn answer_in_blocks(
+    alloc: Global,
+    link: Link,
+    way: Way,
+    id: InvokeId,
+    raw: &[u8],
+) -> Result<Answered, AllocError>
+    requires { 0 < length raw.now }
+    ensures text { IfOk result (λ answered. answered.text ≡ way_text way link.source (answer_text (Service (response_in_blocks link id raw.now)))) }
+    ensures outgoing { IfOk result (λ answered. answered.outgoing ≡ option_and_then (sent 1) (text_in_blocks link raw.now)) }
+{
     if can_go_in_blocks(link, raw) {
         return begin(alloc, link, way, id, Octets::from_slice(alloc, raw)?);
     }
-    let refusal = Response::Get {
-        id,
-        result: GetResult::Code(ResultCode::OtherReason),
+    let asked = Asked {
+        link,
+        form: ReplyForm::Get(id),
     };
-    Ok(Answered {
-        text: Due::response(link.source, refusal).text_by(alloc, way)?,
-        outgoing: None,
-    })
+    answer_code(alloc, asked, way, ResultCode::OtherReason)
 }
 
 // Whether bytes may go to the client in blocks: this was negotiated, and there are numbers for all blocks.
@@ -227,14 +248,37 @@ fn begin(
     ensures outgoing { IfOk result (λ answered. answered.outgoing ≡ sent 1 (unsent_by link.limit raw)) }
 {
     let mut outgoing = Outgoing::new(raw, link.limit);
+    match give_first(alloc, link, way, id, &mut outgoing) {
+        Ok((text, is_last)) => Ok(Answered {
+            text,
+            outgoing: if is_last { None } else { Some(outgoing) },
+        }),
+        Err(error) => {
+            drop(outgoing);
+            Err(error)
+        }
+    }
+}
+
+// The answer with the first block of a transfer, and whether this is the last.
+fn give_first(
+    alloc: Global,
+    link: Link,
+    way: Way,
+    id: InvokeId,
+    outgoing: &mut Outgoing,
+) -> Result<(Octets, bool), AllocError>
+    requires open { outgoing.now.is_open ≡ true }
+    requires first { outgoing.now.number ≡ 0 }
+    ensures text { IfOk result (λ first. first.0 ≡ way_text way link.source (answer_text (Service (block_response id (next_piece outgoing.old))))) }
+    ensures last { IfOk result (λ first. first.1 ≡ (next_piece outgoing.old).last) }
+    ensures after { OnOk result (outgoing.new ≡ after_next outgoing.old) }
+{
     match outgoing.next(alloc, 0) {
         Ok(piece) => {
             let is_last = piece.last;
-            let text = block_given(link.source, id, piece).text_by(alloc, way)?;
-            Ok(Answered {
-                text,
-                outgoing: if is_last { None } else { Some(outgoing) },
-            })
+            let text = block_given(link.source, id, piece).into_text(alloc, way)?;
+            Ok((text, is_last))
         }
         Err(BlockFault::Memory) => Err(AllocError),
         Err(BlockFault::NoTransfer | BlockFault::WrongNumber | BlockFault::TooLong) => {

@@ -16,6 +16,8 @@ use crate::outgoing::{Outgoing, continue_by};
 use crate::password::Password;
 use crate::step::Step;
 use acse_ber::{AcseFault, judge, read_aarq};
+use cosem_axdr::Data;
+use cosem_names::{AttributeSelection, Level};
 use relay_core::Event;
 use std::alloc::{AllocError, Global};
 use xdlms_apdu::{Block, Exception, InvokeId, Request};
@@ -124,55 +126,40 @@ impl State {
     {
         let level = link.level;
         match request {
-            Request::Get { id, target } => Ok(self.ask(
-                Event::Get {
-                    level,
-                    attr: target.attr,
-                    selected: target.selected,
-                },
-                link,
-                ReplyForm::Get(id),
-            )),
-            Request::GetList { id, targets } => Ok(self.ask(
-                Event::GetList {
+            Request::Get { id, target } => {
+                Ok(self.ask(get_event(level, target), link, ReplyForm::Get(id)))
+            }
+            Request::GetList { id, targets } => {
+                let event = Event::GetList {
                     level,
                     items: targets,
-                },
-                link,
-                ReplyForm::GetList(id),
-            )),
-            Request::Set { id, target, value } => Ok(self.ask(
-                Event::Set {
-                    level,
-                    attr: target.attr,
-                    selected: target.selected,
-                    value,
-                },
-                link,
-                ReplyForm::Set(id),
-            )),
+                };
+                Ok(self.ask(event, link, ReplyForm::GetList(id)))
+            }
+            Request::Set { id, target, value } => {
+                Ok(self.ask(set_event(level, target, value), link, ReplyForm::Set(id)))
+            }
             Request::Action {
                 id,
                 method,
                 parameter,
-            } => Ok(self.ask(
-                Event::Execute {
+            } => {
+                let event = Event::Execute {
                     level,
                     method,
                     parameter,
-                },
-                link,
-                ReplyForm::Action(id),
-            )),
+                };
+                Ok(self.ask(event, link, ReplyForm::Action(id)))
+            }
             Request::GetNext { id, number } => self.give(alloc, link, id, number),
             Request::SetFirst { id, target, block } => {
-                self.begin(alloc, link, id, Purpose::Set(target), &block)
+                self.begin(alloc, link, id, Purpose::Set(target), block)
             }
             Request::ActionFirst { id, method, block } => {
-                self.begin(alloc, link, id, Purpose::Action(method), &block)
+                self.begin(alloc, link, id, Purpose::Action(method), block)
             }
-            Request::SetNext { id, block } => self.join(link, id, LongService::Set, &block),
-            Request::ActionNext { id, block } => self.join(link, id, LongService::Action, &block),
+            Request::SetNext { id, block } => self.join(link, id, LongService::Set, block),
+            Request::ActionNext { id, block } => self.join(link, id, LongService::Action, block),
         }
     }
 
@@ -210,24 +197,34 @@ impl State {
         link: Link,
         id: InvokeId,
         purpose: Purpose,
-        block: &Block,
+        block: Block,
     ) -> Result<Step, AllocError>
-        ensures outcome { IfOk result (λ step. step_outcome step ≡ block_outcome_of link id purpose block.now no_blocks) }
-        ensures after { OnOk result (self.new ≡ record { link = self.old.link; incoming = block_after purpose block.now no_blocks; outgoing = None }) }
+        ensures outcome { IfOk result (λ step. step_outcome step ≡ block_outcome_of link id purpose block no_blocks) }
+        ensures after { OnOk result (self.new ≡ record { link = self.old.link; incoming = block_after purpose block no_blocks; outgoing = None }) }
         ensures err { OnErr result (self.new ≡ self.old) }
     {
         let mut incoming = Incoming {
             purpose,
             blocks: JoinBlocks::new(alloc),
         };
-        let added = incoming.add(link, id, block)?;
-        self.incoming = if added.is_over() {
-            None
-        } else {
-            Some(incoming)
-        };
-        self.outgoing = None;
-        Ok(Step::from(added))
+        let added = incoming.add(link, id, &block);
+        drop(block);
+        match added {
+            Ok(added) => {
+                self.outgoing = None;
+                self.incoming = if added.is_over() {
+                    drop(incoming);
+                    None
+                } else {
+                    Some(incoming)
+                };
+                Ok(Step::from(added))
+            }
+            Err(error) => {
+                drop(incoming);
+                Err(error)
+            }
+        }
     }
 
     // A later block of a long SET or ACTION. It ends a long GET.
@@ -236,15 +233,40 @@ impl State {
         link: Link,
         id: InvokeId,
         service: LongService,
-        block: &Block,
+        block: Block,
     ) -> Result<Step, AllocError>
-        ensures outcome { IfOk result (λ step. step_outcome step ≡ later_outcome link service id block.now (transfer_of service self.old.incoming)) }
-        ensures after { OnOk result (self.new ≡ record { link = self.old.link; incoming = later_after block.now (transfer_of service self.old.incoming); outgoing = None }) }
+        ensures outcome { IfOk result (λ step. step_outcome step ≡ later_outcome link service id block (transfer_of service self.old.incoming)) }
+        ensures after { OnOk result (self.new ≡ record { link = self.old.link; incoming = later_after block (transfer_of service self.old.incoming); outgoing = None }) }
         ensures err { OnErr result (self.new ≡ self.old) }
     {
-        let added = add_to(&mut self.incoming, link, id, service, block)?;
+        let added = add_to(&mut self.incoming, link, id, service, &block);
+        drop(block);
+        let added = added?;
         self.outgoing = None;
         Ok(Step::from(added))
+    }
+}
+
+// The event of a GET.
+fn get_event(level: Level, target: AttributeSelection) -> Event
+    ensures { result ≡ Event.Get level target.attr target.selected }
+{
+    Event::Get {
+        level,
+        attr: target.attr,
+        selected: target.selected,
+    }
+}
+
+// The event of a SET.
+fn set_event(level: Level, target: AttributeSelection, value: Data) -> Event
+    ensures { result ≡ Event.Set level target.attr target.selected value }
+{
+    Event::Set {
+        level,
+        attr: target.attr,
+        selected: target.selected,
+        value,
     }
 }
 

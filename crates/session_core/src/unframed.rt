@@ -1,8 +1,10 @@
 //! Requests that come without a frame and without an association.
-ghost use Rattle.std.specs.Prelude.{◌≡◌, IsTrue, IfOk};
+ghost use Rattle.std.specs.Prelude.{◌≡◌, None, IsTrue, IfOk};
 ghost use Rattle.session_core.specs.Answers.{answer_text};
+ghost use Rattle.session_core.specs.Calls.{call_of};
+ghost use Rattle.session_core.specs.Incoming.{whole_outcome};
 ghost use Rattle.session_core.specs.Outgoing.{reply_response};
-ghost use Rattle.session_core.specs.Rules.{is_settled, step_outcome};
+ghost use Rattle.session_core.specs.Rules.{call_turn, is_settled, resolved, step_outcome};
 ghost use Rattle.session_core.specs.Unframed.{unframed_of, unframed_outcome, is_unframed};
 ghost use Rattle.session_core.specs.declared.answer.Answer.TheVariants.{Service};
 
@@ -10,9 +12,10 @@ use crate::answer::Way;
 use crate::asked::Asked;
 use crate::conformance::{ACTION_REQUEST, GET_REQUEST, SET_REQUEST};
 use crate::due::Due;
+use crate::joined::Joined;
 use crate::limit::{Limit, MAX_PDU};
 use crate::link::Link;
-use crate::replying::answer_reply;
+use crate::replying::{Answered, answer_reply};
 use crate::state::State;
 use crate::step::Step;
 use acse_ber::OFFERED_CONFORMANCE;
@@ -42,7 +45,7 @@ pub fn ask_unframed(alloc: Global, payload: &[u8]) -> Result<Unframed, AllocErro
 {
     if !is_unframed(payload) {
         let due = Due::exception(MANAGEMENT_PORT, Exception::Unknown);
-        return Ok(Unframed::Say(due.text_by(alloc, Way::Bare)?));
+        return say(alloc, due);
     }
     let link = Link {
         source: MANAGEMENT_PORT,
@@ -50,11 +53,30 @@ pub fn ask_unframed(alloc: Global, payload: &[u8]) -> Result<Unframed, AllocErro
         conformance: OFFERED_CONFORMANCE,
         limit: Limit::of(MAX_PDU),
     };
-    let mut state = State::new();
-    match state.call(alloc, link, payload)? {
-        Step::Join(joined) => told(alloc, joined.read(alloc)?),
+    match call_alone(alloc, link, payload)? {
+        Step::Join(joined) => told(alloc, read_joined(alloc, joined)?),
         step => told(alloc, step),
     }
+}
+
+// What comes of a call that no other goes before.
+fn call_alone(alloc: Global, link: Link, payload: &[u8]) -> Result<Step, AllocError>
+    ensures { IfOk result (λ step. step_outcome step ≡ resolved None (call_turn link None (call_of link.conformance payload.now))) }
+{
+    let mut state = State::new();
+    let step = state.call(alloc, link, payload);
+    drop(state);
+    step
+}
+
+// What the blocks of a transfer ask for.
+fn read_joined(alloc: Global, joined: Joined) -> Result<Step, AllocError>
+    ensures outcome { IfOk result (λ step. step_outcome step ≡ whole_outcome joined) }
+    ensures settled { IfOk result (λ step. IsTrue (is_settled step)) }
+{
+    let step = joined.read(alloc);
+    drop(joined);
+    step
 }
 
 // What a step tells.
@@ -64,9 +86,16 @@ fn told(alloc: Global, step: Step) -> Result<Unframed, AllocError>
 {
     match step {
         Step::Ask(event, asked) => Ok(Unframed::Ask(event, asked)),
-        Step::Say(due) => Ok(Unframed::Say(due.text_by(alloc, Way::Bare)?)),
+        Step::Say(due) => say(alloc, due),
         Step::Join(_) => unreachable!(),
     }
+}
+
+// An answer.
+fn say(alloc: Global, due: Due) -> Result<Unframed, AllocError>
+    ensures { IfOk result (λ unframed. unframed ≡ Unframed.Say (answer_text due.answer)) }
+{
+    Ok(Unframed::Say(due.into_text(alloc, Way::Bare)?))
 }
 
 // Whether a payload is a service's tag alone, or a form of a service that needs no session.
@@ -89,7 +118,13 @@ pub fn answer_unframed(alloc: Global, asked: Asked, reply: Reply) -> Result<Octe
     ensures { IfOk result (λ text. text ≡ answer_text (Service (reply_response asked reply))) }
 {
     match answer_reply(alloc, asked, Way::Bare, reply) {
-        Ok(answered) => Ok(answered.text),
-        Err((error, _)) => Err(error),
+        Ok(Answered { text, outgoing }) => {
+            drop(outgoing);
+            Ok(text)
+        }
+        Err((error, reply)) => {
+            drop(reply);
+            Err(error)
+        }
     }
 }

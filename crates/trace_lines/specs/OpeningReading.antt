@@ -1,12 +1,14 @@
 -- An opening, read from its lines.
 --     limiter_from, export_from   the lines of a limiter
 --     opening_from                all lines from the version to the last schedule
-use Rattle.std.specs.Prelude.{ℕ, List, [], Ok, codes}
+use Rattle.std.specs.Prelude.{◌≡◌, ◌≤◌, ℕ, List, [], Option, Ok, codes, length}
 use Rattle.byte_reading.specs.Outcome.{◌>>=◌}
 use Rattle.cosem_names.specs.declared.objects.Which.{Which}
 use Rattle.cosem_names.specs.declared.objects.Which.TheVariants.{Import, Export}
 use Rattle.disconnect_control.specs.declared.state.ControlMode.{ControlMode}
 use Rattle.disconnect_control.specs.declared.state.ControlState.{ControlState}
+use Rattle.disconnect_control.specs.declared.state.ControlMode.TheVariants.{Mode0}
+use Rattle.disconnect_control.specs.declared.state.ControlState.TheVariants.{Connected}
 use Rattle.limiter_core.specs.Counting.{no_run}
 use Rattle.limiter_core.specs.Settings.{new_settings}
 use Rattle.relay_core.specs.declared.opening.LimiterOpening.{LimiterOpening}
@@ -84,6 +86,23 @@ schedules_from place = do
   third ← line_as (schedule_from 2) second.1
   fourth ← line_as (schedule_from 3) third.1
   Ok (record { first = first.0; second = second.0; third = third.0; fourth = fourth.0 }, fourth.1)
+
+-- a core can have this device name, state and mode
+pub record IsFitStart (device : List ℕ) (state : ControlState) (mode : ControlMode) : Type 0 where
+  pub device_some : 1 ≤ length device
+  pub device_few : length device ≤ 16
+  pub control : mode ≡ Mode0 → state ≡ Connected
+
+-- the export limiter and what stands behind it, behind the other parts of an opening
+unfoldable pub opening_behind_import : Version → List ℕ → ControlState → ControlMode → Option ℕ → LimiterOpening → Place → ReadLines Opening
+opening_behind_import version device state mode moment import place = do
+  export ← export_from version place
+  scripts ← line_as (labelled (codes "scripts") table_in) export.1
+  schedules ← schedules_from scripts.1
+  Ok (
+    record { device = device; state = state; mode = mode; moment = moment; import = import; export = export.0; scripts = scripts.0; schedules = schedules.0 },
+    schedules.1,
+  )
 
 -- an opening of this device name, state and mode, its other parts from the lines behind these
 unfoldable pub opening_with : Version → List ℕ → ControlState → ControlMode → Place → ReadLines Opening

@@ -11,6 +11,7 @@
 //! of an event by itself. What is written is read again.
 #![tactic(auto)]
 
+mod beside;
 mod data;
 mod event_lines;
 mod event_places;

@@ -1,8 +1,11 @@
 ghost use Rattle.std.specs.Prelude.{◌≡◌, IfOk};
 ghost use Rattle.relay_core.specs.Opening.{IsFitLimiterOpening};
 ghost use Rattle.trace_lines.specs.OpeningReading.{value_line, limiter_from, new_limiter, export_from};
-ghost use Rattle.trace_lines.specs.Places.{ReadsLines};
+ghost use Rattle.trace_lines.specs.OpeningFields.{label, labelled};
+ghost use Rattle.trace_lines.specs.Places.{ReadsLines, line_as};
+ghost use Rattle.trace_lines.specs.Reading.{value_in};
 
+use crate::beside::beside;
 use crate::fault::TraceFault;
 use crate::limiter_fields::{actions, groups, over, profile, under, value};
 use crate::place::TraceLines;
@@ -14,11 +17,18 @@ use listed::Listed;
 use relay_core::LimiterOpening;
 use std::alloc::Global;
 
+/// The line of a value of a limiter, by its word.
+fn read_value(which: Which, word: &[u8], lines: &mut TraceLines) -> Result<u32, TraceFault>
+    ensures { ReadsLines (λ value. value) result lines.new (line_as (labelled (label which word.now) value_in) lines.old) }
+{
+    lines.read(|words| value(which, word, words))
+}
+
 /// The line of a limiter's last sample.
 pub(crate) fn read_last(which: Which, lines: &mut TraceLines) -> Result<u32, TraceFault>
     ensures { ReadsLines (λ value. value) result lines.new (value_line which lines.old) }
 {
-    lines.read(|words| value(which, b"value", words))
+    read_value(which, b"value", lines)
 }
 
 /// The lines of a limiter behind that of its last sample.
@@ -32,15 +42,15 @@ pub(crate) fn read_limiter(
     ensures reads { ReadsLines (λ limiter. limiter) result lines.new (limiter_from which last lines.old) }
     ensures fit { IfOk result IsFitLimiterOpening }
 {
-    let normal_threshold = lines.read(|words| value(which, b"normal", words))?;
-    let emergency_threshold = lines.read(|words| value(which, b"emergency", words))?;
-    let min_over_duration = lines.read(|words| value(which, b"minover", words))?;
-    let min_under_duration = lines.read(|words| value(which, b"minunder", words))?;
+    let normal_threshold = read_value(which, b"normal", lines)?;
+    let emergency_threshold = read_value(which, b"emergency", lines)?;
+    let min_over_duration = read_value(which, b"minover", lines)?;
+    let min_under_duration = read_value(which, b"minunder", lines)?;
     let profile = lines.read(|words| profile(alloc, which, words))?;
     let groups = lines.read(|words| groups(alloc, which, words))?;
-    let actions = lines.read(|words| actions(which, words))?;
-    let over = lines.read(|words| over(which, last, words))?;
-    let under = lines.read(|words| under(which, last, over, words))?;
+    let (groups, actions) = beside(groups, lines.read(|words| actions(which, words)))?;
+    let (groups, over) = beside(groups, lines.read(|words| over(which, last, words)))?;
+    let (groups, under) = beside(groups, lines.read(|words| under(which, last, over, words)))?;
     Ok(LimiterOpening {
         value: last,
         normal_threshold,

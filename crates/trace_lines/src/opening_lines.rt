@@ -1,26 +1,46 @@
-ghost use Rattle.std.specs.Prelude.{IfOk};
-ghost use Rattle.relay_core.specs.Opening.{IsFitOpening};
-ghost use Rattle.trace_lines.specs.OpeningReading.{schedules_from, opening_in, opening_from};
-ghost use Rattle.trace_lines.specs.Places.{ReadsLines};
+ghost use Rattle.std.specs.Prelude.{◌≤◌, IfOk};
+ghost use Rattle.relay_core.specs.Opening.{IsFitLimiterOpening, IsFitOpening};
+ghost use Rattle.trace_lines.specs.OpeningFields.{schedule_from};
+ghost use Rattle.trace_lines.specs.OpeningReading.{IsFitStart, opening_behind_import, opening_with, schedules_from, opening_in, opening_from};
+ghost use Rattle.trace_lines.specs.Places.{ReadsLines, line_as};
 
+use crate::beside::beside;
 use crate::fault::TraceFault;
 use crate::limiter_lines::{read_export, read_last, read_limiter};
 use crate::opening_fields::{device, mode, moment, schedule, state, table, version};
 use crate::place::TraceLines;
 use crate::version::Version;
+use action_schedule::ActionSchedule;
+use cosem_axdr::Octets;
 use cosem_names::Which;
-use relay_core::{Opening, Schedules};
+use disconnect_control::{ControlMode, ControlState};
+use relay_core::{LimiterOpening, Opening, Schedules};
 use std::alloc::Global;
+
+/// The line of a schedule, by its number from 0.
+fn read_schedule(
+    alloc: Global,
+    number: u32,
+    lines: &mut TraceLines,
+) -> Result<ActionSchedule, TraceFault>
+    requires { number ≤ 3 }
+    ensures { ReadsLines (λ schedule. schedule) result lines.new (line_as (schedule_from number) lines.old) }
+{
+    lines.read(|words| schedule(alloc, number, words))
+}
 
 /// The lines of the four schedules.
 #[tactic(auto, unfolding(crate::specs::OpeningReading::schedules_from))]
 fn read_schedules(alloc: Global, lines: &mut TraceLines) -> Result<Schedules, TraceFault>
     ensures { ReadsLines (λ schedules. schedules) result lines.new (schedules_from lines.old) }
 {
-    let first = lines.read(|words| schedule(alloc, 0, words))?;
-    let second = lines.read(|words| schedule(alloc, 1, words))?;
-    let third = lines.read(|words| schedule(alloc, 2, words))?;
-    let fourth = lines.read(|words| schedule(alloc, 3, words))?;
+    let first = read_schedule(alloc, 0, lines)?;
+    let (first, second) = beside(first, read_schedule(alloc, 1, lines))?;
+    let ((first, second), third) = beside((first, second), read_schedule(alloc, 2, lines))?;
+    let ((first, second, third), fourth) = beside(
+        (first, second, third),
+        read_schedule(alloc, 3, lines),
+    )?;
     Ok(Schedules {
         first,
         second,
@@ -29,25 +49,43 @@ fn read_schedules(alloc: Global, lines: &mut TraceLines) -> Result<Schedules, Tr
     })
 }
 
-/// The lines behind that of the version.
-#[tactic(auto, unfolding(crate::specs::OpeningReading::opening_in, crate::specs::OpeningReading::opening_with))]
-fn read_parts(
+/// What the first lines tell: the device and its switch.
+#[derive(Drop)]
+struct Start {
+    device: Octets,
+    state: ControlState,
+    mode: ControlMode,
+}
+
+/// The lines behind those of the import limiter.
+#[tactic(auto, unfolding(crate::specs::OpeningReading::opening_behind_import))]
+fn read_behind_import(
     alloc: Global,
     version: Version,
+    start: Start,
+    moment: Option<u32>,
+    import: LimiterOpening,
     lines: &mut TraceLines,
 ) -> Result<Opening, TraceFault>
-    ensures reads { ReadsLines (λ opening. opening) result lines.new (opening_in version lines.old) }
+    requires start { IsFitStart start.device start.state start.mode }
+    requires import { IsFitLimiterOpening import }
+    ensures reads { ReadsLines (λ opening. opening) result lines.new (opening_behind_import version start.device start.state start.mode moment import lines.old) }
     ensures fit { IfOk result IsFitOpening }
 {
-    let device = lines.read(|words| device(alloc, words))?;
-    let state = lines.read(state)?;
-    let mode = lines.read(|words| mode(state, words))?;
-    let last = read_last(Which::Import, lines)?;
-    let moment = lines.read(moment)?;
-    let import = read_limiter(alloc, Which::Import, last, lines)?;
-    let export = read_export(alloc, version, lines)?;
-    let scripts = lines.read(|words| table(alloc, words))?;
-    let schedules = read_schedules(alloc, lines)?;
+    let ((start, import), export) = beside((start, import), read_export(alloc, version, lines))?;
+    let ((start, import, export), scripts) = beside(
+        (start, import, export),
+        lines.read(|words| table(alloc, words)),
+    )?;
+    let ((start, import, export, scripts), schedules) = beside(
+        (start, import, export, scripts),
+        read_schedules(alloc, lines),
+    )?;
+    let Start {
+        device,
+        state,
+        mode,
+    } = start;
     Ok(Opening {
         device,
         state,
@@ -58,6 +96,46 @@ fn read_parts(
         scripts,
         schedules,
     })
+}
+
+/// The lines behind that of the switch's mode.
+#[tactic(auto, unfolding(crate::specs::OpeningReading::opening_with, crate::specs::OpeningReading::opening_behind_import))]
+fn read_behind_mode(
+    alloc: Global,
+    version: Version,
+    start: Start,
+    lines: &mut TraceLines,
+) -> Result<Opening, TraceFault>
+    requires { IsFitStart start.device start.state start.mode }
+    ensures reads { ReadsLines (λ opening. opening) result lines.new (opening_with version start.device start.state start.mode lines.old) }
+    ensures fit { IfOk result IsFitOpening }
+{
+    let (start, last) = beside(start, read_last(Which::Import, lines))?;
+    let (start, moment) = beside(start, lines.read(moment))?;
+    let (start, import) = beside(start, read_limiter(alloc, Which::Import, last, lines))?;
+    let opening = read_behind_import(alloc, version, start, moment, import, lines)?;
+    Ok(opening)
+}
+
+/// The lines behind that of the version.
+#[tactic(auto, unfolding(crate::specs::OpeningReading::opening_in))]
+fn read_parts(
+    alloc: Global,
+    version: Version,
+    lines: &mut TraceLines,
+) -> Result<Opening, TraceFault>
+    ensures reads { ReadsLines (λ opening. opening) result lines.new (opening_in version lines.old) }
+    ensures fit { IfOk result IsFitOpening }
+{
+    let device = lines.read(|words| device(alloc, words))?;
+    let (device, state) = beside(device, lines.read(state))?;
+    let (device, mode) = beside(device, lines.read(|words| mode(state, words)))?;
+    let start = Start {
+        device,
+        state,
+        mode,
+    };
+    read_behind_mode(alloc, version, start, lines)
 }
 
 /// Reads the opening of a trace: its lines from that of the version to that of the last schedule. Errors: `Line` with the number of the first line that is

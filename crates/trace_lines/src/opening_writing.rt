@@ -66,15 +66,22 @@ fn write_head(alloc: Global, out: &mut Vec<u8>, opening: &Opening) -> Result<(),
     write_mode(out, opening.mode)
 }
 
+/// Adds the clock's last moment, or `-` before the first.
+fn add_moment(out: &mut Vec<u8>, moment: Option<u32>) -> Result<(), AllocError>
+    ensures { OnOk result (out.new.items ≡ out.old.items ++ blanked (moment_word moment ∷ [])) }
+{
+    match moment {
+        Some(moment) => add_number(out, u64::from(moment)),
+        None => add_word(out, b"-"),
+    }
+}
+
 /// Writes the line of the clock's last moment, or of `-` before the first.
 fn write_moment(out: &mut Vec<u8>, moment: Option<u32>) -> Result<(), AllocError>
     ensures { OnOk result (out.new.items ≡ out.old.items ++ rows_text ((codes "now" ∷ moment_word moment ∷ []) ∷ [])) }
 {
     out.extend_from_slice(b"now")?;
-    match moment {
-        Some(moment) => add_number(out, u64::from(moment))?,
-        None => add_word(out, b"-")?,
-    }
+    add_moment(out, moment)?;
     end_line(out)
 }
 

@@ -2,9 +2,10 @@ ghost use Rattle.std.specs.Prelude.{◌≡◌, ◌++◌, ◌∷◌, [], codes, d
 ghost use Rattle.cosem_names.specs.ResultCode.{code_of};
 ghost use Rattle.disconnect_control.specs.Transitions.{state_number};
 ghost use Rattle.trace_lines.specs.Replies.{result_words, reply_row, line_text};
-ghost use Rattle.trace_lines.specs.Writing.{blanked, all_words};
+ghost use Rattle.trace_lines.specs.Writing.{data_word, blanked, all_words};
 
 use crate::writing::add_data;
+use cosem_axdr::Data;
 use cosem_names::{GetResult, ResultCode};
 use disconnect_control::ControlState;
 use relay_core::{Line, Reply};
@@ -26,15 +27,20 @@ fn add_code(out: &mut Vec<u8>, code: ResultCode) -> Result<(), AllocError>
     add_named(out, b"code", u64::from(code.code()))
 }
 
+/// Adds the written text of a value.
+fn add_value(alloc: Global, out: &mut Vec<u8>, value: &Data) -> Result<(), AllocError>
+    ensures { OnOk result (out.new.items ≡ out.old.items ++ blanked (codes "value" ∷ data_word value.now ∷ [])) }
+{
+    add_word(out, b"value")?;
+    add_data(alloc, out, value)
+}
+
 /// Adds what a read of one attribute of several gives.
 fn add_result(alloc: Global, out: &mut Vec<u8>, item: &GetResult) -> Result<(), AllocError>
     ensures { OnOk result (out.new.items ≡ out.old.items ++ blanked (result_words item.now [])) }
 {
     match item {
-        GetResult::Value(value) => {
-            add_word(out, b"value")?;
-            add_data(alloc, out, value)
-        }
+        GetResult::Value(value) => add_value(alloc, out, value),
         GetResult::Code(code) => add_code(out, *code),
     }
 }
@@ -49,36 +55,54 @@ fn add_results(alloc: Global, out: &mut Vec<u8>, items: &[GetResult]) -> Result<
     Ok(())
 }
 
+/// Adds how often each side of a limiter has fired.
+fn add_sampled(out: &mut Vec<u8>, over: u64, under: u64) -> Result<(), AllocError>
+    ensures { OnOk result (out.new.items ≡ out.old.items ++ blanked (codes "sampled" ∷ decimal over ∷ decimal under ∷ [])) }
+{
+    add_named(out, b"sampled", over)?;
+    add_number(out, under)
+}
+
+/// Adds how often each side of the export limiter has fired, behind those of the import limiter.
+fn add_sampled_both(
+    out: &mut Vec<u8>,
+    over: u64,
+    under: u64,
+    export_over: u64,
+    export_under: u64,
+) -> Result<(), AllocError>
+    ensures { OnOk result (out.new.items ≡ out.old.items ++ blanked (codes "sampled" ∷ decimal over ∷ decimal under ∷ decimal export_over ∷ decimal export_under ∷ [])) }
+{
+    add_sampled(out, over, under)?;
+    add_number(out, export_over)?;
+    add_number(out, export_under)
+}
+
 /// Adds a reply.
 #[tactic(auto, unfolding(crate::specs::Replies::reply_row))]
 fn add_reply(alloc: Global, out: &mut Vec<u8>, reply: &Reply) -> Result<(), AllocError>
     ensures { OnOk result (out.new.items ≡ out.old.items ++ blanked (reply_row reply.now)) }
 {
     match reply {
-        Reply::Value(value) => {
-            add_word(out, b"value")?;
-            add_data(alloc, out, value)
-        }
+        Reply::Value(value) => add_value(alloc, out, value),
         Reply::Code(code) => add_code(out, *code),
         Reply::Values(items) => {
             add_named(out, b"values", items.len() as u64)?;
             add_results(alloc, out, items.as_slice())
         }
-        Reply::Sampled { over, under } => {
-            add_named(out, b"sampled", u64::from(*over))?;
-            add_number(out, u64::from(*under))
-        }
+        Reply::Sampled { over, under } => add_sampled(out, u64::from(*over), u64::from(*under)),
         Reply::SampledBoth {
             over,
             under,
             export_over,
             export_under,
-        } => {
-            add_named(out, b"sampled", u64::from(*over))?;
-            add_number(out, u64::from(*under))?;
-            add_number(out, u64::from(*export_over))?;
-            add_number(out, u64::from(*export_under))
-        }
+        } => add_sampled_both(
+            out,
+            u64::from(*over),
+            u64::from(*under),
+            u64::from(*export_over),
+            u64::from(*export_under),
+        ),
         Reply::Ran(due) => add_named(out, b"ran", u64::from(*due)),
         Reply::Stale { last } => add_named(out, b"stale", u64::from(*last)),
     }

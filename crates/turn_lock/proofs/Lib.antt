@@ -3,3 +3,4 @@ pub mod StepsKeep
 pub mod Counting
 pub mod Sent
 pub mod Bounds
+pub mod Watching

@@ -120,7 +120,11 @@ impl<T: Turned> Shared<T> {
             bound,
         } = port;
         match draw_last(&table.shared, &mut place) {
-            Ok(value) => Ok(value),
+            Ok(value) => {
+                drop(place);
+                drop(table);
+                Ok(value)
+            }
             Err(busy) => Err((
                 busy,
                 self,

@@ -91,13 +91,17 @@ impl<T: Turned> Port<T> {
         ensures other { IfOk result (λ p. (p.lock ≡ self.old.lock) × (p.bound ≡ self.old.bound) × (p.known ≡ born self.old.known) × (calls_by p.known.number p.known.seen ≡ [])) }
         ensures err { OnErr result (self.new.known ≡ self.old.known) }
     {
-        let table = Arc::try_clone(&self.table)?;
-        let place = divide(&table.shared, &mut self.place);
-        Ok(Port {
-            table,
-            place,
-            bound: self.bound,
-        })
+        match Arc::try_clone(&self.table) {
+            Ok(table) => {
+                let place = divide(&table.shared, &mut self.place);
+                Ok(Port {
+                    table,
+                    place,
+                    bound: self.bound,
+                })
+            }
+            Err(fault) => Err(fault),
+        }
     }
 
     /// A note of all that this port has seen.

@@ -70,7 +70,7 @@ pub(crate) fn read_selection(alloc: Global, reader: &mut Reader) -> Result<bool,
     let selected = reader.flag()?;
     if selected {
         let _selector = reader.byte()?;
-        let _parameters = reader.data(alloc)?;
+        drop(reader.data(alloc)?);
     }
     Ok(selected)
 }

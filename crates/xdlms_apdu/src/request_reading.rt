@@ -1,6 +1,6 @@
 ghost use Rattle.std.specs.Prelude.{◌≡◌, IfOk, MatchResult};
 ghost use Rattle.byte_reading.specs.Outcome.{Gives};
-ghost use Rattle.xdlms_apdu.specs.Reading.{Reads, get_request_at, set_request_at, action_request_at, request_at, request_of};
+ghost use Rattle.xdlms_apdu.specs.Reading.{Reads, two_at, three_at, number_at, data_at, invoke_id_at, method_at, target_at, parameter_at, block_at, list_at, get_request_at, set_request_at, action_request_at, request_at, request_of};
 ghost use Rattle.xdlms_apdu.specs.Spelling.{SpellsRequest};
 ghost use Rattle.xdlms_apdu.specs.declared.request.Request.{Request};
 
@@ -39,6 +39,7 @@ fn read_whole(alloc: Global, bytes: &[u8]) -> Result<Request, ApduFault>
     let mut reader = Reader::new(body);
     let request = read_tagged(alloc, *tag, &mut reader)?;
     if !reader.is_empty() {
+        drop(request);
         return Err(ApduFault::Unreadable);
     }
     Ok(request)
@@ -62,21 +63,39 @@ fn read_tagged(alloc: Global, tag: u8, reader: &mut Reader) -> Result<Request, A
 fn read_get(alloc: Global, reader: &mut Reader) -> Result<Request, ApduFault>
     ensures { Reads (λ request. request) result reader.new (get_request_at reader.old) }
 {
-    Ok(match reader.byte()? {
-        tag::get_request::NORMAL => Request::Get {
-            id: read_invoke_id(reader)?,
-            target: read_target(alloc, reader)?,
-        },
-        tag::get_request::NEXT => Request::GetNext {
-            id: read_invoke_id(reader)?,
-            number: reader.block_number()?,
-        },
-        tag::get_request::WITH_LIST => Request::GetList {
-            id: read_invoke_id(reader)?,
-            targets: read_targets(alloc, reader)?,
-        },
-        _ => return Err(ApduFault::UnknownForm),
-    })
+    match reader.byte()? {
+        tag::get_request::NORMAL => read_get_normal(alloc, reader),
+        tag::get_request::NEXT => read_get_next(reader),
+        tag::get_request::WITH_LIST => read_get_list(alloc, reader),
+        _ => Err(ApduFault::UnknownForm),
+    }
+}
+
+// Get-Request-Normal, behind its form.
+fn read_get_normal(alloc: Global, reader: &mut Reader) -> Result<Request, ApduFault>
+    ensures { Reads (λ request. request) result reader.new (two_at Request.Get invoke_id_at target_at reader.old) }
+{
+    let id = read_invoke_id(reader)?;
+    let target = read_target(alloc, reader)?;
+    Ok(Request::Get { id, target })
+}
+
+// Get-Request-Next, behind its form.
+fn read_get_next(reader: &mut Reader) -> Result<Request, ApduFault>
+    ensures { Reads (λ request. request) result reader.new (two_at Request.GetNext invoke_id_at number_at reader.old) }
+{
+    let id = read_invoke_id(reader)?;
+    let number = reader.block_number()?;
+    Ok(Request::GetNext { id, number })
+}
+
+// Get-Request-With-List, behind its form.
+fn read_get_list(alloc: Global, reader: &mut Reader) -> Result<Request, ApduFault>
+    ensures { Reads (λ request. request) result reader.new (two_at Request.GetList invoke_id_at (list_at target_at) reader.old) }
+{
+    let id = read_invoke_id(reader)?;
+    let targets = read_targets(alloc, reader)?;
+    Ok(Request::GetList { id, targets })
 }
 
 // Set-Request, behind its tag.
@@ -84,23 +103,41 @@ fn read_get(alloc: Global, reader: &mut Reader) -> Result<Request, ApduFault>
 fn read_set(alloc: Global, reader: &mut Reader) -> Result<Request, ApduFault>
     ensures { Reads (λ request. request) result reader.new (set_request_at reader.old) }
 {
-    Ok(match reader.byte()? {
-        tag::set_request::NORMAL => Request::Set {
-            id: read_invoke_id(reader)?,
-            target: read_target(alloc, reader)?,
-            value: reader.data(alloc)?,
-        },
-        tag::set_request::WITH_FIRST_DATABLOCK => Request::SetFirst {
-            id: read_invoke_id(reader)?,
-            target: read_target(alloc, reader)?,
-            block: read_block(alloc, reader)?,
-        },
-        tag::set_request::WITH_DATABLOCK => Request::SetNext {
-            id: read_invoke_id(reader)?,
-            block: read_block(alloc, reader)?,
-        },
-        _ => return Err(ApduFault::UnknownForm),
-    })
+    match reader.byte()? {
+        tag::set_request::NORMAL => read_set_normal(alloc, reader),
+        tag::set_request::WITH_FIRST_DATABLOCK => read_set_first(alloc, reader),
+        tag::set_request::WITH_DATABLOCK => read_set_next(alloc, reader),
+        _ => Err(ApduFault::UnknownForm),
+    }
+}
+
+// Set-Request-Normal, behind its form.
+fn read_set_normal(alloc: Global, reader: &mut Reader) -> Result<Request, ApduFault>
+    ensures { Reads (λ request. request) result reader.new (three_at Request.Set invoke_id_at target_at data_at reader.old) }
+{
+    let id = read_invoke_id(reader)?;
+    let target = read_target(alloc, reader)?;
+    let value = reader.data(alloc)?;
+    Ok(Request::Set { id, target, value })
+}
+
+// Set-Request-With-First-Datablock, behind its form.
+fn read_set_first(alloc: Global, reader: &mut Reader) -> Result<Request, ApduFault>
+    ensures { Reads (λ request. request) result reader.new (three_at Request.SetFirst invoke_id_at target_at block_at reader.old) }
+{
+    let id = read_invoke_id(reader)?;
+    let target = read_target(alloc, reader)?;
+    let block = read_block(alloc, reader)?;
+    Ok(Request::SetFirst { id, target, block })
+}
+
+// Set-Request-With-Datablock, behind its form.
+fn read_set_next(alloc: Global, reader: &mut Reader) -> Result<Request, ApduFault>
+    ensures { Reads (λ request. request) result reader.new (two_at Request.SetNext invoke_id_at block_at reader.old) }
+{
+    let id = read_invoke_id(reader)?;
+    let block = read_block(alloc, reader)?;
+    Ok(Request::SetNext { id, block })
 }
 
 // Action-Request, behind its tag.
@@ -108,21 +145,43 @@ fn read_set(alloc: Global, reader: &mut Reader) -> Result<Request, ApduFault>
 fn read_action(alloc: Global, reader: &mut Reader) -> Result<Request, ApduFault>
     ensures { Reads (λ request. request) result reader.new (action_request_at reader.old) }
 {
-    Ok(match reader.byte()? {
-        tag::action_request::NORMAL => Request::Action {
-            id: read_invoke_id(reader)?,
-            method: read_method(reader)?,
-            parameter: read_parameter(alloc, reader)?,
-        },
-        tag::action_request::WITH_FIRST_PBLOCK => Request::ActionFirst {
-            id: read_invoke_id(reader)?,
-            method: read_method(reader)?,
-            block: read_block(alloc, reader)?,
-        },
-        tag::action_request::WITH_PBLOCK => Request::ActionNext {
-            id: read_invoke_id(reader)?,
-            block: read_block(alloc, reader)?,
-        },
-        _ => return Err(ApduFault::UnknownForm),
+    match reader.byte()? {
+        tag::action_request::NORMAL => read_action_normal(alloc, reader),
+        tag::action_request::WITH_FIRST_PBLOCK => read_action_first(alloc, reader),
+        tag::action_request::WITH_PBLOCK => read_action_next(alloc, reader),
+        _ => Err(ApduFault::UnknownForm),
+    }
+}
+
+// Action-Request-Normal, behind its form.
+fn read_action_normal(alloc: Global, reader: &mut Reader) -> Result<Request, ApduFault>
+    ensures { Reads (λ request. request) result reader.new (three_at Request.Action invoke_id_at method_at parameter_at reader.old) }
+{
+    let id = read_invoke_id(reader)?;
+    let method = read_method(reader)?;
+    let parameter = read_parameter(alloc, reader)?;
+    Ok(Request::Action {
+        id,
+        method,
+        parameter,
     })
+}
+
+// Action-Request-With-First-Pblock, behind its form.
+fn read_action_first(alloc: Global, reader: &mut Reader) -> Result<Request, ApduFault>
+    ensures { Reads (λ request. request) result reader.new (three_at Request.ActionFirst invoke_id_at method_at block_at reader.old) }
+{
+    let id = read_invoke_id(reader)?;
+    let method = read_method(reader)?;
+    let block = read_block(alloc, reader)?;
+    Ok(Request::ActionFirst { id, method, block })
+}
+
+// Action-Request-With-Pblock, behind its form.
+fn read_action_next(alloc: Global, reader: &mut Reader) -> Result<Request, ApduFault>
+    ensures { Reads (λ request. request) result reader.new (two_at Request.ActionNext invoke_id_at block_at reader.old) }
+{
+    let id = read_invoke_id(reader)?;
+    let block = read_block(alloc, reader)?;
+    Ok(Request::ActionNext { id, block })
 }

@@ -1,12 +1,13 @@
 ghost use Rattle.std.specs.Prelude.{◌≡◌, IfOk, MatchResult};
 ghost use Rattle.byte_reading.specs.Outcome.{Gives};
-ghost use Rattle.xdlms_apdu.specs.Reading.{Reads, get_block_at, get_response_at, set_response_at, action_response_at, nothing_at, exception_at, response_at, response_of};
+ghost use Rattle.xdlms_apdu.specs.Reading.{Reads, one_at, two_at, three_at, number_at, raw_at, invoke_id_at, code_at, result_at, list_at, get_block_at, get_response_at, set_response_at, action_response_at, nothing_at, exception_at, response_at, response_of};
 ghost use Rattle.xdlms_apdu.specs.Spelling.{SpellsResponse};
 ghost use Rattle.xdlms_apdu.specs.declared.response.Response.{Response};
 
 use crate::block::Block;
 use crate::fault::ApduFault;
 use crate::field_reading::{read_code, read_invoke_id, read_result};
+use crate::invoke_id::InvokeId;
 use crate::list_reading::read_results;
 use crate::reader::Reader;
 use crate::response::{Exception, Response};
@@ -41,6 +42,7 @@ fn read_whole(alloc: Global, bytes: &[u8]) -> Result<Response, ApduFault>
     let mut reader = Reader::new(body);
     let response = read_tagged(alloc, *tag, &mut reader)?;
     if !reader.is_empty() {
+        drop(response);
         return Err(ApduFault::Unreadable);
     }
     Ok(response)
@@ -65,18 +67,30 @@ fn read_tagged(alloc: Global, tag: u8, reader: &mut Reader) -> Result<Response, 
 fn read_get(alloc: Global, reader: &mut Reader) -> Result<Response, ApduFault>
     ensures { Reads (λ response. response) result reader.new (get_response_at reader.old) }
 {
-    Ok(match reader.byte()? {
-        tag::get_response::NORMAL => Response::Get {
-            id: read_invoke_id(reader)?,
-            result: read_result(alloc, reader)?,
-        },
-        tag::get_response::WITH_DATABLOCK => read_get_block(alloc, reader)?,
-        tag::get_response::WITH_LIST => Response::GetList {
-            id: read_invoke_id(reader)?,
-            results: read_results(alloc, reader)?,
-        },
-        _ => return Err(ApduFault::UnknownForm),
-    })
+    match reader.byte()? {
+        tag::get_response::NORMAL => read_get_normal(alloc, reader),
+        tag::get_response::WITH_DATABLOCK => read_get_block(alloc, reader),
+        tag::get_response::WITH_LIST => read_get_list(alloc, reader),
+        _ => Err(ApduFault::UnknownForm),
+    }
+}
+
+// Get-Response-Normal, behind its form.
+fn read_get_normal(alloc: Global, reader: &mut Reader) -> Result<Response, ApduFault>
+    ensures { Reads (λ response. response) result reader.new (two_at Response.Get invoke_id_at result_at reader.old) }
+{
+    let id = read_invoke_id(reader)?;
+    let result = read_result(alloc, reader)?;
+    Ok(Response::Get { id, result })
+}
+
+// Get-Response-With-List, behind its form.
+fn read_get_list(alloc: Global, reader: &mut Reader) -> Result<Response, ApduFault>
+    ensures { Reads (λ response. response) result reader.new (two_at Response.GetList invoke_id_at (list_at result_at) reader.old) }
+{
+    let id = read_invoke_id(reader)?;
+    let results = read_results(alloc, reader)?;
+    Ok(Response::GetList { id, results })
 }
 
 // Get-Response-With-Datablock, behind its form: DataBlock-G, with raw data or a result.
@@ -88,24 +102,45 @@ fn read_get_block(alloc: Global, reader: &mut Reader) -> Result<Response, ApduFa
     let last = reader.flag()?;
     let number = reader.block_number()?;
     match reader.byte()? {
-        choice::DATA => {
-            let raw = reader.raw(alloc)?;
-            Ok(Response::GetBlock {
-                id,
-                block: Block { last, number, raw },
-            })
-        }
-        choice::RESULT => {
-            let code = read_code(reader)?;
-            Ok(Response::GetBlockRefused {
-                id,
-                last,
-                number,
-                code,
-            })
-        }
+        choice::DATA => read_block_raw(alloc, id, last, number, reader),
+        choice::RESULT => read_block_refusal(id, last, number, reader),
         _ => Err(ApduFault::Unreadable),
     }
+}
+
+// The raw data of a DataBlock-G.
+fn read_block_raw(
+    alloc: Global,
+    id: InvokeId,
+    last: bool,
+    number: u32,
+    reader: &mut Reader,
+) -> Result<Response, ApduFault>
+    ensures { Reads (λ response. response) result reader.new (one_at (λ raw. Response.GetBlock id (record { last = last; number = number; raw = raw })) raw_at reader.old) }
+{
+    let raw = reader.raw(alloc)?;
+    Ok(Response::GetBlock {
+        id,
+        block: Block { last, number, raw },
+    })
+}
+
+// The result of a DataBlock-G that has no raw data.
+fn read_block_refusal(
+    id: InvokeId,
+    last: bool,
+    number: u32,
+    reader: &mut Reader,
+) -> Result<Response, ApduFault>
+    ensures { Reads (λ response. response) result reader.new (one_at (Response.GetBlockRefused id last number) code_at reader.old) }
+{
+    let code = read_code(reader)?;
+    Ok(Response::GetBlockRefused {
+        id,
+        last,
+        number,
+        code,
+    })
 }
 
 // Set-Response, behind its tag.
@@ -113,22 +148,40 @@ fn read_get_block(alloc: Global, reader: &mut Reader) -> Result<Response, ApduFa
 fn read_set(reader: &mut Reader) -> Result<Response, ApduFault>
     ensures { Reads (λ response. response) result reader.new (set_response_at reader.old) }
 {
-    Ok(match reader.byte()? {
-        tag::set_response::NORMAL => Response::Set {
-            id: read_invoke_id(reader)?,
-            code: read_code(reader)?,
-        },
-        tag::set_response::DATABLOCK => Response::SetBlock {
-            id: read_invoke_id(reader)?,
-            number: reader.block_number()?,
-        },
-        tag::set_response::LAST_DATABLOCK => Response::SetLastBlock {
-            id: read_invoke_id(reader)?,
-            code: read_code(reader)?,
-            number: reader.block_number()?,
-        },
-        _ => return Err(ApduFault::UnknownForm),
-    })
+    match reader.byte()? {
+        tag::set_response::NORMAL => read_set_normal(reader),
+        tag::set_response::DATABLOCK => read_set_block(reader),
+        tag::set_response::LAST_DATABLOCK => read_set_last(reader),
+        _ => Err(ApduFault::UnknownForm),
+    }
+}
+
+// Set-Response-Normal, behind its form.
+fn read_set_normal(reader: &mut Reader) -> Result<Response, ApduFault>
+    ensures { Reads (λ response. response) result reader.new (two_at Response.Set invoke_id_at code_at reader.old) }
+{
+    let id = read_invoke_id(reader)?;
+    let code = read_code(reader)?;
+    Ok(Response::Set { id, code })
+}
+
+// Set-Response-Datablock, behind its form.
+fn read_set_block(reader: &mut Reader) -> Result<Response, ApduFault>
+    ensures { Reads (λ response. response) result reader.new (two_at Response.SetBlock invoke_id_at number_at reader.old) }
+{
+    let id = read_invoke_id(reader)?;
+    let number = reader.block_number()?;
+    Ok(Response::SetBlock { id, number })
+}
+
+// Set-Response-Last-Datablock, behind its form.
+fn read_set_last(reader: &mut Reader) -> Result<Response, ApduFault>
+    ensures { Reads (λ response. response) result reader.new (three_at Response.SetLastBlock invoke_id_at code_at number_at reader.old) }
+{
+    let id = read_invoke_id(reader)?;
+    let code = read_code(reader)?;
+    let number = reader.block_number()?;
+    Ok(Response::SetLastBlock { id, code, number })
 }
 
 // Action-Response, behind its tag.
@@ -137,18 +190,29 @@ fn read_action(reader: &mut Reader) -> Result<Response, ApduFault>
     ensures { Reads (λ response. response) result reader.new (action_response_at reader.old) }
 {
     match reader.byte()? {
-        tag::action_response::NORMAL => {
-            let id = read_invoke_id(reader)?;
-            let code = read_code(reader)?;
-            read_nothing(reader)?;
-            Ok(Response::Action { id, code })
-        }
-        tag::action_response::NEXT_PBLOCK => Ok(Response::ActionBlock {
-            id: read_invoke_id(reader)?,
-            number: reader.block_number()?,
-        }),
+        tag::action_response::NORMAL => read_action_normal(reader),
+        tag::action_response::NEXT_PBLOCK => read_action_block(reader),
         _ => Err(ApduFault::UnknownForm),
     }
+}
+
+// Action-Response-Normal, behind its form.
+fn read_action_normal(reader: &mut Reader) -> Result<Response, ApduFault>
+    ensures { Reads (λ response. response) result reader.new (three_at (λ id code nothing. Response.Action id code) invoke_id_at code_at nothing_at reader.old) }
+{
+    let id = read_invoke_id(reader)?;
+    let code = read_code(reader)?;
+    read_nothing(reader)?;
+    Ok(Response::Action { id, code })
+}
+
+// Action-Response-Next-Pblock, behind its form.
+fn read_action_block(reader: &mut Reader) -> Result<Response, ApduFault>
+    ensures { Reads (λ response. response) result reader.new (two_at Response.ActionBlock invoke_id_at number_at reader.old) }
+{
+    let id = read_invoke_id(reader)?;
+    let number = reader.block_number()?;
+    Ok(Response::ActionBlock { id, number })
 }
 
 // The byte that says that there are no return parameters.

@@ -1,8 +1,10 @@
 ghost use Rattle.std.specs.Prelude.{◌≡◌, [], ◌∷◌, ◌++◌, IfOk, OnOk};
+ghost use Rattle.cosem_axdr.specs.Spelling.{string_text};
 ghost use Rattle.cosem_names.specs.ResultCode.{code_of};
 ghost use Rattle.xdlms_apdu.specs.Heads.{response_head};
-ghost use Rattle.xdlms_apdu.specs.Text.{exception_text, response_body, response_text};
+ghost use Rattle.xdlms_apdu.specs.Text.{exception_text, flag_text, number_text, response_body, response_text};
 
+use crate::block::Block;
 use crate::field_writing::{put_flag, put_head, put_number, put_raw, put_result};
 use crate::list_writing::put_results;
 use crate::response::{Exception, Response};
@@ -63,38 +65,63 @@ fn put_response_body(response: &Response, out: &mut Octets) -> Result<(), AllocE
             result: outcome,
             ..
         } => put_result(outcome, out),
-        Response::GetBlock { block, .. } => {
-            put_flag(block.last, out)?;
-            put_number(block.number, out)?;
-            out.push(choice::DATA)?;
-            put_raw(&block.raw, out)
-        }
+        Response::GetBlock { block, .. } => put_get_block(block, out),
         Response::GetBlockRefused {
             last,
             number,
             code,
             ..
-        } => {
-            put_flag(*last, out)?;
-            put_number(*number, out)?;
-            out.push(choice::RESULT)?;
-            put_code(*code, out)
-        }
+        } => put_refusal(*last, *number, *code, out),
         Response::GetList { results, .. } => put_results(results.as_slice(), out),
         Response::Set { code, .. } => put_code(*code, out),
         Response::SetBlock { number, .. } | Response::ActionBlock { number, .. } => put_number(
             *number, out,
         ),
-        Response::SetLastBlock { code, number, .. } => {
-            put_code(*code, out)?;
-            put_number(*number, out)
-        }
-        Response::Action { code, .. } => {
-            put_code(*code, out)?;
-            out.push(ABSENT)
-        }
+        Response::SetLastBlock { code, number, .. } => put_last(*code, *number, out),
+        Response::Action { code, .. } => put_action(*code, out),
         Response::Exception(exception) => put_exception(*exception, out),
     }
+}
+
+// DataBlock-G with raw data.
+fn put_get_block(block: &Block, out: &mut Octets) -> Result<(), AllocError>
+    ensures { OnOk result (out.new ≡ out.old ++ (flag_text block.now.last ++ (number_text block.now.number ++ 0x00 ∷ string_text block.now.raw))) }
+{
+    put_flag(block.last, out)?;
+    put_number(block.number, out)?;
+    out.push(choice::DATA)?;
+    put_raw(&block.raw, out)
+}
+
+// DataBlock-G with a result.
+fn put_refusal(
+    last: bool,
+    number: u32,
+    code: ResultCode,
+    out: &mut Octets,
+) -> Result<(), AllocError>
+    ensures { OnOk result (out.new ≡ out.old ++ (flag_text last ++ (number_text number ++ 0x01 ∷ code_of code ∷ []))) }
+{
+    put_flag(last, out)?;
+    put_number(number, out)?;
+    out.push(choice::RESULT)?;
+    put_code(code, out)
+}
+
+// The result of a SET that came in blocks, and the number of its last block.
+fn put_last(code: ResultCode, number: u32, out: &mut Octets) -> Result<(), AllocError>
+    ensures { OnOk result (out.new ≡ out.old ++ code_of code ∷ number_text number) }
+{
+    put_code(code, out)?;
+    put_number(number, out)
+}
+
+// The result of an ACTION, which has no return parameters.
+fn put_action(code: ResultCode, out: &mut Octets) -> Result<(), AllocError>
+    ensures { OnOk result (out.new ≡ out.old ++ code_of code ∷ 0x00 ∷ []) }
+{
+    put_code(code, out)?;
+    out.push(ABSENT)
 }
 
 // Data-Access-Result or Action-Result.
