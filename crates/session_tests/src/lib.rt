@@ -4,4 +4,6 @@
 #![tactic(auto)]
 
 #[cfg(test)]
+mod prepared;
+#[cfg(test)]
 mod sessions;

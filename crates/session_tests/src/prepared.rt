@@ -1,0 +1,69 @@
+//! Answers of requests without a frame that are made before their event.
+use cosem_axdr::Octets;
+use cosem_names::ResultCode;
+use relay_core::Reply;
+use session_core::{PreparedAnswer, Unframed, ask_unframed};
+use std::alloc::{AllocError, Global};
+use std::process::Abort;
+use std::test::Fail;
+
+/// A SET of control_mode, and remote_disconnect.
+const SET: &str = "C101C10046000060030AFF04001601";
+
+const DISCONNECT: &str = "C301C10046000060030AFF0100";
+
+/// A request, what the meter replies, and the answer (IEC 62056-5-3, Set-Response-Normal, Action-Response-Normal).
+const ANSWERS: [(&str, Reply, &str); 5] = [
+    (SET, Reply::Code(ResultCode::Success), "C501C100"),
+    (SET, Reply::Code(ResultCode::TemporaryFailure), "C501C102"),
+    (SET, Reply::Stale { last: 7 }, "C501C1FA"),
+    (DISCONNECT, Reply::Code(ResultCode::Success), "C701C10000"),
+    (
+        DISCONNECT,
+        Reply::Code(ResultCode::ReadWriteDenied),
+        "C701C10300",
+    ),
+];
+
+/// The answer that was prepared for a request, once its reply has come.
+fn prepared(alloc: Global, request: &[u8], reply: &Reply) -> Result<Octets, AllocError> {
+    match ask_unframed(alloc, request)? {
+        Unframed::Ask(event, asked) => {
+            drop(event);
+            Ok(PreparedAnswer::new(alloc, asked)?.finish(reply))
+        }
+        Unframed::Say(text) => Ok(text),
+    }
+}
+
+/// Whether bytes are these, in hexadecimal.
+fn is_text(alloc: Global, text: &str, bytes: &[u8]) -> Result<bool, Fail> {
+    let wanted = hex::decode(alloc, text)?;
+    let is_so = wanted.as_slice() == bytes;
+    drop(wanted);
+    Ok(is_so)
+}
+
+/// The same of a text in hexadecimal, and whether it is the answer.
+fn is_answered(alloc: Global, request: &str, reply: &Reply, answer: &str) -> Result<bool, Fail> {
+    let request = hex::decode(alloc, request)?;
+    let text = prepared(alloc, request.as_slice(), reply);
+    drop(request);
+    let text = text?;
+    let is_so = is_text(alloc, answer, text.as_slice());
+    drop(text);
+    is_so
+}
+
+fn check_answers(rt: &impl Abort, alloc: Global) -> Result<(), Fail> {
+    for (request, reply, answer) in &ANSWERS {
+        let is_so = is_answered(alloc, request, reply, answer)?;
+        assert!(rt; is_so, "{answer}");
+    }
+    Ok(())
+}
+
+#[test]
+fn an_answer_is_made_before_its_event(rt: HostRuntime) -> Result<(), Fail> {
+    check_answers(&rt, rt.alloc())
+}
