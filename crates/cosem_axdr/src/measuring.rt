@@ -3,8 +3,8 @@ ghost use Rattle.cosem_axdr.specs.Tree.{trees_of};
 ghost use Rattle.cosem_axdr.specs.View.{tree_of, all_trees};
 ghost use Rattle.cosem_axdr.specs.Spelling.{text, texts, contents_text, length_text, string_text};
 
-use octets::Octets;
 use crate::value::Data;
+use octets::Octets;
 
 /// How many bytes the text of a value has, or `u64::MAX` where that is more.
 #[cycle(measuring)]

@@ -7,10 +7,10 @@ ghost use Rattle.cosem_axdr.specs.Reading.{Reads, string_at, bits_at, leaf_at, i
 
 use crate::fault::DataFault;
 use crate::limits::{MAX_ITEMS, MAX_NESTING, bytes_for, clear_unused};
-use octets::Octets;
 use crate::reader::Reader;
 use crate::tag;
 use crate::value::{Data, Items};
+use octets::Octets;
 use std::alloc::Global;
 
 /// Reads the Data at the front of bytes, and says how many bytes it takes.

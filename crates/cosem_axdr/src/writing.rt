@@ -3,9 +3,9 @@ ghost use Rattle.cosem_axdr.specs.Tree.{trees_of, count_of};
 ghost use Rattle.cosem_axdr.specs.View.{tree_of, all_trees};
 ghost use Rattle.cosem_axdr.specs.Spelling.{text, texts, contents_text, length_text, string_text};
 
-use octets::Octets;
 use crate::tag::tag_of;
 use crate::value::Data;
+use octets::Octets;
 use std::alloc::{AllocError, Global};
 
 /// Writes the text of a value behind what is there, each length in its shortest form. Where memory runs out nothing is written.

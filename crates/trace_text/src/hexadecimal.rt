@@ -3,8 +3,8 @@ ghost use Rattle.hex.specs.Hex.{encode_upper};
 ghost use Rattle.trace_text.specs.Hexadecimal.{bytes_of, is_capital_digit, is_hexadecimal};
 ghost use Rattle.std.specs.List.{list_all};
 
-use octets::Octets;
 use hex::FromHexError;
+use octets::Octets;
 use std::alloc::{AllocError, Global};
 
 /// The bytes that a word writes in pairs of hexadecimal digits, in capitals. `None` of any other word, which the empty word and one in lower case are too.
