@@ -6,6 +6,7 @@ usage: tests/refused_memory.py [--long]     (--long: every allocation, in place 
 
 import argparse
 import collections
+import contextlib
 import os
 import sys
 
@@ -186,12 +187,14 @@ def a_meter_that_serves_is_refused_threads(name):
 
 def a_press_is_not_made_without_its_thread(name):
     for number in (0, 2, 3, 4):
-        server = Server("--connections", "1", environment=refusing.environment(refuse_thread=number), console=b"button\n")
-        server.end_input()
-        try:
+        server = Server("--connections", "1", environment=refusing.environment(refuse_thread=number))
+        # (a server that lacks a thread may have ended by then)
+        with contextlib.suppress(OSError):
+            server.say("button")
+        with contextlib.suppress(OSError):
+            server.end_input()
+        with contextlib.suppress(OSError):
             talk(Client(server.port))
-        except OSError:
-            pass
         status, trace, errors = server.ended()
         presses = [event for event, _ in played(trace)].count("button")
         wanted = (4, 0) if number else (0, 1)
