@@ -2,6 +2,7 @@ use cosem_axdr::{Data, Octets};
 use cosem_names::{AttrRef, AttributeSelection, ClassId, GetResult, MethodRef, Obis, ResultCode};
 use listed::Listed;
 use std::alloc::{AllocError, Global};
+use std::process::Abort;
 use xdlms_apdu::{
     ApduFault, Block, Exception, InvokeId, Request, Response, read_request, read_response,
     text_of_request_spells, text_of_response_spells, write_request, write_response,
@@ -545,28 +546,6 @@ fn spells_response(alloc: Global, text: &[u8], response: &Response) -> bool {
     is_read_as_response(alloc, text, response) && is_text_of_response(alloc, response, text)
 }
 
-#[test]
-fn each_request_is_read_and_written(rt: HostRuntime) {
-    text_of_request_spells();
-    let mut pairs = Vec::new(rt.alloc());
-    assert!(rt; add_requests(rt.alloc(), &mut pairs).is_ok());
-    for (text, request) in &pairs {
-        assert!(rt; spells_request(rt.alloc(), text, request), "{text:?}");
-    }
-    drop(pairs);
-}
-
-#[test]
-fn each_response_is_read_and_written(rt: HostRuntime) {
-    text_of_response_spells();
-    let mut pairs = Vec::new(rt.alloc());
-    assert!(rt; add_responses(rt.alloc(), &mut pairs).is_ok());
-    for (text, response) in &pairs {
-        assert!(rt; spells_response(rt.alloc(), text, response), "{text:?}");
-    }
-    drop(pairs);
-}
-
 // Why bytes are no request, and no response; None where they are one.
 fn request_fault(alloc: Global, bytes: &[u8]) -> Option<ApduFault> {
     request_of(alloc, bytes).err()
@@ -601,58 +580,152 @@ fn late_response_fault(alloc: Global, text: &[u8]) -> Option<ApduFault> {
     fault
 }
 
-#[test]
-fn a_request_that_ends_too_early_is_unreadable(rt: HostRuntime) {
-    let mut pairs = Vec::new(rt.alloc());
-    assert!(rt; add_requests(rt.alloc(), &mut pairs).is_ok());
-    for (text, _) in &pairs {
-        for end in 1..text.len() {
-            let fault = request_fault(rt.alloc(), &text[..end]);
-            assert!(rt;
-                fault == Some(ApduFault::Unreadable),
-                "{end} bytes of {text:?}"
-            );
+// What is tried with the text of each request or response: that it and its value spell each other, or that it is unreadable where it ends too early or too late.
+#[derive(Clone, Copy)]
+enum Trial {
+    Spells,
+    EndsEarly,
+    EndsLate,
+}
+
+// How many of a text's bytes are taken where it goes wrong; None where all is well.
+type Wrong = Option<usize>;
+
+// All bytes, where it isn't so.
+fn all_unless(is_so: bool, text: &[u8]) -> Wrong {
+    if is_so { None } else { Some(text.len()) }
+}
+
+fn early_request_wrong(alloc: Global, text: &[u8]) -> Wrong {
+    for end in 1..text.len() {
+        if request_fault(alloc, &text[..end]) != Some(ApduFault::Unreadable) {
+            return Some(end);
         }
     }
+    None
+}
+
+fn request_wrong(alloc: Global, trial: Trial, text: &[u8], request: &Request) -> Wrong {
+    match trial {
+        Trial::Spells => all_unless(spells_request(alloc, text, request), text),
+        Trial::EndsEarly => early_request_wrong(alloc, text),
+        Trial::EndsLate => all_unless(
+            late_request_fault(alloc, text) == Some(ApduFault::Unreadable),
+            text,
+        ),
+    }
+}
+
+// The first text with which the trial goes wrong, and at how many bytes.
+fn first_request_wrong(
+    alloc: Global,
+    trial: Trial,
+    pairs: &[(&'static [u8], Request)],
+) -> Option<(&'static [u8], usize)> {
+    for (text, request) in pairs {
+        if let Some(count) = request_wrong(alloc, trial, text, request) {
+            return Some((*text, count));
+        }
+    }
+    None
+}
+
+// The same of all requests.
+fn try_requests(alloc: Global, trial: Trial) -> Result<Option<(&'static [u8], usize)>, AllocError> {
+    let mut pairs = Vec::new(alloc);
+    let added = add_requests(alloc, &mut pairs);
+    let wrong = first_request_wrong(alloc, trial, pairs.as_slice());
     drop(pairs);
+    match added {
+        Ok(()) => Ok(wrong),
+        Err(error) => Err(error),
+    }
+}
+
+// Fails where a trial went wrong, and says with which text.
+fn assert_all_well(rt: &impl Abort, wrong: Result<Option<(&'static [u8], usize)>, AllocError>) {
+    assert!(*rt; wrong == Ok(None), "{wrong:?}");
+}
+
+#[test]
+fn each_request_is_read_and_written(rt: HostRuntime) {
+    text_of_request_spells();
+    assert_all_well(&rt, try_requests(rt.alloc(), Trial::Spells));
+}
+
+#[test]
+fn a_request_that_ends_too_early_is_unreadable(rt: HostRuntime) {
+    assert_all_well(&rt, try_requests(rt.alloc(), Trial::EndsEarly));
 }
 
 #[test]
 fn a_request_that_ends_too_late_is_unreadable(rt: HostRuntime) {
-    let mut pairs = Vec::new(rt.alloc());
-    assert!(rt; add_requests(rt.alloc(), &mut pairs).is_ok());
-    for (text, _) in &pairs {
-        let fault = late_request_fault(rt.alloc(), text);
-        assert!(rt; fault == Some(ApduFault::Unreadable), "{text:?}");
+    assert_all_well(&rt, try_requests(rt.alloc(), Trial::EndsLate));
+}
+
+fn early_response_wrong(alloc: Global, text: &[u8]) -> Wrong {
+    for end in 1..text.len() {
+        if response_fault(alloc, &text[..end]) != Some(ApduFault::Unreadable) {
+            return Some(end);
+        }
     }
+    None
+}
+
+fn response_wrong(alloc: Global, trial: Trial, text: &[u8], response: &Response) -> Wrong {
+    match trial {
+        Trial::Spells => all_unless(spells_response(alloc, text, response), text),
+        Trial::EndsEarly => early_response_wrong(alloc, text),
+        Trial::EndsLate => all_unless(
+            late_response_fault(alloc, text) == Some(ApduFault::Unreadable),
+            text,
+        ),
+    }
+}
+
+// The first text with which the trial goes wrong, and at how many bytes.
+fn first_response_wrong(
+    alloc: Global,
+    trial: Trial,
+    pairs: &[(&'static [u8], Response)],
+) -> Option<(&'static [u8], usize)> {
+    for (text, response) in pairs {
+        if let Some(count) = response_wrong(alloc, trial, text, response) {
+            return Some((*text, count));
+        }
+    }
+    None
+}
+
+// The same of all responses.
+fn try_responses(
+    alloc: Global,
+    trial: Trial,
+) -> Result<Option<(&'static [u8], usize)>, AllocError> {
+    let mut pairs = Vec::new(alloc);
+    let added = add_responses(alloc, &mut pairs);
+    let wrong = first_response_wrong(alloc, trial, pairs.as_slice());
     drop(pairs);
+    match added {
+        Ok(()) => Ok(wrong),
+        Err(error) => Err(error),
+    }
+}
+
+#[test]
+fn each_response_is_read_and_written(rt: HostRuntime) {
+    text_of_response_spells();
+    assert_all_well(&rt, try_responses(rt.alloc(), Trial::Spells));
 }
 
 #[test]
 fn a_response_that_ends_too_early_is_unreadable(rt: HostRuntime) {
-    let mut pairs = Vec::new(rt.alloc());
-    assert!(rt; add_responses(rt.alloc(), &mut pairs).is_ok());
-    for (text, _) in &pairs {
-        for end in 1..text.len() {
-            let fault = response_fault(rt.alloc(), &text[..end]);
-            assert!(rt;
-                fault == Some(ApduFault::Unreadable),
-                "{end} bytes of {text:?}"
-            );
-        }
-    }
-    drop(pairs);
+    assert_all_well(&rt, try_responses(rt.alloc(), Trial::EndsEarly));
 }
 
 #[test]
 fn a_response_that_ends_too_late_is_unreadable(rt: HostRuntime) {
-    let mut pairs = Vec::new(rt.alloc());
-    assert!(rt; add_responses(rt.alloc(), &mut pairs).is_ok());
-    for (text, _) in &pairs {
-        let fault = late_response_fault(rt.alloc(), text);
-        assert!(rt; fault == Some(ApduFault::Unreadable), "{text:?}");
-    }
-    drop(pairs);
+    assert_all_well(&rt, try_responses(rt.alloc(), Trial::EndsLate));
 }
 
 const REQUEST_FAULTS: [(&[u8], ApduFault); 11] = [

@@ -37,6 +37,17 @@ fn requests(alloc: Global, text: &[u8]) -> Result<Vec<Vec<u8>>, InputFault> {
     Ok(requests)
 }
 
+/// Adds bytes, a line in hexadecimal.
+fn add_line(alloc: Global, bytes: &[u8], lines: &mut String) -> Result<(), Fault> {
+    let Ok(line) = hex::encode_upper(alloc, bytes) else {
+        return Err(Fault::Memory);
+    };
+    if lines.push_str(line.as_str()).is_err() || lines.push('\n').is_err() {
+        return Err(Fault::Memory);
+    }
+    Ok(())
+}
+
 /// Adds a core's answer to a request, a line in hexadecimal.
 fn add_answer(
     alloc: Global,
@@ -44,10 +55,10 @@ fn add_answer(
     request: &[u8],
     lines: &mut String,
 ) -> Result<(), Fault> {
-    let answer = answer_apdu(core, alloc, request).map_err(|_| Fault::Memory)?;
-    let line = hex::encode_upper(alloc, answer.as_slice()).map_err(|_| Fault::Memory)?;
-    lines.push_str(line.as_str()).map_err(|_| Fault::Memory)?;
-    lines.push('\n').map_err(|_| Fault::Memory)
+    let Ok(answer) = answer_apdu(core, alloc, request) else {
+        return Err(Fault::Memory);
+    };
+    add_line(alloc, answer.as_slice(), lines)
 }
 
 /// One core's answers to requests, a line each, in hexadecimal.

@@ -1,11 +1,10 @@
 use crate::telling::{InputFault, reading_fault};
-use crate::texts::octets_of;
 use acse_ber::MAX_PASSWORD;
 use byte_streams::{Counted, read_to_end_within};
-use clap::ArgMatches;
 use meter_server::{HexFault, run_hex};
 use program_fault::Fault;
 use relay_core::MAX_DEVICE_NAME;
+use server_options::{HexOptions, octets_of};
 use std::alloc::Global;
 use std::io::{Read, Write};
 
@@ -46,18 +45,14 @@ pub fn run<I: Read + Drop, O: Write + Drop>(
     alloc: Global,
     input: I,
     output: O,
-    matches: &ArgMatches<'_>,
+    options: &HexOptions,
 ) -> Result<(), InputFault> {
-    let password = matches.get_str("password").unwrap_or("");
-    let password = octets_of(alloc, password, MAX_PASSWORD).map_err(|fault| option_fault(
-        fault,
-        InputFault::Password,
-    ))?;
-    let device = matches.get_str("device").unwrap_or("");
-    let device = octets_of(alloc, device, MAX_DEVICE_NAME).map_err(|fault| option_fault(
-        fault,
-        InputFault::Device,
-    ))?;
+    let password = octets_of(alloc, options.password.as_str(), MAX_PASSWORD).map_err(
+        |fault| option_fault(fault, InputFault::Password),
+    )?;
+    let device = octets_of(alloc, options.device.as_str(), MAX_DEVICE_NAME).map_err(
+        |fault| option_fault(fault, InputFault::Device),
+    )?;
     let mut input = Counted::new(input);
     let text = read_to_end_within(alloc, &mut input, MOST_CHARACTERS).map_err(reading_fault)?;
     let mut reader = Counted::new(text.as_slice());

@@ -5,13 +5,14 @@ ghost use Rattle.acse_ber.specs.Password.{IsPassword};
 use crate::console::{Console, Sources};
 use crate::lasting::Limits;
 use crate::listening::{Sockets, Stopped};
-use crate::plan::{Options, Plan};
+use crate::plan::Plan;
 use cosem_axdr::Octets;
 use kept_meter::Kept;
 use meter_server::{ServeFault, serve_all};
 use meter_serving::{closed_meter, meter_trace};
 use program_fault::Fault;
 use relay_recorder::Recorder;
+use server_options::Bounds;
 use std::alloc::Global;
 use std::io::{BufReader, Read, Write};
 use std::net::{SocketAddr, TcpListener, TcpStream};
@@ -156,7 +157,7 @@ fn locked(alloc: Global, recorder: Recorder) -> Result<(Shared<Kept>, Port<Kept>
 /// Where clients come from, and the flag by which the console ends the listening.
 fn sockets_of(
     rt: &HostRuntime,
-    options: &Options,
+    bounds: Bounds,
     listener: TcpListener,
 ) -> Result<(Sockets<HostRuntime>, Stopped), Fault> {
     let stopped = Arc::new(rt.alloc(), AtomicBool::new(false)).map_err(|_| Fault::Memory)?;
@@ -164,10 +165,10 @@ fn sockets_of(
         return Err(Fault::Memory);
     };
     let limits = Limits {
-        call: limit_of(options.inactivity),
-        session: limit_of(options.session),
+        call: limit_of(bounds.inactivity),
+        session: limit_of(bounds.session),
     };
-    let sockets = Sockets::new(*rt, listener, limits, theirs, options.is_verbose);
+    let sockets = Sockets::new(*rt, listener, limits, theirs, bounds.is_verbose);
     Ok((sockets, stopped))
 }
 
@@ -258,14 +259,14 @@ fn serve_recorder<R: Threads + Wait + Copy + Drop + Send + 'static>(
 fn prepared<R: Wait + Copy, I: Read + Drop>(
     rt: &HostRuntime,
     threads: &R,
-    options: &Options,
+    bounds: Bounds,
     input: BufReader<I>,
     listener: TcpListener,
     address: SocketAddr,
 ) -> Result<(Sockets<HostRuntime>, Sources<R>, Reading<I>), Fault> {
-    let (sockets, stopped) = sockets_of(rt, options, listener)?;
+    let (sockets, stopped) = sockets_of(rt, bounds, listener)?;
     let (console, sources) = Console::new(threads, rt.alloc()).map_err(|_| Fault::Memory)?;
-    let address = if options.stops_with_input {
+    let address = if bounds.stops_with_input {
         Some(address)
     } else {
         None
@@ -283,12 +284,12 @@ fn prepared<R: Wait + Copy, I: Read + Drop>(
 fn started<R: Threads + Wait + Copy + Drop + Send + 'static, I: Read + Drop + Send + 'static>(
     rt: &HostRuntime,
     threads: &R,
-    options: &Options,
+    bounds: Bounds,
     input: BufReader<I>,
     listener: TcpListener,
     address: SocketAddr,
 ) -> Result<(Sockets<HostRuntime>, Sources<R>, JoinHandle<()>), Fault> {
-    let (sockets, sources, reading) = prepared(rt, threads, options, input, listener, address)?;
+    let (sockets, sources, reading) = prepared(rt, threads, bounds, input, listener, address)?;
     match start_console(rt, threads, reading) {
         Ok(console) => Ok((sockets, sources, console)),
         Err(fault) => Err(fault),
@@ -301,16 +302,16 @@ pub(crate) fn run<
     I: Read + Drop + Send + 'static,
 >(rt: &HostRuntime, threads: &R, plan: Plan<I>) -> Result<(), Fault> {
     let Plan {
-        options,
+        bounds,
         password,
         recorder,
         input,
         listener,
         address,
     } = plan;
-    match started(rt, threads, &options, input, listener, address) {
+    match started(rt, threads, bounds, input, listener, address) {
         Ok((mut sockets, sources, console)) => {
-            let connections = options.connections;
+            let connections = bounds.connections;
             let (served, printed) = serve_recorder(
                 rt,
                 threads,

@@ -53,18 +53,41 @@ impl RelayCore {
         })
     }
 
+    /// Equal limiters: that of the import and that of the export.
+    fn copied_limiters(&self, alloc: Global) -> Result<(Limiter, Limiter), AllocError>
+        ensures import { IfOk result (λ copies. copies.0 ≡ self.now.import) }
+        ensures export { IfOk result (λ copies. copies.1 ≡ self.now.export) }
+    {
+        let import = self.import.try_clone(alloc)?;
+        let export = self.export.try_clone(alloc)?;
+        Ok((import, export))
+    }
+
+    /// An equal script table and equal schedules.
+    pub(crate) fn copied_lists(&self, alloc: Global) -> Result<(ScriptTable, Schedules), AllocError>
+        ensures scripts { IfOk result (λ copies. copies.0 ≡ self.now.scripts) }
+        ensures schedules { IfOk result (λ copies. copies.1 ≡ self.now.schedules) }
+    {
+        let scripts = self.scripts.try_clone(alloc)?;
+        let schedules = self.schedules.try_clone(alloc)?;
+        Ok((scripts, schedules))
+    }
+
     /// An equal core in memory of its own.
     pub fn try_copy(&self, alloc: Global) -> Result<RelayCore, AllocError>
         ensures { IfOk result (λ copy. copy ≡ self.now) }
     {
+        let device = self.device.try_clone(alloc)?;
+        let (import, export) = self.copied_limiters(alloc)?;
+        let (scripts, schedules) = self.copied_lists(alloc)?;
         Ok(RelayCore {
-            device: self.device.try_clone(alloc)?,
+            device,
             control: self.control,
             moment: self.moment,
-            import: self.import.try_clone(alloc)?,
-            export: self.export.try_clone(alloc)?,
-            scripts: self.scripts.try_clone(alloc)?,
-            schedules: self.schedules.try_clone(alloc)?,
+            import,
+            export,
+            scripts,
+            schedules,
         })
     }
 

@@ -2,6 +2,7 @@ pub mod Blanks
 pub mod EventLaws
 pub mod EventRows
 pub mod EventsBack
+pub mod LimiterLines
 pub mod LimitersBack
 pub mod OpeningBack
 pub mod OpeningDates

@@ -54,6 +54,30 @@ limiter_from which last place = do
     under.1,
   )
 
+-- a limiter of this last sample, these thresholds and durations, its other parts from the lines behind these
+unfoldable pub limiter_with : Which → ℕ → ℕ → ℕ → ℕ → ℕ → Place → ReadLines LimiterOpening
+limiter_with which last normal emergency min_over min_under place = do
+  profile ← line_as (profile_from which) place
+  groups ← line_as (groups_from which) profile.1
+  actions ← line_as (actions_from which) groups.1
+  over ← line_as (over_from which last) actions.1
+  under ← line_as (under_from which last over.0) over.1
+  Ok (
+    record {
+      value = last;
+      normal_threshold = normal;
+      emergency_threshold = emergency;
+      min_over_duration = min_over;
+      min_under_duration = min_under;
+      profile = profile.0;
+      groups = groups.0;
+      actions = actions.0;
+      over = over.0;
+      under = under.0;
+    },
+    under.1,
+  )
+
 -- a limiter that is new
 abbrev pub new_limiter : LimiterOpening
 new_limiter = record {

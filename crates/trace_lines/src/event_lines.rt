@@ -1,12 +1,13 @@
-ghost use Rattle.std.specs.Prelude.{◌≡◌, ◌++◌, OnOk, OnErr};
+ghost use Rattle.std.specs.Prelude.{◌≡◌, ◌++◌, ◌∷◌, [], OnOk, OnErr, decimal};
 ghost use Rattle.trace_text.specs.Words.{line_of};
-ghost use Rattle.trace_lines.specs.Writing.{blanked, kind_of, event_words, event_row, samples_kind, samples_words};
+ghost use Rattle.trace_lines.specs.Writing.{blanked, attribute_words, flag_number, level_number, kind_of, event_words, event_row, samples_kind, samples_words};
 
 use crate::verb::Verb;
 use crate::writing::{
     add_attribute, add_data, add_flag, add_level, add_method, add_pairs, add_parameter,
     add_selections, add_values,
 };
+use cosem_names::{AttrRef, Level};
 use lane_sampler::Block;
 use relay_core::Event;
 use std::alloc::{AllocError, Global};
@@ -47,6 +48,22 @@ fn add_block(out: &mut Vec<u8>, block: &Block) -> Result<(), AllocError>
     }
 }
 
+/// Adds the port of a client, the attribute that it names and whether a part of it is asked for.
+fn add_asked(
+    alloc: Global,
+    out: &mut Vec<u8>,
+    level: Level,
+    attr: &AttrRef,
+    selected: bool,
+) -> Result<(), AllocError>
+    ensures { OnOk result (out.new.items ≡ out.old.items
+        ++ blanked (decimal (level_number level) ∷ attribute_words attr.now (decimal (flag_number selected) ∷ []))) }
+{
+    add_level(out, level)?;
+    add_attribute(alloc, out, attr)?;
+    add_flag(out, selected)
+}
+
 /// Adds the words behind the first one.
 #[tactic(auto, unfolding(crate::specs::Writing::event_words))]
 fn add_words(alloc: Global, out: &mut Vec<u8>, event: &Event) -> Result<(), AllocError>
@@ -57,11 +74,7 @@ fn add_words(alloc: Global, out: &mut Vec<u8>, event: &Event) -> Result<(), Allo
             level,
             attr,
             selected,
-        } => {
-            add_level(out, *level)?;
-            add_attribute(alloc, out, attr)?;
-            add_flag(out, *selected)
-        }
+        } => { add_asked(alloc, out, *level, attr, *selected) }
         Event::GetList { level, items } => {
             add_level(out, *level)?;
             add_number(out, items.len() as u64)?;
@@ -73,9 +86,7 @@ fn add_words(alloc: Global, out: &mut Vec<u8>, event: &Event) -> Result<(), Allo
             selected,
             value,
         } => {
-            add_level(out, *level)?;
-            add_attribute(alloc, out, attr)?;
-            add_flag(out, *selected)?;
+            add_asked(alloc, out, *level, attr, *selected)?;
             add_data(alloc, out, value)
         }
         Event::Execute {

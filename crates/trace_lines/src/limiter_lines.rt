@@ -1,6 +1,6 @@
 ghost use Rattle.std.specs.Prelude.{◌≡◌, IfOk};
 ghost use Rattle.relay_core.specs.Opening.{IsFitLimiterOpening};
-ghost use Rattle.trace_lines.specs.OpeningReading.{value_line, limiter_from, new_limiter, export_from};
+ghost use Rattle.trace_lines.specs.OpeningReading.{value_line, limiter_from, limiter_with, new_limiter, export_from};
 ghost use Rattle.trace_lines.specs.OpeningFields.{label, labelled};
 ghost use Rattle.trace_lines.specs.Places.{ReadsLines, line_as};
 ghost use Rattle.trace_lines.specs.Reading.{value_in};
@@ -31,8 +31,49 @@ pub(crate) fn read_last(which: Which, lines: &mut TraceLines) -> Result<u32, Tra
     read_value(which, b"value", lines)
 }
 
+/// The thresholds and durations of a limiter.
+#[derive(Clone, Copy)]
+struct Bounds {
+    normal_threshold: u32,
+    emergency_threshold: u32,
+    min_over_duration: u32,
+    min_under_duration: u32,
+}
+
+/// The lines of a limiter behind those of its thresholds and durations.
+#[tactic(auto, unfolding(crate::specs::OpeningReading::limiter_with))]
+fn read_behind_bounds(
+    alloc: Global,
+    which: Which,
+    last: u32,
+    bounds: Bounds,
+    lines: &mut TraceLines,
+) -> Result<LimiterOpening, TraceFault>
+    ensures reads { ReadsLines (λ limiter. limiter) result lines.new (limiter_with which last bounds.normal_threshold bounds.emergency_threshold
+        bounds.min_over_duration bounds.min_under_duration lines.old) }
+    ensures fit { IfOk result IsFitLimiterOpening }
+{
+    let profile = lines.read(|words| profile(alloc, which, words))?;
+    let groups = lines.read(|words| groups(alloc, which, words))?;
+    let (groups, actions) = beside(groups, lines.read(|words| actions(which, words)))?;
+    let (groups, over) = beside(groups, lines.read(|words| over(which, last, words)))?;
+    let (groups, under) = beside(groups, lines.read(|words| under(which, last, over, words)))?;
+    Ok(LimiterOpening {
+        value: last,
+        normal_threshold: bounds.normal_threshold,
+        emergency_threshold: bounds.emergency_threshold,
+        min_over_duration: bounds.min_over_duration,
+        min_under_duration: bounds.min_under_duration,
+        profile,
+        groups,
+        actions,
+        over,
+        under,
+    })
+}
+
 /// The lines of a limiter behind that of its last sample.
-#[tactic(auto, unfolding(crate::specs::OpeningReading::limiter_from))]
+#[tactic(auto, using(crate::proofs::LimiterLines::limiter_behind_bounds))]
 pub(crate) fn read_limiter(
     alloc: Global,
     which: Which,
@@ -46,23 +87,13 @@ pub(crate) fn read_limiter(
     let emergency_threshold = read_value(which, b"emergency", lines)?;
     let min_over_duration = read_value(which, b"minover", lines)?;
     let min_under_duration = read_value(which, b"minunder", lines)?;
-    let profile = lines.read(|words| profile(alloc, which, words))?;
-    let groups = lines.read(|words| groups(alloc, which, words))?;
-    let (groups, actions) = beside(groups, lines.read(|words| actions(which, words)))?;
-    let (groups, over) = beside(groups, lines.read(|words| over(which, last, words)))?;
-    let (groups, under) = beside(groups, lines.read(|words| under(which, last, over, words)))?;
-    Ok(LimiterOpening {
-        value: last,
+    let bounds = Bounds {
         normal_threshold,
         emergency_threshold,
         min_over_duration,
         min_under_duration,
-        profile,
-        groups,
-        actions,
-        over,
-        under,
-    })
+    };
+    read_behind_bounds(alloc, which, last, bounds, lines)
 }
 
 /// A limiter that is new.

@@ -1,5 +1,5 @@
 ghost use Rattle.std.specs.Prelude.{◌≡◌};
-ghost use Rattle.trace_lines.specs.Verbs.{verb_in, verb_word};
+ghost use Rattle.trace_lines.specs.Verbs.{is_word_of, verb_in, verb_word};
 
 use crate::fault::RowFault;
 
@@ -42,26 +42,33 @@ impl Verb {
     }
 }
 
+/// Whether a word is that of this kind.
+fn is_word_of(kind: Verb, word: &[u8]) -> bool
+    ensures { result ≡ is_word_of kind word.now }
+{
+    word == kind.word()
+}
+
 /// What a word is as the first of an event's line.
 #[tactic(auto, unfolding(crate::specs::Verbs::verb_in))]
 pub(crate) fn verb_of(word: &[u8]) -> Result<Verb, RowFault>
     ensures { result ≡ verb_in word.now }
 {
-    if word == b"get".as_slice() {
+    if is_word_of(Verb::OfGet, word) {
         Ok(Verb::OfGet)
-    } else if word == b"getlist".as_slice() {
+    } else if is_word_of(Verb::OfGetList, word) {
         Ok(Verb::OfGetList)
-    } else if word == b"set".as_slice() {
+    } else if is_word_of(Verb::OfSet, word) {
         Ok(Verb::OfSet)
-    } else if word == b"execute".as_slice() {
+    } else if is_word_of(Verb::OfExecute, word) {
         Ok(Verb::OfExecute)
-    } else if word == b"button".as_slice() {
+    } else if is_word_of(Verb::OfButton, word) {
         Ok(Verb::OfButton)
-    } else if word == b"samples".as_slice() {
+    } else if is_word_of(Verb::OfSamples, word) {
         Ok(Verb::OfSamples)
-    } else if word == b"pairs".as_slice() {
+    } else if is_word_of(Verb::OfPairs, word) {
         Ok(Verb::OfPairs)
-    } else if word == b"moment".as_slice() {
+    } else if is_word_of(Verb::OfMoment, word) {
         Ok(Verb::OfMoment)
     } else {
         Err(RowFault::Wrong)

@@ -19,14 +19,31 @@ fn password<'a>(alloc: Global, is_required: bool) -> Arg<'a> {
         .action(ArgAction::Set)
 }
 
+/// An option whose value is a text, and this one where it is not given.
+fn text<'a>(
+    alloc: Global,
+    name: &'a str,
+    value_name: &'a str,
+    help: &'a str,
+    default: &'a str,
+) -> Arg<'a> {
+    Arg::new(alloc, name)
+        .long(name)
+        .value_name(value_name)
+        .help(help)
+        .default_value(default)
+        .action(ArgAction::Set)
+}
+
 /// The option `--device`.
 fn device<'a>(alloc: Global) -> Arg<'a> {
-    Arg::new(alloc, "device")
-        .long("device")
-        .value_name("TEXT")
-        .help("The name of the meter, 1 to 16 bytes")
-        .default_value("RELAY1")
-        .action(ArgAction::Set)
+    text(
+        alloc,
+        "device",
+        "TEXT",
+        "The name of the meter, 1 to 16 bytes",
+        "RELAY1",
+    )
 }
 
 /// An option without a value.
@@ -39,10 +56,11 @@ fn flag<'a>(alloc: Global, name: &'a str, help: &'a str) -> Arg<'a> {
 
 /// The option `--verbose` of the commands whose input may be wrong.
 fn verbose<'a>(alloc: Global) -> Arg<'a> {
-    Arg::new(alloc, "verbose")
-        .long("verbose")
-        .help("Tell on standard error where and why the input is wrong")
-        .action(ArgAction::SetTrue)
+    flag(
+        alloc,
+        "verbose",
+        "Tell on standard error where and why the input is wrong",
+    )
 }
 
 /// The command `hex`.
@@ -58,12 +76,13 @@ fn hex<'a>(alloc: Global) -> Result<Command<'a>, AllocError> {
 
 /// The option `--listen`.
 fn listen<'a>(alloc: Global) -> Arg<'a> {
-    Arg::new(alloc, "listen")
-        .long("listen")
-        .value_name("ADDRESS")
-        .help("Where clients connect to")
-        .default_value("127.0.0.1:4059")
-        .action(ArgAction::Set)
+    text(
+        alloc,
+        "listen",
+        "ADDRESS",
+        "Where clients connect to",
+        "127.0.0.1:4059",
+    )
 }
 
 /// The option `--depth`.
@@ -86,26 +105,34 @@ fn connections<'a>(alloc: Global) -> Arg<'a> {
         .value_parser(value_parser!(u64))
 }
 
+/// An option whose value is a number of seconds, and this one where it is not given.
+fn seconds<'a>(alloc: Global, name: &'a str, help: &'a str, default: &'a str) -> Arg<'a> {
+    Arg::new(alloc, name)
+        .long(name)
+        .value_name("SECONDS")
+        .help(help)
+        .default_value(default)
+        .value_parser(value_parser!(u32))
+}
+
 /// The option `--inactivity`.
 fn inactivity<'a>(alloc: Global) -> Arg<'a> {
-    Arg::new(alloc, "inactivity")
-        .long("inactivity")
-        .value_name("SECONDS")
-        .help(
-            "How long a read or a write of a client may take before its session ends; 0 is no limit",
-        )
-        .default_value("180")
-        .value_parser(value_parser!(u32))
+    seconds(
+        alloc,
+        "inactivity",
+        "How long a read or a write of a client may take before its session ends; 0 is no limit",
+        "180",
+    )
 }
 
 /// The option `--session`.
 fn session<'a>(alloc: Global) -> Arg<'a> {
-    Arg::new(alloc, "session")
-        .long("session")
-        .value_name("SECONDS")
-        .help("How long a client's session may last; 0 is no limit")
-        .default_value("3600")
-        .value_parser(value_parser!(u32))
+    seconds(
+        alloc,
+        "session",
+        "How long a client's session may last; 0 is no limit",
+        "3600",
+    )
 }
 
 /// The command `apdu`.
@@ -181,7 +208,10 @@ fn with_subcommand<'a>(
 }
 
 /// The commands of the program. The environment may have the password of `serve`.
-pub fn command_line<'a>(alloc: Global, has_password: bool) -> Result<Command<'a>, AllocError> {
+pub(crate) fn command_line<'a>(
+    alloc: Global,
+    has_password: bool,
+) -> Result<Command<'a>, AllocError> {
     let program = Command::new(alloc, "meter_server")
         .bin_name("meter_server")?
         .version("0.1.0")
