@@ -4,7 +4,7 @@ use Rattle.std.specs.Int.{w32, from_be_bytes}
 use Rattle.std.proofs.lemmas.Bool.{eqb-true, ne_eqb}
 use Rattle.byte_reading.specs.Outcome.{◌>>=◌, ◌>>◌, guard}
 use Rattle.byte_reading.proofs.OutcomeLemmas.{done, ok_is, bind_ok, guard_ok}
-use Rattle.acse_ber.specs.Reading.{Read, Field, read_as, whole, byte_at, bytes_at, size_at, literal_at, tagged, fields_of, field_of, needed, inner_of, optional_byte_at, conformance_at, response_at, byte_behind, initiate_error_at, info_in, info_of, is_response, result_at, diagnostic_at, aare_of}
+use Rattle.acse_ber.specs.Reading.{Read, Field, read_as, whole, byte_at, bytes_at, size_at, literal_at, tagged, fields_of, field_of, needed, inner_of, optional_byte_at, conformance_at, response_at, byte_behind, initiate_error_at, info_in, info_of, is_response, result_at, diagnostic_at, aare_told, aare_judged, aare_in, aare_of}
 use Rattle.acse_ber.specs.Spelling.{HasInfo, IsResult, IsDiagnostic, IsOptionalByte, IsResponse, IsInitiateError, IsInfo, SpellsAare}
 use Rattle.acse_ber.specs.declared.aare.Aare.{Aare}
 use Rattle.acse_ber.specs.declared.aare.Info.{Info}
@@ -356,7 +356,7 @@ accepts_again outcome false if_zero =
 
 -- what is read is spelled
 pub aare_found : (bytes : List ℕ) (aare : Aare) → aare_of bytes ≡ Ok aare → SpellsAare bytes aare
-unfolding aare_of
+unfolding aare_of aare_in aare_judged aare_told
 aare_found bytes aare e =
     let t = bind_ok (tagged 0x61 bytes) _ aare e in
     let r = bind_ok (field_of 0xA2 t.0 >>= needed) _ aare t.2 in
@@ -380,7 +380,7 @@ aare_found bytes aare e =
 
 -- what is spelled is read
 pub aare_again : (bytes : List ℕ) (aare : Aare) → SpellsAare bytes aare → aare_of bytes ≡ Ok aare
-unfolding aare_of
+unfolding aare_of aare_in aare_judged aare_told
 aare_again bytes aare s =
     let a = apdu_again 0x61 bytes s.fields s.is_apdu in
     let body = s.is_apdu.body in

@@ -3,7 +3,7 @@ use Rattle.std.proofs.Common.{◌≡◌, ℕ, Option, Some, None, List, [], leng
 use Rattle.std.specs.Prelude.{unwrap_or}
 use Rattle.byte_reading.specs.Outcome.{◌>>=◌}
 use Rattle.byte_reading.proofs.OutcomeLemmas.{done, ok_is, bind_ok}
-use Rattle.acse_ber.specs.Reading.{Field, tagged, fields_of, field_of, needed, inner_of, aarq_of}
+use Rattle.acse_ber.specs.Reading.{Field, tagged, fields_of, field_of, needed, inner_of, aarq_in, aarq_of}
 use Rattle.acse_ber.specs.Spelling.{HasMechanism, IsApdu, SpellsAarq}
 use Rattle.acse_ber.specs.declared.aarq.Aarq.{Aarq}
 use Rattle.acse_ber.specs.declared.fault.AcseFault.{AcseFault}
@@ -31,7 +31,7 @@ mechanism_again body fields mechanism e (inr h) = (Some h.contents, one_again 0x
 
 -- what is read is spelled
 pub aarq_found : (bytes : List ℕ) (aarq : Aarq) → aarq_of bytes ≡ Ok aarq → SpellsAarq bytes aarq
-unfolding aarq_of
+unfolding aarq_of aarq_in
 aarq_found bytes aarq e =
     let t = bind_ok (tagged 0x60 bytes) _ aarq e in
     let c = bind_ok (inner_of 0xA1 0x06 t.0 >>= needed) _ aarq t.2 in
@@ -51,7 +51,7 @@ aarq_found bytes aarq e =
 
 -- what is spelled is read
 pub aarq_again : (bytes : List ℕ) (aarq : Aarq) → SpellsAarq bytes aarq → aarq_of bytes ≡ Ok aarq
-unfolding aarq_of
+unfolding aarq_of aarq_in
 aarq_again bytes aarq s =
     let a = apdu_again 0x60 bytes s.fields s.is_apdu in
     let body = s.is_apdu.body in

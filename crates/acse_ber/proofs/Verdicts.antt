@@ -8,7 +8,7 @@ use Rattle.byte_reading.specs.Outcome.{◌>>=◌, ◌>>◌, guard}
 use Rattle.byte_reading.proofs.OutcomeLemmas.{done, ok_is, bind_ok, guard_ok, chosen}
 use Rattle.cosem_names.specs.declared.level.Level.{Level}
 use Rattle.cosem_names.specs.declared.level.Level.TheVariants.{Public, Management}
-use Rattle.acse_ber.specs.Reading.{optional_byte_at, conformance_at, proposal_at, proposal_of}
+use Rattle.acse_ber.specs.Reading.{optional_byte_at, conformance_at, proposed_at, proposal_at, proposal_of}
 use Rattle.acse_ber.specs.Text.{ln_context, low_level, request_text, low_level_aarq}
 use Rattle.acse_ber.specs.Verdict.{is_no_mechanism, level_of, must_authenticate, is_password, proposal_or_refusal, offered, agreed, authenticated, judged, settled, verdict_of}
 use Rattle.acse_ber.specs.declared.aarq.Aarq.{Aarq}
@@ -158,7 +158,7 @@ abbrev proposed : ℕ → ℕ → Result Proposal AcseFault
 proposed bits limit = Ok (record { version = 6; conformance = bits; size = limit })
 
 proposal_is : (bits limit : ℕ) → bits < 2 ^ 24 → limit < 2 ^ 16 → proposal_of (request_text bits limit) ≡ proposed bits limit
-unfolding proposal_of proposal_at optional_byte_at conformance_at
+unfolding proposal_of proposal_at proposed_at optional_byte_at conformance_at
 proposal_is bits limit below small =
     ap₂ (λ (b s : ℕ). proposed b s) (sym (three_back bits below)) (from_be_bytes-to_be_bytes_2 limit small)
 

@@ -196,10 +196,7 @@ proposal_at bytes = do
   head ← literal_at (0x01 ∷ 0x00 ∷ []) bytes
   response_allowed ← optional_byte_at head.1
   quality ← optional_byte_at response_allowed.1
-  version ← byte_at quality.1
-  conformance ← conformance_at version.1
-  size ← size_at conformance.1
-  Ok (record { version = version.0; conformance = conformance.0; size = size.0 }, size.1)
+  proposed_at quality.1
 
 -- the InitiateRequest that bytes are
 unfoldable pub proposal_of : List ℕ → Result Proposal AcseFault
@@ -246,7 +243,7 @@ is_response _ = false
 
 -- ---- whole APDUs
 
--- the fields of an AARQ
+-- the fields of an AARQ: the application context and user information are needed
 unfoldable pub aarq_in : List ℕ → Result Aarq AcseFault
 aarq_in body = do
   context ← inner_of 0xA1 0x06 body >>= needed
@@ -255,15 +252,9 @@ aarq_in body = do
   user ← inner_of 0xBE 0x04 body >>= needed
   Ok (record { context = context; mechanism = unwrap_or mechanism []; password = password; user = user })
 
--- an AARQ: the application context and user information are needed
+-- an AARQ
 unfoldable pub aarq_of : List ℕ → Result Aarq AcseFault
-aarq_of bytes = do
-  body ← tagged 0x60 bytes
-  context ← inner_of 0xA1 0x06 body >>= needed
-  mechanism ← field_of 0x8B body
-  password ← inner_of 0xAC 0x80 body
-  user ← inner_of 0xBE 0x04 body >>= needed
-  Ok (record { context = context; mechanism = unwrap_or mechanism []; password = password; user = user })
+aarq_of bytes = tagged 0x60 bytes >>= aarq_in
 
 -- the association result: an integer of one byte
 unfoldable pub result_at : List ℕ → Read ℕ
@@ -290,24 +281,16 @@ aare_judged outcome body = do
   diagnostic ← whole (diagnostic_at diagnostic_field)
   aare_told outcome diagnostic body
 
--- the fields of an AARE
+-- the fields of an AARE: the result and the diagnostic are needed, and where it accepts a response too
 unfoldable pub aare_in : List ℕ → Result Aare AcseFault
 aare_in body = do
   result_field ← field_of 0xA2 body >>= needed
   outcome ← whole (result_at result_field)
   aare_judged outcome body
 
--- an AARE: the result and the diagnostic are needed, and where it accepts a response too
+-- an AARE
 unfoldable pub aare_of : List ℕ → Result Aare AcseFault
-aare_of bytes = do
-  body ← tagged 0x61 bytes
-  result_field ← field_of 0xA2 body >>= needed
-  outcome ← whole (result_at result_field)
-  diagnostic_field ← field_of 0xA3 body >>= needed
-  diagnostic ← whole (diagnostic_at diagnostic_field)
-  user ← inner_of 0xBE 0x04 body
-  guard (not (outcome == 0) || is_response (info_of user)) Unreadable
-  Ok (record { result = outcome; diagnostic = diagnostic; info = info_of user })
+aare_of bytes = tagged 0x61 bytes >>= aare_in
 
 -- whether bytes are an RLRQ: its tag, and fields that fill it
 unfoldable pub is_release_text : List ℕ → Bool

@@ -8,20 +8,21 @@ use Rattle.relay_core.specs.declared.event.Event.{Event}
 use Rattle.relay_core.specs.declared.event.Reply.{Reply}
 use Rattle.session_core.specs.Answers.{answer_text, due_text}
 use Rattle.session_core.specs.Association.{opened_by}
-use Rattle.session_core.specs.Backwards.{since, unreleased, link_of, heard, goes_on, in_order, joined_so_far, blocks_so_far, First, incoming_by, incoming_among, incoming_of, Past, Heard, frames_past, heard_past, outgoing_after_nexts, begun_by_heard, outgoing_among, outgoing_of, names_in_order, first_of_call, is_no_next_block, named_block, is_none_of, Asks, Answers, to_server}
+use Rattle.session_core.specs.Backwards.{since, unreleased, link_of, heard, is_no_later_form, goes_on, in_order, joined_so_far, blocks_so_far, First, first_of, incoming_by, incoming_among, incoming_of, Past, Heard, frames_past, heard_past, is_no_next, names_in_order, begun_by_role, outgoing_after_nexts, outgoing_among, outgoing_of, Asks, Answers, to_server}
 use Rattle.session_core.specs.Incoming.{no_blocks, after_by_fault, block_after, transfer_of, later_after}
-use Rattle.xdlms_apdu.specs.declared.invoke_id.InvokeId.{InvokeId}
 use Rattle.xdlms_blocks.specs.Joining.{after_added}
 use Rattle.xdlms_blocks.specs.Limits.{max_joined}
 use Rattle.xdlms_blocks.specs.declared.fault.BlockFault.TheVariants.{WrongNumber, TooLong}
 use Rattle.session_core.specs.Outcome.{Outcome, asks, says, turn_event}
 use Rattle.session_core.specs.Outgoing.{sent, sending_by_fault, continued}
-use Rattle.session_core.specs.Rules.{opens, is_heard, is_release, is_closing, call_in, turn_of, link_in, link_after, incoming_by_request, incoming_by_call, incoming_in, incoming_after, outgoing_by_request, outgoing_by_call, outgoing_in, outgoing_after, resolved, outcome_at, state_after, reply_text}
+use Rattle.session_core.specs.Roles.{Role, starts, follows, gets, gets_next, stops, role_of_request, role_of}
+use Rattle.session_core.specs.Rules.{opens, is_heard, is_release, is_closing, call_in, role_in, turn_of, link_in, link_after, incoming_by_role, incoming_in, incoming_after, outgoing_by_role, outgoing_in, outgoing_after, resolved, outcome_at, state_after, reply_text}
 use Rattle.session_core.specs.Running.{Known, event_at, known_after, known_in, new_state, asks_on, answers_on}
 use Rattle.session_core.specs.Walks.{asks_along, answers_from, answers_along}
 use Rattle.session_core.specs.declared.call.Call.{Call}
 use Rattle.session_core.specs.declared.call.Call.TheVariants as call
 use Rattle.session_core.specs.declared.incoming.Incoming.{Incoming}
+use Rattle.session_core.specs.declared.incoming.LongService.{LongService}
 use Rattle.session_core.specs.declared.incoming.LongService.TheVariants as service
 use Rattle.session_core.specs.declared.incoming.Purpose.{Purpose}
 use Rattle.session_core.specs.declared.incoming.Purpose.TheVariants as purpose
@@ -30,9 +31,6 @@ use Rattle.session_core.specs.declared.state.State.{State}
 use Rattle.wrapper_frame.specs.Messages.{frames_of}
 use Rattle.wrapper_frame.specs.declared.parts.Frame.{Frame}
 use Rattle.xdlms_apdu.specs.declared.block.Block.{Block}
-use Rattle.xdlms_apdu.specs.declared.response.Exception.{Exception}
-use Rattle.xdlms_apdu.specs.declared.request.Request.{Request}
-use Rattle.xdlms_apdu.specs.declared.request.Request.TheVariants as request
 use Rattle.xdlms_blocks.specs.Transfer.{Sending, Joining}
 
 -- ---- the association
@@ -142,55 +140,47 @@ other_block K next p true false short next_short n bytes none some = sym none
 other_block K next p true true true next_short n bytes none some = sym some
 other_block K next p true true false next_short n bytes none some = sym none
 
-set_block : (id : InvokeId) (block : Block) (later : List Call) (p : Purpose) (first : Block)
-    → incoming_by (call.Service (request.SetNext id block) ∷ later) (record { purpose = p; block = first })
+set_block : (block : Block) (later : List Role) (p : Purpose) (first : Block)
+    → incoming_by (follows service.Set block ∷ later) (record { purpose = p; block = first })
     ≡ later_after block (transfer_of service.Set (incoming_by later (record { purpose = p; block = first })))
-set_block id block later (purpose.Set target) first =
+set_block block later (purpose.Set target) first =
     later_block (λ i. later_after block (transfer_of service.Set i)) (purpose.Set target) (goes_on 1 (Some first)) (in_order service.Set later) (blocks_so_far later)
     (joined_so_far service.Set first.raw later) block refl refl
-set_block id block later (purpose.Action method) first =
+set_block block later (purpose.Action method) first =
     other_block (λ i. later_after block (transfer_of service.Set i)) _ (purpose.Action method) (goes_on 1 (Some first)) (in_order service.Action later) _ _ (blocks_so_far later)
     (joined_so_far service.Action first.raw later) refl refl
 
-action_block : (id : InvokeId) (block : Block) (later : List Call) (p : Purpose) (first : Block)
-    → incoming_by (call.Service (request.ActionNext id block) ∷ later) (record { purpose = p; block = first })
+action_block : (block : Block) (later : List Role) (p : Purpose) (first : Block)
+    → incoming_by (follows service.Action block ∷ later) (record { purpose = p; block = first })
     ≡ later_after block (transfer_of service.Action (incoming_by later (record { purpose = p; block = first })))
-action_block id block later (purpose.Action method) first =
+action_block block later (purpose.Action method) first =
     later_block (λ i. later_after block (transfer_of service.Action i)) (purpose.Action method) (goes_on 1 (Some first)) (in_order service.Action later) (blocks_so_far later)
     (joined_so_far service.Action first.raw later) block refl refl
-action_block id block later (purpose.Set target) first =
+action_block block later (purpose.Set target) first =
     other_block (λ i. later_after block (transfer_of service.Action i)) _ (purpose.Set target) (goes_on 1 (Some first)) (in_order service.Set later) _ _ (blocks_so_far later)
     (joined_so_far service.Set first.raw later) refl refl
 
-set_more : (id : InvokeId) (block : Block) (later : List Call) (first : Option First)
-    → option_and_then (incoming_by (call.Service (request.SetNext id block) ∷ later)) first
-    ≡ later_after block (transfer_of service.Set (option_and_then (incoming_by later) first))
-set_more id block later None = refl
-set_more id block later (Some first) = set_block id block later first.purpose first.block
+-- one more later form
+follows_more : (s : LongService) (block : Block) (later : List Role) (first : Option First)
+    → option_and_then (incoming_by (follows s block ∷ later)) first ≡ later_after block (transfer_of s (option_and_then (incoming_by later) first))
+follows_more service.Set block later None = refl
+follows_more service.Set block later (Some first) = set_block block later first.purpose first.block
+follows_more service.Action block later None = refl
+follows_more service.Action block later (Some first) = action_block block later first.purpose first.block
 
-action_more : (id : InvokeId) (block : Block) (later : List Call) (first : Option First)
-    → option_and_then (incoming_by (call.Service (request.ActionNext id block) ∷ later)) first
-    ≡ later_after block (transfer_of service.Action (option_and_then (incoming_by later) first))
-action_more id block later None = refl
-action_more id block later (Some first) = action_block id block later first.purpose first.block
-
--- the transfer over one more request
-request_more : (r : Request) (calls : List Call) → incoming_among (call.Service r ∷ calls) ≡ incoming_by_request r (incoming_among calls)
-request_more (request.Get id target) calls = refl
-request_more (request.GetNext id number) calls = refl
-request_more (request.GetList id targets) calls = refl
-request_more (request.Set id target value) calls = refl
-request_more (request.SetFirst id target block) calls = first_block (purpose.Set target) block
-request_more (request.SetNext id block) calls = set_more id block (since is_no_next_block calls) (option_and_then first_of_call (find is_no_next_block calls))
-request_more (request.Action id method parameter) calls = refl
-request_more (request.ActionFirst id method block) calls = first_block (purpose.Action method) block
-request_more (request.ActionNext id block) calls = action_more id block (since is_no_next_block calls) (option_and_then first_of_call (find is_no_next_block calls))
+-- the transfer over one more role
+role_more : (role : Role) (roles : List Role) → incoming_among (role ∷ roles) ≡ incoming_by_role role (incoming_among roles)
+role_more (starts p block) roles = first_block p block
+role_more (follows s block) roles = follows_more s block (since is_no_later_form roles) (option_and_then first_of (find is_no_later_form roles))
+role_more (gets form) roles = refl
+role_more (gets_next number) roles = refl
+role_more stops roles = refl
 
 -- one more call, which may release the association
-call_more : (c : Call) (calls : List Call) → (if is_release c then None else incoming_among (c ∷ calls)) ≡ incoming_by_call c (incoming_among calls)
-call_more call.Release calls = refl
-call_more (call.Service r) calls = request_more r calls
-call_more (call.Refused exception) calls = refl
+call_more : (c : Call) (roles : List Role) → (if is_release c then None else incoming_among (role_of c ∷ roles)) ≡ incoming_by_role (role_of c) (incoming_among roles)
+call_more call.Release roles = refl
+call_more (call.Service r) roles = role_more (role_of_request r) roles
+call_more (call.Refused exception) roles = refl
 
 -- an association that a frame may release
 and_then_unless : {X : Type 0} (G : Link → Option X) (gone : Bool) (link : Link) → option_and_then G (if gone then None else Some link) ≡ (if gone then None else G link)
@@ -199,14 +189,14 @@ and_then_unless G false link = refl
 
 -- one more frame, which is heard or not
 heard_by : (link : Link) (f : Frame) (fs : List Frame) (here : Bool)
-    → (if here && is_release (call_in link f) then None else incoming_among (map (call_in link) (cond here (f ∷ filter (is_heard link) fs) (filter (is_heard link) fs))))
-    ≡ (if here then incoming_by_call (call_in link f) (incoming_among (map (call_in link) (filter (is_heard link) fs))) else incoming_among (map (call_in link) (filter (is_heard link) fs)))
+    → (if here && is_release (call_in link f) then None else incoming_among (map (role_in link) (cond here (f ∷ filter (is_heard link) fs) (filter (is_heard link) fs))))
+    ≡ (if here then incoming_by_role (role_in link f) (incoming_among (map (role_in link) (filter (is_heard link) fs))) else incoming_among (map (role_in link) (filter (is_heard link) fs)))
 heard_by link f fs false = refl
-heard_by link f fs true = call_more (call_in link f) (map (call_in link) (filter (is_heard link) fs))
+heard_by link f fs true = call_more (call_in link f) (map (role_in link) (filter (is_heard link) fs))
 
 -- the transfer among frames of an association
 abbrev incoming_since : List Frame → Link → Option Incoming
-incoming_since fs link = incoming_among (map (call_in link) (filter (is_heard link) fs))
+incoming_since fs link = incoming_among (map (role_in link) (filter (is_heard link) fs))
 
 heard_more : (f : Frame) (fs : List Frame) (link : Option Link)
     → option_and_then (incoming_since (f ∷ fs)) (link_in f link) ≡ incoming_in link f (option_and_then (incoming_since fs) link)
@@ -267,61 +257,43 @@ unfolding continued
 next_named named number s false = refl
 next_named named number s true = next_sent named number s (nat_le (length s.text) (number * s.size)) refl
 
-next_more : (link : Link) (id : InvokeId) (named : ℕ) (reply : Option Reply) (later : List Heard) (first : Option Sending)
-    → option_and_then (outgoing_after_nexts (record { call = call.Service (request.GetNext id named); reply = reply } ∷ later)) first
+next_more : (named : ℕ) (reply : Option Reply) (later : List Heard) (first : Option Sending)
+    → option_and_then (outgoing_after_nexts (record { role = gets_next named; reply = reply } ∷ later)) first
     ≡ continued named (option_and_then (outgoing_after_nexts later) first)
 unfolding continued
-next_more link id named reply later None = refl
-next_more link id named reply later (Some s) = next_named named (blocks_so_far later) s (names_in_order later)
+next_more named reply later None = refl
+next_more named reply later (Some s) = next_named named (blocks_so_far later) s (names_in_order later)
 
--- the transfer over one more call
-abbrev begins : Heard → Bool
-begins h = is_none_of (named_block h.call)
-
-get_more : (link : Link) (r : Request) (reply : Option Reply) (calls : List Heard)
-    → outgoing_among link (record { call = call.Service r; reply = reply } ∷ calls) ≡ outgoing_by_request link r reply (outgoing_among link calls)
-get_more link (request.Get id target) None calls = refl
-get_more link (request.Get id target) (Some reply) calls = refl
-get_more link (request.GetNext id number) reply calls = next_more link id number reply (since begins calls) (option_and_then (begun_by_heard link) (find begins calls))
-get_more link (request.GetList id targets) None calls = refl
-get_more link (request.GetList id targets) (Some reply) calls = refl
-get_more link (request.Set id target value) None calls = refl
-get_more link (request.Set id target value) (Some reply) calls = refl
-get_more link (request.SetFirst id target block) None calls = refl
-get_more link (request.SetFirst id target block) (Some reply) calls = refl
-get_more link (request.SetNext id block) None calls = refl
-get_more link (request.SetNext id block) (Some reply) calls = refl
-get_more link (request.Action id method parameter) None calls = refl
-get_more link (request.Action id method parameter) (Some reply) calls = refl
-get_more link (request.ActionFirst id method block) None calls = refl
-get_more link (request.ActionFirst id method block) (Some reply) calls = refl
-get_more link (request.ActionNext id block) None calls = refl
-get_more link (request.ActionNext id block) (Some reply) calls = refl
-
-refused_more : (link : Link) (exception : Exception) (reply : Option Reply) (calls : List Heard)
-    → outgoing_among link (record { call = call.Refused exception; reply = reply } ∷ calls) ≡ None
-refused_more link exception None calls = refl
-refused_more link exception (Some reply) calls = refl
+-- the transfer over one more role
+get_more : (link : Link) (role : Role) (reply : Option Reply) (calls : List Heard)
+    → outgoing_among link (record { role = role; reply = reply } ∷ calls) ≡ outgoing_by_role link role reply (outgoing_among link calls)
+get_more link (starts p block) reply calls = refl
+get_more link (follows s block) reply calls = refl
+get_more link (gets form) None calls = refl
+get_more link (gets form) (Some reply) calls = refl
+get_more link (gets_next number) reply calls =
+    next_more number reply (since (λ (h : Heard). is_no_next h.role) calls) (option_and_then (λ (h : Heard). begun_by_role link h.role h.reply) (find (λ (h : Heard). is_no_next h.role) calls))
+get_more link stops reply calls = refl
 
 outgoing_call : (link : Link) (c : Call) (reply : Option Reply) (calls : List Heard)
-    → (if is_release c then None else outgoing_among link (record { call = c; reply = reply } ∷ calls)) ≡ outgoing_by_call link c reply (outgoing_among link calls)
+    → (if is_release c then None else outgoing_among link (record { role = role_of c; reply = reply } ∷ calls)) ≡ outgoing_by_role link (role_of c) reply (outgoing_among link calls)
 outgoing_call link call.Release reply calls = refl
-outgoing_call link (call.Service r) reply calls = get_more link r reply calls
-outgoing_call link (call.Refused exception) reply calls = refused_more link exception reply calls
+outgoing_call link (call.Service r) reply calls = get_more link (role_of_request r) reply calls
+outgoing_call link (call.Refused exception) reply calls = refl
 
 -- a frame of the past that is heard, and the calls among frames of the past
 abbrev is_heard_past : Link → Past → Bool
 is_heard_past link p = is_heard link p.frame
 
 abbrev as_heard : Link → Past → Heard
-as_heard link p = record { call = call_in link p.frame; reply = p.reply }
+as_heard link p = record { role = role_in link p.frame; reply = p.reply }
 
 abbrev outgoing_since : List Past → Link → Option Sending
 outgoing_since past link = outgoing_among link (map (as_heard link) (filter (is_heard_past link) past))
 
 past_by : (link : Link) (p : Past) (past : List Past) (here : Bool)
     → (if here && is_release (call_in link p.frame) then None else outgoing_among link (map (as_heard link) (cond here (p ∷ filter (is_heard_past link) past) (filter (is_heard_past link) past))))
-    ≡ (if here then outgoing_by_call link (call_in link p.frame) p.reply (outgoing_since past link) else outgoing_since past link)
+    ≡ (if here then outgoing_by_role link (role_in link p.frame) p.reply (outgoing_since past link) else outgoing_since past link)
 past_by link p past false = refl
 past_by link p past true = outgoing_call link (call_in link p.frame) p.reply (map (as_heard link) (filter (is_heard_past link) past))
 

@@ -20,7 +20,8 @@ use Rattle.xdlms_apdu.specs.Text.{response_text}
 use Rattle.xdlms_apdu.specs.declared.response.Response.TheVariants as response
 use Rattle.session_core.specs.Progress.{asked_by, Owes, Feeds, Finishes, Steps, Takes, IsQuiet, IsAwaiting, IsOver, WorksBy, task_by, next_by}
 use Rattle.session_core.specs.Remaining.{asks_of, texts_of, texts_from, texts_after, ends_of, after_outcome, end_in, awaits, still_asks, still_sends, still_ends, is_asking, ended, is_finished, load, task_load}
-use Rattle.session_core.specs.Rules.{heard_frame, exception_answer, opens, call_in, call_turn, request_turn, turn_in, turn_of, outgoing_by_request, outgoing_by_call, outgoing_in, outgoing_after, resolved, outcome_at, state_after, step_outcome, is_settled, opening_answer, reply_text}
+use Rattle.session_core.specs.Roles.{role_of_request, role_of}
+use Rattle.session_core.specs.Rules.{heard_frame, exception_answer, opens, call_in, role_in, call_turn, request_turn, turn_in, turn_of, outgoing_by_role, outgoing_in, outgoing_after, resolved, outcome_at, state_after, step_outcome, is_settled, opening_answer, reply_text}
 use Rattle.session_core.specs.Calls.{is_call}
 use Rattle.session_core.specs.Running.{known_in, asks_on, answers_on, new_state}
 use Rattle.session_core.specs.declared.answer.Answer.TheVariants.{Service}
@@ -45,7 +46,6 @@ use Rattle.session_core.specs.declared.step.Step.{Step}
 use Rattle.session_core.specs.declared.step.Step.TheVariants as step
 use Rattle.session_core.specs.declared.task.Task.{Task}
 use Rattle.session_core.specs.declared.task.Task.TheVariants.{Listen, Read, Await, Say, Send, Over}
-use Rattle.wrapper_frame.specs.Text.{frame_text}
 use Rattle.wrapper_frame.specs.Header.{head_of, header_size, src_of, dst_of}
 use Rattle.wrapper_frame.specs.Messages.{frames_of, rest_of, first_frame, after_first}
 use Rattle.wrapper_frame.specs.Stream.{IsPart, Fronts, GoesOn, Stops, StopsBy}
@@ -103,7 +103,7 @@ later_by link s id block None reply = refl
 later_by link s id block (Some incoming) reply = block_by link id incoming.purpose block incoming.blocks reply
 
 request_by : (link : Link) (incoming : Option Incoming) (outgoing : Option Sending) (reply : Option Reply) (r : Request)
-    → outgoing_by_request link r reply outgoing ≡ sending_with (resolved outgoing (request_turn link incoming r)) reply (outgoing_by_request link r None outgoing)
+    → outgoing_by_role link (role_of_request r) reply outgoing ≡ sending_with (resolved outgoing (request_turn link incoming r)) reply (outgoing_by_role link (role_of_request r) None outgoing)
 unfolding begun_by
 request_by link incoming outgoing None (request.Get id target) = refl
 request_by link incoming outgoing (Some reply) (request.Get id target) = refl
@@ -120,15 +120,15 @@ request_by link incoming outgoing reply (request.ActionFirst id method block) = 
 request_by link incoming outgoing reply (request.ActionNext id block) = later_by link service.Action id block (transfer_of service.Action incoming) reply
 
 call_by : (link : Link) (incoming : Option Incoming) (outgoing : Option Sending) (reply : Option Reply) (c : Call)
-    → outgoing_by_call link c reply outgoing ≡ sending_with (resolved outgoing (call_turn link incoming c)) reply (outgoing_by_call link c None outgoing)
+    → outgoing_by_role link (role_of c) reply outgoing ≡ sending_with (resolved outgoing (call_turn link incoming c)) reply (outgoing_by_role link (role_of c) None outgoing)
 call_by link incoming outgoing reply call.Release = refl
 call_by link incoming outgoing reply (call.Service r) = request_by link incoming outgoing reply r
 call_by link incoming outgoing reply (call.Refused exception) = refl
 
 -- by whether it is for the client of the association
 client_by : (link : Link) (incoming : Option Incoming) (outgoing : Option Sending) (reply : Option Reply) (f : Frame) (here : Bool)
-    → (if true && here then outgoing_by_call link (call_in link f) reply outgoing else outgoing)
-    ≡ sending_with (resolved outgoing (if here then call_turn link incoming (call_in link f) else settled (says f.src (exception_answer NotAllowed)))) reply (if true && here then outgoing_by_call link (call_in link f) None outgoing else outgoing)
+    → (if true && here then outgoing_by_role link (role_in link f) reply outgoing else outgoing)
+    ≡ sending_with (resolved outgoing (if here then call_turn link incoming (call_in link f) else settled (says f.src (exception_answer NotAllowed)))) reply (if true && here then outgoing_by_role link (role_in link f) None outgoing else outgoing)
 client_by link incoming outgoing reply f true = call_by link incoming outgoing reply (call_in link f)
 client_by link incoming outgoing reply f false = refl
 
@@ -139,12 +139,12 @@ called_by : (link : Option Link) (incoming : Option Incoming) (outgoing : Option
 called_by None incoming outgoing reply f true e = refl
 called_by None incoming outgoing reply f false e = refl
 called_by (Some link) incoming outgoing reply f true e =
-    ap (λ (b : Bool). if b && link.source == f.src then outgoing_by_call link (call_in link f) reply outgoing else outgoing) e
+    ap (λ (b : Bool). if b && link.source == f.src then outgoing_by_role link (role_in link f) reply outgoing else outgoing) e
     ∙ client_by link incoming outgoing reply f (link.source == f.src)
-    ∙ ap (λ (b : Bool). sending_with (resolved outgoing (turn_in (Some link) incoming f)) reply (if b && link.source == f.src then outgoing_by_call link (call_in link f) None outgoing else outgoing)) (sym e)
+    ∙ ap (λ (b : Bool). sending_with (resolved outgoing (turn_in (Some link) incoming f)) reply (if b && link.source == f.src then outgoing_by_role link (role_in link f) None outgoing else outgoing)) (sym e)
 called_by (Some link) incoming outgoing reply f false e =
-    ap (λ (b : Bool). if b && link.source == f.src then outgoing_by_call link (call_in link f) reply outgoing else outgoing) e
-    ∙ ap (λ (b : Bool). if b && link.source == f.src then outgoing_by_call link (call_in link f) None outgoing else outgoing) (sym e)
+    ap (λ (b : Bool). if b && link.source == f.src then outgoing_by_role link (role_in link f) reply outgoing else outgoing) e
+    ∙ ap (λ (b : Bool). if b && link.source == f.src then outgoing_by_role link (role_in link f) None outgoing else outgoing) (sym e)
 
 opened_or : (password : List ℕ) (s : State) (f : Frame) (reply : Option Reply) (o : Bool)
     → (if o then None else outgoing_in s.link f reply s.outgoing)

@@ -6,7 +6,7 @@ use Rattle.session_core.specs.declared.answer.Answer.{Answer}
 use Rattle.session_core.specs.declared.answer.Answer.TheVariants.{Association, Release, Service}
 use Rattle.session_core.specs.declared.answer.Way.{Way}
 use Rattle.session_core.specs.declared.answer.Way.TheVariants as way
-use Rattle.cosem_names.specs.declared.service.GetResult.TheVariants.{Value, Code}
+use Rattle.cosem_names.specs.declared.service.GetResult.TheVariants.{Value}
 use Rattle.wrapper_frame.specs.Header.{header_size}
 use Rattle.wrapper_frame.specs.Text.{frame_text}
 use Rattle.xdlms_apdu.specs.Text.{response_text}
@@ -36,13 +36,6 @@ way_size way.Bare = 0
 -- a response without values, or with a block that has room in a PDU
 abbrev pub IsSmall : Response → Type 0
 IsSmall (response.Get id (Value value)) = ⊥
-IsSmall (response.Get id (Code code)) = ⊤
-IsSmall (response.GetBlock id block) = length block.raw ≤ greatest_raw
-IsSmall (response.GetBlockRefused id last number code) = ⊤
 IsSmall (response.GetList id results) = ⊥
-IsSmall (response.Set id code) = ⊤
-IsSmall (response.SetBlock id number) = ⊤
-IsSmall (response.SetLastBlock id code number) = ⊤
-IsSmall (response.Action id code) = ⊤
-IsSmall (response.ActionBlock id number) = ⊤
-IsSmall (response.Exception exception) = ⊤
+IsSmall (response.GetBlock id block) = length block.raw ≤ greatest_raw
+IsSmall _ = ⊤

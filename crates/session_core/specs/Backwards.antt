@@ -12,17 +12,14 @@ use Rattle.relay_core.specs.declared.event.Reply.{Reply}
 use Rattle.session_core.specs.Association.{opened_by}
 use Rattle.session_core.specs.Outcome.{turn_event}
 use Rattle.session_core.specs.Outgoing.{sent, begun_by}
-use Rattle.session_core.specs.Rules.{opens, is_heard, is_closing, call_in, turn_of, resolved}
+use Rattle.session_core.specs.Roles.{Role, starts, follows, gets, gets_next}
+use Rattle.session_core.specs.Rules.{opens, is_heard, is_closing, role_in, turn_of, resolved}
 use Rattle.session_core.specs.Standard.{management_device}
 use Rattle.session_core.specs.Walks.{asks_along, answers_along}
-use Rattle.session_core.specs.declared.asked.ReplyForm.TheVariants as form
-use Rattle.session_core.specs.declared.call.Call.{Call}
-use Rattle.session_core.specs.declared.call.Call.TheVariants as call
 use Rattle.session_core.specs.declared.incoming.Incoming.{Incoming}
 use Rattle.session_core.specs.declared.incoming.LongService.{LongService}
 use Rattle.session_core.specs.declared.incoming.LongService.TheVariants as service
 use Rattle.session_core.specs.declared.incoming.Purpose.{Purpose}
-use Rattle.session_core.specs.declared.incoming.Purpose.TheVariants as purpose
 use Rattle.session_core.specs.Incoming.{service_of}
 use Rattle.session_core.specs.declared.end.SessionEnd.{SessionEnd}
 use Rattle.session_core.specs.declared.end.SessionEnd.TheVariants as ending
@@ -33,8 +30,6 @@ use Rattle.wrapper_frame.specs.declared.header.Head.{Head}
 use Rattle.wrapper_frame.specs.declared.header.Head.TheVariants as head
 use Rattle.wrapper_frame.specs.declared.parts.Frame.{Frame}
 use Rattle.xdlms_apdu.specs.declared.block.Block.{Block}
-use Rattle.xdlms_apdu.specs.declared.request.Request.{Request}
-use Rattle.xdlms_apdu.specs.declared.request.Request.TheVariants as request
 use Rattle.xdlms_blocks.specs.Limits.{max_joined}
 use Rattle.xdlms_blocks.specs.Transfer.{Sending}
 
@@ -54,75 +49,31 @@ unreleased (Some link) later = if list_any (is_closing link) later then None els
 unfoldable pub link_of : List ℕ → List Frame → Option Link
 link_of password earlier = unreleased (option_and_then (opened_by password) (find opens earlier)) (since opens earlier)
 
--- the calls of the client since its association was opened
-abbrev pub heard : Link → List Frame → List Call
-heard link earlier = map (call_in link) (filter (is_heard link) (since opens earlier))
+-- the roles of the client's calls since its association was opened
+abbrev pub heard : Link → List Frame → List Role
+heard link earlier = map (role_in link) (filter (is_heard link) (since opens earlier))
 
 -- ---- a long SET or ACTION
 
 -- the block of a later form of a service
-abbrev pub next_request : LongService → Request → Option Block
-next_request service.Set (request.SetNext id block) = Some block
-next_request service.Set (request.Get id target) = None
-next_request service.Set (request.GetNext id number) = None
-next_request service.Set (request.GetList id targets) = None
-next_request service.Set (request.Set id target value) = None
-next_request service.Set (request.SetFirst id target block) = None
-next_request service.Set (request.Action id method parameter) = None
-next_request service.Set (request.ActionFirst id method block) = None
-next_request service.Set (request.ActionNext id block) = None
-next_request service.Action (request.ActionNext id block) = Some block
-next_request service.Action (request.Get id target) = None
-next_request service.Action (request.GetNext id number) = None
-next_request service.Action (request.GetList id targets) = None
-next_request service.Action (request.Set id target value) = None
-next_request service.Action (request.SetFirst id target block) = None
-next_request service.Action (request.SetNext id block) = None
-next_request service.Action (request.Action id method parameter) = None
-next_request service.Action (request.ActionFirst id method block) = None
+abbrev pub block_of : LongService → Role → Option Block
+block_of service.Set (follows service.Set block) = Some block
+block_of service.Action (follows service.Action block) = Some block
+block_of _ _ = None
 
-abbrev pub next_block : LongService → Call → Option Block
-next_block service call.Release = None
-next_block service (call.Service request) = next_request service request
-next_block service (call.Refused exception) = None
-
--- not a later form of any service
-abbrev pub is_no_next_request : Request → Bool
-is_no_next_request (request.Get id target) = true
-is_no_next_request (request.GetNext id number) = true
-is_no_next_request (request.GetList id targets) = true
-is_no_next_request (request.Set id target value) = true
-is_no_next_request (request.SetFirst id target block) = true
-is_no_next_request (request.SetNext id block) = false
-is_no_next_request (request.Action id method parameter) = true
-is_no_next_request (request.ActionFirst id method block) = true
-is_no_next_request (request.ActionNext id block) = false
-
-abbrev pub is_no_next_block : Call → Bool
-is_no_next_block call.Release = true
-is_no_next_block (call.Service request) = is_no_next_request request
-is_no_next_block (call.Refused exception) = true
+-- no later form of any service
+abbrev pub is_no_later_form : Role → Bool
+is_no_later_form (follows service block) = false
+is_no_later_form _ = true
 
 -- a first form: what it is for, and the first block
 pub record First : Type 0 where
   pub purpose : Purpose
   pub block : Block
 
-abbrev pub first_request : Request → Option First
-first_request (request.Get id target) = None
-first_request (request.GetNext id number) = None
-first_request (request.GetList id targets) = None
-first_request (request.Set id target value) = None
-first_request (request.SetFirst id target block) = Some (record { purpose = purpose.Set target; block = block })
-first_request (request.SetNext id block) = None
-first_request (request.Action id method parameter) = None
-first_request (request.ActionFirst id method block) = Some (record { purpose = purpose.Action method; block = block })
-first_request (request.ActionNext id block) = None
-
-abbrev pub first_of_call : Call → Option First
-first_of_call call.Release = None
-first_of_call (call.Service request) = first_request request
-first_of_call (call.Refused exception) = None
+abbrev pub first_of : Role → Option First
+first_of (starts purpose block) = Some (record { purpose = purpose; block = block })
+first_of _ = None
 
 -- the number of the last block: the first has 1, and each later form one more
 abbrev pub blocks_so_far : {X : Type 0} → List X → ℕ
@@ -140,25 +91,25 @@ raw_of None = []
 raw_of (Some block) = block.raw
 
 -- all later forms are of the service, numbered by ones, and none is the last
-abbrev pub in_order : LongService → List Call → Bool
+abbrev pub in_order : LongService → List Role → Bool
 in_order service [] = true
-in_order service (c ∷ later) = in_order service later && goes_on (blocks_so_far later + 1) (next_block service c)
+in_order service (role ∷ later) = in_order service later && goes_on (blocks_so_far later + 1) (block_of service role)
 
 -- the bytes of the blocks, end to end
-abbrev pub joined_so_far : LongService → List ℕ → List Call → List ℕ
+abbrev pub joined_so_far : LongService → List ℕ → List Role → List ℕ
 joined_so_far service first [] = first
-joined_so_far service first (c ∷ later) = joined_so_far service first later ++ raw_of (next_block service c)
+joined_so_far service first (role ∷ later) = joined_so_far service first later ++ raw_of (block_of service role)
 
 -- the transfer of a first form and the later forms
-abbrev pub incoming_by : List Call → First → Option Incoming
+abbrev pub incoming_by : List Role → First → Option Incoming
 incoming_by later first =
     if goes_on 1 (Some first.block) && in_order (service_of first.purpose) later && not (nat_lt max_joined (length (joined_so_far (service_of first.purpose) first.block.raw later)))
     then Some (record { purpose = first.purpose; blocks = record { number = blocks_so_far later; bytes = joined_so_far (service_of first.purpose) first.block.raw later; is_open = true } })
     else None
 
 -- the transfer before a call: the last call that was no later form is its first form, and all after it are its later forms
-abbrev pub incoming_among : List Call → Option Incoming
-incoming_among calls = option_and_then (incoming_by (since is_no_next_block calls)) (option_and_then first_of_call (find is_no_next_block calls))
+abbrev pub incoming_among : List Role → Option Incoming
+incoming_among roles = option_and_then (incoming_by (since is_no_later_form roles)) (option_and_then first_of (find is_no_later_form roles))
 
 -- the long SET or ACTION before a frame
 unfoldable pub incoming_of : List ℕ → List Frame → Option Incoming
@@ -171,9 +122,9 @@ pub record Past : Type 0 where
   pub frame : Frame
   pub reply : Option Reply
 
--- an earlier call, and the reply to its event
+-- the role of an earlier call, and the reply to its event
 pub record Heard : Type 0 where
-  pub call : Call
+  pub role : Role
   pub reply : Option Reply
 
 -- the frames of what is past
@@ -182,58 +133,27 @@ frames_past past = map (λ p. p.frame) past
 
 -- the calls of the client since its association was opened, with the replies
 abbrev pub heard_past : Link → List Past → List Heard
-heard_past link past = map (λ p. record { call = call_in link p.frame; reply = p.reply }) (filter (λ p. is_heard link p.frame) (since (λ p. opens p.frame) past))
+heard_past link past = map (λ p. record { role = role_in link p.frame; reply = p.reply }) (filter (λ p. is_heard link p.frame) (since (λ p. opens p.frame) past))
 
--- the number that a GET-next names
-abbrev pub named_request : Request → Option ℕ
-named_request (request.Get id target) = None
-named_request (request.GetNext id number) = Some number
-named_request (request.GetList id targets) = None
-named_request (request.Set id target value) = None
-named_request (request.SetFirst id target block) = None
-named_request (request.SetNext id block) = None
-named_request (request.Action id method parameter) = None
-named_request (request.ActionFirst id method block) = None
-named_request (request.ActionNext id block) = None
-
-abbrev pub named_block : Call → Option ℕ
-named_block call.Release = None
-named_block (call.Service request) = named_request request
-named_block (call.Refused exception) = None
-
-abbrev pub is_none_of : Option ℕ → Bool
-is_none_of None = true
-is_none_of (Some number) = false
+-- no GET-next
+abbrev pub is_no_next : Role → Bool
+is_no_next (gets_next number) = false
+is_no_next _ = true
 
 -- a GET-next that names this block
-abbrev pub names : ℕ → Option ℕ → Bool
-names number None = false
-names number (Some named) = named == number
+abbrev pub names : ℕ → Role → Bool
+names number (gets_next named) = named == number
+names number _ = false
 
 -- each GET-next names the block that was given last before it
 abbrev pub names_in_order : List Heard → Bool
 names_in_order [] = true
-names_in_order (h ∷ later) = names_in_order later && names (blocks_so_far later) (named_block h.call)
+names_in_order (h ∷ later) = names_in_order later && names (blocks_so_far later) h.role
 
--- the text that goes out in blocks, where the reply to a first form is too long for one answer
-abbrev pub begun_by_request : Link → Request → Reply → Option Sending
-begun_by_request link (request.Get id target) reply = begun_by (record { link = link; form = form.Get id }) reply
-begun_by_request link (request.GetNext id number) reply = None
-begun_by_request link (request.GetList id targets) reply = begun_by (record { link = link; form = form.GetList id }) reply
-begun_by_request link (request.Set id target value) reply = None
-begun_by_request link (request.SetFirst id target block) reply = None
-begun_by_request link (request.SetNext id block) reply = None
-begun_by_request link (request.Action id method parameter) reply = None
-begun_by_request link (request.ActionFirst id method block) reply = None
-begun_by_request link (request.ActionNext id block) reply = None
-
-abbrev pub begun_by_call : Link → Call → Reply → Option Sending
-begun_by_call link call.Release reply = None
-begun_by_call link (call.Service request) reply = begun_by_request link request reply
-begun_by_call link (call.Refused exception) reply = None
-
-abbrev pub begun_by_heard : Link → Heard → Option Sending
-begun_by_heard link h = option_and_then (begun_by_call link h.call) h.reply
+-- the text that goes out in blocks, where the reply to a GET is too long for one answer
+abbrev pub begun_by_role : Link → Role → Option Reply → Option Sending
+begun_by_role link (gets form) reply = option_and_then (begun_by (record { link = link; form = form })) reply
+begun_by_role link _ reply = None
 
 -- the transfer of a text after the GET-nexts, if they were in order and it isn't all given
 abbrev pub outgoing_after_nexts : List Heard → Sending → Option Sending
@@ -242,8 +162,8 @@ outgoing_after_nexts later s = if names_in_order later then sent (blocks_so_far 
 -- the transfer before a call: the last call that was no GET-next began it
 abbrev pub outgoing_among : Link → List Heard → Option Sending
 outgoing_among link calls =
-    option_and_then (outgoing_after_nexts (since (λ h. is_none_of (named_block h.call)) calls))
-    (option_and_then (begun_by_heard link) (find (λ h. is_none_of (named_block h.call)) calls))
+    option_and_then (outgoing_after_nexts (since (λ h. is_no_next h.role) calls))
+    (option_and_then (λ h. begun_by_role link h.role h.reply) (find (λ h. is_no_next h.role) calls))
 
 -- the long GET before a frame
 unfoldable pub outgoing_of : List ℕ → List Past → Option Sending

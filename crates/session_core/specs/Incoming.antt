@@ -33,7 +33,7 @@ use Rattle.xdlms_blocks.specs.Joining.{after_added}
 use Rattle.xdlms_blocks.specs.Limits.{max_joined}
 use Rattle.xdlms_blocks.specs.Transfer.{Joining}
 use Rattle.xdlms_blocks.specs.declared.fault.BlockFault.{BlockFault}
-use Rattle.xdlms_blocks.specs.declared.fault.BlockFault.TheVariants.{NoTransfer, WrongNumber, TooLong, Memory}
+use Rattle.xdlms_blocks.specs.declared.fault.BlockFault.TheVariants.{NoTransfer, WrongNumber, TooLong}
 
 -- ---- answers
 
@@ -51,12 +51,8 @@ refused service.Action id number code = response.Action id code
 abbrev pub block_code : LongService → BlockFault → ResultCode
 block_code service.Set NoTransfer = NoLongSetInProgress
 block_code service.Set WrongNumber = DataBlockNumberInvalid
-block_code service.Set TooLong = OtherReason
-block_code service.Set Memory = OtherReason
 block_code service.Action NoTransfer = NoLongGetInProgress
-block_code service.Action WrongNumber = OtherReason
-block_code service.Action TooLong = OtherReason
-block_code service.Action Memory = OtherReason
+block_code _ _ = OtherReason
 
 -- the service of a transfer
 abbrev pub service_of : Purpose → LongService

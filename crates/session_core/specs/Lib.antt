@@ -1,6 +1,7 @@
 pub mod Standard
 pub mod Association
 pub mod Calls
+pub mod Roles
 pub mod Outcome
 pub mod Answers
 pub mod Incoming

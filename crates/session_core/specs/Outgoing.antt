@@ -11,7 +11,7 @@ use Rattle.cosem_names.specs.declared.result_code.ResultCode.TheVariants.{NoLong
 use Rattle.cosem_names.specs.declared.service.GetResult.{GetResult}
 use Rattle.cosem_names.specs.declared.service.GetResult.TheVariants as result
 use Rattle.relay_core.specs.declared.event.Reply.{Reply}
-use Rattle.relay_core.specs.declared.event.Reply.TheVariants.{Value, Values, Code, Sampled, SampledBoth, Ran, Stale}
+use Rattle.relay_core.specs.declared.event.Reply.TheVariants.{Value, Values, Code}
 use Rattle.session_core.specs.Standard.{block_header}
 use Rattle.session_core.specs.declared.asked.Asked.{Asked}
 use Rattle.session_core.specs.declared.asked.ReplyForm.{ReplyForm}
@@ -27,7 +27,7 @@ use Rattle.xdlms_blocks.specs.Sending.{next_piece}
 use Rattle.xdlms_blocks.specs.Transfer.{Sending}
 use Rattle.xdlms_blocks.specs.declared.blocks.Piece.{Piece}
 use Rattle.xdlms_blocks.specs.declared.fault.BlockFault.{BlockFault}
-use Rattle.xdlms_blocks.specs.declared.fault.BlockFault.TheVariants.{NoTransfer, WrongNumber, TooLong, Memory}
+use Rattle.xdlms_blocks.specs.declared.fault.BlockFault.TheVariants.{NoTransfer, WrongNumber}
 
 -- ---- a GET-next
 
@@ -39,8 +39,7 @@ sent number s = if nat_le (length s.text) (number * s.size) then None else Some 
 abbrev pub get_code : BlockFault → ResultCode
 get_code NoTransfer = NoLongGetInProgress
 get_code WrongNumber = DataBlockNumberInvalid
-get_code TooLong = OtherReason
-get_code Memory = OtherReason
+get_code _ = OtherReason
 
 -- why there is no next block after this one: there is no transfer, or another block was the last given
 abbrev pub next_fault : ℕ → Sending → Option BlockFault
@@ -89,42 +88,19 @@ values_answer id results = record { id = id; normal = response.GetList id result
 -- the values that a reply has, where the form asks for values
 abbrev pub long_answer : ReplyForm → Reply → Option LongAnswer
 long_answer (form.Get id) (Value value) = Some (value_answer id value)
-long_answer (form.Get id) (Values results) = None
-long_answer (form.Get id) (Code code) = None
-long_answer (form.Get id) (Sampled over under) = None
-long_answer (form.Get id) (SampledBoth over under export_over export_under) = None
-long_answer (form.Get id) (Ran count) = None
-long_answer (form.Get id) (Stale last) = None
 long_answer (form.GetList id) (Values results) = Some (values_answer id results)
-long_answer (form.GetList id) (Value value) = None
-long_answer (form.GetList id) (Code code) = None
-long_answer (form.GetList id) (Sampled over under) = None
-long_answer (form.GetList id) (SampledBoth over under export_over export_under) = None
-long_answer (form.GetList id) (Ran count) = None
-long_answer (form.GetList id) (Stale last) = None
-long_answer (form.Set id) reply = None
-long_answer (form.SetLastBlock id number) reply = None
-long_answer (form.Action id) reply = None
+long_answer _ _ = None
 
 -- the result that a reply is; any other reply is none
 abbrev pub reply_code : Reply → ResultCode
 reply_code (Code code) = code
-reply_code (Value value) = OtherReason
-reply_code (Values results) = OtherReason
-reply_code (Sampled over under) = OtherReason
-reply_code (SampledBoth over under export_over export_under) = OtherReason
-reply_code (Ran count) = OtherReason
-reply_code (Stale last) = OtherReason
+reply_code _ = OtherReason
 
 -- a reply that has no value
 abbrev pub is_valueless : Reply → Bool
-is_valueless (Code code) = true
 is_valueless (Value value) = false
 is_valueless (Values results) = false
-is_valueless (Sampled over under) = true
-is_valueless (SampledBoth over under export_over export_under) = true
-is_valueless (Ran count) = true
-is_valueless (Stale last) = true
+is_valueless _ = true
 
 -- the answer with a result alone
 abbrev pub code_response : ReplyForm → ResultCode → Response
@@ -203,12 +179,5 @@ answer_cut id normal header = record { id = id; normal = normal; raw = drop head
 abbrev pub reply_in : Response → Reply
 reply_in (response.Get id (result.Value value)) = Value value
 reply_in (response.Get id (result.Code code)) = Code code
-reply_in (response.GetBlock id block) = Code OtherReason
-reply_in (response.GetBlockRefused id last number code) = Code OtherReason
 reply_in (response.GetList id results) = Values results
-reply_in (response.Set id code) = Code OtherReason
-reply_in (response.SetBlock id number) = Code OtherReason
-reply_in (response.SetLastBlock id code number) = Code OtherReason
-reply_in (response.Action id code) = Code OtherReason
-reply_in (response.ActionBlock id number) = Code OtherReason
-reply_in (response.Exception exception) = Code OtherReason
+reply_in _ = Code OtherReason

@@ -64,15 +64,11 @@ pub record Takes (old : Session) (reply : Reply) (new : Session) : Type 0 where
 -- the events and the texts of a `Next`
 abbrev pub asked_by : Next → List Event
 asked_by (Ask event) = event ∷ []
-asked_by (Send text) = []
-asked_by Wait = []
-asked_by (End end) = []
+asked_by _ = []
 
 abbrev pub sent_by : Next → List (List ℕ)
-sent_by (Ask event) = []
 sent_by (Send text) = text ∷ []
-sent_by Wait = []
-sent_by (End end) = []
+sent_by _ = []
 
 -- a call of `next` took off what it gives; want of memory nothing
 abbrev pub StepsBy : {E : Type 0} → Session → Result Next E → Session → Type 0
@@ -119,5 +115,4 @@ task_by (step.Join joined) = task.Read joined
 
 abbrev pub next_by : Step → Option Next
 next_by (step.Ask event asked) = Some (Ask event)
-next_by (step.Say due) = None
-next_by (step.Join joined) = None
+next_by _ = None

@@ -22,7 +22,7 @@ use Rattle.session_core.specs.declared.task.Task.TheVariants.{Listen, Read, Awai
 use Rattle.wrapper_frame.specs.Header.{head_of}
 use Rattle.wrapper_frame.specs.Messages.{frames_of}
 use Rattle.wrapper_frame.specs.declared.header.Head.{Head}
-use Rattle.wrapper_frame.specs.declared.header.Head.TheVariants.{Part, BadVersion, TooLong, Whole}
+use Rattle.wrapper_frame.specs.declared.header.Head.TheVariants.{Part}
 use Rattle.wrapper_frame.specs.declared.parts.Frame.{Frame}
 
 -- the bytes that are not yet taken as frames: those that are pending, and unless the input has ended those that are to come
@@ -86,12 +86,8 @@ still_sends s more replies = texts_of s.password s.state s.task (frames_ahead s 
 
 -- how a task goes, where the input ends so
 abbrev pub ends_of : Task → SessionEnd → SessionEnd
-ends_of Listen end = end
-ends_of (Read joined) end = end
-ends_of (Await asked) end = end
-ends_of (Say due) end = end
-ends_of (Send text) end = end
 ends_of (Over over) end = over
+ends_of _ end = end
 
 -- how the session will end
 unfoldable pub still_ends : Session → List ℕ → SessionEnd
@@ -100,24 +96,16 @@ still_ends s more = ends_of s.task (end_of (bytes_ahead s more))
 -- ---- what it waits for
 
 abbrev pub awaits : Task → Bool
-awaits Listen = false
-awaits (Read joined) = false
 awaits (Await asked) = true
-awaits (Say due) = false
-awaits (Send text) = false
-awaits (Over end) = false
+awaits _ = false
 
 -- the reply to an event is awaited
 unfoldable pub is_asking : Session → Bool
 is_asking s = awaits s.task
 
 abbrev pub end_in : Task → Option SessionEnd
-end_in Listen = None
-end_in (Read joined) = None
-end_in (Await asked) = None
-end_in (Say due) = None
-end_in (Send text) = None
 end_in (Over end) = Some end
+end_in _ = None
 
 -- the end that was told
 unfoldable pub ended : Session → Option SessionEnd
@@ -129,18 +117,12 @@ is_finished s = s.is_finished
 
 abbrev pub listens : Task → Bool
 listens Listen = true
-listens (Read joined) = false
-listens (Await asked) = false
-listens (Say due) = false
-listens (Send text) = false
-listens (Over end) = false
+listens _ = false
 
 -- less than a frame is there, of which nothing is wrong so far
 abbrev pub is_part : Head → Bool
 is_part Part = true
-is_part BadVersion = false
-is_part TooLong = false
-is_part (Whole n) = false
+is_part _ = false
 
 -- nothing is to be done before more input comes
 unfoldable pub is_idle : Session → Bool

@@ -17,6 +17,7 @@ use Rattle.session_core.specs.Calls.{is_opening, is_call, call_of}
 use Rattle.session_core.specs.Incoming.{no_blocks, block_outcome_of, block_after, transfer_of, later_outcome, later_after, whole_outcome}
 use Rattle.session_core.specs.Outcome.{Outcome, Turn, asks, says, settled, continues}
 use Rattle.session_core.specs.Outgoing.{continued, continued_response, outgoing_by, reply_response}
+use Rattle.session_core.specs.Roles.{Role, starts, follows, gets, gets_next, role_of}
 use Rattle.session_core.specs.Standard.{management_device}
 use Rattle.session_core.specs.declared.answer.Answer.{Answer}
 use Rattle.session_core.specs.declared.answer.Answer.TheVariants.{Association, Release, Service}
@@ -58,11 +59,14 @@ is_heard link f = is_call f.payload && link.source == f.src
 abbrev pub call_in : Link → Frame → Call
 call_in link f = call_of link.conformance f.payload
 
+-- its role in the transfers
+abbrev pub role_in : Link → Frame → Role
+role_in link f = role_of (call_in link f)
+
 -- a release
 abbrev pub is_release : Call → Bool
 is_release call.Release = true
-is_release (call.Service request) = false
-is_release (call.Refused exception) = false
+is_release _ = false
 
 -- a frame releases this association
 abbrev pub is_closing : Link → Frame → Bool
@@ -121,25 +125,14 @@ link_after password f link = if opens f then opened_by password f else link_in f
 
 -- ---- the long SET or ACTION after a frame: any call but its later block ends it
 
-abbrev pub incoming_by_request : Request → Option Incoming → Option Incoming
-incoming_by_request (request.Get id target) incoming = None
-incoming_by_request (request.GetNext id number) incoming = None
-incoming_by_request (request.GetList id targets) incoming = None
-incoming_by_request (request.Set id target value) incoming = None
-incoming_by_request (request.SetFirst id target block) incoming = block_after (purpose.Set target) block no_blocks
-incoming_by_request (request.SetNext id block) incoming = later_after block (transfer_of service.Set incoming)
-incoming_by_request (request.Action id method parameter) incoming = None
-incoming_by_request (request.ActionFirst id method block) incoming = block_after (purpose.Action method) block no_blocks
-incoming_by_request (request.ActionNext id block) incoming = later_after block (transfer_of service.Action incoming)
-
-abbrev pub incoming_by_call : Call → Option Incoming → Option Incoming
-incoming_by_call call.Release incoming = None
-incoming_by_call (call.Service request) incoming = incoming_by_request request incoming
-incoming_by_call (call.Refused exception) incoming = None
+abbrev pub incoming_by_role : Role → Option Incoming → Option Incoming
+incoming_by_role (starts purpose block) incoming = block_after purpose block no_blocks
+incoming_by_role (follows service block) incoming = later_after block (transfer_of service incoming)
+incoming_by_role _ incoming = None
 
 abbrev pub incoming_in : Option Link → Frame → Option Incoming → Option Incoming
 incoming_in None f incoming = incoming
-incoming_in (Some link) f incoming = if is_heard link f then incoming_by_call (call_in link f) incoming else incoming
+incoming_in (Some link) f incoming = if is_heard link f then incoming_by_role (role_in link f) incoming else incoming
 
 unfoldable pub incoming_after : Option Link → Frame → Option Incoming → Option Incoming
 incoming_after link f incoming = if opens f then None else incoming_in link f incoming
@@ -151,25 +144,14 @@ abbrev pub begun : Link → ReplyForm → Option Reply → Option Sending
 begun link form None = None
 begun link form (Some reply) = outgoing_by (record { link = link; form = form }) reply
 
-abbrev pub outgoing_by_request : Link → Request → Option Reply → Option Sending → Option Sending
-outgoing_by_request link (request.Get id target) reply outgoing = begun link (form.Get id) reply
-outgoing_by_request link (request.GetNext id number) reply outgoing = continued number outgoing
-outgoing_by_request link (request.GetList id targets) reply outgoing = begun link (form.GetList id) reply
-outgoing_by_request link (request.Set id target value) reply outgoing = None
-outgoing_by_request link (request.SetFirst id target block) reply outgoing = None
-outgoing_by_request link (request.SetNext id block) reply outgoing = None
-outgoing_by_request link (request.Action id method parameter) reply outgoing = None
-outgoing_by_request link (request.ActionFirst id method block) reply outgoing = None
-outgoing_by_request link (request.ActionNext id block) reply outgoing = None
-
-abbrev pub outgoing_by_call : Link → Call → Option Reply → Option Sending → Option Sending
-outgoing_by_call link call.Release reply outgoing = None
-outgoing_by_call link (call.Service request) reply outgoing = outgoing_by_request link request reply outgoing
-outgoing_by_call link (call.Refused exception) reply outgoing = None
+abbrev pub outgoing_by_role : Link → Role → Option Reply → Option Sending → Option Sending
+outgoing_by_role link (gets form) reply outgoing = begun link form reply
+outgoing_by_role link (gets_next number) reply outgoing = continued number outgoing
+outgoing_by_role link _ reply outgoing = None
 
 abbrev pub outgoing_in : Option Link → Frame → Option Reply → Option Sending → Option Sending
 outgoing_in None f reply outgoing = outgoing
-outgoing_in (Some link) f reply outgoing = if is_heard link f then outgoing_by_call link (call_in link f) reply outgoing else outgoing
+outgoing_in (Some link) f reply outgoing = if is_heard link f then outgoing_by_role link (role_in link f) reply outgoing else outgoing
 
 unfoldable pub outgoing_after : Option Link → Frame → Option Reply → Option Sending → Option Sending
 outgoing_after link f reply outgoing = if opens f then None else outgoing_in link f reply outgoing
@@ -193,8 +175,8 @@ state_after password s f reply = record { link = link_after password f s.link; i
 abbrev pub state_by_call : Link → Call → State → State
 state_by_call link call s = record {
   link = (if is_release call then None else s.link);
-  incoming = incoming_by_call call s.incoming;
-  outgoing = outgoing_by_call link call None s.outgoing;
+  incoming = incoming_by_role (role_of call) s.incoming;
+  outgoing = outgoing_by_role link (role_of call) None s.outgoing;
 }
 
 -- the bytes of the answer to a reply

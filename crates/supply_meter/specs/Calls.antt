@@ -8,7 +8,7 @@ use Rattle.lane_sampler.specs.Samples.{Samples, AreEven, most_values}
 use Rattle.meter_serving.specs.Resuming.{world_of, GoesOn}
 use Rattle.relay_core.specs.declared.event.Event.TheVariants as event
 use Rattle.relay_core.specs.declared.event.Reply.{Reply}
-use Rattle.relay_core.specs.declared.event.Reply.TheVariants.{Value, Values, Code, Sampled, SampledBoth, Ran, Stale}
+use Rattle.relay_core.specs.declared.event.Reply.TheVariants.{Sampled, SampledBoth, Ran, Stale}
 use Rattle.relay_core.specs.Stands.{StandsFor}
 use Rattle.relay_core.specs.World.{new_world}
 use Rattle.relay_recorder.specs.Histories.{StandsForHistory}
@@ -122,11 +122,7 @@ ClosesBy old number (Err fault) new = (fault ≡ NoSession) × (dialogue_at old 
 abbrev pub IsFired : Reply → Fired → Type 0
 IsFired (Sampled over under) fired = fired ≡ record { over = over; under = under; export_over = 0; export_under = 0 }
 IsFired (SampledBoth over under export_over export_under) fired = fired ≡ record { over = over; under = under; export_over = export_over; export_under = export_under }
-IsFired (Value value) fired = ⊥
-IsFired (Values results) fired = ⊥
-IsFired (Code code) fired = ⊥
-IsFired (Ran count) fired = ⊥
-IsFired (Stale last) fired = ⊥
+IsFired _ fired = ⊥
 
 -- a block of samples was taken
 pub record TakesSamples (old : Metering) (samples : Samples) (fired : Fired) (new : Metering) : Type 0 where
@@ -147,11 +143,7 @@ SamplesBy old samples (Err SessionTaken) new = ⊥
 abbrev pub IsTick : Reply → Tick → Type 0
 IsTick (Ran count) t = t ≡ tick.Ran count
 IsTick (Stale last) t = t ≡ tick.Stale last
-IsTick (Value value) t = ⊥
-IsTick (Values results) t = ⊥
-IsTick (Code code) t = ⊥
-IsTick (Sampled over under) t = ⊥
-IsTick (SampledBoth over under export_over export_under) t = ⊥
+IsTick _ t = ⊥
 
 -- a moment was taken
 pub record TakesMoment (old : Metering) (moment : ℕ) (t : Tick) (new : Metering) : Type 0 where

@@ -1,4 +1,4 @@
-use Rattle.std.proofs.Common.{ℕ, true, false}
+use Rattle.std.proofs.Common.{true, false}
 use Rattle.std.specs.contracts.alloc.AllocError.{the_row}
 use Rattle.std.proofs.lemmas.Bool.{ne_eqb}
 use Rattle.session_core.proofs.Tasks.{hears_any, passes_any}

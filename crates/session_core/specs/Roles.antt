@@ -1,0 +1,40 @@
+-- The role of a call in the transfers in blocks (IEC 62056-5-3, GET, SET and ACTION, block transfer). The forms of requests are told apart here, once.
+--     Role          what a call is to a transfer
+--     role_of       the role of each call
+use Rattle.std.specs.Prelude.{ℕ}
+use Rattle.session_core.specs.declared.asked.ReplyForm.{ReplyForm}
+use Rattle.session_core.specs.declared.asked.ReplyForm.TheVariants as form
+use Rattle.session_core.specs.declared.call.Call.{Call}
+use Rattle.session_core.specs.declared.call.Call.TheVariants as call
+use Rattle.session_core.specs.declared.incoming.LongService.{LongService}
+use Rattle.session_core.specs.declared.incoming.LongService.TheVariants as service
+use Rattle.session_core.specs.declared.incoming.Purpose.{Purpose}
+use Rattle.session_core.specs.declared.incoming.Purpose.TheVariants as purpose
+use Rattle.xdlms_apdu.specs.declared.block.Block.{Block}
+use Rattle.xdlms_apdu.specs.declared.request.Request.{Request}
+use Rattle.xdlms_apdu.specs.declared.request.Request.TheVariants as request
+
+-- the first form of a long SET or ACTION, with what it is for and its first block; a later form of one; a GET, whose answer may be long; a GET-next, with the number that it
+-- names; any other call, which ends all transfers
+pub data Role : Type 0 where
+  starts : Purpose → Block → Role
+  follows : LongService → Block → Role
+  gets : ReplyForm → Role
+  gets_next : ℕ → Role
+  stops : Role
+
+abbrev pub role_of_request : Request → Role
+role_of_request (request.Get id target) = gets (form.Get id)
+role_of_request (request.GetNext id number) = gets_next number
+role_of_request (request.GetList id targets) = gets (form.GetList id)
+role_of_request (request.Set id target value) = stops
+role_of_request (request.SetFirst id target block) = starts (purpose.Set target) block
+role_of_request (request.SetNext id block) = follows service.Set block
+role_of_request (request.Action id method parameter) = stops
+role_of_request (request.ActionFirst id method block) = starts (purpose.Action method) block
+role_of_request (request.ActionNext id block) = follows service.Action block
+
+abbrev pub role_of : Call → Role
+role_of call.Release = stops
+role_of (call.Service request) = role_of_request request
+role_of (call.Refused exception) = stops
