@@ -1,6 +1,6 @@
 use cosem_axdr::{
-    Data, DataFault, Items, Octets, fits, no_spelling_begins_another, read, text_len,
-    text_of_fit_spells, write,
+    Data, DataFault, Items, Octets, append_length, fits, no_spelling_begins_another, number_of,
+    read, text_len, text_of_fit_spells, write,
 };
 use std::alloc::{AllocError, Global};
 use std::test::Fail;
@@ -91,6 +91,37 @@ fn is_written(alloc: Global, value: &Data, bytes: &[u8]) -> bool {
     let is_same = is_done && text.as_slice() == bytes;
     drop(text);
     is_same
+}
+
+// Lengths and their shortest forms.
+const LENGTHS: [(usize, &[u8]); 8] = [
+    (0, &[0x00]),
+    (0x7F, &[0x7F]),
+    (0x80, &[0x81, 0x80]),
+    (0xFF, &[0x81, 0xFF]),
+    (0x100, &[0x82, 0x01, 0x00]),
+    (0xFFFF, &[0x82, 0xFF, 0xFF]),
+    (0x1_0000, &[0x83, 0x01, 0x00, 0x00]),
+    (0x100_0000, &[0x84, 0x01, 0x00, 0x00, 0x00]),
+];
+
+// Whether a length is written as these bytes.
+fn is_length(alloc: Global, length: usize, bytes: &[u8]) -> bool {
+    let mut text = Octets::new(alloc);
+    let is_done = append_length(length, &mut text).is_ok();
+    let is_same = is_done && text.as_slice() == bytes;
+    drop(text);
+    is_same
+}
+
+#[test]
+fn lengths_have_their_shortest_form(rt: HostRuntime) -> Result<(), Fail> {
+    for (length, bytes) in &LENGTHS {
+        assert!(rt; is_length(rt.alloc(), *length, bytes), "{length}");
+    }
+    assert!(rt; number_of(&[]) == 0 && number_of(&[1, 2]) == 258);
+    assert!(rt; number_of(&[1, 0, 0, 0]) == 0x100_0000);
+    Ok(())
 }
 
 fn is_fit(value: &Data) -> bool {

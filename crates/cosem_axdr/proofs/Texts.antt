@@ -26,7 +26,7 @@ back_4 : (n : ℕ) → n < 2 ^ 32 → n ≡ big_endian (bytes_high_first 4 n)
 back_4 n below = omega arith
 
 -- the shortest form of a length is one of its forms
-length_spells : (n : ℕ) → n < 2 ^ 32 → IsLength (length_text n) n
+pub length_spells : (n : ℕ) → n < 2 ^ 32 → IsLength (length_text n) n
 length_spells n below =
     elim (cases_lt n 0x80) [
       | inl h ↦ rw (lt-ltb n 0x80 h) (inl (h, refl, refl))

@@ -1,7 +1,8 @@
-ghost use Rattle.std.specs.Prelude.{◌≡◌, ◌≤◌, length, IfOk};
-ghost use Rattle.cosem_axdr.specs.Reading.{Reads, start, byte_at, bytes_at, big_endian, length_at, string_at};
+ghost use Rattle.std.specs.Prelude.{◌≡◌, length, IfOk};
+ghost use Rattle.cosem_axdr.specs.Reading.{Reads, start, byte_at, bytes_at, length_at, string_at};
 
 use crate::fault::DataFault;
+use crate::length::number_of;
 use crate::limits::MAX_TEXT;
 use std::marker::Model;
 
@@ -91,16 +92,4 @@ impl<'a> Reader<'a> {
         let count = self.length()?;
         self.bytes(count)
     }
-}
-
-// The number whose bytes these are, the highest first.
-fn number_of(bytes: &[u8]) -> usize
-    requires { length bytes.now ≤ 4 }
-    ensures { result ≡ big_endian bytes.now }
-{
-    let mut number = 0;
-    for byte in bytes {
-        number = number * 256 + usize::from(*byte);
-    }
-    number
 }

@@ -1,8 +1,9 @@
-ghost use Rattle.std.specs.Prelude.{◌≡◌, ◌∷◌, ◌++◌, OnOk, OnErr};
+ghost use Rattle.std.specs.Prelude.{◌≡◌, ◌++◌, OnOk, OnErr};
 ghost use Rattle.cosem_axdr.specs.Tree.{trees_of, count_of};
 ghost use Rattle.cosem_axdr.specs.View.{tree_of, all_trees};
 ghost use Rattle.cosem_axdr.specs.Spelling.{text, texts, contents_text, length_text, string_text};
 
+use crate::length::append_length;
 use crate::tag::tag_of;
 use crate::value::Data;
 use octets::Octets;
@@ -47,7 +48,7 @@ fn put_contents(value: &Data, out: &mut Octets) -> Result<(), AllocError>
         Data::Structure(items) => put_counted(&items.items, out),
         Data::Boolean(value) => out.push(u8::from(*value)),
         Data::BitString { bits, bytes } => {
-            put_length(*bits, out)?;
+            append_length(*bits, out)?;
             out.extend_from_slice(bytes.as_slice())
         }
         Data::DoubleLong(value) => out.extend_from_slice(&value.to_be_bytes()),
@@ -73,7 +74,7 @@ fn put_contents(value: &Data, out: &mut Octets) -> Result<(), AllocError>
 fn put_counted(items: &[Data], out: &mut Octets) -> Result<(), AllocError>
     ensures { let ts = trees_of (all_trees items.now) in OnOk result (out.new ≡ out.old ++ (length_text (count_of ts) ++ texts ts)) }
 {
-    put_length(items.len(), out)?;
+    append_length(items.len(), out)?;
     for item in items {
         put_value(item, out)?;
     }
@@ -84,28 +85,6 @@ fn put_counted(items: &[Data], out: &mut Octets) -> Result<(), AllocError>
 fn put_string(bytes: &Octets, out: &mut Octets) -> Result<(), AllocError>
     ensures { OnOk result (out.new ≡ out.old ++ string_text bytes.now) }
 {
-    put_length(bytes.len(), out)?;
+    append_length(bytes.len(), out)?;
     out.extend_from_slice(bytes.as_slice())
-}
-
-// Writes a length or count in its shortest form.
-fn put_length(length: usize, out: &mut Octets) -> Result<(), AllocError>
-    ensures { OnOk result (out.new ≡ out.old ++ length_text length) }
-{
-    let bytes = length.to_be_bytes();
-    match length {
-        0..=0x7F => out.push(length as u8),
-        0x80..=0xFF => put_long(0x81, &bytes[7..], out),
-        0x100..=0xFFFF => put_long(0x82, &bytes[6..], out),
-        0x1_0000..=0xFF_FFFF => put_long(0x83, &bytes[5..], out),
-        _ => put_long(0x84, &bytes[4..], out),
-    }
-}
-
-// Writes a length in a long form: how many bytes it has, and those.
-fn put_long(form: u8, bytes: &[u8], out: &mut Octets) -> Result<(), AllocError>
-    ensures { OnOk result (out.new ≡ out.old ++ form ∷ bytes.now) }
-{
-    out.push(form)?;
-    out.extend_from_slice(bytes)
 }

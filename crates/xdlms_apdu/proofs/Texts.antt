@@ -1,16 +1,14 @@
 -- The written text of an APDU that fits spells it.
-use Rattle.std.proofs.Common.{◌≡◌, ℕ, suc, ◌^◌, ◌<◌, Bool, true, false, Option, Some, None, List, [], ◌∷◌, length, refl, sym, arith, inl, inr}
+use Rattle.std.proofs.Common.{◌≡◌, ℕ, suc, ◌^◌, ◌<◌, Bool, true, false, Option, Some, None, List, [], ◌∷◌, length, refl, sym, arith}
 use Rattle.std.specs.List.{All, flat_map}
-use Rattle.std.specs.Int.{w16, to_be_bytes, bytes_high_first}
-use Rattle.std.proofs.lemmas.Bool.{cases_lt, lt-ltb, le-ltb}
+use Rattle.std.specs.Int.{w16, to_be_bytes}
 use Rattle.std.proofs.lemmas.Nat.{from_be_bytes-to_be_bytes_2, from_be_bytes-to_be_bytes_4}
-use Rattle.cosem_axdr.specs.Reading.{big_endian}
-use Rattle.cosem_axdr.specs.Spelling.{IsLength, length_text, string_text, text, IsSpelling}
+use Rattle.cosem_axdr.specs.Spelling.{length_text, string_text, text, IsSpelling}
 use Rattle.cosem_axdr.specs.Tree.{null}
 use Rattle.cosem_axdr.specs.View.{tree_of}
 use Rattle.cosem_axdr.specs.declared.value.Data.{Data}
 use Rattle.cosem_axdr.specs.declared.value.Data.TheVariants.{Null}
-use Rattle.cosem_axdr.proofs.Texts.{text_spells}
+use Rattle.cosem_axdr.proofs.Texts.{length_spells, text_spells}
 use Rattle.cosem_names.specs.declared.name.AttrRef.{AttrRef}
 use Rattle.cosem_names.specs.declared.name.MethodRef.{MethodRef}
 use Rattle.cosem_names.specs.declared.service.AttributeSelection.{AttributeSelection}
@@ -25,37 +23,6 @@ use Rattle.xdlms_apdu.specs.declared.request.Request.TheVariants as request
 use Rattle.xdlms_apdu.specs.declared.response.Response.{Response}
 use Rattle.xdlms_apdu.specs.declared.response.Response.TheVariants as response
 use Rattle.xdlms_apdu.proofs.Joined.{join}
-
--- ---- lengths
-
--- the shortest form of a length is one of its forms
-pub length_spells : (n : ℕ) → n < 2 ^ 32 → IsLength (length_text n) n
-length_spells n below =
-    elim (cases_lt n 0x80) [
-      | inl h ↦ rw (lt-ltb n 0x80 h) (inl (h, refl, refl))
-      | inr h ↦ rw (le-ltb n 0x80 h) (elim (cases_lt n (2 ^ 8)) [
-        | inl a ↦ rw (lt-ltb n (2 ^ 8) a) (inr (omega arith, omega arith, refl, back_1 n a))
-        | inr a ↦ rw (le-ltb n (2 ^ 8) a) (elim (cases_lt n (2 ^ 16)) [
-          | inl b ↦ rw (lt-ltb n (2 ^ 16) b) (inr (omega arith, omega arith, refl, back_2 n b))
-          | inr b ↦ rw (le-ltb n (2 ^ 16) b) (elim (cases_lt n (2 ^ 24)) [
-            | inl c ↦ rw (lt-ltb n (2 ^ 24) c) (inr (omega arith, omega arith, refl, back_3 n c))
-            | inr c ↦ rw (le-ltb n (2 ^ 24) c) (inr (omega arith, omega arith, refl, back_4 n below))
-          ])
-        ])
-      ])
-    ]
-  where
-    back_1 : (n : ℕ) → n < 2 ^ 8 → n ≡ big_endian (bytes_high_first 1 n)
-    back_1 n below = omega arith
-
-    back_2 : (n : ℕ) → n < 2 ^ 16 → n ≡ big_endian (bytes_high_first 2 n)
-    back_2 n below = omega arith
-
-    back_3 : (n : ℕ) → n < 2 ^ 24 → n ≡ big_endian (bytes_high_first 3 n)
-    back_3 n below = omega arith
-
-    back_4 : (n : ℕ) → n < 2 ^ 32 → n ≡ big_endian (bytes_high_first 4 n)
-    back_4 n below = omega arith
 
 -- ---- the parts of the services
 

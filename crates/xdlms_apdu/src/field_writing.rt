@@ -6,9 +6,8 @@ ghost use Rattle.xdlms_apdu.specs.Text.{flag_text, number_text, descriptor_text,
 
 use crate::block::Block;
 use crate::invoke_id::InvokeId;
-use crate::length::put_length;
 use crate::tag::{ABSENT, PRESENT, choice};
-use cosem_axdr::{Data, Octets};
+use cosem_axdr::{Data, Octets, append_length};
 use cosem_names::{AttrRef, AttributeSelection, ClassId, GetResult, MethodRef, Obis};
 use std::alloc::AllocError;
 
@@ -37,7 +36,7 @@ pub(crate) fn put_number(number: u32, out: &mut Octets) -> Result<(), AllocError
 pub(crate) fn put_raw(raw: &Octets, out: &mut Octets) -> Result<(), AllocError>
     ensures { OnOk result (out.new ≡ out.old ++ string_text raw.now) }
 {
-    put_length(raw.len(), out)?;
+    append_length(raw.len(), out)?;
     out.extend_from_slice(raw.as_slice())
 }
 

@@ -7,7 +7,6 @@ mod field_reading;
 mod field_writing;
 mod invoke_id;
 mod laws;
-mod length;
 mod list_reading;
 mod list_writing;
 mod reader;

@@ -3,8 +3,7 @@ ghost use Rattle.std.specs.Prelude.{◌≡◌, ◌++◌, OnOk};
 ghost use Rattle.xdlms_apdu.specs.Text.{target_text, result_text, list_text};
 
 use crate::field_writing::{put_result, put_target};
-use crate::length::put_length;
-use cosem_axdr::Octets;
+use cosem_axdr::{Octets, append_length};
 use cosem_names::{AttributeSelection, GetResult};
 use std::alloc::AllocError;
 
@@ -15,7 +14,7 @@ pub(crate) fn put_targets(
 ) -> Result<(), AllocError>
     ensures { OnOk result (out.new ≡ out.old ++ list_text target_text targets.now) }
 {
-    put_length(targets.len(), out)?;
+    append_length(targets.len(), out)?;
     for target in targets {
         put_target(target, out)?;
     }
@@ -26,7 +25,7 @@ pub(crate) fn put_targets(
 pub(crate) fn put_results(results: &[GetResult], out: &mut Octets) -> Result<(), AllocError>
     ensures { OnOk result (out.new ≡ out.old ++ list_text result_text results.now) }
 {
-    put_length(results.len(), out)?;
+    append_length(results.len(), out)?;
     for outcome in results {
         put_result(outcome, out)?;
     }

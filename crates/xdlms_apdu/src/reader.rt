@@ -2,8 +2,7 @@ ghost use Rattle.std.specs.Prelude.{◌≡◌, ◌↔◌, [], length, IfOk, IsTr
 ghost use Rattle.xdlms_apdu.specs.Reading.{Reads, byte_at, bytes_at, flag_at, number_at, length_at, raw_at, data_at};
 
 use crate::fault::ApduFault;
-use crate::length::number_of;
-use cosem_axdr::{Data, DataFault, Octets};
+use cosem_axdr::{Data, DataFault, Octets, number_of};
 use std::alloc::Global;
 use std::marker::Model;
 

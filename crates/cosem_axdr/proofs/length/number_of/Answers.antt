@@ -1,6 +1,6 @@
 use Rattle.std.proofs.Common.{◌<◌, ◌^◌, arith, rules}
 use Rattle.cosem_axdr.proofs.BigEndian.{small}
-use Rattle.cosem_axdr.proofs.reader.number_of.Goals as goal
+use Rattle.cosem_axdr.proofs.length.number_of.Goals as goal
 
 pub overflow_mul-number : goal.overflow_mul-number
 overflow_mul-number c =
