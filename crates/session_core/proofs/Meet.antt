@@ -140,33 +140,27 @@ other_block K next p true false short next_short n bytes none some = sym none
 other_block K next p true true true next_short n bytes none some = sym some
 other_block K next p true true false next_short n bytes none some = sym none
 
-set_block : (block : Block) (later : List Role) (p : Purpose) (first : Block)
-    → incoming_by (follows service.Set block ∷ later) (record { purpose = p; block = first })
-    ≡ later_after block (transfer_of service.Set (incoming_by later (record { purpose = p; block = first })))
-set_block block later (purpose.Set target) first =
+-- one more later form
+follows_block : (s : LongService) (block : Block) (later : List Role) (p : Purpose) (first : Block)
+    → incoming_by (follows s block ∷ later) (record { purpose = p; block = first }) ≡ later_after block (transfer_of s (incoming_by later (record { purpose = p; block = first })))
+follows_block service.Set block later (purpose.Set target) first =
     later_block (λ i. later_after block (transfer_of service.Set i)) (purpose.Set target) (goes_on 1 (Some first)) (in_order service.Set later) (blocks_so_far later)
     (joined_so_far service.Set first.raw later) block refl refl
-set_block block later (purpose.Action method) first =
+follows_block service.Set block later (purpose.Action method) first =
     other_block (λ i. later_after block (transfer_of service.Set i)) _ (purpose.Action method) (goes_on 1 (Some first)) (in_order service.Action later) _ _ (blocks_so_far later)
     (joined_so_far service.Action first.raw later) refl refl
-
-action_block : (block : Block) (later : List Role) (p : Purpose) (first : Block)
-    → incoming_by (follows service.Action block ∷ later) (record { purpose = p; block = first })
-    ≡ later_after block (transfer_of service.Action (incoming_by later (record { purpose = p; block = first })))
-action_block block later (purpose.Action method) first =
-    later_block (λ i. later_after block (transfer_of service.Action i)) (purpose.Action method) (goes_on 1 (Some first)) (in_order service.Action later) (blocks_so_far later)
-    (joined_so_far service.Action first.raw later) block refl refl
-action_block block later (purpose.Set target) first =
+follows_block service.Action block later (purpose.Set target) first =
     other_block (λ i. later_after block (transfer_of service.Action i)) _ (purpose.Set target) (goes_on 1 (Some first)) (in_order service.Set later) _ _ (blocks_so_far later)
     (joined_so_far service.Set first.raw later) refl refl
+follows_block service.Action block later (purpose.Action method) first =
+    later_block (λ i. later_after block (transfer_of service.Action i)) (purpose.Action method) (goes_on 1 (Some first)) (in_order service.Action later) (blocks_so_far later)
+    (joined_so_far service.Action first.raw later) block refl refl
 
--- one more later form
 follows_more : (s : LongService) (block : Block) (later : List Role) (first : Option First)
     → option_and_then (incoming_by (follows s block ∷ later)) first ≡ later_after block (transfer_of s (option_and_then (incoming_by later) first))
 follows_more service.Set block later None = refl
-follows_more service.Set block later (Some first) = set_block block later first.purpose first.block
 follows_more service.Action block later None = refl
-follows_more service.Action block later (Some first) = action_block block later first.purpose first.block
+follows_more s block later (Some first) = follows_block s block later first.purpose first.block
 
 -- the transfer over one more role
 role_more : (role : Role) (roles : List Role) → incoming_among (role ∷ roles) ≡ incoming_by_role role (incoming_among roles)
