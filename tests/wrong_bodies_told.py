@@ -1,17 +1,13 @@
 #!/usr/bin/env python3
 """Tests bin/wrong_bodies: beside a wrong body that is refused it tells a right one, one that can't be read and one of a text that isn't there, and counts them; and an edit
-of a constant stands beside others only where nothing but functions' bodies names the constant; and what is left of the functions beside the edited ones; and those of wrong/long/ are judged with --long alone;
-and beside a run of `rt ci` each crate's edits are judged once the crates below it are proved, and never where one of these isn't."""
-import contextlib
+of a constant stands beside others only where nothing but functions' bodies names the constant; and what is left of the functions beside the edited ones; and those of wrong/long/ are judged with --long alone."""
 import importlib.machinery
 import importlib.util
-import io
 import os
 import re
 import subprocess
 import sys
 import tempfile
-import threading
 import types
 
 TOP = os.path.dirname(os.path.dirname(os.path.realpath(__file__)))
@@ -144,44 +140,6 @@ def long_ones_are_apart():
     return {"the edits of wrong/long/ are judged with --long alone": found == [["wrong/one.edit"], ["wrong/one.edit", "wrong/long/another.edit"]]}
 
 
-def those_beside_wait():
-    """Whether edits are judged beside `rt ci` as they must be: of a crate that stands alone at once, of one above another once that is told to be proved, and not above one that isn't."""
-    module, was_judged, seen = judge(), threading.Event(), {}
-    module.rt.need = lambda crate: 1
-    crates = {}
-    for name, below in (("alone", []), ("above", ["alone"]), ("lost", ["above"])):
-        crates[name] = types.SimpleNamespace(name=name, below=lambda it=below: [crates[name] for name in it], count=lambda of: 1)
-
-    with tempfile.TemporaryDirectory() as folder:
-        os.mkfifo(f"{folder}/lines")
-
-        def tell():
-            with open(f"{folder}/lines", "w", encoding="utf-8") as file:
-                is_first = was_judged.wait(60)
-                seen["alone before any line"] = is_first
-                file.write("rt: alone: its tests proved\nrt: alone proved\nrt: above NOT PROVED\n")
-
-        teller = threading.Thread(target=tell)
-        teller.start()
-        gate = module.Gate(f"{folder}/lines")
-
-        def judged(crate, edits):
-            seen[crate.name] = sorted(gate.proved)
-            was_judged.set()
-            return [True] * len(edits), 0.0, 0
-
-        module.judge = judged
-        edit = types.SimpleNamespace(label="lost/one")
-        with contextlib.redirect_stdout(io.StringIO()) as said:
-            given = module.in_lanes_beside(gate, [(it, [edit]) for it in crates.values()])
-        teller.join()
-    wanted = {"alone before any line": True, "alone": [], "above": ["alone"]}
-    return {
-        "beside rt ci a crate's edits are judged once those below it are proved": seen == wanted and {name: it[0] for name, it in given.items()} == {"alone": [True], "above": [True], "lost": [False]},
-        "and are told where one below it is not": said.getvalue() == "rt: lost/one: NOT JUDGED: above below it is not proved\n",
-    }
-
-
 def told_of_edits():
     """What bin/wrong_bodies tells of the crate with these edits: its status and its lines."""
     with tempfile.TemporaryDirectory() as folder:
@@ -204,7 +162,6 @@ def main():
     rows.update(users_are_told())
     rows.update(bodies_are_left_out())
     rows.update(long_ones_are_apart())
-    rows.update(those_beside_wait())
     for name, is_well in rows.items():
         print(f"wrong_bodies_told: {name}: {'as it must be' if is_well else 'NOT SO'}")
     failed = sum(not it for it in rows.values())
