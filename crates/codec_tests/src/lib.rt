@@ -8,4 +8,6 @@ mod acse;
 #[cfg(test)]
 mod apdu;
 #[cfg(test)]
+mod apdu_reading;
+#[cfg(test)]
 mod axdr;

@@ -1,0 +1,103 @@
+use crate::apdu::{
+    GET, GET_SELECTED, GOT, SET_LAST_BLOCK, is_text_of_request, request_fault, request_of,
+    response_fault,
+};
+use std::alloc::Global;
+use std::process::Abort;
+use xdlms_apdu::ApduFault;
+
+const REQUEST_FAULTS: [(&[u8], ApduFault); 11] = [
+    (&[], ApduFault::UnknownTag),
+    (&[0x60, 0x01], ApduFault::UnknownTag),
+    (&[0xC2], ApduFault::UnknownTag),
+    (&GOT, ApduFault::UnknownTag),
+    (&[0xC0, 0x00], ApduFault::UnknownForm),
+    (&[0xC0, 0x04, 0xC1], ApduFault::UnknownForm),
+    (&[0xC1, 0x04], ApduFault::UnknownForm),
+    (&[0xC3, 0x02], ApduFault::UnknownForm),
+    (&[0xC3, 0x05], ApduFault::UnknownForm),
+    // Lengths with no byte and with five bytes behind the first.
+    (
+        &[
+            0xC1, 0x03, 0xC1, 0x01, 0x00, 0x00, 0x00, 0x02, 0x80, 0x00, 0x00, 0x00, 0x00, 0x00,
+        ],
+        ApduFault::Unreadable,
+    ),
+    (
+        &[
+            0xC1, 0x03, 0xC1, 0x01, 0x00, 0x00, 0x00, 0x02, 0x85, 0x00, 0x00, 0x00, 0x00, 0x00,
+        ],
+        ApduFault::Unreadable,
+    ),
+];
+
+const RESPONSE_FAULTS: [(&[u8], ApduFault); 12] = [
+    (&[], ApduFault::UnknownTag),
+    (&[0x61, 0x01], ApduFault::UnknownTag),
+    (&GET, ApduFault::UnknownTag),
+    (&[0xD9, 0x01, 0x01], ApduFault::UnknownTag),
+    (&[0xC4, 0x04], ApduFault::UnknownForm),
+    (&[0xC5, 0x04], ApduFault::UnknownForm),
+    (&[0xC7, 0x02], ApduFault::UnknownForm),
+    (&[0xC7, 0x03, 0xC1], ApduFault::UnknownForm),
+    (&[0xC5, 0x01, 0xC1, 0x05], ApduFault::Unreadable),
+    (&[0xC4, 0x01, 0xC1, 0x02, 0x00], ApduFault::Unreadable),
+    (&[0xC7, 0x01, 0xC1, 0x00, 0x01], ApduFault::Unreadable),
+    (&[0xD8, 0x02, 0x01], ApduFault::Unreadable),
+];
+
+#[test]
+fn a_request_fault_says_how_far_the_bytes_are_known(rt: HostRuntime) {
+    for (bytes, fault) in &REQUEST_FAULTS {
+        assert!(rt;
+            request_fault(rt.alloc(), bytes) == Some(*fault),
+            "{bytes:?}"
+        );
+    }
+}
+
+#[test]
+fn a_response_fault_says_how_far_the_bytes_are_known(rt: HostRuntime) {
+    for (bytes, fault) in &RESPONSE_FAULTS {
+        assert!(rt;
+            response_fault(rt.alloc(), bytes) == Some(*fault),
+            "{bytes:?}"
+        );
+    }
+}
+
+// A length in a longer form and any byte for yes, and any selector with any parameters: other spellings of what is written in one way.
+const OTHER_SPELLINGS: [(&[u8], &[u8]); 2] = [
+    (
+        &[
+            0xC1, 0x03, 0xC1, 0xFF, 0x00, 0x00, 0x00, 0x02, 0x82, 0x00, 0x02, 0x1B, 0x58,
+        ],
+        &SET_LAST_BLOCK,
+    ),
+    (
+        &[
+            0xC0, 0x01, 0xC1, 0x00, 0x46, 0x00, 0x00, 0x60, 0x03, 0x0A, 0xFF, 0x03, 0x05, 0x02,
+            0x02, 0x02, 0x11, 0x01, 0x11, 0x02,
+        ],
+        &GET_SELECTED,
+    ),
+];
+
+// Whether bytes are read as a request that is written as these.
+fn is_written_as(alloc: Global, bytes: &[u8], written: &[u8]) -> bool {
+    match request_of(alloc, bytes) {
+        Ok(request) => {
+            let is_same = is_text_of_request(alloc, &request, written);
+            drop(request);
+            is_same
+        }
+        Err(_) => false,
+    }
+}
+
+#[test]
+fn other_spellings_are_read_and_not_written(rt: HostRuntime) {
+    for (bytes, written) in &OTHER_SPELLINGS {
+        assert!(rt; is_written_as(rt.alloc(), bytes, written), "{bytes:?}");
+    }
+}
