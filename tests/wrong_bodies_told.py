@@ -128,6 +128,26 @@ def bodies_are_left_out():
     }
 
 
+def edited_functions_are_kept():
+    """Whether the function by which an edit of a constant is to be refused keeps its body, where the constant stands in another file."""
+    module = judge()
+    with tempfile.TemporaryDirectory() as folder:
+        os.makedirs(f"{folder}/src")
+        texts = {
+            "src/lib.rt": "mod limits;\n\nuse limits::LIMIT;\n\nfn limit() -> u8 {\n    let one = LIMIT;\n    one\n}\n",
+            "src/limits.rt": "pub(crate) const LIMIT: u8 = 3;\n",
+            "limit.edit": "by: limit\nfile: src/limits.rt\nold: const LIMIT: u8 = 3;\nnew: const LIMIT: u8 = 4;\n",
+        }
+        for path, text in texts.items():
+            with open(f"{folder}/{path}", "w", encoding="utf-8") as file:
+                file.write(text)
+        crate = types.SimpleNamespace(name="book", folder=folder)
+        changed, edited = module.changed(crate, [module.Edit(crate, f"{folder}/limit.edit")])
+    sources = {path: text for path, text in texts.items() if path.startswith("src/")}
+    stubs, _ = module.without_bodies("book", {**sources, **changed}, edited)
+    return {"the function by which a constant is refused keeps its body": stubs == {"src/lib.rt": texts["src/lib.rt"], "src/limits.rt": texts["src/limits.rt"].replace("3", "4")}}
+
+
 def long_ones_are_apart():
     """Whether the edits of wrong/long/ are judged with --long alone."""
     files_of = judge().files_of
@@ -161,6 +181,7 @@ def main():
     rows["all are counted"] = status == 1 and lines[-1] == f"{len(own)} passed, {len(EDITS)} failed"
     rows.update(users_are_told())
     rows.update(bodies_are_left_out())
+    rows.update(edited_functions_are_kept())
     rows.update(long_ones_are_apart())
     for name, is_well in rows.items():
         print(f"wrong_bodies_told: {name}: {'as it must be' if is_well else 'NOT SO'}")
