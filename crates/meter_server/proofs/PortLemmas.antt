@@ -2,11 +2,11 @@
 use Rattle.std.proofs.Common.{◌≡◌, ℕ, List, [], ◌∷◌, ◌++◌, Option, Result, Ok, Err, IfOk, refl, sym, ap, ◌∙◌, subst, ⊎_elim}
 use Rattle.std.proofs.lemmas.List.{append-nil, append_assoc}
 use Rattle.kept_meter.specs.Calls.{IsLegal, told}
-use Rattle.meter_server.specs.Meters.{Replied, Refused}
+use Rattle.session_serving.specs.Meters.{Replied, Refused}
 use Rattle.meter_server.specs.Ports.{MeterPort, PortSteps, entries, Enters}
-use Rattle.meter_server.specs.Served.{Served, Did}
-use Rattle.meter_server.specs.declared.fault.ServeFault.{ServeFault}
-use Rattle.meter_server.specs.declared.fault.ServeFault.TheVariants as fault
+use Rattle.session_serving.specs.Served.{Served, Did}
+use Rattle.session_serving.specs.declared.fault.ServeFault.{ServeFault}
+use Rattle.session_serving.specs.declared.fault.ServeFault.TheVariants as fault
 use Rattle.relay_core.specs.declared.event.Event.{Event}
 use Rattle.relay_core.specs.declared.event.Reply.{Reply}
 use Rattle.relay_core.specs.declared.opening.Opening.{Opening}

@@ -15,9 +15,9 @@ use Rattle.session_threads.specs.Ports.{GoesOn, AreJoined, SplitsOff, TakesIn, c
 use Rattle.session_threads.specs.Workers.{Ended, ComesBack}
 use Rattle.meter_workers.specs.Handed.{MeterPort, handed, unread, HandsBlocks, HandsMoments, HandsPresses}
 use Rattle.meter_workers.specs.Handed.{StopsFor as WorkerStops}
-use Rattle.meter_server.specs.Settling.{fault_of}
-use Rattle.meter_server.specs.declared.fault.ServeFault.{ServeFault}
-use Rattle.meter_server.specs.declared.fault.ServeFault.TheVariants as fault
+use Rattle.session_serving.specs.Settling.{fault_of}
+use Rattle.session_serving.specs.declared.fault.ServeFault.{ServeFault}
+use Rattle.session_serving.specs.declared.fault.ServeFault.TheVariants as fault
 use Rattle.meter_server.specs.declared.serving_all.Served.{Served}
 use Rattle.meter_server.specs.ServingAll.{events_by, AllBlocks, AllMoments, AllPresses, Acted, IsFresh, IsServed, IsSpent, IsSpentBy, StopsFor, OnEnded, worker_fault, first_of}
 

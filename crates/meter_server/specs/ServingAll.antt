@@ -4,9 +4,9 @@
 --     StopsFor, first_of                  which fault comes back, and which goes before the other
 use Rattle.std.specs.Prelude.{◌≡◌, ⊤, ℕ, ◌+◌, ◌<◌, ◌≤◌, List, [], map, replicate, Option, Some, None, IfSome, Result, Ok, Err}
 use Rattle.lane_sampler.specs.Samples.{Samples}
-use Rattle.meter_server.specs.Settling.{fault_of}
-use Rattle.meter_server.specs.declared.fault.ServeFault.{ServeFault}
-use Rattle.meter_server.specs.declared.fault.ServeFault.TheVariants as fault
+use Rattle.session_serving.specs.Settling.{fault_of}
+use Rattle.session_serving.specs.declared.fault.ServeFault.{ServeFault}
+use Rattle.session_serving.specs.declared.fault.ServeFault.TheVariants as fault
 use Rattle.meter_server.specs.declared.serving_all.Served.{Served}
 use Rattle.meter_workers.specs.Handed.{MeterPort, unread}
 use Rattle.relay_core.specs.declared.event.Event.{Event}

@@ -3,12 +3,12 @@ ghost use Rattle.std.specs.Prelude.{⊤, Some, OnErr};
 ghost use Rattle.acse_ber.specs.Password.{IsPassword};
 ghost use Rattle.turn_lock.specs.Shown.{IsSame};
 
-use crate::fault::ServeFault;
 use crate::ports::serve_port;
 use byte_streams::Counted;
 use cosem_axdr::Octets;
 use kept_meter::Kept;
 use session_core::SessionEnd;
+use session_serving::ServeFault;
 use session_threads::{Connection, ListenFault};
 use std::alloc::Global;
 use std::io::{Read, Write};

@@ -1,21 +1,19 @@
 //! A session that shares its meter with others.
 ghost use Rattle.std.specs.Prelude.{List};
 ghost use Rattle.acse_ber.specs.Password.{IsPassword};
-ghost use Rattle.meter_server.specs.Meters.{Replied};
+ghost use Rattle.session_serving.specs.Meters.{Replied};
 ghost use Rattle.meter_server.specs.Ports.{MeterPort, PortSteps, Enters};
-ghost use Rattle.meter_server.specs.Served.{Served};
+ghost use Rattle.session_serving.specs.Served.{Served};
 ghost use Rattle.relay_core.specs.declared.event.Event.{Event};
 ghost use Rattle.relay_core.specs.declared.event.Reply.{Reply};
 ghost use Rattle.turn_lock.specs.Shown.{IsSame};
 
-use crate::fault::ServeFault;
-use crate::meter::Meter;
-use crate::serving::serve_session;
 use byte_streams::{Reader, Writer};
 use cosem_axdr::Octets;
 use kept_meter::Kept;
 use relay_core::{Event, Reply};
 use session_core::SessionEnd;
+use session_serving::{Meter, ServeFault, serve_session};
 use std::alloc::Global;
 use std::marker::Model;
 use std::sync::Wait;

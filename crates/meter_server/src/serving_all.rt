@@ -8,11 +8,11 @@ ghost use Rattle.turn_lock.specs.Calls.{IsLegal};
 ghost use Rattle.turn_lock.specs.History.{IsAmong};
 
 use crate::acting::{Button, Clock, Sampler};
-use crate::fault::ServeFault;
 use crate::listening::{Clients, Listener};
 use cosem_axdr::Octets;
 use kept_meter::Kept;
 use meter_workers::{BlockSource, ButtonSource, MomentSource};
+use session_serving::ServeFault;
 use session_threads::{WorkerThread, join_worker, serve_connections, start_worker};
 use std::alloc::Global;
 use std::sync::Wait;

@@ -1,7 +1,7 @@
 use denote.Param.Send.{sendable}
 use Rattle.std.proofs.Crossing.{crosses}
 use Rattle.kept_meter.proofs.Sent.{kept_send}
-use Rattle.meter_server.proofs.Sent.{event_send, reply_send}
+use Rattle.session_serving.proofs.Sent.{event_send, reply_send}
 use Rattle.std.proofs.Common.{◌≡◌, ◌+◌, ◌∙◌, ap, arith}
 use Rattle.session_threads.specs.Ports.{child}
 use Rattle.session_threads.proofs.Going.{goes_trans}

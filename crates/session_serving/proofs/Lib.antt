@@ -1,0 +1,6 @@
+pub mod Replies
+pub mod Reaching
+pub mod Sessions
+pub mod HexSessions
+pub mod Sent
+pub mod Valueless

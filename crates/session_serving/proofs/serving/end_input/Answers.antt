@@ -1,0 +1,12 @@
+use Rattle.session_serving.proofs.Reaching.{ended_all, ended_so}
+use Rattle.session_serving.proofs.serving.end_input.Goals as goal
+
+pub returns-clause-ok : goal.returns-clause-ok
+returns-clause-ok g c =
+    ended_all g.M.Meter.steps g.F.Form.written_as c.args.session.now c.finish.new.self c.settle.new.session c.args.meter.now c.settle.new.meter
+    (g.W.Writer.contents c.args.writer.now) (g.W.Writer.contents c.settle.new.writer) c.in_ok-end.field-0 c.finish.ensures c.in_ok-end.ensures.ok
+
+pub returns-clause-end : goal.returns-clause-end
+returns-clause-end g c =
+    ended_so g.M.Meter.steps g.F.Form.written_as c.args.session.now c.finish.new.self c.settle.new.session c.args.meter.now c.settle.new.meter
+    (g.W.Writer.contents c.args.writer.now) (g.W.Writer.contents c.settle.new.writer) c.in-Some.end c.finish.ensures (rw c.in-Some.is at c.in_ok-end.ensures.ok)

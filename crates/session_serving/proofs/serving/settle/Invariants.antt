@@ -1,0 +1,18 @@
+-- What was done so far, and that the session owes the rest. Each task is work done.
+use Rattle.std.proofs.Common.{◌≡◌, [], false}
+use Rattle.session_serving.specs.Settling.{Reached}
+use Rattle.session_core.specs.Remaining.{still_asks, still_sends, still_ends, is_asking, is_finished, load}
+use Rattle.session_serving.proofs.serving.settle.Given as goal
+
+abbrev pub invariant-due : goal.invariant-due
+invariant-due g l = record {
+  reached : Reached g.M.Meter.steps g.F.Form.written_as (still_asks l.initial.session) (still_sends l.initial.session) (still_ends l.initial.session)
+      l.initial.meter (g.W.Writer.contents l.initial.writer) [] l.session l.meter (g.W.Writer.contents l.writer);
+  silent : is_asking l.session ≡ false;
+  finished : is_finished l.session ≡ is_finished l.initial.session;
+  writable : g.W.Writer.can_write l.writer;
+  even : g.W.Writer.failures l.writer ≡ g.W.Writer.failures l.initial.writer;
+}
+
+abbrev pub decreases-due : goal.decreases-due
+decreases-due g l = load l.session

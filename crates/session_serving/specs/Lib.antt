@@ -1,0 +1,5 @@
+pub mod Answering
+pub mod Hexadecimal
+pub mod Meters
+pub mod Served
+pub mod Settling

@@ -1,0 +1,109 @@
+-- What a session did to its streams and its meter.
+--     DoesAll        all events were asked, and all answers to their replies were written
+--     StopsShort     memory ran out
+--     IsUsedUp       the meter takes no more events
+--     IsUnwritten    a write failed
+--     Stops          a session that stopped in its midst
+--     Served         a whole session, by its result
+use Rattle.std.specs.Prelude.{◌≡◌, ◌⊎◌, ◌+◌, ◌<◌, ◌≤◌, ℕ, Option, List, ◌++◌, ⊤, Result, Ok, Err}
+use Rattle.std.specs.List.{flat_map}
+use Rattle.std.specs.Io.KnownBytes.{Appends, Consumes, IsAtEnd}
+use Rattle.session_serving.specs.Meters.{Replied, Refused}
+use Rattle.session_serving.specs.declared.fault.ServeFault.{ServeFault}
+use Rattle.session_serving.specs.declared.fault.ServeFault.TheVariants as fault
+use Rattle.relay_core.specs.declared.event.Event.{Event}
+use Rattle.relay_core.specs.declared.event.Reply.{Reply}
+use Rattle.session_core.specs.Backwards.{Asks, Answers, end_of}
+use Rattle.session_core.specs.declared.end.SessionEnd.{SessionEnd}
+use Rattle.session_core.specs.declared.end.SessionEnd.TheVariants as ending
+use Rattle.turn_lock.specs.declared.faults.CallFault.{CallFault}
+use Rattle.turn_lock.specs.declared.faults.CallFault.TheVariants as call
+
+-- the texts that are due for replies
+abbrev pub Sends : Type 0
+Sends = List Reply → List (List ℕ)
+
+-- a text that is written as its bytes
+abbrev pub as_bytes : List ℕ → List ℕ
+as_bytes text = text
+
+module _ {M : Type 0} (steps : M → Event → Result Reply CallFault → M → Type 0) (written_as : List ℕ → List ℕ) where
+  -- all these events were asked, and all answers to their replies were written
+  pub record DoesAll (asks : List Event) (sends : Sends) (m : M) (written : Option (List ℕ)) (m' : M) (written' : Option (List ℕ)) : Type 0 where
+    pub replies : List Reply
+    pub replied : Replied steps m asks replies m'
+    pub wrote : Appends written written' (flat_map written_as (sends replies))
+
+  -- memory ran out: the first of these events were asked, of which the last may have been refused, and the first answers to their replies were written
+  pub record StopsShort (asks : List Event) (sends : Sends) (m : M) (written : Option (List ℕ)) (m' : M) (written' : Option (List ℕ)) : Type 0 where
+    pub asked : List Event
+    pub later : List Event
+    pub all_asked : asks ≡ asked ++ later
+    pub replies : List Reply
+    pub replied : Replied steps m asked replies m' ⊎ Refused steps m asked replies call.Memory m'
+    pub sent : List (List ℕ)
+    pub unsent : List (List ℕ)
+    pub all_sent : sends replies ≡ sent ++ unsent
+    pub wrote : Appends written written' (flat_map written_as sent)
+
+  -- the meter took the first of these events and then one no more, and all answers to its replies were written
+  pub record IsUsedUp (asks : List Event) (sends : Sends) (m : M) (written : Option (List ℕ)) (m' : M) (written' : Option (List ℕ)) : Type 0 where
+    pub asked : List Event
+    pub later : List Event
+    pub all_asked : asks ≡ asked ++ later
+    pub replies : List Reply
+    pub refused : Refused steps m asked replies call.Exhausted m'
+    pub wrote : Appends written written' (flat_map written_as (sends replies))
+
+  -- a write failed: the first of these events were asked
+  pub record IsUnwritten (asks : List Event) (m m' : M) : Type 0 where
+    pub asked : List Event
+    pub later : List Event
+    pub all_asked : asks ≡ asked ++ later
+    pub replies : List Reply
+    pub replied : Replied steps m asked replies m'
+
+  -- a session stopped in its midst; the numbers are those of the writes that failed before and after
+  abbrev pub Stops : List Event → Sends → M → Option (List ℕ) → ℕ → ServeFault → M → Option (List ℕ) → ℕ → Type 0
+  Stops asks sends m written failed fault.Read m' written' failed' = ⊥
+  Stops asks sends m written failed fault.Write m' written' failed' = IsUnwritten asks m m' × (failed < failed')
+  Stops asks sends m written failed fault.Memory m' written' failed' = StopsShort asks sends m written m' written'
+  Stops asks sends m written failed fault.Exhausted m' written' failed' = IsUsedUp asks sends m written m' written'
+  Stops asks sends m written failed fault.Listen m' written' failed' = ⊥
+
+-- a session has at most so many reads
+abbrev pub most_reads : ℕ
+most_reads = 4294967295
+
+-- a session ends so, where these bytes are left: the input must have ended where no header ends the session
+abbrev pub EndsBefore : SessionEnd → Option (List ℕ) → Type 0
+EndsBefore ending.Closed left = IsAtEnd left
+EndsBefore ending.Cut left = IsAtEnd left
+EndsBefore ending.BadVersion left = ⊤
+EndsBefore ending.TooLong left = ⊤
+
+module _ {R W M : Type 0}
+    (remaining : R → Option (List ℕ)) (reads read_failures : R → ℕ)
+    (contents : W → Option (List ℕ)) (write_failures : W → ℕ)
+    (steps : M → Event → Result Reply CallFault → M → Type 0) where
+  -- what came of the bytes that were read
+  abbrev pub Did : List ℕ → List ℕ → R → W → M → Result SessionEnd ServeFault → R → W → M → Type 0
+  Did password seen r w m (Ok end) r' w' m' =
+      DoesAll steps as_bytes (Asks password seen) (Answers password seen) m (contents w) m' (contents w')
+      × (end ≡ end_of seen) × EndsBefore end (remaining r')
+  Did password seen r w m (Err fault.Read) r' w' m' =
+      DoesAll steps as_bytes (Asks password seen) (Answers password seen) m (contents w) m' (contents w')
+      × ((read_failures r < read_failures r') ⊎ (reads r + most_reads ≤ reads r'))
+  Did password seen r w m (Err fault.Write) r' w' m' =
+      IsUnwritten steps as_bytes (Asks password seen) m m' × (write_failures w < write_failures w')
+  Did password seen r w m (Err fault.Memory) r' w' m' =
+      StopsShort steps as_bytes (Asks password seen) (Answers password seen) m (contents w) m' (contents w')
+  Did password seen r w m (Err fault.Exhausted) r' w' m' =
+      IsUsedUp steps as_bytes (Asks password seen) (Answers password seen) m (contents w) m' (contents w')
+  Did password seen r w m (Err fault.Listen) r' w' m' = ⊥
+
+  -- a session was served: some bytes were read, and this came of them
+  pub record Served (password : List ℕ) (r : R) (w : W) (m : M) (result : Result SessionEnd ServeFault) (r' : R) (w' : W) (m' : M) : Type 0 where
+    pub seen : List ℕ
+    pub read : Consumes (remaining r) (remaining r') seen
+    pub did : Did password seen r w m result r' w' m'

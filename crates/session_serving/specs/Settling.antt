@@ -1,0 +1,71 @@
+-- How far a session has come.
+--     Reached      what was asked and written, and that the session owes the rest
+--     IsSettled    nothing is due without more input
+--     Settled      all that is due was done
+--     Stands       a session between two reads
+use Rattle.std.specs.Prelude.{◌≡◌, ◌<◌, ℕ, false, Option, Some, None, List, [], ◌++◌, Result}
+use Rattle.std.specs.List.{flat_map}
+use Rattle.std.specs.Io.KnownBytes.{Appends, Consumes}
+use Rattle.session_serving.specs.Meters.{Replied}
+use Rattle.session_serving.specs.declared.fault.ServeFault.{ServeFault}
+use Rattle.session_serving.specs.declared.fault.ServeFault.TheVariants as fault
+use Rattle.relay_core.specs.declared.event.Event.{Event}
+use Rattle.relay_core.specs.declared.event.Reply.{Reply}
+use Rattle.session_core.specs.Progress.{IsOver}
+use Rattle.session_core.specs.Remaining.{still_asks, still_sends, still_ends, is_asking, is_finished}
+use Rattle.session_core.specs.declared.end.SessionEnd.{SessionEnd}
+use Rattle.session_core.specs.declared.session.Session.{Session}
+use Rattle.turn_lock.specs.declared.faults.CallFault.{CallFault}
+use Rattle.turn_lock.specs.declared.faults.CallFault.TheVariants as call
+
+-- the fault of a session whose meter has this one
+abbrev pub fault_of : CallFault → ServeFault
+fault_of call.Memory = fault.Memory
+fault_of call.Exhausted = fault.Exhausted
+
+-- a frame was not written; the numbers are those of the writes that failed before and after
+abbrev pub FailsToWrite : Option (List ℕ) → ℕ → ServeFault → Option (List ℕ) → ℕ → Type 0
+FailsToWrite written failed fault.Read written' failed' = ⊥
+FailsToWrite written failed fault.Write written' failed' = failed < failed'
+FailsToWrite written failed fault.Memory written' failed' = Appends written written' []
+FailsToWrite written failed fault.Exhausted written' failed' = ⊥
+FailsToWrite written failed fault.Listen written' failed' = ⊥
+
+-- nothing is asked and nothing sent without more input
+pub record IsSettled (s : Session) : Type 0 where
+  pub asks : still_asks s [] ≡ []
+  pub sends : (replies : List Reply) → still_sends s [] replies ≡ []
+
+-- what a session whose input ended owes no more
+abbrev pub IsDone : Option SessionEnd → Session → Type 0
+IsDone None s = is_finished s ≡ false
+IsDone (Some end) s = IsOver end s
+
+module _ {M : Type 0} (steps : M → Event → Result Reply CallFault → M → Type 0) (written_as : List ℕ → List ℕ) where
+  -- of the events, texts and end that each input gives, some were asked and sent after these bytes, and the session owes the rest
+  pub record Reached (asks : List ℕ → List Event) (sends : List ℕ → List Reply → List (List ℕ)) (ends : List ℕ → SessionEnd)
+      (m : M) (written : Option (List ℕ)) (seen : List ℕ) (s : Session) (m' : M) (written' : Option (List ℕ)) : Type 0 where
+    pub asked : List Event
+    pub replies : List Reply
+    pub sent : List (List ℕ)
+    pub asks_rest : (more : List ℕ) → asks (seen ++ more) ≡ asked ++ still_asks s more
+    pub sends_rest : (more : List ℕ) (later : List Reply) → sends (seen ++ more) (replies ++ later) ≡ sent ++ still_sends s more later
+    pub ends_rest : (more : List ℕ) → ends (seen ++ more) ≡ still_ends s more
+    pub replied : Replied steps m asked replies m'
+    pub wrote : Appends written written' (flat_map written_as sent)
+
+  -- a session took in bytes, and did all that was due
+  pub record Settled (old : Session) (m : M) (written : Option (List ℕ)) (bytes : List ℕ) (end : Option SessionEnd) (new : Session) (m' : M) (written' : Option (List ℕ)) : Type 0 where
+    pub reached : Reached (still_asks old) (still_sends old) (still_ends old) m written bytes new m' written'
+    pub settled : IsSettled new
+    pub done : IsDone end new
+    pub silent : is_asking new ≡ false
+    pub finished : is_finished new ≡ is_finished old
+
+  -- a session between two reads: of the bytes that were read nothing more is due
+  pub record Stands (old : Session) (m : M) (written left : Option (List ℕ)) (s : Session) (m' : M) (written' left' : Option (List ℕ)) : Type 0 where
+    pub seen : List ℕ
+    pub read : Consumes left left' seen
+    pub reached : Reached (still_asks old) (still_sends old) (still_ends old) m written seen s m' written'
+    pub settled : IsSettled s
+    pub silent : is_asking s ≡ false

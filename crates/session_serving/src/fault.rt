@@ -1,0 +1,75 @@
+ghost use Rattle.std.specs.Prelude.{◌≡◌};
+ghost use Rattle.session_serving.specs.Settling.{fault_of};
+ghost use Rattle.session_serving.specs.declared.fault.HexFault.TheVariants as hex_fault;
+ghost use Rattle.session_serving.specs.declared.fault.ServeFault.TheVariants as serve_fault;
+
+use std::alloc::AllocError;
+use thiserror::Error;
+use turn_lock::CallFault;
+
+/// Why a server stopped.
+#[derive(Clone, Copy, Debug, PartialEq, Eq, Error)]
+pub enum ServeFault {
+    /// A read failed, or the session had as many reads as it may have.
+    #[error("a read failed")]
+    Read = 1,
+    /// A write failed.
+    #[error("a write failed")]
+    Write = 2,
+    /// Memory ran out.
+    #[error("no memory")]
+    Memory = 3,
+    /// The meter takes no more events.
+    #[error("every turn of the meter was taken")]
+    Exhausted = 4,
+    /// No connection could be accepted.
+    #[error("listening failed")]
+    Listen = 5,
+}
+
+impl From<AllocError> for ServeFault {
+    ghost from_gives = { λ _ fault. fault ≡ serve_fault.Memory };
+
+    fn from(_error: AllocError) -> ServeFault {
+        ServeFault::Memory
+    }
+}
+
+impl From<CallFault> for ServeFault {
+    ghost from_gives = { λ call fault. fault ≡ fault_of call };
+
+    fn from(fault: CallFault) -> ServeFault {
+        match fault {
+            CallFault::Memory => ServeFault::Memory,
+            CallFault::Exhausted => ServeFault::Exhausted,
+        }
+    }
+}
+
+/// Why a text of hexadecimal was not played to its end.
+#[derive(Clone, Copy, Debug, PartialEq, Eq, Error)]
+pub enum HexFault {
+    /// The text is no pairs of hexadecimal digits.
+    #[error("no pairs of hexadecimal digits")]
+    Digits = 1,
+    /// The text has more than 1,048,576 characters.
+    #[error("a text of more than 1,048,576 characters")]
+    TooLong = 2,
+    /// A read failed.
+    #[error("a read failed")]
+    Read = 3,
+    /// A write failed.
+    #[error("a write failed")]
+    Write = 4,
+    /// Memory ran out.
+    #[error("no memory")]
+    Memory = 5,
+}
+
+impl From<AllocError> for HexFault {
+    ghost from_gives = { λ _ fault. fault ≡ hex_fault.Memory };
+
+    fn from(_error: AllocError) -> HexFault {
+        HexFault::Memory
+    }
+}

@@ -1,0 +1,61 @@
+ghost use Rattle.std.specs.Prelude.{◌≡◌, ℕ, List, IfErr, IfOk, OnOk, string_bytes};
+ghost use Rattle.std.specs.Io.KnownBytes.{Appends};
+ghost use Rattle.session_serving.specs.Hexadecimal.{hex_line};
+ghost use Rattle.session_serving.specs.Served.{as_bytes};
+ghost use Rattle.session_serving.specs.Settling.{FailsToWrite};
+
+use crate::fault::ServeFault;
+use byte_streams::Writer;
+use std::alloc::{AllocError, Global};
+
+/// How the frames that are sent are written.
+pub(crate) trait Form {
+    // What is written of a frame.
+    ghost written_as: { List ℕ → List ℕ };
+
+    /// Writes a frame.
+    fn write<W: Writer>(alloc: Global, writer: &mut W, frame: &[u8]) -> Result<(), ServeFault>
+        requires { W.can_write writer.now }
+        ensures bytes { OnOk result (Appends (W.contents writer.old) (W.contents writer.new) (written_as frame.now)) }
+        ensures ready { OnOk result (W.can_write writer.new) }
+        ensures even { OnOk result (W.failures writer.new ≡ W.failures writer.old) }
+        ensures err { IfErr result (λ fault. FailsToWrite (W.contents writer.old) (W.failures writer.old) fault (W.contents writer.new) (W.failures writer.new)) };
+}
+
+/// As the bytes that it has.
+pub(crate) struct AsBytes;
+
+impl Form for AsBytes {
+    ghost written_as = { as_bytes };
+
+    fn write<W: Writer>(_alloc: Global, writer: &mut W, frame: &[u8]) -> Result<(), ServeFault> {
+        match writer.write_all(frame) {
+            Ok(()) => Ok(()),
+            Err(_) => Err(ServeFault::Write),
+        }
+    }
+}
+
+/// As a line of hexadecimal in capitals.
+pub(crate) struct AsHexLine;
+
+impl Form for AsHexLine {
+    ghost written_as = { hex_line };
+
+    fn write<W: Writer>(alloc: Global, writer: &mut W, frame: &[u8]) -> Result<(), ServeFault> {
+        let line = line_of(alloc, frame)?;
+        match writer.write_all(line.as_bytes()) {
+            Ok(()) => Ok(()),
+            Err(_) => Err(ServeFault::Write),
+        }
+    }
+}
+
+/// The line of a frame.
+fn line_of(alloc: Global, frame: &[u8]) -> Result<String, AllocError>
+    ensures { IfOk result (λ line. string_bytes line ≡ hex_line frame.now) }
+{
+    let mut line = hex::encode_upper(alloc, frame)?;
+    line.push('\n')?;
+    Ok(line)
+}

@@ -1,0 +1,86 @@
+ghost use Rattle.acse_ber.specs.Password.{IsPassword};
+ghost use Rattle.session_serving.specs.Hexadecimal.{Hexed, Played, PlayedOn};
+ghost use Rattle.relay_core.specs.World.{IsDeviceName};
+
+use crate::fault::{HexFault, ServeFault};
+use crate::form::AsHexLine;
+use crate::hex_text::{decode, read_text};
+use crate::serving::end_input;
+use byte_streams::{Reader, Writer};
+use cosem_axdr::Octets;
+use relay_core::RelayCore;
+use session_core::Session;
+use std::alloc::Global;
+
+/// Serves the session of an input on a meter, and writes each frame as a line.
+fn play_on<W: Writer>(
+    alloc: Global,
+    input: &[u8],
+    writer: &mut W,
+    core: &mut RelayCore,
+    password: &Octets,
+) -> Result<(), HexFault>
+    requires writable { W.can_write writer.now }
+    requires password { IsPassword password.now }
+    ensures { PlayedOn password.now input.now core.old (W.contents writer.old) (W.failures writer.old) result core.new (W.contents writer.new) (W.failures writer.new) }
+{
+    let mut session = Session::new(alloc, password)?;
+    match session.feed(input) {
+        Ok(()) => {}
+        Err(_) => {
+            drop(session);
+            return Err(HexFault::Memory);
+        }
+    }
+    let ended = end_input::<AsHexLine, W, RelayCore>(alloc, &mut session, writer, core);
+    drop(session);
+    match ended {
+        Ok(_) => Ok(()),
+        Err(ServeFault::Write) => Err(HexFault::Write),
+        Err(ServeFault::Memory) => Err(HexFault::Memory),
+        Err(ServeFault::Read | ServeFault::Exhausted | ServeFault::Listen) => unreachable!(),
+    }
+}
+
+/// Serves the session of an input on a new meter, and writes each frame as a line.
+#[tactic(auto, using(crate::proofs::HexSessions::played_new))]
+fn play<W: Writer>(
+    alloc: Global,
+    input: &[u8],
+    writer: &mut W,
+    device: &Octets,
+    password: &Octets,
+) -> Result<(), HexFault>
+    requires writable { W.can_write writer.now }
+    requires named { IsDeviceName device.now }
+    requires password { IsPassword password.now }
+    ensures { Played device.now password.now input.now (W.contents writer.old) (W.failures writer.old) result (W.contents writer.new) (W.failures writer.new) }
+{
+    let mut core = RelayCore::new(alloc, device)?;
+    let played = play_on(alloc, input, writer, &mut core, password);
+    drop(core);
+    played
+}
+
+/// Serves a session whose bytes a text has in hexadecimal: pairs of digits in either case, with blanks and line ends passed over, at most 1,048,576 characters.
+/// It has a new meter of this device name, 1 to 16 bytes, and the management client this password, 1 to 32 bytes. Each frame that is sent is written as a line of hexadecimal in
+/// capitals. A session that a wrong header or the end of the text cuts is no fault.
+///
+/// Nothing is written before the whole text is read and is pairs of digits. A text that is too long is told before what its characters are.
+pub fn run_hex<R: Reader, W: Writer>(
+    alloc: Global,
+    reader: &mut R,
+    writer: &mut W,
+    device: &Octets,
+    password: &Octets,
+) -> Result<(), HexFault>
+    requires readable { R.can_read reader.now }
+    requires writable { W.can_write writer.now }
+    requires named { IsDeviceName device.now }
+    requires password { IsPassword password.now }
+    ensures { Hexed R.remaining R.failures W.contents W.failures device.now password.now reader.old writer.old result reader.new writer.new }
+{
+    let text = read_text(alloc, reader)?;
+    let input = decode(alloc, text)?;
+    play(alloc, input.as_slice(), writer, device, password)
+}

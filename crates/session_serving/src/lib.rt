@@ -1,0 +1,16 @@
+//! A client of the meter served: from the bytes of a request to the bytes of its answer, and from a session's reader to its writer.
+#![tactic(auto)]
+
+mod answering;
+mod fault;
+mod form;
+mod hex_session;
+mod hex_text;
+mod meter;
+mod serving;
+
+pub use answering::answer_apdu;
+pub use fault::{HexFault, ServeFault};
+pub use hex_session::run_hex;
+pub use meter::Meter;
+pub use serving::serve_session;

@@ -1,0 +1,33 @@
+ghost use Rattle.std.specs.Prelude.{Result, IfOk};
+ghost use Rattle.session_serving.specs.Meters.{CoreSteps};
+ghost use Rattle.relay_core.specs.Machine.{Fits};
+ghost use Rattle.relay_core.specs.declared.event.Event.{Event};
+ghost use Rattle.relay_core.specs.declared.event.Reply.{Reply};
+ghost use Rattle.turn_lock.specs.declared.faults.CallFault.{CallFault};
+
+use relay_core::{Event, RelayCore, Reply};
+use std::alloc::Global;
+use turn_lock::CallFault;
+
+/// What takes the events of a session: the meter's core, or a port to one that is shared.
+pub trait Meter {
+    // How a call goes: the meter before it, the event, its result, and the meter after it.
+    ghost steps: { Self → Event → Result Reply CallFault → Self → Type 0 };
+
+    /// Takes an event, and answers it.
+    fn call(&mut self, alloc: Global, event: Event) -> Result<Reply, CallFault>
+        ensures step { steps self.old event result self.new }
+        ensures fits { IfOk result (Fits event) };
+}
+
+/// A core of its own takes every event, unless memory runs out.
+impl Meter for RelayCore {
+    ghost steps = { CoreSteps };
+
+    fn call(&mut self, alloc: Global, event: Event) -> Result<Reply, CallFault> {
+        match self.step(alloc, &event) {
+            Ok(reply) => Ok(reply),
+            Err(_) => Err(CallFault::Memory),
+        }
+    }
+}

@@ -1,0 +1,147 @@
+ghost use Rattle.std.specs.Prelude.{◌≡◌, ℕ, List, [], false, IfOk, IfErr, OnOk};
+ghost use Rattle.acse_ber.specs.Password.{IsPassword};
+ghost use Rattle.session_serving.specs.Served.{Served, DoesAll, Stops, as_bytes};
+ghost use Rattle.session_serving.specs.Settling.{Settled, IsSettled};
+ghost use Rattle.session_core.specs.Progress.{Owes};
+ghost use Rattle.session_core.specs.Remaining.{still_asks, still_sends, still_ends, is_asking, is_finished};
+
+use crate::fault::ServeFault;
+use crate::form::{AsBytes, Form};
+use crate::meter::Meter;
+use byte_streams::{Reader, Writer};
+use cosem_axdr::Octets;
+use session_core::{Next, Session, SessionEnd};
+use std::alloc::Global;
+
+/// Input is read in pieces of at most so many bytes.
+const MAX_READ: usize = 1_024;
+
+/// A session has at most so many reads.
+const MOST_READS: u32 = 4_294_967_295;
+
+/// Asks the meter, and writes all that is due. It gives the end of a session that is over.
+fn settle<F: Form, W: Writer, M: Meter>(
+    alloc: Global,
+    session: &mut Session,
+    writer: &mut W,
+    meter: &mut M,
+) -> Result<Option<SessionEnd>, ServeFault>
+    requires writable { W.can_write writer.now }
+    requires silent { is_asking session.now ≡ false }
+    ensures ok { IfOk result (λ end. Settled M.steps F.written_as session.old meter.old (W.contents writer.old) [] end session.new meter.new (W.contents writer.new)) }
+    ensures writable { OnOk result (W.can_write writer.new) }
+    ensures even { OnOk result (W.failures writer.new ≡ W.failures writer.old) }
+    ensures err { IfErr result (λ fault. Stops M.steps F.written_as (still_asks session.old []) (still_sends session.old []) meter.old (W.contents writer.old) (W.failures writer.old) fault meter.new (W.contents writer.new) (W.failures writer.new)) }
+{
+    'due: loop {
+        match session.next(alloc)? {
+            Next::Ask(event) => {
+                let reply = meter.call(alloc, event)?;
+                match session.answer(alloc, reply) {
+                    Ok(()) => {}
+                    Err(_) => return Err(ServeFault::Memory),
+                }
+            }
+            Next::Send(frame) => F::write(alloc, writer, frame.as_slice())?,
+            Next::Wait => return Ok(None),
+            Next::End(end) => return Ok(Some(end)),
+        }
+    }
+}
+
+/// Takes in bytes that came, and does all that is then due.
+fn take_in<W: Writer, M: Meter>(
+    alloc: Global,
+    session: &mut Session,
+    bytes: &[u8],
+    writer: &mut W,
+    meter: &mut M,
+) -> Result<Option<SessionEnd>, ServeFault>
+    requires writable { W.can_write writer.now }
+    requires silent { is_asking session.now ≡ false }
+    ensures ok { IfOk result (λ end. Settled M.steps as_bytes session.old meter.old (W.contents writer.old) bytes.now end session.new meter.new (W.contents writer.new)) }
+    ensures writable { OnOk result (W.can_write writer.new) }
+    ensures even { OnOk result (W.failures writer.new ≡ W.failures writer.old) }
+    ensures err { IfErr result (λ fault. Stops M.steps as_bytes (still_asks session.old bytes.now) (still_sends session.old bytes.now) meter.old (W.contents writer.old) (W.failures writer.old) fault meter.new (W.contents writer.new) (W.failures writer.new)) }
+{
+    session.feed(bytes)?;
+    if session.is_idle() {
+        return Ok(None);
+    }
+    settle::<AsBytes, W, M>(alloc, session, writer, meter)
+}
+
+/// Ends the input, and does all that is then due.
+pub(crate) fn end_input<F: Form, W: Writer, M: Meter>(
+    alloc: Global,
+    session: &mut Session,
+    writer: &mut W,
+    meter: &mut M,
+) -> Result<SessionEnd, ServeFault>
+    requires writable { W.can_write writer.now }
+    requires silent { is_asking session.now ≡ false }
+    ensures ok { OnOk result (DoesAll M.steps F.written_as (still_asks session.old []) (still_sends session.old []) meter.old (W.contents writer.old) meter.new (W.contents writer.new)) }
+    ensures end { IfOk result (λ end. end ≡ still_ends session.old []) }
+    ensures err { IfErr result (λ fault. Stops M.steps F.written_as (still_asks session.old []) (still_sends session.old []) meter.old (W.contents writer.old) (W.failures writer.old) fault meter.new (W.contents writer.new) (W.failures writer.new)) }
+{
+    session.finish();
+    match settle::<F, W, M>(alloc, session, writer, meter)? {
+        Some(end) => Ok(end),
+        None => unreachable!(),
+    }
+}
+
+/// Serves a session of which no byte has come.
+fn serve<R: Reader, W: Writer, M: Meter>(
+    alloc: Global,
+    session: &mut Session,
+    reader: &mut R,
+    writer: &mut W,
+    meter: &mut M,
+) -> Result<SessionEnd, ServeFault>
+    requires readable { R.can_read reader.now }
+    requires writable { W.can_write writer.now }
+    requires settled { IsSettled session.now }
+    requires silent { is_asking session.now ≡ false }
+    ensures { (password : List ℕ) → Owes password session.old → Served R.remaining R.reads R.failures W.contents W.failures M.steps password reader.old writer.old meter.old result reader.new writer.new meter.new }
+{
+    let mut buffer = [0; MAX_READ];
+    'reads: for _ in 0..MOST_READS {
+        let count = match reader.read(&mut buffer) {
+            Ok(count) => count,
+            Err(_) => return Err(ServeFault::Read),
+        };
+        if count == 0 {
+            return end_input::<AsBytes, W, M>(alloc, session, writer, meter);
+        }
+        match take_in(alloc, session, &buffer[..count], writer, meter)? {
+            Some(SessionEnd::BadVersion) => return Ok(SessionEnd::BadVersion),
+            Some(SessionEnd::TooLong) => return Ok(SessionEnd::TooLong),
+            // The other ends are told once the input has ended.
+            Some(SessionEnd::Closed | SessionEnd::Cut) | None => {}
+        }
+    }
+    Err(ServeFault::Read)
+}
+
+/// Serves one session: reads what the client sends, asks the meter, and writes the answers, up to the end of the input or a header that no frame has. The
+/// management client has this password, 1 to 32 bytes.
+///
+/// Whatever the input is, and however its bytes come, the meter is asked exactly the events of the session, and exactly the answers to its replies are
+/// written, all that are due before the next read or call. A fault is `Read` or `Write` where the reader or writer failed, or `Read` after 4,294,967,295 reads;
+/// `Memory` where memory ran out; and `Exhausted` where the meter takes no more events. After a fault no more is written.
+pub fn serve_session<R: Reader, W: Writer, M: Meter>(
+    alloc: Global,
+    reader: &mut R,
+    writer: &mut W,
+    meter: &mut M,
+    password: &Octets,
+) -> Result<SessionEnd, ServeFault>
+    requires readable { R.can_read reader.now }
+    requires writable { W.can_write writer.now }
+    requires password { IsPassword password.now }
+    ensures { Served R.remaining R.reads R.failures W.contents W.failures M.steps password.now reader.old writer.old meter.old result reader.new writer.new meter.new }
+{
+    let mut session = Session::new(alloc, password)?;
+    serve(alloc, &mut session, reader, writer, meter)
+}
