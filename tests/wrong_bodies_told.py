@@ -1,6 +1,6 @@
 #!/usr/bin/env python3
 """Tests bin/wrong_bodies: beside a wrong body that is refused it tells a right one, one that can't be read and one of a text that isn't there, and counts them; and an edit
-of a constant stands beside others only where nothing but functions' bodies names the constant; and what is left of the functions beside the edited ones; and those of wrong/long/ are judged with --long alone."""
+of a constant stands beside others only where nothing but functions' bodies names the constant; and what is left of the functions beside the edited ones, and of these all; and those of wrong/long/ are judged with --long alone."""
 import importlib.machinery
 import importlib.util
 import os
