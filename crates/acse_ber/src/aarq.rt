@@ -1,7 +1,8 @@
 use cosem_axdr::Octets;
+use std::fmt::{self, Debug, Formatter};
 
 /// A request for an association (IEC 62056-5-3, AARQ).
-#[derive(Debug, Drop)]
+#[derive(Drop)]
 pub struct Aarq {
     /// The object identifier of the application context.
     pub context: Octets,
@@ -11,4 +12,15 @@ pub struct Aarq {
     pub password: Option<Octets>,
     /// The user information, which is to be an InitiateRequest.
     pub user: Octets,
+}
+
+// It doesn't tell the password.
+impl Debug for Aarq {
+    fn fmt<W: fmt::Write>(&self, f: &mut Formatter<W>) -> fmt::Result {
+        f.debug_struct("Aarq")
+            .field("context", &self.context)
+            .field("mechanism", &self.mechanism)
+            .field("user", &self.user)
+            .finish_non_exhaustive()
+    }
 }

@@ -2,6 +2,7 @@
 use crate::meters::{OPENED, job_of, password};
 use client_core::{Client, Job, Outcome, Verb};
 use std::alloc::{AllocError, Global};
+use std::test::Fail;
 use wrapper_frame::frame;
 
 /// The AARQ with the password 12345678, in its frame.
@@ -307,4 +308,21 @@ const WRONG_HEADER: &[Step] = &[
 #[test]
 fn a_wrong_header_ends_all(rt: HostRuntime) {
     assert!(rt; matches!(goes(rt.alloc(), Verb::Disconnect, WRONG_HEADER), Ok(true)));
+}
+
+/// Whether Debug writes of a client its verb and whether its connection has ended, and nothing of its texts: one has a password.
+fn is_shown_by_its_verb(alloc: Global, client: &Client) -> Result<bool, AllocError> {
+    let text = format!(in alloc; "{client:?}")?;
+    let is_same = text.as_str() == "Client { verb: Disconnect, is_ended: false, .. }";
+    drop(text);
+    Ok(is_same)
+}
+
+#[test]
+fn a_client_does_not_show_its_password(rt: HostRuntime) -> Result<(), Fail> {
+    let client = client_of(rt.alloc(), Verb::Disconnect)?;
+    let is_shown = is_shown_by_its_verb(rt.alloc(), &client);
+    drop(client);
+    assert!(rt; is_shown == Ok(true));
+    Ok(())
 }

@@ -10,12 +10,13 @@ use crate::replying::fresh;
 use crate::sending::{aarq_frame, release_frame, request_frame};
 use cosem_axdr::Octets;
 use std::alloc::{AllocError, Global};
+use std::fmt::{self, Debug, Formatter};
 use wrapper_frame::Deframer;
 
 /// One job at one meter: what is to be sent, and what the answers mean.
 ///
 /// Contracts say by `Stands` of which verb and password it is, which bytes it was fed, how many texts it gave, and whether the connection is over.
-#[derive(Debug, Drop)]
+#[derive(Drop)]
 pub struct Client {
     verb: Verb,
     progress: Progress,
@@ -24,6 +25,16 @@ pub struct Client {
     aarq: Option<Octets>,
     request: Option<Octets>,
     release: Option<Octets>,
+}
+
+// It tells nothing of the texts, of which one holds the password, nor of bytes that came.
+impl Debug for Client {
+    fn fmt<W: fmt::Write>(&self, f: &mut Formatter<W>) -> fmt::Result {
+        f.debug_struct("Client")
+            .field("verb", &self.verb)
+            .field("is_ended", &self.is_ended)
+            .finish_non_exhaustive()
+    }
 }
 
 impl Client {

@@ -91,6 +91,34 @@ fn an_aarq_is_read_into_its_parts(rt: HostRuntime) -> Result<(), Fail> {
     Ok(())
 }
 
+// An AARQ whose fields have one byte each.
+fn small_aarq(alloc: Global) -> Result<Aarq, AllocError> {
+    Ok(Aarq {
+        context: Octets::from_slice(alloc, &[1])?,
+        mechanism: Octets::from_slice(alloc, &[2])?,
+        password: Some(Octets::from_slice(alloc, &[3])?),
+        user: Octets::from_slice(alloc, &[4])?,
+    })
+}
+
+// Whether Debug writes each field of it but the password.
+fn is_shown_without_its_password(alloc: Global, aarq: &Aarq) -> Result<bool, AllocError> {
+    let text = format!(in alloc; "{aarq:?}")?;
+    let is_same = text.as_str()
+        == "Aarq { context: Octets { bytes: [1] }, mechanism: Octets { bytes: [2] }, user: Octets { bytes: [4] }, .. }";
+    drop(text);
+    Ok(is_same)
+}
+
+#[test]
+fn an_aarq_does_not_show_its_password(rt: HostRuntime) -> Result<(), Fail> {
+    let aarq = small_aarq(rt.alloc())?;
+    let is_shown = is_shown_without_its_password(rt.alloc(), &aarq);
+    drop(aarq);
+    assert!(rt; is_shown == Ok(true));
+    Ok(())
+}
+
 // A port, the password of its client, an AARQ, as an example and what of its bytes is changed, and the verdict.
 type Judged = (
     u16,

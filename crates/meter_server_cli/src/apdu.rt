@@ -1,4 +1,4 @@
-use crate::telling::{InputFault, reading_fault, told};
+use crate::telling::{InputFault, reading_fault, tell_fault};
 use byte_streams::{Counted, read_to_end_within};
 use cosem_axdr::Octets;
 use hex::FromHexError;
@@ -124,7 +124,7 @@ fn input_requests<R: Input + AllocGlobal>(rt: &R) -> Result<Requests, InputFault
 /// The command `apdu`: answers each request of standard input. All requests are judged before any is answered.
 pub fn run<R: Print + Eprint + Input + AllocGlobal>(rt: &R, is_verbose: bool) -> Result<(), Fault> {
     let alloc = rt.alloc();
-    let requests = input_requests(rt).map_err(|fault| told(rt, is_verbose, fault))?;
+    let requests = input_requests(rt).map_err(|fault| tell_fault(rt, is_verbose, fault))?;
     let lines = answers(alloc, &requests)?;
     rt.write_all(lines.as_bytes()).map_err(|_| Fault::Write)
 }

@@ -47,15 +47,15 @@ impl<R: Clock + Eprint + Copy> Sockets<R> {
         self.has_failed
     }
 
-    /// A client that connected, and who is told of its session.
+    /// A client that connected, and the log of its session.
     fn client(
         &self,
         stream: TcpStream,
         address: SocketAddr,
-    ) -> io::Result<(Lasting<R>, Lasting<R>, Told<R>)> {
-        let told = Told::new(self.rt, address, self.is_verbose);
+    ) -> io::Result<(Lasting<R>, Lasting<R>, ClientLog<R>)> {
+        let log = ClientLog::new(self.rt, address, self.is_verbose);
         let (input, output) = Lasting::both_ways(self.rt, stream, self.limits)?;
-        Ok((input, output, told))
+        Ok((input, output, log))
     }
 }
 
@@ -69,9 +69,9 @@ impl<R: Clock + Eprint + Copy + Drop + Send + 'static> Listener for Sockets<R> {
 
     type Output = Lasting<R>;
 
-    type Observer = Told<R>;
+    type Observer = ClientLog<R>;
 
-    fn accept(&mut self) -> Result<(Lasting<R>, Lasting<R>, Told<R>), ListenFault> {
+    fn accept(&mut self) -> Result<(Lasting<R>, Lasting<R>, ClientLog<R>), ListenFault> {
         for _ in 0..u64::MAX {
             match self.listener.accept() {
                 Ok((stream, address)) => {
@@ -91,24 +91,24 @@ impl<R: Clock + Eprint + Copy + Drop + Send + 'static> Listener for Sockets<R> {
     }
 }
 
-/// Who is told of one client: standard error, where that is asked for.
-pub struct Told<R: Eprint + Copy> {
+/// What standard error is told of one client, where that is asked for.
+pub struct ClientLog<R: Eprint + Copy> {
     rt: R,
     address: SocketAddr,
     is_verbose: bool,
     was_served: AtomicBool,
 }
 
-impl<R: Eprint + Copy> Told<R> {
-    fn new(rt: R, address: SocketAddr, is_verbose: bool) -> Told<R> {
-        let told = Told {
+impl<R: Eprint + Copy> ClientLog<R> {
+    fn new(rt: R, address: SocketAddr, is_verbose: bool) -> ClientLog<R> {
+        let log = ClientLog {
             rt,
             address,
             is_verbose,
             was_served: AtomicBool::new(false),
         };
-        told.say("connected");
-        told
+        log.say("connected");
+        log
     }
 
     fn say(&self, what: &str) {
@@ -133,19 +133,19 @@ fn words_of(end: &Result<SessionEnd, ServeFault>) -> &'static str {
     }
 }
 
-impl<R: Eprint + Copy> Observer for Told<R> {
+impl<R: Eprint + Copy> Observer for ClientLog<R> {
     fn ended(&self, end: &Result<SessionEnd, ServeFault>) {
         self.was_served.store(true, Ordering::SeqCst);
         self.say(words_of(end));
     }
 }
 
-impl<R: Eprint + Copy> Drop for Told<R> {
+impl<R: Eprint + Copy> Drop for ClientLog<R> {
     fn drop(self) {
         if !self.was_served.load(Ordering::SeqCst) {
             self.say("turned away");
         }
-        let Told {
+        let ClientLog {
             rt: _,
             address: _,
             is_verbose: _,

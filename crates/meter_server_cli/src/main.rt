@@ -15,7 +15,7 @@ mod serving;
 mod telling;
 
 use crate::plan::Plan;
-use crate::telling::told;
+use crate::telling::tell_fault;
 use program_fault::Fault;
 use program_start::ended;
 use server_options::{HexOptions, Work, asked};
@@ -35,7 +35,7 @@ enum Next<I> {
 fn run_hex<I: Read + Drop>(rt: &HostRuntime, input: I, options: &HexOptions) -> Result<(), Fault> {
     match hex_session::run(rt.alloc(), input, rt.stdout(), options) {
         Ok(()) => Ok(()),
-        Err(fault) => Err(told(rt, options.is_verbose, fault)),
+        Err(fault) => Err(tell_fault(rt, options.is_verbose, fault)),
     }
 }
 

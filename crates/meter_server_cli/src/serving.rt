@@ -30,7 +30,7 @@ const MOST_CALLS: u64 = 4_611_686_018_427_387_904;
 const MOST_CALLS_TO_WAKE: u32 = 100;
 
 /// The fault of a server. That no further client was taken is none where the listener did not fail: standard input had ended.
-fn told(fault: ServeFault, has_failed: bool) -> Result<(), Fault> {
+fn fault_of(fault: ServeFault, has_failed: bool) -> Result<(), Fault> {
     match fault {
         ServeFault::Listen if !has_failed => Ok(()),
         ServeFault::Listen => Err(Fault::Listen),
@@ -73,7 +73,7 @@ fn serve_sockets<R: Threads + Wait + Copy + Drop + Send + 'static>(
         Ok((port, _)) => (port, Ok(())),
         Err((port, fault)) => {
             let has_failed = sockets.has_failed();
-            (port, told(fault, has_failed))
+            (port, fault_of(fault, has_failed))
         }
     }
 }

@@ -32,7 +32,7 @@ pub(crate) fn reading_fault(fault: byte_streams::InputFault) -> InputFault {
 }
 
 /// The fault of the program. With `is_verbose`, a line on standard error tells first where and why the input is wrong.
-pub fn told<R: Eprint>(rt: &R, is_verbose: bool, fault: InputFault) -> Fault {
+pub fn tell_fault<R: Eprint>(rt: &R, is_verbose: bool, fault: InputFault) -> Fault {
     if is_verbose {
         tell(rt, fault);
     }

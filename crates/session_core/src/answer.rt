@@ -15,7 +15,7 @@ pub(crate) const SERVER_PORT: u16 = 1;
 const ROOM: usize = 64;
 
 /// What the server answers.
-#[derive(Debug, Drop)]
+#[derive(Drop)]
 pub(crate) enum Answer {
     /// An AARE, to an AARQ that could be read.
     Association(Aare),
@@ -41,7 +41,7 @@ impl Answer {
 }
 
 /// How an answer goes out.
-#[derive(Clone, Copy, Debug, PartialEq, Eq)]
+#[derive(Clone, Copy, PartialEq, Eq)]
 pub(crate) enum Way {
     /// In a frame to the client's port.
     Framed,

@@ -12,7 +12,7 @@ pub(crate) const AARQ: u8 = 0x60;
 pub(crate) const RLRQ: u8 = 0x62;
 
 /// What the payload of a client that has an association asks for.
-#[derive(Debug, Drop)]
+#[derive(Drop)]
 pub(crate) enum Call {
     /// The release of the association.
     Release,

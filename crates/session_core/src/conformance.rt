@@ -25,7 +25,7 @@ pub(crate) const SET_REQUEST: u8 = 0xC1;
 pub(crate) const ACTION_REQUEST: u8 = 0xC3;
 
 /// A form of a request: the tag of its service, its number, and the bits that must have been negotiated.
-#[derive(Clone, Copy, Debug)]
+#[derive(Clone, Copy)]
 pub(crate) struct RequestForm {
     pub(crate) tag: u8,
     pub(crate) number: u8,

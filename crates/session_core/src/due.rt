@@ -10,7 +10,7 @@ use std::alloc::{AllocError, Global};
 use xdlms_apdu::{Exception, Response};
 
 /// An answer that is to be sent, and the port that it goes to. It has room in a PDU.
-#[derive(Debug, Drop)]
+#[derive(Drop)]
 pub(crate) struct Due {
     pub(crate) to: u16,
     pub(crate) answer: Answer,

@@ -12,7 +12,7 @@ use xdlms_apdu::{Block, InvokeId, Response};
 use xdlms_blocks::{BlockFault, JoinBlocks};
 
 /// The services whose requests may come in blocks.
-#[derive(Clone, Copy, Debug, PartialEq, Eq)]
+#[derive(Clone, Copy, PartialEq, Eq)]
 pub(crate) enum LongService {
     Set,
     Action,
@@ -64,7 +64,7 @@ impl LongService {
 }
 
 /// What a request that comes in blocks is for.
-#[derive(Clone, Copy, Debug)]
+#[derive(Clone, Copy)]
 pub(crate) enum Purpose {
     /// To set an attribute.
     Set(AttributeSelection),
@@ -98,14 +98,14 @@ impl Purpose {
 }
 
 /// A long SET or ACTION of which blocks came, and not the last.
-#[derive(Debug, Drop)]
+#[derive(Drop)]
 pub(crate) struct Incoming {
     pub(crate) purpose: Purpose,
     pub(crate) blocks: JoinBlocks,
 }
 
 /// What became of a transfer by one more block.
-#[derive(Debug, Drop)]
+#[derive(Drop)]
 pub(crate) enum Added {
     /// It goes on, and this is the answer.
     GoesOn(Due),

@@ -15,7 +15,7 @@ use std::alloc::{AllocError, Global};
 use xdlms_apdu::InvokeId;
 
 /// A long SET or ACTION of which all blocks came.
-#[derive(Debug, Drop)]
+#[derive(Drop)]
 pub(crate) struct Joined {
     pub(crate) link: Link,
     pub(crate) purpose: Purpose,

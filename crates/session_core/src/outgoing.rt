@@ -15,7 +15,7 @@ use xdlms_apdu::{Block, InvokeId, Response};
 use xdlms_blocks::{BlockFault, GetBlocks, Piece};
 
 /// A long answer to a GET that goes out in blocks, each of which has room in a PDU. Contracts see what `xdlms_blocks` says of it.
-#[derive(Debug, Drop)]
+#[derive(Drop)]
 pub(crate) struct Outgoing {
     blocks: GetBlocks,
 }

@@ -25,7 +25,7 @@ const GET_HEADER: usize = 4;
 const GET_LIST_HEADER: usize = 3;
 
 /// What answers a reply, and the long GET that goes on after it.
-#[derive(Debug, Drop)]
+#[derive(Drop)]
 pub(crate) struct Answered {
     pub(crate) text: Octets,
     pub(crate) outgoing: Option<Outgoing>,

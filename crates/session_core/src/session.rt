@@ -15,6 +15,7 @@ use crate::task::Task;
 use cosem_axdr::Octets;
 use relay_core::Reply;
 use std::alloc::{AllocError, Global};
+use std::fmt::{self, Debug, Formatter};
 use std::mem::replace;
 use wrapper_frame::{Deframer, Head, WrapperFault};
 
@@ -22,13 +23,20 @@ use wrapper_frame::{Deframer, Head, WrapperFault};
 ///
 /// Its caller feeds it the bytes of the stream, in any cut, and asks it what is next: an event for the meter, whose reply it is then given, a frame for the client,
 /// or more input.
-#[derive(Debug, Drop)]
+#[derive(Drop)]
 pub struct Session {
     password: Password,
     deframer: Deframer,
     is_finished: bool,
     state: State,
     task: Task,
+}
+
+// It tells nothing of the password, nor of bytes that may hold one.
+impl Debug for Session {
+    fn fmt<W: fmt::Write>(&self, f: &mut Formatter<W>) -> fmt::Result {
+        f.debug_struct("Session").finish_non_exhaustive()
+    }
 }
 
 impl Session {

@@ -24,7 +24,7 @@ use xdlms_apdu::{Block, Exception, InvokeId, Request};
 use xdlms_blocks::JoinBlocks;
 
 /// What a session keeps from one frame to the next: the association and the transfers in blocks.
-#[derive(Debug, Drop)]
+#[derive(Drop)]
 pub(crate) struct State {
     pub(crate) link: Option<Link>,
     pub(crate) incoming: Option<Incoming>,

@@ -5,7 +5,7 @@ use crate::joined::Joined;
 use relay_core::Event;
 
 /// What comes of a frame.
-#[derive(Debug, Drop)]
+#[derive(Drop)]
 pub(crate) enum Step {
     /// An event, whose reply is awaited.
     Ask(Event, Asked),

@@ -5,7 +5,7 @@ use crate::joined::Joined;
 use cosem_axdr::Octets;
 
 /// What a session does next.
-#[derive(Debug, Drop)]
+#[derive(Drop)]
 pub(crate) enum Task {
     /// It takes the next frame.
     Listen,

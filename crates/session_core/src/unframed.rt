@@ -54,8 +54,8 @@ pub fn ask_unframed(alloc: Global, payload: &[u8]) -> Result<Unframed, AllocErro
         limit: Limit::of(MAX_PDU),
     };
     match call_alone(alloc, link, payload)? {
-        Step::Join(joined) => told(alloc, read_joined(alloc, joined)?),
-        step => told(alloc, step),
+        Step::Join(joined) => unframed_by(alloc, read_joined(alloc, joined)?),
+        step => unframed_by(alloc, step),
     }
 }
 
@@ -80,7 +80,7 @@ fn read_joined(alloc: Global, joined: Joined) -> Result<Step, AllocError>
 }
 
 // What a step tells.
-fn told(alloc: Global, step: Step) -> Result<Unframed, AllocError>
+fn unframed_by(alloc: Global, step: Step) -> Result<Unframed, AllocError>
     requires { IsTrue (is_settled step) }
     ensures { IfOk result (λ unframed. unframed ≡ unframed_of (step_outcome step)) }
 {

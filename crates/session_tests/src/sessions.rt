@@ -6,6 +6,7 @@ use cosem_axdr::Octets;
 use relay_core::{Event, RelayCore, Reply};
 use session_core::{Next, Session, SessionEnd};
 use std::alloc::{AllocError, Global};
+use std::test::Fail;
 
 /// An AARQ of the public client, and the AARE.
 const PUBLIC: (&str, &str) = (
@@ -497,4 +498,21 @@ fn a_new_one_says_so_again(alloc: Global) -> Result<bool, AllocError> {
 #[test]
 fn a_session_that_is_over_says_so_again(rt: HostRuntime) {
     assert!(rt; matches!(a_new_one_says_so_again(rt.alloc()), Ok(true)));
+}
+
+/// Whether Debug writes nothing of a session but its name: it has a password.
+fn is_shown_by_name(alloc: Global, session: &Session) -> Result<bool, AllocError> {
+    let text = format!(in alloc; "{session:?}")?;
+    let is_same = text.as_str() == "Session { .. }";
+    drop(text);
+    Ok(is_same)
+}
+
+#[test]
+fn a_session_does_not_show_its_password(rt: HostRuntime) -> Result<(), Fail> {
+    let session = new_session(rt.alloc())?;
+    let is_shown = is_shown_by_name(rt.alloc(), &session);
+    drop(session);
+    assert!(rt; is_shown == Ok(true));
+    Ok(())
 }

@@ -23,7 +23,7 @@ pub(crate) enum Rest {
 }
 
 /// A session of a client, with what is under way between it and the meter.
-#[derive(Debug, Drop)]
+#[derive(Drop)]
 pub(crate) struct Connection {
     session: Session,
     under_way: UnderWay,

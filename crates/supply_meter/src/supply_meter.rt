@@ -21,6 +21,7 @@ use lane_sampler::{Block, BlockMade};
 use relay_core::{Event, Reply};
 use relay_recorder::Recorder;
 use std::alloc::{AllocError, Global};
+use std::fmt::{self, Debug, Formatter};
 use std::marker::Model;
 use std::mem::replace;
 
@@ -28,7 +29,7 @@ use std::mem::replace;
 pub const SESSIONS: usize = 8;
 
 /// A meter with its last events, and the sessions of its clients, each told by a number of 0 to 7.
-#[derive(Debug, Drop)]
+#[derive(Drop)]
 pub struct SupplyMeter {
     recorder: Recorder,
     password: Octets,
@@ -48,6 +49,15 @@ impl Model for SupplyMeter {
     ghost view = { λ m. record { recorder = m.recorder; password = m.password; places = m.places } };
 
     ghost invariant = { λ m. IsMetering (record { recorder = m.recorder; password = m.password; places = m.places }) };
+}
+
+// It tells nothing of the password, nor of what clients sent.
+impl Debug for SupplyMeter {
+    fn fmt<W: fmt::Write>(&self, f: &mut Formatter<W>) -> fmt::Result {
+        f.debug_struct("SupplyMeter")
+            .field("recorder", &self.recorder)
+            .finish_non_exhaustive()
+    }
 }
 
 impl SupplyMeter {

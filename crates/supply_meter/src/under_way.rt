@@ -2,7 +2,7 @@ use cosem_axdr::Octets;
 use relay_core::{Event, Reply};
 
 /// What stands between a session and the meter, or between a session and its client.
-#[derive(Debug, Drop)]
+#[derive(Drop)]
 pub(crate) enum UnderWay {
     /// Nothing.
     Nothing,

@@ -9,7 +9,7 @@ use Rattle.trace_lines.specs.declared.fault.RowFault.TheVariants.{Wrong}
 use Rattle.trace_text.specs.Lines.{rows_of, rows_text, unended_of, lines_of}
 use Rattle.trace_text.specs.Words.{line_of, words_of}
 use Rattle.trace_text.proofs.LinesLemmas.{rows_text-cons, rows_text-nil, rows_text-rows_of, rows_of-taken, rows_of-none, lines_of-nil, unended_of-nil}
-use Rattle.trace_lines.specs.Places.{Place, ReadsLines, passed, first_as, line_as, told, nothing_left, ended_at}
+use Rattle.trace_lines.specs.Places.{Place, ReadsLines, passed, first_as, line_as, at_line, nothing_left, ended_at}
 use Rattle.trace_lines.specs.Rows.{Row}
 use Rattle.trace_lines.specs.declared.fault.TraceFault.{TraceFault}
 use Rattle.trace_lines.specs.declared.fault.TraceFault.TheVariants.{Line, Memory}
@@ -74,7 +74,7 @@ no_bytes bytes (byte ∷ others) is e = let l : length bytes ≡ length (byte �
 -- the words of the first line are read as a definition reads them
 words_read_at : {X : Type 0} (given : Row → Result X RowFault) (number : ℕ) (rows : List Row) (unended : List ℕ) (words : Row) (behind : Place) (read : Result X RowFault)
     → first_as (λ row. Ok row) number rows unended ≡ Ok (words, behind) → Gives row_fault.Memory (λ x. x) read (given words)
-    → ReadsLines (λ x. x) (told number read) behind (first_as given number rows unended)
+    → ReadsLines (λ x. x) (at_line number read) behind (first_as given number rows unended)
 words_read_at given number [] unended words behind read e reads = absurd cc
 words_read_at {X} given number (row ∷ rows) unended words behind (Ok x) e reads =
     let is = ok_is (row, record { number = suc number; rows = rows; unended = unended }) (words, behind) e in
@@ -87,15 +87,15 @@ words_read_at {X} given number (row ∷ rows) unended words behind (Err row_faul
 
 pub words_read : {X : Type 0} (given : Row → Result X RowFault) (place : Place) (words : Row) (behind : Place) (read : Result X RowFault)
     → line_as (λ row. Ok row) place ≡ Ok (words, behind) → Gives row_fault.Memory (λ x. x) read (given words)
-    → ReadsLines (λ x. x) (told place.number read) behind (line_as given place)
+    → ReadsLines (λ x. x) (at_line place.number read) behind (line_as given place)
 unfolding line_as
 words_read given place words behind read e reads = words_read_at given place.number place.rows place.unended words behind read e reads
 
 -- a line that is read is what its words gave
-pub answer_told : {X : Type 0} (P : Result X RowFault → Type 0) (number : ℕ) (read : Result X RowFault) → P read → IfOk (told number read) (λ x. P (Ok x))
-answer_told P number (Ok x) p = p
-answer_told P number (Err Wrong) p = tt
-answer_told P number (Err row_fault.Memory) p = tt
+pub answer_at_line : {X : Type 0} (P : Result X RowFault → Type 0) (number : ℕ) (read : Result X RowFault) → P read → IfOk (at_line number read) (λ x. P (Ok x))
+answer_at_line P number (Ok x) p = p
+answer_at_line P number (Err Wrong) p = tt
+answer_at_line P number (Err row_fault.Memory) p = tt
 
 -- a line that is missing, or not ended, is so whatever it would have been read as
 missing_at : {X : Type 0} (value_from : Row → Result X RowFault) (number : ℕ) (rows : List Row) (unended : List ℕ) (fault : TraceFault)

@@ -4,7 +4,7 @@
 --     ReadsLines       what code that moves on through the lines answers, compared with a definition
 --     line_as          the next line, read as a value
 --     IsRowReader      what code reads from the words of a line, compared with a definition
---     told             the fault of a line, by its number
+--     at_line          the fault of a line, by its number
 --     ended_at         a value behind which nothing is left
 --     place_of         the place at the start of a text
 use Rattle.std.specs.Prelude.{◌≡◌, ℕ, suc, List, [], ◌∷◌, Result, Ok, Err}
@@ -52,10 +52,10 @@ abbrev pub IsRowReader : {F X : Type 0} → Once F (MutBor Row × Unit {0}) (Res
 IsRowReader {F} {X} calls row value_from = (words after : Row) (read : Result X RowFault) → FnOnceReturnsAtMut calls row words read after → Gives row_fault.Memory (λ x. x) read (value_from words)
 
 -- what the words of a line gave, a fault by the number of the line
-abbrev pub told : {X : Type 0} → ℕ → Result X RowFault → Result X TraceFault
-told number (Ok x) = Ok x
-told number (Err Wrong) = Err (Line number)
-told number (Err row_fault.Memory) = Err Memory
+abbrev pub at_line : {X : Type 0} → ℕ → Result X RowFault → Result X TraceFault
+at_line number (Ok x) = Ok x
+at_line number (Err Wrong) = Err (Line number)
+at_line number (Err row_fault.Memory) = Err Memory
 
 -- a line that is left is wrong, ended or not
 abbrev pub nothing_left : {X : Type 0} → ℕ → List Row → List ℕ → X → Result X TraceFault

@@ -1,6 +1,6 @@
 ghost use Rattle.std.specs.Prelude.{◌≡◌, Result, Ok, IfOk};
 ghost use Rattle.std.specs.Fn.{FnOnceReturnsAtMut};
-ghost use Rattle.trace_lines.specs.Places.{ReadsLines, IsRowReader, line_as, told, ended_at, place_of};
+ghost use Rattle.trace_lines.specs.Places.{ReadsLines, IsRowReader, line_as, at_line, ended_at, place_of};
 ghost use Rattle.trace_lines.specs.Rows.{Row};
 ghost use Rattle.trace_lines.specs.declared.fault.RowFault.{RowFault};
 
@@ -71,7 +71,7 @@ impl<'a> TraceLines<'a> {
     {
         let number = self.number();
         let mut words = self.next_words()?;
-        told(number, row(&mut words))
+        at_line(number, row(&mut words))
     }
 
     /// Whether nothing is left. Errors: `Line` where a line is left, ended or not.
@@ -87,8 +87,8 @@ impl<'a> TraceLines<'a> {
 }
 
 /// The fault of a line, by its number.
-fn told<X: Drop>(number: u64, read: Result<X, RowFault>) -> Result<X, TraceFault>
-    ensures { result ≡ told number read }
+fn at_line<X: Drop>(number: u64, read: Result<X, RowFault>) -> Result<X, TraceFault>
+    ensures { result ≡ at_line number read }
 {
     match read {
         Ok(x) => Ok(x),

@@ -1,5 +1,5 @@
 -- What came of a trace that was read, run and written.
---     Read          what was read gives a trace, which was run, or a fault
+--     Gave          what was read gave a trace, which was run, or a fault
 --     Played        what came of the bytes that were read
 --     TakesTrace    a trace was read and run, or it was not
 --     Plays         a trace was played, or it was not
@@ -14,19 +14,19 @@ use Rattle.trace_player.specs.declared.fault.PlayFault.TheVariants as fault
 use Rattle.trace_player.specs.declared.output.Output.{Output}
 
 -- what the bytes that were read give: the output of the trace that all of them tell, or why not
-abbrev pub Read : List ℕ → ℕ → Result Output PlayFault → Option (List ℕ) → ℕ → Type 0
-Read bytes failed (Ok output) left' failed' = PlaysTrace (trace_of bytes) output.lines.items output.count × IsAtEnd left'
-Read bytes failed (Err (fault.Line number)) left' failed' = (trace_of bytes ≡ Err (trace_fault.Line number)) × IsAtEnd left'
-Read bytes failed (Err fault.TooLong) left' failed' = most_bytes < length bytes
-Read bytes failed (Err fault.Read) left' failed' = (length bytes ≤ most_bytes) × (failed < failed')
-Read bytes failed (Err fault.Write) left' failed' = ⊥
-Read bytes failed (Err fault.Memory) left' failed' = ⊤
+abbrev pub Gave : List ℕ → ℕ → Result Output PlayFault → Option (List ℕ) → ℕ → Type 0
+Gave bytes failed (Ok output) left' failed' = PlaysTrace (trace_of bytes) output.lines.items output.count × IsAtEnd left'
+Gave bytes failed (Err (fault.Line number)) left' failed' = (trace_of bytes ≡ Err (trace_fault.Line number)) × IsAtEnd left'
+Gave bytes failed (Err fault.TooLong) left' failed' = most_bytes < length bytes
+Gave bytes failed (Err fault.Read) left' failed' = (length bytes ≤ most_bytes) × (failed < failed')
+Gave bytes failed (Err fault.Write) left' failed' = ⊥
+Gave bytes failed (Err fault.Memory) left' failed' = ⊤
 
 -- a trace was read and run, or it was not: some bytes were read, and this they give
 pub record TakesTrace (left : Option (List ℕ)) (failed : ℕ) (result : Result Output PlayFault) (left' : Option (List ℕ)) (failed' : ℕ) : Type 0 where
   pub bytes : List ℕ
   pub read : Consumes left left' bytes
-  pub gave : Read bytes failed result left' failed'
+  pub gave : Gave bytes failed result left' failed'
 
 module _ {R W : Type 0}
     (remaining : R → Option (List ℕ)) (read_failures : R → ℕ)

@@ -1,7 +1,7 @@
 use Rattle.std.proofs.Common.{refl}
 use Rattle.std.proofs.lemmas.Result.{err_from_is_err_and}
 use Rattle.std.specs.Fn.{FnOnceReturnsAtMut}
-use Rattle.trace_lines.proofs.PlaceLemmas.{words_read, words_missing, answer_told}
+use Rattle.trace_lines.proofs.PlaceLemmas.{words_read, words_missing, answer_at_line}
 use Rattle.trace_lines.specs.Rows.{Row}
 use Rattle.trace_lines.proofs.place.TraceLines.read.Goals as goal
 
@@ -9,10 +9,10 @@ pub returns : goal.returns
 returns g c = record {
   reads = λ value_from reader.
       let read = reader c.in_ok-words.words _ c.row.result (record { shown = _; shows = refl; left = _; met = c.row.ensures; leaves = refl }) in
-      rw (c.told.ensures, c.number-number.ensures) (words_read value_from c.args.self.now c.in_ok-words.words c.next_words.new.self c.row.result c.in_ok-words.ensures read);
+      rw (c.at_line.ensures, c.number-number.ensures) (words_read value_from c.args.self.now c.in_ok-words.words c.next_words.new.self c.row.result c.in_ok-words.ensures read);
   answered =
-      rw c.told.ensures (
-      answer_told (λ r. (words after : Row) × FnOnceReturnsAtMut g.F.FnOnce c.args.row words r after) c.number-number.result c.row.result
+      rw c.at_line.ensures (
+      answer_at_line (λ r. (words after : Row) × FnOnceReturnsAtMut g.F.FnOnce c.args.row words r after) c.number-number.result c.row.result
       (c.in_ok-words.words, _, record { shown = _; shows = refl; left = _; met = c.row.ensures; leaves = refl }));
 }
 
