@@ -19,7 +19,7 @@ use Rattle.session_core.specs.declared.end.SessionEnd.{SessionEnd}
 use Rattle.turn_lock.specs.Calls.{Called}
 use Rattle.turn_lock.specs.History.{entry, calls_by}
 use Rattle.turn_lock.specs.Shown.{IsSame}
-use Rattle.turn_lock.specs.declared.faults.CallFault.{CallFault}
+use Rattle.call_fault.specs.declared.fault.CallFault.{CallFault}
 use Rattle.turn_lock.specs.declared.known.Known.{Known}
 use Rattle.turn_lock.specs.declared.turned.Entry.{Entry}
 

@@ -7,8 +7,8 @@ use Rattle.relay_core.specs.declared.event.Event.{Event}
 use Rattle.relay_core.specs.declared.event.Event.TheVariants as event
 use Rattle.relay_core.specs.declared.event.Reply.{Reply}
 use Rattle.turn_lock.specs.declared.turned.Entry.{Entry}
-use Rattle.turn_lock.specs.declared.faults.CallFault.{CallFault}
-use Rattle.turn_lock.specs.declared.faults.CallFault.TheVariants as call
+use Rattle.call_fault.specs.declared.fault.CallFault.{CallFault}
+use Rattle.call_fault.specs.declared.fault.CallFault.TheVariants as call
 use Rattle.turn_lock.specs.History.{IsAmong, calls_by}
 use Rattle.turn_lock.specs.Shown.{IsSame}
 use Rattle.session_threads.specs.Ports.{GoesOn, AreJoined, SplitsOff, TakesIn, child}

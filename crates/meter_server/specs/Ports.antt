@@ -7,7 +7,7 @@ use Rattle.relay_core.specs.declared.opening.Opening.{Opening}
 use Rattle.turn_lock.specs.Calls.{Called, Watches, IsCause}
 use Rattle.turn_lock.specs.History.{entry, calls_by}
 use Rattle.turn_lock.specs.Shown.{ShownPort}
-use Rattle.turn_lock.specs.declared.faults.CallFault.{CallFault}
+use Rattle.call_fault.specs.declared.fault.CallFault.{CallFault}
 use Rattle.turn_lock.specs.declared.turned.Entry.{Entry}
 
 abbrev pub MeterPort : Type 0

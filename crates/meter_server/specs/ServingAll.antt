@@ -13,7 +13,7 @@ use Rattle.relay_core.specs.declared.event.Event.{Event}
 use Rattle.relay_core.specs.declared.event.Event.TheVariants as event
 use Rattle.relay_core.specs.declared.event.Reply.{Reply}
 use Rattle.session_threads.specs.Ports.{child}
-use Rattle.turn_lock.specs.declared.faults.CallFault.{CallFault}
+use Rattle.call_fault.specs.declared.fault.CallFault.{CallFault}
 use Rattle.turn_lock.specs.declared.turned.Entry.{Entry}
 use Rattle.turn_lock.specs.History.{IsAmong, calls_by}
 

@@ -1,4 +1,5 @@
 //! The meter's own actors as workers: its sampler, its clock and its button.
+use call_fault::CallFault;
 use kept_meter::Kept;
 use meter_workers::{
     BlockSource, ButtonSource, MomentSource, run_blocks, run_buttons, run_moments,
@@ -6,7 +7,7 @@ use meter_workers::{
 use session_threads::Worker;
 use std::alloc::Global;
 use std::sync::Wait;
-use turn_lock::{CallFault, Port};
+use turn_lock::Port;
 
 /// Hands in blocks of samples.
 #[derive(Drop)]

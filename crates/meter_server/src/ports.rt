@@ -9,6 +9,7 @@ ghost use Rattle.relay_core.specs.declared.event.Reply.{Reply};
 ghost use Rattle.turn_lock.specs.Shown.{IsSame};
 
 use byte_streams::{Reader, Writer};
+use call_fault::CallFault;
 use cosem_axdr::Octets;
 use kept_meter::Kept;
 use relay_core::{Event, Reply};
@@ -17,7 +18,7 @@ use session_serving::{Meter, ServeFault, serve_session};
 use std::alloc::Global;
 use std::marker::Model;
 use std::sync::Wait;
-use turn_lock::{CallFault, Port};
+use turn_lock::Port;
 
 /// A port to a meter that others share, with leave to wait for its turns. Contracts see the port.
 struct Wired<'a, W: Wait> {

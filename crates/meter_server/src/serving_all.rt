@@ -9,6 +9,7 @@ ghost use Rattle.turn_lock.specs.History.{IsAmong};
 
 use crate::acting::{Button, Clock, Sampler};
 use crate::listening::{Clients, Listener};
+use call_fault::CallFault;
 use cosem_axdr::Octets;
 use kept_meter::Kept;
 use meter_workers::{BlockSource, ButtonSource, MomentSource};
@@ -17,7 +18,7 @@ use session_threads::{WorkerThread, join_worker, serve_connections, start_worker
 use std::alloc::Global;
 use std::sync::Wait;
 use std::thread::Threads;
-use turn_lock::{CallFault, Port};
+use turn_lock::Port;
 
 /// What became of the connections. Each count stops at `u64::MAX`.
 #[derive(Clone, Copy, Debug, PartialEq, Eq)]

@@ -8,8 +8,8 @@ use Rattle.relay_core.specs.declared.opening.Opening.{Opening}
 use Rattle.turn_lock.specs.declared.turned.Entry.{Entry}
 use Rattle.turn_lock.specs.History.{calls_by}
 use Rattle.turn_lock.specs.Shown.{ShownPort}
-use Rattle.turn_lock.specs.declared.faults.CallFault.{CallFault}
-use Rattle.turn_lock.specs.declared.faults.CallFault.TheVariants.{Memory, Exhausted}
+use Rattle.call_fault.specs.declared.fault.CallFault.{CallFault}
+use Rattle.call_fault.specs.declared.fault.CallFault.TheVariants.{Memory, Exhausted}
 
 -- a port of a meter
 abbrev pub MeterPort : Type 0

@@ -7,12 +7,13 @@ ghost use Rattle.meter_workers.specs.Handed.{HandsBlocks, StopsFor, handed};
 use crate::handing::hand_in;
 use crate::sources::BlockSource;
 use crate::thresholds::{Thresholds, read_thresholds};
+use call_fault::CallFault;
 use kept_meter::Kept;
 use lane_sampler::Block;
 use relay_core::Event;
 use std::alloc::Global;
 use std::sync::Wait;
-use turn_lock::{CallFault, Port};
+use turn_lock::Port;
 
 /// How many blocks are scanned with thresholds that were read once.
 const BLOCKS_PER_READ: u8 = 64;

@@ -5,11 +5,12 @@ ghost use Rattle.turn_lock.specs.Calls.{IsCause};
 ghost use Rattle.turn_lock.specs.Shown.{IsSame};
 ghost use Rattle.meter_workers.specs.Handed.{StopsFor, handed};
 
+use call_fault::CallFault;
 use kept_meter::Kept;
 use relay_core::{Event, Reply};
 use std::alloc::Global;
 use std::sync::Wait;
-use turn_lock::{CallFault, Port};
+use turn_lock::Port;
 
 /// Hands an event in, and gives the reply. Where it is refused nothing was handed in.
 #[tactic(auto, using(crate::proofs::HandedLemmas::handed_more, crate::proofs::HandedLemmas::handed_same))]

@@ -5,11 +5,12 @@ ghost use Rattle.turn_lock.specs.Shown.{IsSame};
 
 use crate::handing::hand_in;
 use crate::sources::MomentSource;
+use call_fault::CallFault;
 use kept_meter::Kept;
 use relay_core::Event;
 use std::alloc::Global;
 use std::sync::Wait;
-use turn_lock::{CallFault, Port};
+use turn_lock::Port;
 
 /// Hands in each moment that the source gives, until it gives none or a call is refused, and hands the port back.
 ///

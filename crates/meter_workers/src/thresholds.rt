@@ -6,6 +6,7 @@ ghost use Rattle.meter_workers.specs.Handed.{StopsFor, handed};
 ghost use Rattle.meter_workers.specs.Thresholds.{threshold_read};
 
 use crate::handing::ask;
+use call_fault::CallFault;
 use cosem_axdr::Data;
 use cosem_names::{AttrRef, AttributeSelection, ClassId, GetResult, Level, Obis};
 use kept_meter::Kept;
@@ -13,7 +14,7 @@ use listed::Listed;
 use relay_core::{Event, Reply};
 use std::alloc::{AllocError, Global};
 use std::sync::Wait;
-use turn_lock::{CallFault, Port};
+use turn_lock::Port;
 
 /// threshold_active of the limiter of the imported power (IEC 62056-6-2, class 71, attribute 3).
 const IMPORT_THRESHOLD: AttributeSelection = AttributeSelection {

@@ -2,6 +2,7 @@ ghost use Rattle.std.specs.Prelude.{IfOk};
 ghost use Rattle.acse_ber.specs.Password.{IsPassword};
 
 use byte_streams::Counted;
+use call_fault::CallFault;
 use cosem_axdr::Octets;
 use meter_server::{Meter, ServeFault, serve_session};
 use relay_core::{Event, RelayCore, Reply};
@@ -11,7 +12,6 @@ use std::io;
 use std::io::{ErrorKind, Read, Write};
 use std::process::Abort;
 use std::test::Fail;
-use turn_lock::CallFault;
 
 /// The request of a public client at port 16 for an association, and its answer.
 pub(crate) const PUBLIC_AARQ: &str =

@@ -2,6 +2,7 @@
 ghost use Rattle.std.specs.Prelude.{◌≡◌};
 
 use crate::ports::new_lock;
+use call_fault::CallFault;
 use cosem_axdr::Data;
 use cosem_names::{AttrRef, ClassId, Level, Obis};
 use kept_meter::Kept;
@@ -9,7 +10,7 @@ use relay_core::{Event, Reply};
 use std::alloc::{AllocError, Global};
 use std::sync::Wait;
 use std::test::Fail;
-use turn_lock::{CallFault, Port, Shared};
+use turn_lock::{Port, Shared};
 
 /// threshold_normal of the import limiter.
 const THRESHOLD: AttrRef = AttrRef {

@@ -3,7 +3,7 @@ use Rattle.std.proofs.Common.{List, [], ◌∷◌, ◌++◌, Result, Ok, refl, s
 use Rattle.session_serving.specs.Meters.{Replied, Refused}
 use Rattle.relay_core.specs.declared.event.Event.{Event}
 use Rattle.relay_core.specs.declared.event.Reply.{Reply}
-use Rattle.turn_lock.specs.declared.faults.CallFault.{CallFault}
+use Rattle.call_fault.specs.declared.fault.CallFault.{CallFault}
 
 module _ {M : Type 0} (steps : M → Event → Result Reply CallFault → M → Type 0) where
   -- one event more

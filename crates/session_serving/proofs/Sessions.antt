@@ -15,7 +15,7 @@ use Rattle.session_core.specs.Remaining.{still_asks, still_sends, still_ends, is
 use Rattle.session_core.specs.declared.end.SessionEnd.{SessionEnd}
 use Rattle.session_core.specs.declared.end.SessionEnd.TheVariants as ending
 use Rattle.session_core.specs.declared.session.Session.{Session}
-use Rattle.turn_lock.specs.declared.faults.CallFault.{CallFault}
+use Rattle.call_fault.specs.declared.fault.CallFault.{CallFault}
 use Rattle.wrapper_frame.specs.Messages.{frames_of, cut_in}
 
 -- where the input ended, a session may end in any way

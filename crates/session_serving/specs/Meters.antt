@@ -9,8 +9,8 @@ use Rattle.relay_core.specs.declared.relay.RelayCore.{RelayCore}
 use Rattle.relay_core.specs.Machine.{at_event, is_sure}
 use Rattle.relay_core.specs.Stands.{StandsFor}
 use Rattle.relay_core.specs.World.{World}
-use Rattle.turn_lock.specs.declared.faults.CallFault.{CallFault}
-use Rattle.turn_lock.specs.declared.faults.CallFault.TheVariants.{Memory, Exhausted}
+use Rattle.call_fault.specs.declared.fault.CallFault.{CallFault}
+use Rattle.call_fault.specs.declared.fault.CallFault.TheVariants.{Memory, Exhausted}
 
 module _ {M : Type 0} (steps : M → Event → Result Reply CallFault → M → Type 0) where
   -- a meter took these events, one after the other, and gave these replies

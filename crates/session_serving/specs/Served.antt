@@ -16,8 +16,8 @@ use Rattle.relay_core.specs.declared.event.Reply.{Reply}
 use Rattle.session_core.specs.Backwards.{Asks, Answers, end_of}
 use Rattle.session_core.specs.declared.end.SessionEnd.{SessionEnd}
 use Rattle.session_core.specs.declared.end.SessionEnd.TheVariants as ending
-use Rattle.turn_lock.specs.declared.faults.CallFault.{CallFault}
-use Rattle.turn_lock.specs.declared.faults.CallFault.TheVariants as call
+use Rattle.call_fault.specs.declared.fault.CallFault.{CallFault}
+use Rattle.call_fault.specs.declared.fault.CallFault.TheVariants as call
 
 -- the texts that are due for replies
 abbrev pub Sends : Type 0

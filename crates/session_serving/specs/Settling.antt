@@ -15,8 +15,8 @@ use Rattle.session_core.specs.Progress.{IsOver}
 use Rattle.session_core.specs.Remaining.{still_asks, still_sends, still_ends, is_asking, is_finished}
 use Rattle.session_core.specs.declared.end.SessionEnd.{SessionEnd}
 use Rattle.session_core.specs.declared.session.Session.{Session}
-use Rattle.turn_lock.specs.declared.faults.CallFault.{CallFault}
-use Rattle.turn_lock.specs.declared.faults.CallFault.TheVariants as call
+use Rattle.call_fault.specs.declared.fault.CallFault.{CallFault}
+use Rattle.call_fault.specs.declared.fault.CallFault.TheVariants as call
 
 -- the fault of a session whose meter has this one
 abbrev pub fault_of : CallFault → ServeFault

@@ -3,9 +3,9 @@ ghost use Rattle.session_serving.specs.Settling.{fault_of};
 ghost use Rattle.session_serving.specs.declared.fault.HexFault.TheVariants as hex_fault;
 ghost use Rattle.session_serving.specs.declared.fault.ServeFault.TheVariants as serve_fault;
 
+use call_fault::CallFault;
 use std::alloc::AllocError;
 use thiserror::Error;
-use turn_lock::CallFault;
 
 /// Why a server stopped.
 #[derive(Clone, Copy, Debug, PartialEq, Eq, Error)]

@@ -3,11 +3,11 @@ ghost use Rattle.session_serving.specs.Meters.{CoreSteps};
 ghost use Rattle.relay_core.specs.Machine.{Fits};
 ghost use Rattle.relay_core.specs.declared.event.Event.{Event};
 ghost use Rattle.relay_core.specs.declared.event.Reply.{Reply};
-ghost use Rattle.turn_lock.specs.declared.faults.CallFault.{CallFault};
+ghost use Rattle.call_fault.specs.declared.fault.CallFault.{CallFault};
 
+use call_fault::CallFault;
 use relay_core::{Event, RelayCore, Reply};
 use std::alloc::Global;
-use turn_lock::CallFault;
 
 /// What takes the events of a session: the meter's core, or a port to one that is shared.
 pub trait Meter {

@@ -2,7 +2,7 @@
 use Rattle.std.proofs.Common.{◌≡◌, List, Option, Some, None, refl, sym, ◌∙◌, ap, inl, arith}
 use Rattle.std.specs.Prelude.{Result}
 use Rattle.turn_lock.specs.declared.turned.Entry.{Entry}
-use Rattle.turn_lock.specs.declared.faults.CallFault.{CallFault}
+use Rattle.call_fault.specs.declared.fault.CallFault.{CallFault}
 use Rattle.turn_lock.specs.Calls.{Joins, divided, born}
 use Rattle.turn_lock.specs.Shown.{ShownPort, IsSame}
 use Rattle.session_threads.specs.Ports.{GoesOn, AreJoined, TakesIn, child}

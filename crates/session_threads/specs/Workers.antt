@@ -1,6 +1,6 @@
 -- What the thread of a worker hands back.
 use Rattle.std.specs.Prelude.{◌≡◌, Option, Some, None, Result}
-use Rattle.turn_lock.specs.declared.faults.CallFault.{CallFault}
+use Rattle.call_fault.specs.declared.fault.CallFault.{CallFault}
 use Rattle.turn_lock.specs.Shown.{ShownPort, IsSame}
 use Rattle.session_threads.specs.Ports.{TakesIn}
 

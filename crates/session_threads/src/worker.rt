@@ -4,20 +4,21 @@ ghost use Rattle.turn_lock.specs.Shown.{IsSame};
 ghost use Rattle.session_threads.specs.Ports.{GoesOn, AreJoined, SplitsOff};
 ghost use Rattle.session_threads.specs.Workers.{Ended, ComesBack};
 
+use call_fault::CallFault;
 use std::alloc::Global;
 use std::snapshot::Snapshot;
 use std::sync::atomic::{AtomicBool, Ordering};
 use std::sync::{Arc, Wait};
 use std::thread;
 use std::thread::{Promise, PromisedHandle, Threads};
-use turn_lock::{CallFault, Port, Turned};
+use turn_lock::{Port, Turned};
 
 /// Work to be done in a thread of its own, through a port of the type `P`.
 ///
 /// `did` says what was done: of the worker as it was, its port as it was lent and as it is handed back, and the end.
 pub trait Worker<P>: Drop + Send {
     ghost use Rattle.std.specs.Prelude.{Result};
-    ghost use Rattle.turn_lock.specs.declared.faults.CallFault.{CallFault};
+    ghost use Rattle.call_fault.specs.declared.fault.CallFault.{CallFault};
 
     ghost did: { Self → P → P → Result Unit CallFault → Type 0 };
 

@@ -5,12 +5,13 @@ ghost use Rattle.turn_lock.specs.Trials.{StandsBehind};
 
 pub(crate) mod counter;
 
+use call_fault::CallFault;
 use counter::{Bump, Counter, Gate, Gated, Moody, Wish};
 use std::alloc::{AllocError, Global};
 use std::sync::{Arc, Wait};
 use std::test::Fail;
 use std::thread::{Threads, join};
-use turn_lock::{Busy, CallFault, Port, Shared, Turned};
+use turn_lock::{Busy, Port, Shared, Turned};
 
 // What a call of a test's value answered.
 type Answer = Result<u64, CallFault>;

@@ -12,7 +12,8 @@ mod steps;
 mod turned;
 
 pub use board::MOST_TURNS;
-pub use faults::{Busy, CallFault};
+pub use call_fault::CallFault;
+pub use faults::Busy;
 pub use known::Known;
 pub use lock::Shared;
 pub use port::{Note, Port};

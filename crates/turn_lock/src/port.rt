@@ -4,9 +4,9 @@ ghost use Rattle.turn_lock.specs.History.{calls_by};
 ghost use Rattle.turn_lock.specs.Calls.{IsLegal, Called, Watches, IsCause, divided, born, Meets, Joins};
 
 use crate::board::{Board, Place};
-use crate::faults::CallFault;
 use crate::steps::{call_at, divide, take_in, write_note};
 use crate::turned::Turned;
+use call_fault::CallFault;
 use std::alloc::{AllocError, Global};
 use std::marker::Model;
 use std::sync::{Arc, Wait};

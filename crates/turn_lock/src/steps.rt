@@ -8,10 +8,11 @@ ghost use Rattle.turn_lock.specs.Calls.{IsLegal, Watches, Called, IsCause, IsBus
 ghost use Rattle.turn_lock.specs.Plays.{IsSized, IsReady, hollow, posed, added, divided_view, born_view, noted_view, Ended, Merged, Takes};
 
 use crate::board::{HOME, Place, SERVING, Slot, TICKET, Top};
-use crate::faults::{Busy, CallFault};
+use crate::faults::Busy;
 use crate::lodged::Lodged;
 use crate::plays::{Close, Cut, Draw, End, Look, Merge, Reach, SeeServing, Settle, TakeIn, Tell};
 use crate::turned::Turned;
+use call_fault::CallFault;
 use crossbeam_utils::Backoff;
 use std::alloc::Global;
 use std::snapshot::Snapshot;

@@ -2,7 +2,7 @@ use denote.Param.Send.{sendable}
 use Rattle.std.proofs.Crossing.{crosses}
 use Rattle.std.proofs.option.Option.TheSendSync.{the_send as option_send}
 use Rattle.std.proofs.result.Result.TheSendSync.{the_send as result_send}
-use Rattle.turn_lock.proofs.faults.CallFault.TheSendSync.{the_send as fault_send}
+use Rattle.call_fault.proofs.fault.CallFault.TheSendSync.{the_send as fault_send}
 use Rattle.turn_lock.proofs.Sent.{port_send}
 use Rattle.session_threads.proofs.worker.start_thread.Goals as goal
 
