@@ -3,16 +3,18 @@ use Rattle.std.proofs.Common.{◌≡◌, ◌⊎◌, ℕ, Bool, true, false, not,
 use Rattle.std.specs.Int.{w32, from_be_bytes}
 use Rattle.std.proofs.lemmas.Bool.{eqb-true, ne_eqb}
 use Rattle.byte_reading.specs.Outcome.{◌>>=◌, ◌>>◌, guard}
+use Rattle.byte_reading.specs.Reading.{read_as}
+use Rattle.byte_reading.proofs.Agreeing.{Agrees, IsNone, IsMade, IsByte, AreBytes, none_agrees, made_agrees, byte_agrees, bytes_agrees, seen_as, all_read, all_taken}
 use Rattle.byte_reading.proofs.OutcomeLemmas.{done, ok_is, bind_ok, guard_ok}
-use Rattle.acse_ber.specs.Reading.{Read, Field, read_as, whole, byte_at, bytes_at, size_at, literal_at, tagged, fields_of, field_of, needed, inner_of, optional_byte_at, conformance_at, response_at, byte_behind, initiate_error_at, info_in, info_of, is_response, result_at, diagnostic_at, aare_told, aare_judged, aare_in, aare_of}
+use Rattle.acse_ber.specs.Reading.{Read, Field, whole, byte_at, bytes_at, size_at, literal_at, tagged, fields_of, field_of, needed, inner_of, optional_byte_at, conformance_at, response_at, byte_behind, initiate_error_at, info_in, info_of, is_response, result_at, diagnostic_at, aare_told, aare_judged, aare_in, aare_of}
 use Rattle.acse_ber.specs.Spelling.{HasInfo, IsResult, IsDiagnostic, IsOptionalByte, IsResponse, IsInitiateError, IsInfo, SpellsAare}
 use Rattle.acse_ber.specs.declared.aare.Aare.{Aare}
 use Rattle.acse_ber.specs.declared.aare.Info.{Info}
 use Rattle.acse_ber.specs.declared.aare.Info.TheVariants.{Absent, Response, InitiateError}
 use Rattle.acse_ber.specs.declared.fault.AcseFault.{AcseFault}
 use Rattle.acse_ber.specs.declared.fault.AcseFault.TheVariants.{Unreadable}
-use Rattle.acse_ber.proofs.Joined.{Agrees, IsNothing, IsThen, IsMade, IsGuarded, IsChosen, none_agrees, then_agrees, made_agrees, guard_agrees, choice_agrees, seen_as, all_read, all_taken}
-use Rattle.acse_ber.proofs.Parts.{IsByte, byte_agrees, byte_before, AreBytes, bytes_agrees, IsSize, size_agrees, IsLiteral, literal_agrees, one_found, one_again, inner_found, inner_again, needed_ok}
+use Rattle.acse_ber.proofs.Joined.{IsThen, IsGuarded, IsChosen, then_agrees, guard_agrees, choice_agrees}
+use Rattle.acse_ber.proofs.Parts.{byte_before, IsSize, size_agrees, IsLiteral, literal_agrees, one_found, one_again, inner_found, inner_again, needed_ok}
 use Rattle.acse_ber.proofs.Aarqs.{fields_known, apdu_found, apdu_again}
 
 -- ---- bytes behind others
@@ -25,7 +27,7 @@ behind_agrees : (expected : List ℕ) → Agrees ℕ (byte_behind expected) (IsB
 unfolding byte_behind
 behind_agrees expected =
     seen_as (byte_behind expected) (IsThen (IsLiteral expected) (λ u. IsByte)) (IsBehind expected)
-    (then_agrees (literal_at expected) (λ u. byte_at) (IsLiteral expected) (λ u. IsByte) (literal_agrees expected) (λ u. byte_agrees))
+    (then_agrees (literal_at expected) (λ u. byte_at) (IsLiteral expected) (λ u. IsByte) (literal_agrees expected) (λ u. byte_agrees Unreadable))
     (λ b text s. let j = s.1 in j.parts ∙ rw (j.is_first, j.are_others) refl)
     (λ b text s. (tt, record { first = expected; others = b ∷ []; parts = s; is_first = refl; are_others = refl }))
 
@@ -56,7 +58,7 @@ diagnostic_agrees : Agrees ℕ diagnostic_at IsDiagnostic
 unfolding diagnostic_at
 diagnostic_agrees =
     seen_as diagnostic_at (IsThen IsByte (λ source. IsGuarded (is_source source) (IsBehind integer_head))) IsDiagnostic
-    (then_agrees byte_at (λ source rest. guard (is_source source) Unreadable >> byte_behind integer_head rest) IsByte (λ source. IsGuarded (is_source source) (IsBehind integer_head)) byte_agrees
+    (then_agrees byte_at (λ source rest. guard (is_source source) Unreadable >> byte_behind integer_head rest) IsByte (λ source. IsGuarded (is_source source) (IsBehind integer_head)) (byte_agrees Unreadable)
     (λ source. guard_agrees (is_source source) (byte_behind integer_head) (IsBehind integer_head) (behind_agrees integer_head)))
     (λ d text s. let j = s.1 in (s.0, source_of s.0 j.are_others.0, byte_before s.0 text j ∙ ap (λ (o : List ℕ). s.0 ∷ o) j.are_others.1))
     (λ d text s. (s.0, record { first = s.0 ∷ []; others = 0x03 ∷ 0x02 ∷ 0x01 ∷ d ∷ []; parts = s.2; is_first = refl; are_others = (source_is s.0 s.1, refl) }))
@@ -67,7 +69,7 @@ abbrev IsSkipped : Unit {0} → List ℕ → Type 0
 IsSkipped u text = IsOptionalByte text
 
 abbrev IsMaybe : ℕ → Unit {0} → List ℕ → Type 0
-IsMaybe present = IsChosen (present == 0) (IsNothing tt) (IsGuarded (present == 1) (IsMade (λ (byte : ℕ). tt) IsByte))
+IsMaybe present = IsChosen (present == 0) (IsNone tt) (IsGuarded (present == 1) (IsMade (λ (byte : ℕ). tt) IsByte))
 
 skipped_to : (text : List ℕ) (present : ℕ) (others : List ℕ) (u : Unit {0}) → text ≡ present ∷ others → IsMaybe present u others → IsOptionalByte text
 skipped_to text present others u e (inl h) =
@@ -87,10 +89,10 @@ skipped_agrees : Agrees (Unit {0}) optional_byte_at IsSkipped
 unfolding optional_byte_at
 skipped_agrees =
     seen_as optional_byte_at (IsThen IsByte IsMaybe) IsSkipped
-    (then_agrees byte_at (λ present rest. cond (present == 0) (Ok (tt, rest)) (guard (present == 1) Unreadable >> read_as (λ byte. tt) (byte_at rest))) IsByte IsMaybe byte_agrees
+    (then_agrees byte_at (λ present rest. cond (present == 0) (Ok (tt, rest)) (guard (present == 1) Unreadable >> read_as (λ byte. tt) (byte_at rest))) IsByte IsMaybe (byte_agrees Unreadable)
     (λ present.
     choice_agrees (present == 0) (λ rest. Ok (tt, rest)) (λ rest. guard (present == 1) Unreadable >> read_as (λ byte. tt) (byte_at rest)) _ _ (none_agrees tt)
-    (guard_agrees (present == 1) (λ rest. read_as (λ byte. tt) (byte_at rest)) (IsMade (λ (byte : ℕ). tt) IsByte) (made_agrees (λ (byte : ℕ). tt) byte_at IsByte byte_agrees))))
+    (guard_agrees (present == 1) (λ rest. read_as (λ byte. tt) (byte_at rest)) (IsMade (λ (byte : ℕ). tt) IsByte) (made_agrees (λ (byte : ℕ). tt) byte_at IsByte (byte_agrees Unreadable)))))
     (λ u text s. skipped_to text s.0 s.1.others u (byte_before s.0 text s.1) s.1.are_others) skipped_from
 
 abbrev block_head : List ℕ
@@ -108,7 +110,7 @@ unfolding conformance_at
 block_agrees =
     seen_as conformance_at (IsThen (IsLiteral block_head) (λ u. IsMade bits_of (AreBytes 3))) IsBlock
     (then_agrees (literal_at block_head) (λ u rest. read_as bits_of (bytes_at 3 rest)) (IsLiteral block_head) (λ u. IsMade bits_of (AreBytes 3)) (literal_agrees block_head)
-    (λ u. made_agrees bits_of (bytes_at 3) (AreBytes 3) (bytes_agrees 3)))
+    (λ u. made_agrees bits_of (bytes_at 3) (AreBytes 3) (bytes_agrees Unreadable 3)))
     (λ n text s.
     let j = s.1 in
     let m = j.are_others in
@@ -159,10 +161,10 @@ unfolding response_at
 replied_agrees =
     then_agrees (literal_at (0x08 ∷ [])) (λ u. qualified_at) (IsLiteral (0x08 ∷ [])) (λ u. Qualified) (literal_agrees (0x08 ∷ [])) (λ u.
     then_agrees optional_byte_at (λ u. versioned_at) IsSkipped (λ u. Versioned) skipped_agrees (λ u.
-    then_agrees byte_at (λ version. blocked_at) IsByte (λ version. Blocked) byte_agrees (λ version.
+    then_agrees byte_at (λ version. blocked_at) IsByte (λ version. Blocked) (byte_agrees Unreadable) (λ version.
     then_agrees conformance_at sized_at IsBlock Sized block_agrees (λ bits.
     then_agrees size_at (named_at bits) IsSize (Named bits) size_agrees (λ size.
-    made_agrees (λ (name : List ℕ). Response bits size) (bytes_at 2) (AreBytes 2) (bytes_agrees 2))))))
+    made_agrees (λ (name : List ℕ). Response bits size) (bytes_at 2) (AreBytes 2) (bytes_agrees Unreadable 2))))))
 
 reply_to : (info : Info) (text : List ℕ) → Replied info text → IsReply info text
 reply_to info text s =
@@ -294,12 +296,12 @@ pub info_found : (text : List ℕ) → IsInfo (info_in text) text
 unfolding info_in
 info_found text =
     elim (told (whole (response_at text))) [
-      | inl r ↦ rw r.1 (reply_is_info r.0 text (all_taken response_at IsReply reply_agrees r.0 text r.1))
+      | inl r ↦ rw r.1 (reply_is_info r.0 text (all_taken Unreadable response_at IsReply reply_agrees r.0 text r.1))
       | inr r ↦ elim (told (whole (initiate_error_at text))) [
-        | inl e ↦ rw (r.1, e.1) (error_is_info e.0 text (all_taken initiate_error_at IsError error_agrees e.0 text e.1))
+        | inl e ↦ rw (r.1, e.1) (error_is_info e.0 text (all_taken Unreadable initiate_error_at IsError error_agrees e.0 text e.1))
         | inr e ↦ rw (r.1, e.1) (
-          λ bits limit s. not_both (whole (response_at text)) r.0 (Response bits limit) r.1 (all_read response_at IsReply reply_agrees (Response bits limit) text s),
-          λ error s. not_both (whole (initiate_error_at text)) e.0 (InitiateError error) e.1 (all_read initiate_error_at IsError error_agrees (InitiateError error) text s),
+          λ bits limit s. not_both (whole (response_at text)) r.0 (Response bits limit) r.1 (all_read Unreadable response_at IsReply reply_agrees (Response bits limit) text s),
+          λ error s. not_both (whole (initiate_error_at text)) e.0 (InitiateError error) e.1 (all_read Unreadable initiate_error_at IsError error_agrees (InitiateError error) text s),
         )
       ]
     ]
@@ -322,16 +324,16 @@ pub info_again : (info : Info) (text : List ℕ) → IsInfo info text → info_i
 unfolding info_in
 info_again Absent text neither =
     elim (told (whole (response_at text))) [
-      | inl r ↦ absurd (reply_not r.0 text neither (all_taken response_at IsReply reply_agrees r.0 text r.1))
+      | inl r ↦ absurd (reply_not r.0 text neither (all_taken Unreadable response_at IsReply reply_agrees r.0 text r.1))
       | inr r ↦ elim (told (whole (initiate_error_at text))) [
-        | inl e ↦ absurd (error_not e.0 text neither (all_taken initiate_error_at IsError error_agrees e.0 text e.1))
+        | inl e ↦ absurd (error_not e.0 text neither (all_taken Unreadable initiate_error_at IsError error_agrees e.0 text e.1))
         | inr e ↦ rw (r.1, e.1) refl
       ]
     ]
-info_again (Response bits limit) text s = rw (all_read response_at IsReply reply_agrees (Response bits limit) text s) refl
+info_again (Response bits limit) text s = rw (all_read Unreadable response_at IsReply reply_agrees (Response bits limit) text s) refl
 info_again (InitiateError error) text s =
     let none : whole (response_at text) ≡ Err Unreadable = ap (λ (t : List ℕ). whole (response_at t)) s ∙ no_reply error in
-    let one : whole (initiate_error_at text) ≡ Ok (InitiateError error) = all_read initiate_error_at IsError error_agrees (InitiateError error) text s in
+    let one : whole (initiate_error_at text) ≡ Ok (InitiateError error) = all_read Unreadable initiate_error_at IsError error_agrees (InitiateError error) text s in
     rw (none, one) refl
 
 user_found : (body : List ℕ) (fields : List Field) (given : Option (List ℕ)) → fields_of body ≡ Ok fields → inner_of 0xBE 0x04 body ≡ Ok given → HasInfo fields (info_of given)
@@ -372,8 +374,8 @@ aare_found bytes aare e =
     subst (λ (a : Aare). SpellsAare bytes a) (ok_is made aare g.1) (record {
       fields = f.0;
       is_apdu = apdu_found 0x61 bytes t.0 f.0 t.1 f.1;
-      result_field = record { contents = r.0; one = one_found 0xA2 t.0 f.0 r.0 f.1 result_field; holds = all_taken result_at IsResult result_agrees o.0 r.0 o.1 };
-      diagnostic_field = record { contents = s.0; one = one_found 0xA3 t.0 f.0 s.0 f.1 diagnostic_field; holds = all_taken diagnostic_at IsDiagnostic diagnostic_agrees d.0 s.0 d.1 };
+      result_field = record { contents = r.0; one = one_found 0xA2 t.0 f.0 r.0 f.1 result_field; holds = all_taken Unreadable result_at IsResult result_agrees o.0 r.0 o.1 };
+      diagnostic_field = record { contents = s.0; one = one_found 0xA3 t.0 f.0 s.0 f.1 diagnostic_field; holds = all_taken Unreadable diagnostic_at IsDiagnostic diagnostic_agrees d.0 s.0 d.1 };
       user = user_found t.0 f.0 u.0 f.1 u.1;
       responds = accepts o.0 (is_response (info_of u.0)) g.0;
     })
@@ -387,9 +389,9 @@ aare_again bytes aare s =
     let r = s.result_field in
     let d = s.diagnostic_field in
     let result_field : field_of 0xA2 body ≡ Ok (Some r.contents) = one_again 0xA2 body s.fields r.contents a.1 r.one in
-    let outcome : whole (result_at r.contents) ≡ Ok aare.result = all_read result_at IsResult result_agrees aare.result r.contents r.holds in
+    let outcome : whole (result_at r.contents) ≡ Ok aare.result = all_read Unreadable result_at IsResult result_agrees aare.result r.contents r.holds in
     let diagnostic_field : field_of 0xA3 body ≡ Ok (Some d.contents) = one_again 0xA3 body s.fields d.contents a.1 d.one in
-    let diagnostic : whole (diagnostic_at d.contents) ≡ Ok aare.diagnostic = all_read diagnostic_at IsDiagnostic diagnostic_agrees aare.diagnostic d.contents d.holds in
+    let diagnostic : whole (diagnostic_at d.contents) ≡ Ok aare.diagnostic = all_read Unreadable diagnostic_at IsDiagnostic diagnostic_agrees aare.diagnostic d.contents d.holds in
     let u = user_again body s.fields aare.info a.1 s.user in
     let test : (not (aare.result == 0) || is_response aare.info) ≡ true = accepts_again aare.result (is_response aare.info) s.responds in
     rw (a.0, result_field, outcome, diagnostic_field, diagnostic, u.1, u.2, test) refl

@@ -1,60 +1,26 @@
 -- The readers of bytes, lengths, tags and fields say the same as the relations.
-use Rattle.std.proofs.Common.{◌≡◌, ℕ, Bool, zero, suc, ◌≤◌, ◌<◌, true, ◌==◌, ◌&&◌, nat_lt, nat_le, cond, Option, Some, None, List, [], ◌∷◌, ◌++◌, length, take, drop, Ok, Err, Result, refl, sym, ap, subst, ◌∙◌, append-nil, arith, inl, inr}
+use Rattle.std.proofs.Common.{◌≡◌, ℕ, Bool, zero, suc, ◌≤◌, ◌<◌, ◌==◌, ◌&&◌, nat_lt, nat_le, cond, Option, Some, None, List, [], ◌∷◌, ◌++◌, length, Ok, Err, Result, refl, sym, ap, subst, ◌∙◌, append-nil, arith, inl, inr}
 use Rattle.std.specs.Prelude.{unwrap_or, bytes_eq}
 use Rattle.std.specs.Int.{w16, from_be_bytes}
 use Rattle.std.proofs.lemmas.Bool.{and_parts, and_from, ltb-true, leb-true, lt-ltb, le-leb, eqb-true, eq-eqb}
-use Rattle.std.proofs.lemmas.List.{take_at, drop_at, take-append-drop, length-append, length-take}
 use Rattle.std.proofs.lemmas.Slice.Eq.{bytes_eq-Decides}
 use Rattle.byte_reading.specs.Outcome.{◌>>=◌, ◌>>◌, guard}
-use Rattle.byte_reading.proofs.OutcomeLemmas.{done, ok_is, bind_ok, guard_ok}
-use Rattle.cosem_axdr.specs.Spelling.{IsUnsigned, IsFixed, IsJoined}
-use Rattle.acse_ber.specs.Reading.{Field, read_as, byte_at, bytes_at, size_at, literal_at, length_at, contents_at, tagged_at, tagged, field_at, fields_within, fields_of, contents_of, at_most_one, field_of, needed, optional, inner_of}
+use Rattle.byte_reading.specs.Reading.{read_as}
+use Rattle.byte_reading.proofs.Agreeing.{Agrees, IsNone, IsMade, IsByte, AreBytes, none_agrees, made_agrees, byte_agrees, bytes_agrees, seen_as, all_read, all_taken}
+use Rattle.byte_reading.proofs.OutcomeLemmas.{done, ok_is, bind_ok}
+use Rattle.cosem_axdr.specs.Spelling.{IsUnsigned, IsJoined}
+use Rattle.acse_ber.specs.Reading.{Field, byte_at, bytes_at, size_at, literal_at, length_at, contents_at, tagged_at, tagged, field_at, fields_within, fields_of, contents_of, at_most_one, field_of, needed, optional, inner_of}
 use Rattle.acse_ber.specs.Spelling.{IsLength, IsTagged, IsField, AreFields, HasNone, HasInner}
 use Rattle.acse_ber.specs.declared.fault.AcseFault.{AcseFault}
 use Rattle.acse_ber.specs.declared.fault.AcseFault.TheVariants.{Unreadable}
-use Rattle.acse_ber.proofs.Joined.{Took, Agrees, IsNothing, IsThen, IsMade, IsGuarded, IsChosen, none_agrees, then_agrees, made_agrees, guard_agrees, choice_agrees, never_agrees, seen_as, all_read, all_taken}
+use Rattle.acse_ber.proofs.Joined.{IsThen, IsGuarded, IsChosen, then_agrees, guard_agrees, choice_agrees, never_agrees}
 use Rattle.acse_ber.proofs.Steps.{after, unrolled}
 
 -- ---- bytes
 
--- one byte
-abbrev pub IsByte : ℕ → List ℕ → Type 0
-IsByte byte text = text ≡ byte ∷ []
-
-byte_takes : (bytes : List ℕ) (x : ℕ × List ℕ) → byte_at bytes ≡ Ok x → Took ℕ IsByte bytes x
-byte_takes [] x e = absurd cc
-byte_takes (byte ∷ rest) x e =
-    let made : ℕ × List ℕ = (byte, rest) in
-    subst (λ (z : ℕ × List ℕ). Took ℕ IsByte (byte ∷ rest) z) (ok_is {F = AcseFault} made x e) (record { text = byte ∷ []; parts = refl; spelled = refl })
-
-pub byte_agrees : Agrees ℕ byte_at IsByte
-byte_agrees = record { takes = byte_takes; again = λ x text rest s. rw s refl }
-
 -- a byte before others
 pub byte_before : {Q : List ℕ → Type 0} (byte : ℕ) (text : List ℕ) (j : IsJoined (IsByte byte) Q text) → text ≡ byte ∷ j.others
 byte_before byte text j = j.parts ∙ ap (λ (f : List ℕ). f ++ j.others) j.is_first
-
--- so many bytes
-abbrev pub AreBytes : ℕ → List ℕ → List ℕ → Type 0
-AreBytes n bytes text = IsFixed n text bytes
-
-bytes_takes : (n : ℕ) (bytes : List ℕ) (x : List ℕ × List ℕ) → bytes_at n bytes ≡ Ok x → Took (List ℕ) (AreBytes n) bytes x
-bytes_takes n bytes x e =
-    let made : List ℕ × List ℕ = (take n bytes, drop n bytes) in
-    let g = guard_ok (nat_le n (length bytes)) Unreadable (done AcseFault made) x e in
-    let long : n ≤ length bytes = leb-true n (length bytes) g.0 in
-    let len : length (take n bytes) ≡ n = omega (arith, length-take n bytes) in
-    subst (λ (z : List ℕ × List ℕ). Took (List ℕ) (AreBytes n) bytes z) (ok_is made x g.1) (record { text = take n bytes; parts = sym (take-append-drop n bytes); spelled = (len, refl) })
-
-bytes_again : (n : ℕ) (x text rest : List ℕ) → AreBytes n x text → bytes_at n (text ++ rest) ≡ Ok (x, rest)
-bytes_again n x text rest s =
-    let long : nat_le n (length (text ++ rest)) ≡ true = le-leb n (length (text ++ rest)) (omega (arith, s.0, length-append text rest)) in
-    let front : take n (text ++ rest) ≡ text = take_at text rest n s.0 in
-    let back : drop n (text ++ rest) ≡ rest = drop_at text rest n s.0 in
-    rw (long, front, back) (ap (λ (bs : List ℕ). done AcseFault (bs, rest)) (sym s.1))
-
-pub bytes_agrees : (n : ℕ) → Agrees (List ℕ) (bytes_at n) (AreBytes n)
-bytes_agrees n = record { takes = bytes_takes n; again = bytes_again n }
 
 -- a number of two bytes
 abbrev pub IsSize : ℕ → List ℕ → Type 0
@@ -62,7 +28,7 @@ IsSize n text = IsUnsigned w16 text n
 
 pub size_agrees : Agrees ℕ size_at IsSize
 size_agrees =
-    seen_as size_at (IsMade (from_be_bytes w16) (AreBytes 2)) IsSize (made_agrees (from_be_bytes w16) (bytes_at 2) (AreBytes 2) (bytes_agrees 2))
+    seen_as size_at (IsMade (from_be_bytes w16) (AreBytes 2)) IsSize (made_agrees (from_be_bytes w16) (bytes_at 2) (AreBytes 2) (bytes_agrees Unreadable 2))
     (λ n text s. (s.2.0, sym s.1 ∙ ap (from_be_bytes w16) s.2.1)) (λ n text s. (text, sym s.1, (s.0, refl)))
 
 -- these very bytes
@@ -72,9 +38,9 @@ IsLiteral expected u text = text ≡ expected
 pub literal_agrees : (expected : List ℕ) → Agrees (Unit {0}) (literal_at expected) (IsLiteral expected)
 literal_agrees expected =
     let n = length expected in
-    seen_as (literal_at expected) (IsThen (AreBytes n) (λ there. IsGuarded (bytes_eq there expected) (IsNothing tt))) (IsLiteral expected)
-    (then_agrees (bytes_at n) (λ there rest. guard (bytes_eq there expected) Unreadable >> Ok (tt, rest)) (AreBytes n) (λ there. IsGuarded (bytes_eq there expected) (IsNothing tt)) (bytes_agrees n)
-    (λ there. guard_agrees (bytes_eq there expected) (λ rest. Ok (tt, rest)) (IsNothing tt) (none_agrees tt)))
+    seen_as (literal_at expected) (IsThen (AreBytes n) (λ there. IsGuarded (bytes_eq there expected) (IsNone tt))) (IsLiteral expected)
+    (then_agrees (bytes_at n) (λ there rest. guard (bytes_eq there expected) Unreadable >> Ok (tt, rest)) (AreBytes n) (λ there. IsGuarded (bytes_eq there expected) (IsNone tt)) (bytes_agrees Unreadable n)
+    (λ there. guard_agrees (bytes_eq there expected) (λ rest. Ok (tt, rest)) (IsNone tt) (none_agrees tt)))
     (λ u text s.
     let j = s.1 in
     j.parts ∙ ap (λ (o : List ℕ). j.first ++ o) j.are_others.1.1 ∙ append-nil j.first ∙ sym j.is_first.1 ∙ (bytes_eq-Decides s.0 expected).0 j.are_others.0)
@@ -87,7 +53,7 @@ abbrev IsCount : ℕ → List ℕ → Type 0
 IsCount n text = IsLength text n
 
 abbrev IsForm : ℕ → ℕ → List ℕ → Type 0
-IsForm first = IsChosen (nat_lt first 0x80) (IsNothing first) (IsChosen (first == 0x81) IsByte (IsChosen (first == 0x82) IsSize (λ n text. ⊥)))
+IsForm first = IsChosen (nat_lt first 0x80) (IsNone first) (IsChosen (first == 0x81) IsByte (IsChosen (first == 0x82) IsSize (λ n text. ⊥)))
 
 length_to : (n : ℕ) (text : List ℕ) (first : ℕ) (others : List ℕ) → text ≡ first ∷ others → IsForm first n others → IsCount n text
 length_to n text first others e (inl h) =
@@ -113,10 +79,10 @@ pub length_agrees : Agrees ℕ length_at IsCount
 unfolding length_at
 length_agrees =
     seen_as length_at (IsThen IsByte IsForm) IsCount
-    (then_agrees byte_at (λ first rest. cond (nat_lt first 0x80) (Ok (first, rest)) (cond (first == 0x81) (byte_at rest) (cond (first == 0x82) (size_at rest) (Err Unreadable)))) IsByte IsForm byte_agrees
+    (then_agrees byte_at (λ first rest. cond (nat_lt first 0x80) (Ok (first, rest)) (cond (first == 0x81) (byte_at rest) (cond (first == 0x82) (size_at rest) (Err Unreadable)))) IsByte IsForm (byte_agrees Unreadable)
     (λ first.
     choice_agrees (nat_lt first 0x80) (λ rest. Ok (first, rest)) (λ rest. cond (first == 0x81) (byte_at rest) (cond (first == 0x82) (size_at rest) (Err Unreadable))) _ _ (none_agrees first)
-    (choice_agrees (first == 0x81) byte_at (λ rest. cond (first == 0x82) (size_at rest) (Err Unreadable)) _ _ byte_agrees
+    (choice_agrees (first == 0x81) byte_at (λ rest. cond (first == 0x82) (size_at rest) (Err Unreadable)) _ _ (byte_agrees Unreadable)
     (choice_agrees (first == 0x82) size_at (λ rest. Err Unreadable) _ _ size_agrees never_agrees))))
     (λ n text s. length_to n text s.0 s.1.others (byte_before s.0 text s.1) s.1.are_others) length_from
 
@@ -127,7 +93,7 @@ IsContents contents text = (length_text : List ℕ) × (text ≡ length_text ++ 
 pub contents_agrees : Agrees (List ℕ) contents_at IsContents
 unfolding contents_at
 contents_agrees =
-    seen_as contents_at (IsThen IsCount AreBytes) IsContents (then_agrees length_at bytes_at IsCount AreBytes length_agrees bytes_agrees)
+    seen_as contents_at (IsThen IsCount AreBytes) IsContents (then_agrees length_at bytes_at IsCount AreBytes length_agrees (bytes_agrees Unreadable))
     (λ x text s.
     let j = s.1 in
     let len : s.0 ≡ length x = sym j.are_others.0 ∙ ap (λ (o : List ℕ). length o) (sym j.are_others.1) in
@@ -138,7 +104,7 @@ pub tagged_agrees : (tag : ℕ) → Agrees (List ℕ) (tagged_at tag) (IsTagged 
 unfolding tagged_at
 tagged_agrees tag =
     seen_as (tagged_at tag) (IsThen IsByte (λ first. IsGuarded (first == tag) IsContents)) (IsTagged tag)
-    (then_agrees byte_at (λ first rest. guard (first == tag) Unreadable >> contents_at rest) IsByte (λ first. IsGuarded (first == tag) IsContents) byte_agrees
+    (then_agrees byte_at (λ first rest. guard (first == tag) Unreadable >> contents_at rest) IsByte (λ first. IsGuarded (first == tag) IsContents) (byte_agrees Unreadable)
     (λ first. guard_agrees (first == tag) contents_at IsContents contents_agrees))
     (λ x text s.
     let j = s.1 in
@@ -150,11 +116,11 @@ tagged_agrees tag =
 -- the contents of a tag that fill the bytes
 pub tagged_found : (tag : ℕ) (bytes contents : List ℕ) → tagged tag bytes ≡ Ok contents → IsTagged tag contents bytes
 unfolding tagged
-tagged_found tag bytes contents e = all_taken (tagged_at tag) (IsTagged tag) (tagged_agrees tag) contents bytes e
+tagged_found tag bytes contents e = all_taken Unreadable (tagged_at tag) (IsTagged tag) (tagged_agrees tag) contents bytes e
 
 pub tagged_again : (tag : ℕ) (bytes contents : List ℕ) → IsTagged tag contents bytes → tagged tag bytes ≡ Ok contents
 unfolding tagged
-tagged_again tag bytes contents s = all_read (tagged_at tag) (IsTagged tag) (tagged_agrees tag) contents bytes s
+tagged_again tag bytes contents s = all_read Unreadable (tagged_at tag) (IsTagged tag) (tagged_agrees tag) contents bytes s
 
 -- ---- fields
 
@@ -168,7 +134,7 @@ pub field_agrees : Agrees Field field_at IsField
 unfolding field_at
 field_agrees =
     seen_as field_at (IsThen IsByte (λ tag. IsGuarded (is_field_tag tag) (IsMade (made_field tag) IsContents))) IsField
-    (then_agrees byte_at (λ tag rest. guard (is_field_tag tag) Unreadable >> read_as (made_field tag) (contents_at rest)) IsByte (λ tag. IsGuarded (is_field_tag tag) (IsMade (made_field tag) IsContents)) byte_agrees
+    (then_agrees byte_at (λ tag rest. guard (is_field_tag tag) Unreadable >> read_as (made_field tag) (contents_at rest)) IsByte (λ tag. IsGuarded (is_field_tag tag) (IsMade (made_field tag) IsContents)) (byte_agrees Unreadable)
     (λ tag. guard_agrees (is_field_tag tag) (λ rest. read_as (made_field tag) (contents_at rest)) (IsMade (made_field tag) IsContents) (made_agrees (made_field tag) contents_at IsContents contents_agrees)))
     (λ f text s.
     let j = s.1 in

@@ -1,15 +1,16 @@
 -- Reading the APDUs of the Association Control Service Element (IEC 62056-5-3, AARQ, AARE and RLRQ), in BER (ISO/IEC 8825-1).
---     Read, Reads                     what a step answers, and how code is compared with it
---     byte_at .. contents_at          a byte, bytes, these very bytes, a length, contents behind their length
+--     Read, Yields                    what a step answers; how code is compared with it where it reads all of its bytes
 --     whole                           a reading that takes all the bytes
+--     byte_at .. contents_at          a byte, bytes, these very bytes, a length, contents behind their length
 --     tagged                          the contents of one tag that fill the bytes
 --     Field, fields_of, field_of      the fields of an APDU, in any order, and the one of a tag
 --     proposal_of, info_in            what the user information of an AARQ and of an AARE holds
 --     aarq_of, aare_of                whole APDUs
 --     is_release_text                 whether bytes are an RLRQ
-use Rattle.std.specs.Prelude.{◌≡◌, ℕ, zero, suc, not, ◌&&◌, ◌||◌, ◌==◌, nat_lt, nat_le, if◌then◌else◌, Bool, true, false, Option, Some, None, unwrap_or, List, [], ◌∷◌, length, take, drop, bytes_eq, Result, Ok, Err, is_ok}
+use Rattle.std.specs.Prelude.{◌≡◌, ℕ, zero, suc, not, ◌&&◌, ◌||◌, ◌==◌, nat_lt, nat_le, if◌then◌else◌, Bool, true, false, Option, Some, None, unwrap_or, List, [], ◌∷◌, length, bytes_eq, Result, Ok, Err, is_ok}
 use Rattle.std.specs.Int.{w16, w32, from_be_bytes}
 use Rattle.byte_reading.specs.Outcome.{◌>>=◌, ◌>>◌, guard}
+use Rattle.byte_reading.specs.Reading.{read_as, whole_or, first_byte, first_bytes}
 use Rattle.acse_ber.specs.declared.aarq.Aarq.{Aarq}
 use Rattle.acse_ber.specs.declared.aare.Aare.{Aare}
 use Rattle.acse_ber.specs.declared.aare.Info.{Info}
@@ -22,40 +23,24 @@ use Rattle.acse_ber.specs.declared.initiate.Proposal.{Proposal}
 abbrev pub Read : Type 0 → Type 0
 Read X = Result (X × List ℕ) AcseFault
 
--- a step of code that moves on through the bytes answers as the definition does
-abbrev pub Reads : {X Y : Type 0} → (X → Y) → Result X AcseFault → List ℕ → Read Y → Type 0
-Reads view (Ok x) new given = given ≡ Ok (view x, new)
-Reads view (Err fault) new given = given ≡ Err fault
-
 -- a step of code that reads all of its bytes answers as the definition does
 abbrev pub Yields : {X Y : Type 0} → (X → Y) → Result X AcseFault → Result Y AcseFault → Type 0
 Yields view (Ok x) given = given ≡ Ok (view x)
 Yields view (Err fault) given = given ≡ Err fault
 
--- what was read, seen as a value
-abbrev pub read_as : {X Y : Type 0} → (X → Y) → Read X → Read Y
-read_as make read = do
-  x ← read
-  Ok (make x.0, x.1)
-
 -- what was read, if nothing stands behind it
 abbrev pub whole : {X : Type 0} → Read X → Result X AcseFault
-whole (Err fault) = Err fault
-whole (Ok (x, [])) = Ok x
-whole (Ok (x, byte ∷ rest)) = Err Unreadable
+whole read = whole_or Unreadable read
 
 -- ---- bytes
 
 -- the next byte
 abbrev pub byte_at : List ℕ → Read ℕ
-byte_at [] = Err Unreadable
-byte_at (byte ∷ rest) = Ok (byte, rest)
+byte_at bytes = first_byte Unreadable bytes
 
 -- the next bytes
 abbrev pub bytes_at : ℕ → List ℕ → Read (List ℕ)
-bytes_at n bytes = do
-  guard (nat_le n (length bytes)) Unreadable
-  Ok (take n bytes, drop n bytes)
+bytes_at n bytes = first_bytes Unreadable n bytes
 
 -- a number of two bytes
 abbrev pub size_at : List ℕ → Read ℕ

@@ -1,5 +1,6 @@
 ghost use Rattle.std.specs.Prelude.{◌≡◌, Ok, IfOk, option_map};
-ghost use Rattle.acse_ber.specs.Reading.{Reads, whole, byte_behind, result_at, diagnostic_at, response_at, initiate_error_at, info_in, info_of, is_response, aare_told, aare_judged, aare_in, aare_of};
+ghost use Rattle.byte_reading.specs.Reading.{Reads};
+ghost use Rattle.acse_ber.specs.Reading.{whole, byte_behind, result_at, diagnostic_at, response_at, initiate_error_at, info_in, info_of, is_response, aare_told, aare_judged, aare_in, aare_of};
 ghost use Rattle.acse_ber.specs.Spelling.{SpellsAare};
 ghost use Rattle.acse_ber.specs.declared.aare.Aare.{Aare};
 
@@ -7,8 +8,9 @@ use crate::aare::{Aare, Info};
 use crate::fault::AcseFault;
 use crate::field::{find_inner, find_needed, read_tagged};
 use crate::initiate::{INITIATE_ERROR_HEAD, RESPONSE_TAG, read_conformance, skip_optional_byte};
-use crate::reader::Reader;
+use crate::length::{read_literal, read_size};
 use crate::tag;
+use byte_reading::Reader;
 use std::alloc::Global;
 
 /// Reads an AARE: a length that ends where the bytes end, and fields, in any order, that fill it.
@@ -81,7 +83,7 @@ fn read_result(contents: &[u8]) -> Result<u8, AcseFault>
 {
     let mut reader = Reader::new(contents);
     let outcome = read_byte_behind(&[tag::INTEGER, 1], &mut reader)?;
-    reader.finish(outcome)
+    reader.finish(outcome, AcseFault::Unreadable)
 }
 
 // The diagnostic, of the service user or of the service provider: an integer of one byte.
@@ -90,11 +92,11 @@ fn read_diagnostic(contents: &[u8]) -> Result<u8, AcseFault>
     ensures { result ≡ whole (diagnostic_at contents.now) }
 {
     let mut reader = Reader::new(contents);
-    let (tag::SERVICE_USER | tag::SERVICE_PROVIDER) = reader.byte()? else {
+    let (tag::SERVICE_USER | tag::SERVICE_PROVIDER) = reader.byte(AcseFault::Unreadable)? else {
         return Err(AcseFault::Unreadable);
     };
     let diagnostic = read_byte_behind(&[3, tag::INTEGER, 1], &mut reader)?;
-    reader.finish(diagnostic)
+    reader.finish(diagnostic, AcseFault::Unreadable)
 }
 
 // These very bytes, and one byte more.
@@ -102,8 +104,8 @@ fn read_diagnostic(contents: &[u8]) -> Result<u8, AcseFault>
 fn read_byte_behind(expected: &[u8], reader: &mut Reader) -> Result<u8, AcseFault>
     ensures { Reads (λ byte. byte) result reader.new (byte_behind expected.now reader.old) }
 {
-    reader.literal(expected)?;
-    reader.byte()
+    read_literal(expected, reader)?;
+    reader.byte(AcseFault::Unreadable)
 }
 
 // User information, if it is there.
@@ -136,13 +138,13 @@ fn read_response(bytes: &[u8]) -> Result<Info, AcseFault>
     ensures { result ≡ whole (response_at bytes.now) }
 {
     let mut reader = Reader::new(bytes);
-    reader.literal(&[RESPONSE_TAG])?;
+    read_literal(&[RESPONSE_TAG], &mut reader)?;
     skip_optional_byte(&mut reader)?;
-    let _version = reader.byte()?;
+    let _version = reader.byte(AcseFault::Unreadable)?;
     let bits = read_conformance(&mut reader)?;
-    let limit = reader.size()?;
-    let _name = reader.bytes(2)?;
-    reader.finish(Info::Response { bits, limit })
+    let limit = read_size(&mut reader)?;
+    let _name = reader.bytes(2, AcseFault::Unreadable)?;
+    reader.finish(Info::Response { bits, limit }, AcseFault::Unreadable)
 }
 
 // A ConfirmedServiceError of Initiate.
@@ -151,5 +153,5 @@ fn read_initiate_error(bytes: &[u8]) -> Result<Info, AcseFault>
 {
     let mut reader = Reader::new(bytes);
     let error = read_byte_behind(&INITIATE_ERROR_HEAD, &mut reader)?;
-    reader.finish(Info::InitiateError(error))
+    reader.finish(Info::InitiateError(error), AcseFault::Unreadable)
 }

@@ -1,10 +1,12 @@
 //! The fields of an APDU: they come in any order.
 ghost use Rattle.std.specs.Prelude.{◌≡◌, option_map, is_ok};
-ghost use Rattle.acse_ber.specs.Reading.{Reads, Yields, field_at, tagged, fields_of, field_of, inner_of, needed_field, needed_inner};
+ghost use Rattle.byte_reading.specs.Reading.{Reads};
+ghost use Rattle.acse_ber.specs.Reading.{Yields, field_at, tagged, fields_of, field_of, inner_of, needed_field, needed_inner};
 
 use crate::fault::AcseFault;
-use crate::reader::Reader;
+use crate::length::read_contents;
 use crate::tag::{FIRST_FIELD, LAST_FIELD};
+use byte_reading::Reader;
 
 /// A field of an APDU.
 #[derive(Clone, Copy)]
@@ -18,10 +20,10 @@ pub(crate) struct Field<'a> {
 fn read_field<'a>(reader: &mut Reader<'a>) -> Result<Field<'a>, AcseFault>
     ensures { Reads (λ field. record { tag = field.tag; contents = field.contents.now }) result reader.new (field_at reader.old) }
 {
-    match reader.byte()? {
+    match reader.byte(AcseFault::Unreadable)? {
         tag @ FIRST_FIELD..=LAST_FIELD => Ok(Field {
             tag,
-            contents: reader.contents()?,
+            contents: read_contents(reader)?,
         }),
         _ => Err(AcseFault::Unreadable),
     }
@@ -33,11 +35,11 @@ pub(crate) fn read_tagged(tag: u8, bytes: &[u8]) -> Result<&[u8], AcseFault>
     ensures { Yields (λ contents. contents.now) result (tagged tag bytes.now) }
 {
     let mut reader = Reader::new(bytes);
-    if reader.byte()? != tag {
+    if reader.byte(AcseFault::Unreadable)? != tag {
         return Err(AcseFault::Unreadable);
     }
-    let contents = reader.contents()?;
-    reader.finish(contents)
+    let contents = read_contents(&mut reader)?;
+    reader.finish(contents, AcseFault::Unreadable)
 }
 
 /// Whether fields fill the bytes.

@@ -1,9 +1,11 @@
 //! The user information of an AARQ, an InitiateRequest, and its parts that an InitiateResponse has too (IEC 62056-5-3).
 ghost use Rattle.std.specs.Prelude.{◌≡◌};
-ghost use Rattle.acse_ber.specs.Reading.{Reads, Yields, optional_byte_at, conformance_at, proposed_at, proposal_of};
+ghost use Rattle.byte_reading.specs.Reading.{Reads};
+ghost use Rattle.acse_ber.specs.Reading.{Yields, optional_byte_at, conformance_at, proposed_at, proposal_of};
 
 use crate::fault::AcseFault;
-use crate::reader::Reader;
+use crate::length::{read_literal, read_size};
+use byte_reading::Reader;
 
 /// The tag of an InitiateRequest, and no dedicated key.
 pub(crate) const REQUEST_HEAD: [u8; 2] = [0x01, 0x00];
@@ -45,11 +47,11 @@ pub(crate) fn read_proposal(bytes: &[u8]) -> Result<Proposal, AcseFault>
     ensures { Yields (λ proposal. proposal) result (proposal_of bytes.now) }
 {
     let mut reader = Reader::new(bytes);
-    reader.literal(&REQUEST_HEAD)?;
+    read_literal(&REQUEST_HEAD, &mut reader)?;
     skip_optional_byte(&mut reader)?;
     skip_optional_byte(&mut reader)?;
     let proposal = read_proposed(&mut reader)?;
-    reader.finish(proposal)
+    reader.finish(proposal, AcseFault::Unreadable)
 }
 
 // The version, the conformance and the size.
@@ -57,9 +59,9 @@ pub(crate) fn read_proposal(bytes: &[u8]) -> Result<Proposal, AcseFault>
 fn read_proposed(reader: &mut Reader) -> Result<Proposal, AcseFault>
     ensures { Reads (λ proposal. proposal) result reader.new (proposed_at reader.old) }
 {
-    let version = reader.byte()?;
+    let version = reader.byte(AcseFault::Unreadable)?;
     let conformance = read_conformance(reader)?;
-    let size = reader.size()?;
+    let size = read_size(reader)?;
     Ok(Proposal {
         version,
         conformance,
@@ -72,10 +74,10 @@ fn read_proposed(reader: &mut Reader) -> Result<Proposal, AcseFault>
 pub(crate) fn skip_optional_byte(reader: &mut Reader) -> Result<(), AcseFault>
     ensures { Reads (λ unit. unit) result reader.new (optional_byte_at reader.old) }
 {
-    match reader.byte()? {
+    match reader.byte(AcseFault::Unreadable)? {
         ABSENT => Ok(()),
         PRESENT => {
-            let _value = reader.byte()?;
+            let _value = reader.byte(AcseFault::Unreadable)?;
             Ok(())
         }
         _ => Err(AcseFault::Unreadable),
@@ -87,8 +89,8 @@ pub(crate) fn skip_optional_byte(reader: &mut Reader) -> Result<(), AcseFault>
 pub(crate) fn read_conformance(reader: &mut Reader) -> Result<u32, AcseFault>
     ensures { Reads (λ bits. bits) result reader.new (conformance_at reader.old) }
 {
-    reader.literal(&CONFORMANCE_HEAD)?;
+    read_literal(&CONFORMANCE_HEAD, reader)?;
     let mut bits = [0; 4];
-    bits[1..].copy_from_slice(reader.bytes(3)?);
+    bits[1..].copy_from_slice(reader.bytes(3, AcseFault::Unreadable)?);
     Ok(u32::from_be_bytes(bits))
 }

@@ -15,7 +15,7 @@ mod identifier;
 mod initiate;
 mod judging;
 mod laws;
-mod reader;
+mod length;
 mod release;
 mod tag;
 mod verdict;

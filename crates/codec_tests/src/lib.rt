@@ -1,4 +1,4 @@
-//! Tests of `cosem_axdr`, `acse_ber` and `xdlms_apdu`: texts of the standard, read and written.
+//! Tests of `byte_reading`, `cosem_axdr`, `acse_ber` and `xdlms_apdu`: texts of the standard, read and written.
 //!
 //! They stand apart from what they test, since a check of tests proves anew all that stands in their crate.
 #![tactic(auto)]
@@ -11,3 +11,5 @@ mod apdu;
 mod apdu_reading;
 #[cfg(test)]
 mod axdr;
+#[cfg(test)]
+mod reader;

@@ -1,60 +1,26 @@
--- The reader of bytes, of a number and of a length says the same as the relation.
-use Rattle.std.proofs.Common.{◌≡◌, ℕ, ◌+◌, ◌-◌, ◌<◌, ◌≤◌, true, false, Bool, not, ◌==◌, ◌&&◌, nat_lt, nat_le, List, [], ◌∷◌, ◌++◌, length, take, drop, Ok, refl, sym, ap, subst, ◌∙◌, arith, inl, inr}
+-- The reader of a number and of a length says the same as the relation.
+use Rattle.std.proofs.Common.{◌≡◌, ℕ, ◌+◌, ◌-◌, ◌<◌, ◌≤◌, true, false, Bool, not, ◌==◌, ◌&&◌, nat_lt, nat_le, List, [], ◌∷◌, ◌++◌, length, Ok, refl, sym, ap, subst, ◌∙◌, arith, inl, inr}
 use Rattle.std.specs.Int.{w32, from_be_bytes}
 use Rattle.std.proofs.lemmas.Bool.{and_parts, and_from, ltb-true, leb-true, lt-ltb, le-ltb, le-leb}
-use Rattle.std.proofs.lemmas.List.{take_at, drop_at, take-append-drop, length-append, length-take}
+use Rattle.byte_reading.proofs.Agreeing.{Took, Agrees, AreBytes, byte_agrees, bytes_agrees}
 use Rattle.byte_reading.proofs.OutcomeLemmas.{done, ok_is, bind_ok, guard_ok, chosen}
 use Rattle.cosem_axdr.specs.Reading.{big_endian}
-use Rattle.cosem_axdr.specs.Spelling.{IsLength, IsFixed}
+use Rattle.cosem_axdr.specs.Spelling.{IsLength}
 use Rattle.xdlms_apdu.specs.Reading.{one_at, byte_at, bytes_at, flag_at, number_at, length_at, raw_at}
 use Rattle.xdlms_apdu.specs.Spelling.{IsByte, IsFlag, IsNumber, IsRaw}
 use Rattle.xdlms_apdu.specs.declared.fault.ApduFault.{ApduFault}
 use Rattle.xdlms_apdu.specs.declared.fault.ApduFault.TheVariants.{Unreadable}
-use Rattle.xdlms_apdu.proofs.Joined.{Took, Agrees, one_agrees, then_agrees}
-
--- ---- bytes
-
-byte_takes : (bytes : List ℕ) (x : ℕ × List ℕ) → byte_at bytes ≡ Ok x → Took ℕ IsByte bytes x
-byte_takes [] x e = absurd cc
-byte_takes (byte ∷ rest) x e =
-    let made : ℕ × List ℕ = (byte, rest) in
-    subst (λ (z : ℕ × List ℕ). Took ℕ IsByte (byte ∷ rest) z) (ok_is {F = ApduFault} made x e) (record { text = byte ∷ []; parts = refl; spelled = refl })
-
--- a byte
-pub byte_agrees : Agrees ℕ byte_at IsByte
-byte_agrees = record { takes = byte_takes; again = λ x text rest s. rw s refl }
-
--- so many bytes
-abbrev pub AreBytes : ℕ → List ℕ → List ℕ → Type 0
-AreBytes n bytes text = IsFixed n text bytes
-
-bytes_takes : (n : ℕ) (bytes : List ℕ) (x : List ℕ × List ℕ) → bytes_at n bytes ≡ Ok x → Took (List ℕ) (AreBytes n) bytes x
-bytes_takes n bytes x e =
-    let made : List ℕ × List ℕ = (take n bytes, drop n bytes) in
-    let g = guard_ok (nat_le n (length bytes)) Unreadable (done ApduFault made) x e in
-    let long : n ≤ length bytes = leb-true n (length bytes) g.0 in
-    let len : length (take n bytes) ≡ n = omega (arith, length-take n bytes) in
-    subst (λ (z : List ℕ × List ℕ). Took (List ℕ) (AreBytes n) bytes z) (ok_is made x g.1) (record { text = take n bytes; parts = sym (take-append-drop n bytes); spelled = (len, refl) })
-
-bytes_again : (n : ℕ) (x text rest : List ℕ) → AreBytes n x text → bytes_at n (text ++ rest) ≡ Ok (x, rest)
-bytes_again n x text rest s =
-    let long : nat_le n (length (text ++ rest)) ≡ true = le-leb n (length (text ++ rest)) (omega (arith, s.0, length-append text rest)) in
-    let front : take n (text ++ rest) ≡ text = take_at text rest n s.0 in
-    let back : drop n (text ++ rest) ≡ rest = drop_at text rest n s.0 in
-    rw (long, front, back) (ap (λ (bs : List ℕ). done ApduFault (bs, rest)) (sym s.1))
-
-pub bytes_agrees : (n : ℕ) → Agrees (List ℕ) (bytes_at n) (AreBytes n)
-bytes_agrees n = record { takes = bytes_takes n; again = bytes_again n }
+use Rattle.xdlms_apdu.proofs.Joined.{one_agrees, then_agrees}
 
 -- ---- numbers
 
 -- yes or no
 pub flag_agrees : Agrees Bool flag_at IsFlag
-flag_agrees = one_agrees (λ byte. not (byte == 0)) byte_at IsByte IsFlag byte_agrees (λ byte text s. (byte, s, refl)) (λ flag text s. (s.0, sym s.2, s.1))
+flag_agrees = one_agrees (λ byte. not (byte == 0)) byte_at IsByte IsFlag (byte_agrees Unreadable) (λ byte text s. (byte, s, refl)) (λ flag text s. (s.0, sym s.2, s.1))
 
 -- the number of a block
 pub number_agrees : Agrees ℕ number_at IsNumber
-number_agrees = one_agrees (from_be_bytes w32) (bytes_at 4) (AreBytes 4) IsNumber (bytes_agrees 4)
+number_agrees = one_agrees (from_be_bytes w32) (bytes_at 4) (AreBytes 4) IsNumber (bytes_agrees Unreadable 4)
     (λ bytes text s. (s.0, ap (from_be_bytes w32) s.1)) (λ n text s. (text, sym s.1, (s.0, refl)))
 
 -- ---- lengths
@@ -78,7 +44,7 @@ length_takes (first ∷ rest) x e =
           let low : 0x80 < first = ltb-true 0x80 first both.0 in
           let high : first ≤ 0x84 = leb-true first 0x84 both.1 in
           let b = bind_ok (bytes_at k rest) (λ y. done ApduFault (big_endian y.0, y.1)) x g.1 in
-          let u = bytes_takes k rest b.0 b.1 in
+          let u = (bytes_agrees Unreadable k).takes rest b.0 b.1 in
           let made : ℕ × List ℕ = (big_endian b.0.0, b.0.1) in
           let form : first ≡ 0x80 + length u.text = omega (arith, u.spelled.0) in
           let spelled : IsCount (big_endian b.0.0) (first ∷ u.text) = inr (omega arith, high, form, ap big_endian u.spelled.1) in
@@ -94,7 +60,7 @@ length_again n (first ∷ bytes) rest (inl h) =
 length_again n (first ∷ bytes) rest (inr h) =
     let not_short : nat_lt first 0x80 ≡ false = le-ltb first 0x80 (omega (arith, h.0)) in
     let form : (nat_lt 0x80 first && nat_le first 0x84) ≡ true = and_from _ _ (lt-ltb 0x80 first (omega (arith, h.0))) (le-leb first 0x84 h.1) in
-    let those : bytes_at (first - 0x80) (bytes ++ rest) ≡ Ok (bytes, rest) = bytes_again (first - 0x80) bytes bytes rest (omega (arith, h.2), refl) in
+    let those : bytes_at (first - 0x80) (bytes ++ rest) ≡ Ok (bytes, rest) = (bytes_agrees Unreadable (first - 0x80)).again bytes bytes rest (omega (arith, h.2), refl) in
     rw (not_short, form, those) (ap (λ (m : ℕ). done ApduFault (m, rest)) (sym h.3))
 
 -- a length or count
@@ -103,7 +69,7 @@ length_agrees = record { takes = length_takes; again = length_again }
 
 -- bytes behind their length
 pub raw_agrees : Agrees (List ℕ) raw_at IsRaw
-raw_agrees = then_agrees length_at bytes_at IsCount AreBytes IsRaw length_agrees bytes_agrees
+raw_agrees = then_agrees length_at bytes_at IsCount AreBytes IsRaw length_agrees (bytes_agrees Unreadable)
     (λ n bytes text j.
     let whole : text ≡ j.first ++ bytes = j.parts ∙ ap (λ (s : List ℕ). j.first ++ s) (sym j.are_others.1) in
     let len : n ≡ length bytes = sym j.are_others.0 ∙ ap (λ (s : List ℕ). length s) (sym j.are_others.1) in

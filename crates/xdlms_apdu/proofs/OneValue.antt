@@ -1,5 +1,6 @@
 -- No spelling of an APDU begins another one.
 use Rattle.std.proofs.Common.{◌≡◌, ℕ, List, [], ◌∷◌, ◌++◌, Ok, Err, refl, sym, ap, ◌∙◌, append-nil}
+use Rattle.byte_reading.proofs.Agreeing.{Agrees, made_agrees}
 use Rattle.byte_reading.proofs.OutcomeLemmas.{ok_is}
 use Rattle.cosem_axdr.specs.Spelling.{IsJoined}
 use Rattle.xdlms_apdu.specs.Reading.{Read, one_at, two_at, number_at, code_at, data_at, method_at, target_at, parameter_at, block_at, result_at, list_at, nothing_at, get_request_at, set_request_at, action_request_at, request_at, get_response_at, set_response_at, action_response_at, exception_at, response_at}
@@ -12,7 +13,7 @@ use Rattle.xdlms_apdu.specs.declared.response.Exception.TheVariants as exception
 use Rattle.xdlms_apdu.specs.declared.response.Response.{Response}
 use Rattle.xdlms_apdu.specs.declared.response.Response.TheVariants as response
 use Rattle.xdlms_apdu.proofs.Fields.{number_agrees}
-use Rattle.xdlms_apdu.proofs.Joined.{Agrees, made_agrees, two_agrees}
+use Rattle.xdlms_apdu.proofs.Joined.{two_agrees}
 use Rattle.xdlms_apdu.proofs.Parts.{data_agrees, code_agrees, method_agrees, target_agrees, parameter_agrees, block_agrees, result_agrees, list_agrees, nothing_agrees}
 use Rattle.xdlms_apdu.proofs.Responses.{IsNothing, get_block_agrees, is_get_block, is_refused_block}
 

@@ -4,6 +4,7 @@ use Rattle.std.specs.Int.{w16, from_be_bytes}
 use Rattle.std.proofs.lemmas.Bool.{eqb-true}
 use Rattle.std.proofs.lemmas.List.{drop_at, take-append-drop}
 use Rattle.byte_reading.specs.Outcome.{◌>>=◌, ◌>>◌, guard}
+use Rattle.byte_reading.proofs.Agreeing.{Took, Agrees, AreBytes, IsMade, IsNone, none_agrees, made_agrees, byte_agrees, bytes_agrees, seen_as}
 use Rattle.byte_reading.proofs.OutcomeLemmas.{done, failed, ok_is, bind_ok, guard_ok, chosen}
 use Rattle.cosem_axdr.specs.Reading.{first_data}
 use Rattle.cosem_axdr.specs.Spelling.{IsLength, IsJoined}
@@ -26,8 +27,8 @@ use Rattle.xdlms_apdu.specs.declared.block.Block.{Block}
 use Rattle.xdlms_apdu.specs.declared.fault.ApduFault.{ApduFault}
 use Rattle.xdlms_apdu.specs.declared.fault.ApduFault.TheVariants.{Unreadable}
 use Rattle.xdlms_apdu.specs.declared.invoke_id.InvokeId.{InvokeId}
-use Rattle.xdlms_apdu.proofs.Fields.{AreBytes, byte_agrees, bytes_agrees, flag_agrees, number_agrees, length_agrees, raw_agrees}
-use Rattle.xdlms_apdu.proofs.Joined.{Took, Agrees, IsMade, IsPair, IsTriple, IsNone, none_agrees, then_agrees, one_agrees, made_agrees, two_agrees, three_agrees, seen_as, with_others}
+use Rattle.xdlms_apdu.proofs.Fields.{flag_agrees, number_agrees, length_agrees, raw_agrees}
+use Rattle.xdlms_apdu.proofs.Joined.{IsPair, IsTriple, then_agrees, one_agrees, two_agrees, three_agrees, with_others}
 
 -- ---- a Data
 
@@ -153,7 +154,7 @@ code_takes : (bytes : List ℕ) (x : ResultCode × List ℕ) → code_at bytes �
 unfolding code_at
 code_takes bytes x e =
     let b = bind_ok (byte_at bytes) (λ byte. known_result byte.0 byte.1 (result_of byte.0)) x e in
-    let t = byte_agrees.takes bytes b.0 b.1 in
+    let t = (byte_agrees Unreadable).takes bytes b.0 b.1 in
     let known = known_ok b.0.0 b.0.1 (result_of b.0.0) x b.2 in
     record {
       text = t.text;
@@ -177,14 +178,14 @@ code_agrees = record { takes = code_takes; again = code_is_read }
 -- ---- names
 
 pub invoke_id_agrees : Agrees InvokeId invoke_id_at (λ id. IsByte id.0)
-invoke_id_agrees = one_agrees (λ byte. record { 0 = byte }) byte_at IsByte (λ id. IsByte id.0) byte_agrees (λ byte text s. s) (λ id text s. (id.0, refl, s))
+invoke_id_agrees = one_agrees (λ byte. record { 0 = byte }) byte_at IsByte (λ id. IsByte id.0) (byte_agrees Unreadable) (λ byte text s. s) (λ id text s. (id.0, refl, s))
 
 class_agrees : Agrees ClassId class_at IsClass
-class_agrees = one_agrees (λ class. record { 0 = from_be_bytes w16 class }) (bytes_at 2) (AreBytes 2) IsClass (bytes_agrees 2)
+class_agrees = one_agrees (λ class. record { 0 = from_be_bytes w16 class }) (bytes_at 2) (AreBytes 2) IsClass (bytes_agrees Unreadable 2)
     (λ bytes text s. (s.0, ap (from_be_bytes w16) s.1)) (λ class text s. (text, ap (λ (n : ℕ). record { 0 = n }) (sym s.1), (s.0, refl)))
 
 name_agrees : Agrees Obis name_at IsName
-name_agrees = one_agrees (λ name. record { 0 = name }) (bytes_at 6) (AreBytes 6) IsName (bytes_agrees 6) (λ name text s. s) (λ name text s. (name.0, refl, s))
+name_agrees = one_agrees (λ name. record { 0 = name }) (bytes_at 6) (AreBytes 6) IsName (bytes_agrees Unreadable 6) (λ name text s. s) (λ name text s. (name.0, refl, s))
 
 -- ---- attributes and methods
 
@@ -192,7 +193,7 @@ pub attribute_agrees : Agrees AttrRef attribute_at IsAttribute
 unfolding attribute_at
 attribute_agrees =
     let make : ClassId → Obis → ℕ → AttrRef = λ class name number. record { class = class; name = name; number = number } in
-    seen_as attribute_at (IsTriple make IsClass IsName IsByte) IsAttribute (three_agrees make class_at name_at byte_at IsClass IsName IsByte class_agrees name_agrees byte_agrees)
+    seen_as attribute_at (IsTriple make IsClass IsName IsByte) IsAttribute (three_agrees make class_at name_at byte_at IsClass IsName IsByte class_agrees name_agrees (byte_agrees Unreadable))
     (λ attribute text s. subst (λ (a : AttrRef). IsAttribute a text) s.3 s.4)
     (λ attribute text s. (attribute.class, attribute.name, attribute.number, refl, s))
 
@@ -200,7 +201,7 @@ pub method_agrees : Agrees MethodRef method_at IsMethod
 unfolding method_at
 method_agrees =
     let make : ClassId → Obis → ℕ → MethodRef = λ class name number. record { class = class; name = name; number = number } in
-    seen_as method_at (IsTriple make IsClass IsName IsByte) IsMethod (three_agrees make class_at name_at byte_at IsClass IsName IsByte class_agrees name_agrees byte_agrees)
+    seen_as method_at (IsTriple make IsClass IsName IsByte) IsMethod (three_agrees make class_at name_at byte_at IsClass IsName IsByte class_agrees name_agrees (byte_agrees Unreadable))
     (λ method text s. subst (λ (m : MethodRef). IsMethod m text) s.3 s.4)
     (λ method text s. (method.class, method.name, method.number, refl, s))
 
@@ -258,7 +259,7 @@ unfolding selection_at
 selection_agrees =
     let chosen_at : List ℕ → Read Bool = two_at (λ selector parameters. true) byte_at data_at in
     then_agrees flag_at (λ present bytes. cond present (chosen_at bytes) (Ok (false, bytes))) IsFlag (Optional false IsSelected) IsSelection flag_agrees
-    (optional_agrees false chosen_at IsSelected (two_agrees (λ selector parameters. true) byte_at data_at IsByte IsData byte_agrees data_agrees))
+    (optional_agrees false chosen_at IsSelected (two_agrees (λ selector parameters. true) byte_at data_at IsByte IsData (byte_agrees Unreadable) data_agrees))
     selection_is is_selection
 
 pub target_agrees : Agrees AttributeSelection target_at IsTarget
@@ -338,7 +339,7 @@ either_at zero_at one_at bytes = byte_at bytes >>= λ choice. cond (choice.0 == 
 pub either_agrees : {X : Type 0} (zero_at one_at : List ℕ → Read X) (A B : X → List ℕ → Type 0) → Agrees X zero_at A → Agrees X one_at B → Agrees X (either_at zero_at one_at) (IsEither A B)
 either_agrees zero_at one_at A B a b =
     then_agrees byte_at (λ choice bytes. cond (choice == 0) (zero_at bytes) (cond (choice == 1) (one_at bytes) (Err Unreadable))) IsByte (λ choice. ByTests A B (choice == 0) (choice == 1)) (IsEither A B)
-    byte_agrees (λ choice. by_tests_agrees zero_at one_at A B a b (choice == 0) (choice == 1))
+    (byte_agrees Unreadable) (λ choice. by_tests_agrees zero_at one_at A B a b (choice == 0) (choice == 1))
     (λ choice x text j. either_is A B choice (choice == 0) (choice == 1) refl refl x text j)
     (is_either A B)
 
@@ -403,7 +404,7 @@ list_agrees item_at P agrees =
 nothing_takes : (bytes : List ℕ) (x : Unit {0} × List ℕ) → nothing_at bytes ≡ Ok x → Took (Unit {0}) (λ nothing text. IsByte 0 text) bytes x
 nothing_takes bytes x e =
     let b = bind_ok (byte_at bytes) (λ byte. guard (byte.0 == 0) Unreadable >> done ApduFault (tt {0}, byte.1)) x e in
-    let t = byte_agrees.takes bytes b.0 b.1 in
+    let t = (byte_agrees Unreadable).takes bytes b.0 b.1 in
     let g = guard_ok (b.0.0 == 0) Unreadable (done ApduFault (tt {0}, b.0.1)) x b.2 in
     let same = ok_is {F = ApduFault} (tt {0}, b.0.1) x g.1 in
     record {

@@ -4,6 +4,7 @@
 use Rattle.std.proofs.Common.{◌≡◌, ℕ, Bool, true, ◌==◌, ◌&&◌, List, [], ◌∷◌, ◌++◌, Ok, refl, sym, ap, ap₂, subst, ◌∙◌, inl, inr}
 use Rattle.std.proofs.lemmas.Bool.{and_parts, eqb-true}
 use Rattle.byte_reading.specs.Outcome.{◌>>=◌}
+use Rattle.byte_reading.proofs.Agreeing.{Agrees, IsMade, made_agrees, whole_ok, all_read, all_taken}
 use Rattle.byte_reading.proofs.OutcomeLemmas.{done, failed, ok_is, chosen}
 use Rattle.cosem_axdr.specs.Spelling.{IsJoined}
 use Rattle.cosem_names.specs.declared.result_code.ResultCode.{ResultCode}
@@ -20,9 +21,9 @@ use Rattle.xdlms_apdu.specs.declared.response.Exception.TheVariants as exception
 use Rattle.xdlms_apdu.specs.declared.response.Response.{Response}
 use Rattle.xdlms_apdu.specs.declared.response.Response.TheVariants as response
 use Rattle.xdlms_apdu.proofs.Fields.{flag_agrees, number_agrees, raw_agrees}
-use Rattle.xdlms_apdu.proofs.Joined.{Agrees, join, behind, with_others, IsMade, IsPair, IsTriple, then_agrees, made_agrees, two_agrees, three_agrees, all_taken}
+use Rattle.xdlms_apdu.proofs.Joined.{join, behind, with_others, IsPair, IsTriple, then_agrees, two_agrees, three_agrees}
 use Rattle.xdlms_apdu.proofs.Parts.{invoke_id_agrees, code_agrees, result_agrees, list_agrees, nothing_agrees, IsEither, either_at, either_agrees}
-use Rattle.xdlms_apdu.proofs.Wholes.{whole_ok, whole_read, head_is}
+use Rattle.xdlms_apdu.proofs.Wholes.{head_is}
 
 -- the byte of an invoke-id-and-priority
 abbrev IsId : InvokeId → List ℕ → Type 0
@@ -39,7 +40,7 @@ one_form : {X : Type 0} (tag form tag' form' : ℕ) (make : InvokeId → X → R
     → ((id : InvokeId) (x : X) → response_head (make id x) ≡ head tag' form' id) → ((id : InvokeId) (x : X) (body : List ℕ) → P x body → IsResponseBody (make id x) body)
     → (more : List ℕ) (r : Response) → two_at make invoke_id_at field more ≡ Ok (r, []) → SpellsResponse (tag ∷ form ∷ more) r
 one_form tag form tag' form' make field P agrees t f heads bodies more r e =
-    let s = all_taken (two_at make invoke_id_at field) (IsPair make IsId P) (two_agrees make invoke_id_at field IsId P invoke_id_agrees agrees) r more e in
+    let s = all_taken Unreadable (two_at make invoke_id_at field) (IsPair make IsId P) (two_agrees make invoke_id_at field IsId P invoke_id_agrees agrees) r more (rw e refl) in
     let parts = head_is tag form tag' form' s.0 (P s.1) more t f s.3 ∙ ap (λ (h : List ℕ). h ++ s.3.others) (sym (heads s.0 s.1)) in
     subst (λ (q : Response). SpellsResponse (tag ∷ form ∷ more) q) s.2 (record { body = s.3.others; parts = parts; is_body = bodies s.0 s.1 s.3.others s.3.are_others })
 
@@ -49,7 +50,7 @@ two_form : {X Y : Type 0} (tag form tag' form' : ℕ) (make : InvokeId → X →
     → ((id : InvokeId) (x : X) (y : Y) → response_head (make id x y) ≡ head tag' form' id) → ((id : InvokeId) (x : X) (y : Y) (body : List ℕ) → IsJoined (P x) (Q y) body → IsResponseBody (make id x y) body)
     → (more : List ℕ) (r : Response) → three_at make invoke_id_at first second more ≡ Ok (r, []) → SpellsResponse (tag ∷ form ∷ more) r
 two_form tag form tag' form' make first second P Q one two t f heads bodies more r e =
-    let s = all_taken (three_at make invoke_id_at first second) (IsTriple make IsId P Q) (three_agrees make invoke_id_at first second IsId P Q invoke_id_agrees one two) r more e in
+    let s = all_taken Unreadable (three_at make invoke_id_at first second) (IsTriple make IsId P Q) (three_agrees make invoke_id_at first second IsId P Q invoke_id_agrees one two) r more (rw e refl) in
     let parts = head_is tag form tag' form' s.0 (IsJoined (P s.1) (Q s.2)) more t f s.4 ∙ ap (λ (h : List ℕ). h ++ s.4.others) (sym (heads s.0 s.1 s.2)) in
     subst (λ (q : Response). SpellsResponse (tag ∷ form ∷ more) q) s.3 (record { body = s.4.others; parts = parts; is_body = bodies s.0 s.1 s.2 s.4.others s.4.are_others })
 
@@ -141,7 +142,7 @@ get_found tag is (form ∷ more) r e =
     elim (chosen (form == 1) _ _ _ e) [
       | inl h ↦ one_form tag form 0xC4 1 response.Get result_at IsResult result_agrees is (eqb-true form 1 h.0) (λ id x. refl) (λ id x body s. s) more r h.1
       | inr h ↦ elim (chosen (form == 2) _ _ _ h.1) [
-        | inl h ↦ block_found tag form is (eqb-true form 2 h.0) more r (all_taken get_block_at IsGetBlock get_block_agrees r more h.1)
+        | inl h ↦ block_found tag form is (eqb-true form 2 h.0) more r (all_taken Unreadable get_block_at IsGetBlock get_block_agrees r more (rw h.1 refl))
         | inr h ↦ elim (chosen (form == 3) _ _ _ h.1) [
           | inl h ↦ one_form tag form 0xC4 3 response.GetList (list_at result_at) (IsList IsResult) (list_agrees result_at IsResult result_agrees) is (eqb-true form 3 h.0) (λ id x. refl) (λ id x body s. s) more r h.1
           | inr h ↦ absurd (no_response UnknownForm r h.1)
@@ -196,7 +197,7 @@ pub response_found : (bytes : List ℕ) (r : Response) → response_of bytes ≡
 unfolding response_of response_at
 response_found [] r e = absurd cc
 response_found (tag ∷ bytes) r e =
-    elim (chosen (tag == 0xC4) _ _ _ (whole_ok (response_at tag bytes) r e)) [
+    elim (chosen (tag == 0xC4) _ _ _ (whole_ok Unreadable (response_at tag bytes) r e)) [
       | inl h ↦ get_found tag (eqb-true tag 0xC4 h.0) bytes r h.1
       | inr h ↦ elim (chosen (tag == 0xC5) _ _ _ h.1) [
         | inl h ↦ set_found tag (eqb-true tag 0xC5 h.0) bytes r h.1
@@ -214,18 +215,18 @@ response_found (tag ∷ bytes) r e =
 
 -- one field behind the invoke-id-and-priority
 one_again : {X : Type 0} (make : X → Response) (field : List ℕ → Read X) (P : X → List ℕ → Type 0) → Agrees X field P → (x : X) (body : List ℕ) → P x body → whole (one_at make field body) ≡ Ok (make x)
-one_again make field P agrees x body s = whole_read (one_at make field) (IsMade make P) (made_agrees make field P agrees) (make x) body (x, refl, s)
+one_again make field P agrees x body s = all_read Unreadable (one_at make field) (IsMade make P) (made_agrees make field P agrees) (make x) body (x, refl, s)
 
 -- two fields behind it
 two_again : {X Y : Type 0} (make : X → Y → Response) (first : List ℕ → Read X) (second : List ℕ → Read Y) (P : X → List ℕ → Type 0) (Q : Y → List ℕ → Type 0) → Agrees X first P → Agrees Y second Q
     → (x : X) (y : Y) (body : List ℕ) → IsJoined (P x) (Q y) body → whole (two_at make first second body) ≡ Ok (make x y)
-two_again make first second P Q one two x y body s = whole_read (two_at make first second) (IsPair make P Q) (two_agrees make first second P Q one two) (make x y) body (x, y, refl, s)
+two_again make first second P Q one two x y body s = all_read Unreadable (two_at make first second) (IsPair make P Q) (two_agrees make first second P Q one two) (make x y) body (x, y, refl, s)
 
 pub response_again : (bytes : List ℕ) (r : Response) → SpellsResponse bytes r → response_of bytes ≡ Ok r
 unfolding response_of response_at get_response_at set_response_at action_response_at exception_at
 response_again bytes (response.Get id result) s = ap response_of s.parts ∙ one_again (response.Get id) result_at IsResult result_agrees result s.body s.is_body
-response_again bytes (response.GetBlock id block) s = ap response_of s.parts ∙ whole_read get_block_at IsGetBlock get_block_agrees (response.GetBlock id block) (id.0 ∷ s.body) (is_get_block id block s.body s.is_body)
-response_again bytes (response.GetBlockRefused id last number code) s = ap response_of s.parts ∙ whole_read get_block_at IsGetBlock get_block_agrees (response.GetBlockRefused id last number code) (id.0 ∷ s.body) (is_refused_block id last number code s.body s.is_body)
+response_again bytes (response.GetBlock id block) s = ap response_of s.parts ∙ all_read Unreadable get_block_at IsGetBlock get_block_agrees (response.GetBlock id block) (id.0 ∷ s.body) (is_get_block id block s.body s.is_body)
+response_again bytes (response.GetBlockRefused id last number code) s = ap response_of s.parts ∙ all_read Unreadable get_block_at IsGetBlock get_block_agrees (response.GetBlockRefused id last number code) (id.0 ∷ s.body) (is_refused_block id last number code s.body s.is_body)
 response_again bytes (response.GetList id results) s = ap response_of s.parts ∙ one_again (response.GetList id) (list_at result_at) (IsList IsResult) (list_agrees result_at IsResult result_agrees) results s.body s.is_body
 response_again bytes (response.Set id code) s = ap response_of s.parts ∙ one_again (response.Set id) code_at IsCode code_agrees code s.body s.is_body
 response_again bytes (response.SetBlock id number) s = ap response_of s.parts ∙ one_again (response.SetBlock id) number_at IsNumber number_agrees number s.body s.is_body

@@ -6,9 +6,10 @@
 --     list_at                           a count and so many items
 --     get_request_at .. exception_at    what stands behind the tag of a service
 --     request_of, response_of           a whole APDU
-use Rattle.std.specs.Prelude.{◌≡◌, ℕ, zero, suc, ◌-◌, not, ◌&&◌, ◌==◌, nat_lt, nat_le, if◌then◌else◌, Bool, true, false, Option, Some, None, List, [], ◌∷◌, length, take, drop, Result, Ok, Err}
+use Rattle.std.specs.Prelude.{◌≡◌, ℕ, zero, suc, ◌-◌, not, ◌&&◌, ◌==◌, nat_lt, nat_le, if◌then◌else◌, Bool, true, false, Option, Some, None, List, [], ◌∷◌, drop, Result, Ok, Err}
 use Rattle.std.specs.Int.{w16, w32, from_be_bytes}
 use Rattle.byte_reading.specs.Outcome.{◌>>=◌, ◌>>◌, guard, Fails}
+use Rattle.byte_reading.specs.Reading.{read_as, whole_or, first_byte, first_bytes}
 use Rattle.cosem_axdr.specs.Reading.{big_endian, first_data}
 use Rattle.cosem_axdr.specs.declared.value.Data.{Data}
 use Rattle.cosem_names.specs.ResultCode.{result_of}
@@ -43,9 +44,7 @@ Reads view (Err fault) new given = Fails Memory fault given
 
 -- one field, seen as a value
 abbrev pub one_at : {X Y : Type 0} → (X → Y) → (List ℕ → Read X) → List ℕ → Read Y
-one_at make field bytes = do
-  x ← field bytes
-  Ok (make x.0, x.1)
+one_at make field bytes = read_as make (field bytes)
 
 -- two fields, made into one value
 abbrev pub two_at : {X Y Z : Type 0} → (X → Y → Z) → (List ℕ → Read X) → (List ℕ → Read Y) → List ℕ → Read Z
@@ -66,14 +65,11 @@ three_at make first second third bytes = do
 
 -- the next byte
 abbrev pub byte_at : List ℕ → Read ℕ
-byte_at [] = Err Unreadable
-byte_at (byte ∷ rest) = Ok (byte, rest)
+byte_at bytes = first_byte Unreadable bytes
 
 -- the next bytes, wanted all at once
 abbrev pub bytes_at : ℕ → List ℕ → Read (List ℕ)
-bytes_at n bytes = do
-  guard (nat_le n (length bytes)) Unreadable
-  Ok (take n bytes, drop n bytes)
+bytes_at n bytes = first_bytes Unreadable n bytes
 
 -- a byte that says yes, whatever it is but 0
 abbrev pub flag_at : List ℕ → Read Bool
@@ -267,9 +263,7 @@ exception_at bytes = do
 
 -- what was read, if nothing stands behind it
 abbrev pub whole : {X : Type 0} → Read X → Result X ApduFault
-whole (Err fault) = Err fault
-whole (Ok (x, [])) = Ok x
-whole (Ok (x, byte ∷ rest)) = Err Unreadable
+whole read = whole_or Unreadable read
 
 -- what stands behind the tag of a request
 unfoldable pub request_at : ℕ → List ℕ → Read Request

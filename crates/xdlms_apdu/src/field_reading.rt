@@ -1,21 +1,73 @@
-//! The parts of the services.
+//! Numbers, lengths and the parts of the services.
 ghost use Rattle.std.specs.Prelude.{◌≡◌};
-ghost use Rattle.xdlms_apdu.specs.Reading.{Reads, invoke_id_at, code_at, class_at, name_at, attribute_at, method_at, selection_at, target_at, parameter_at, block_at, result_at};
+ghost use Rattle.xdlms_apdu.specs.Reading.{Reads, flag_at, number_at, length_at, raw_at, data_at, invoke_id_at, code_at, class_at, name_at, attribute_at, method_at, selection_at, target_at, parameter_at, block_at, result_at};
 
 use crate::block::Block;
 use crate::fault::ApduFault;
 use crate::invoke_id::InvokeId;
-use crate::reader::Reader;
 use crate::tag::choice;
-use cosem_axdr::Data;
+use byte_reading::Reader;
+use cosem_axdr::{Data, DataFault, Octets, number_of};
 use cosem_names::{AttrRef, AttributeSelection, ClassId, GetResult, MethodRef, Obis, ResultCode};
 use std::alloc::Global;
+
+/// A byte that says yes, whatever it is but 0.
+pub(crate) fn read_flag(reader: &mut Reader) -> Result<bool, ApduFault>
+    ensures { Reads (λ flag. flag) result reader.new (flag_at reader.old) }
+{
+    Ok(reader.byte(ApduFault::Unreadable)? != 0)
+}
+
+/// The number of a block, in four bytes.
+pub(crate) fn read_block_number(reader: &mut Reader) -> Result<u32, ApduFault>
+    ensures { Reads (λ number. number) result reader.new (number_at reader.old) }
+{
+    Ok(u32::from_be_bytes(reader.array(ApduFault::Unreadable)?))
+}
+
+/// A length or count: below 80 as it is, or 81 to 84 and that many bytes of it.
+#[tactic(auto, unfolding(crate::specs::Reading::length_at))]
+pub(crate) fn read_length(reader: &mut Reader) -> Result<usize, ApduFault>
+    ensures { Reads (λ n. n) result reader.new (length_at reader.old) }
+{
+    match reader.byte(ApduFault::Unreadable)? {
+        short @ 0..=0x7F => Ok(usize::from(short)),
+        form @ 0x81..=0x84 => Ok(number_of(reader.bytes(
+            usize::from(form - 0x80),
+            ApduFault::Unreadable,
+        )?)),
+        _ => Err(ApduFault::Unreadable),
+    }
+}
+
+/// Bytes behind their length, in memory of their own.
+pub(crate) fn read_raw(alloc: Global, reader: &mut Reader) -> Result<Octets, ApduFault>
+    ensures { Reads (λ raw. raw) result reader.new (raw_at reader.old) }
+{
+    let count = read_length(reader)?;
+    Ok(Octets::from_slice(alloc, reader.bytes(count, ApduFault::Unreadable)?)?)
+}
+
+/// A Data, with its own limit of bytes.
+#[tactic(auto, unfolding(crate::specs::Reading::data_at))]
+pub(crate) fn read_data(alloc: Global, reader: &mut Reader) -> Result<Data, ApduFault>
+    ensures { Reads (λ value. value) result reader.new (data_at reader.old) }
+{
+    match cosem_axdr::read(alloc, reader.rest()) {
+        Ok((value, count)) => {
+            *reader = Reader::new(&reader.rest()[count..]);
+            Ok(value)
+        }
+        Err(DataFault::Memory) => Err(ApduFault::Memory),
+        Err(_) => Err(ApduFault::Unreadable),
+    }
+}
 
 /// Invoke-Id-And-Priority.
 pub(crate) fn read_invoke_id(reader: &mut Reader) -> Result<InvokeId, ApduFault>
     ensures { Reads (λ id. id) result reader.new (invoke_id_at reader.old) }
 {
-    Ok(InvokeId(reader.byte()?))
+    Ok(InvokeId(reader.byte(ApduFault::Unreadable)?))
 }
 
 /// Data-Access-Result or Action-Result.
@@ -23,19 +75,19 @@ pub(crate) fn read_invoke_id(reader: &mut Reader) -> Result<InvokeId, ApduFault>
 pub(crate) fn read_code(reader: &mut Reader) -> Result<ResultCode, ApduFault>
     ensures { Reads (λ code. code) result reader.new (code_at reader.old) }
 {
-    ResultCode::of_code(reader.byte()?).ok_or(ApduFault::Unreadable)
+    ResultCode::of_code(reader.byte(ApduFault::Unreadable)?).ok_or(ApduFault::Unreadable)
 }
 
 fn read_class(reader: &mut Reader) -> Result<ClassId, ApduFault>
     ensures { Reads (λ class. class) result reader.new (class_at reader.old) }
 {
-    Ok(ClassId(u16::from_be_bytes(reader.array()?)))
+    Ok(ClassId(u16::from_be_bytes(reader.array(ApduFault::Unreadable)?)))
 }
 
 fn read_name(reader: &mut Reader) -> Result<Obis, ApduFault>
     ensures { Reads (λ name. name) result reader.new (name_at reader.old) }
 {
-    Ok(Obis(reader.array()?))
+    Ok(Obis(reader.array(ApduFault::Unreadable)?))
 }
 
 /// Cosem-Attribute-Descriptor.
@@ -46,7 +98,7 @@ pub(crate) fn read_attribute(reader: &mut Reader) -> Result<AttrRef, ApduFault>
     Ok(AttrRef {
         class: read_class(reader)?,
         name: read_name(reader)?,
-        number: reader.byte()?,
+        number: reader.byte(ApduFault::Unreadable)?,
     })
 }
 
@@ -58,7 +110,7 @@ pub(crate) fn read_method(reader: &mut Reader) -> Result<MethodRef, ApduFault>
     Ok(MethodRef {
         class: read_class(reader)?,
         name: read_name(reader)?,
-        number: reader.byte()?,
+        number: reader.byte(ApduFault::Unreadable)?,
     })
 }
 
@@ -67,10 +119,10 @@ pub(crate) fn read_method(reader: &mut Reader) -> Result<MethodRef, ApduFault>
 pub(crate) fn read_selection(alloc: Global, reader: &mut Reader) -> Result<bool, ApduFault>
     ensures { Reads (λ selected. selected) result reader.new (selection_at reader.old) }
 {
-    let selected = reader.flag()?;
+    let selected = read_flag(reader)?;
     if selected {
-        let _selector = reader.byte()?;
-        drop(reader.data(alloc)?);
+        let _selector = reader.byte(ApduFault::Unreadable)?;
+        drop(read_data(alloc, reader)?);
     }
     Ok(selected)
 }
@@ -94,8 +146,8 @@ pub(crate) fn read_target(
 pub(crate) fn read_parameter(alloc: Global, reader: &mut Reader) -> Result<Option<Data>, ApduFault>
     ensures { Reads (λ parameter. parameter) result reader.new (parameter_at reader.old) }
 {
-    Ok(if reader.flag()? {
-        Some(reader.data(alloc)?)
+    Ok(if read_flag(reader)? {
+        Some(read_data(alloc, reader)?)
     } else {
         None
     })
@@ -107,9 +159,9 @@ pub(crate) fn read_block(alloc: Global, reader: &mut Reader) -> Result<Block, Ap
     ensures { Reads (λ block. block) result reader.new (block_at reader.old) }
 {
     Ok(Block {
-        last: reader.flag()?,
-        number: reader.block_number()?,
-        raw: reader.raw(alloc)?,
+        last: read_flag(reader)?,
+        number: read_block_number(reader)?,
+        raw: read_raw(alloc, reader)?,
     })
 }
 
@@ -118,8 +170,8 @@ pub(crate) fn read_block(alloc: Global, reader: &mut Reader) -> Result<Block, Ap
 pub(crate) fn read_result(alloc: Global, reader: &mut Reader) -> Result<GetResult, ApduFault>
     ensures { Reads (λ result. result) result reader.new (result_at reader.old) }
 {
-    match reader.byte()? {
-        choice::DATA => Ok(GetResult::Value(reader.data(alloc)?)),
+    match reader.byte(ApduFault::Unreadable)? {
+        choice::DATA => Ok(GetResult::Value(read_data(alloc, reader)?)),
         choice::RESULT => Ok(GetResult::Code(read_code(reader)?)),
         _ => Err(ApduFault::Unreadable),
     }

@@ -9,7 +9,6 @@ mod invoke_id;
 mod laws;
 mod list_reading;
 mod list_writing;
-mod reader;
 mod request;
 mod request_reading;
 mod request_writing;

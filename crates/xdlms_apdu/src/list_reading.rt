@@ -3,8 +3,8 @@ ghost use Rattle.std.specs.Prelude.{◌≡◌};
 ghost use Rattle.xdlms_apdu.specs.Reading.{Reads, target_at, result_at, items_at, list_at};
 
 use crate::fault::ApduFault;
-use crate::field_reading::{read_result, read_target};
-use crate::reader::Reader;
+use crate::field_reading::{read_length, read_result, read_target};
+use byte_reading::Reader;
 use cosem_names::{AttributeSelection, GetResult};
 use listed::Listed;
 use std::alloc::Global;
@@ -17,7 +17,7 @@ pub(crate) fn read_targets(
 ) -> Result<Listed<AttributeSelection>, ApduFault>
     ensures { Reads (λ targets. targets) result reader.new (list_at target_at reader.old) }
 {
-    let count = reader.length()?;
+    let count = read_length(reader)?;
     Ok(Listed::from_vec(read_target_items(alloc, count, reader)?))
 }
 
@@ -44,7 +44,7 @@ pub(crate) fn read_results(
 ) -> Result<Listed<GetResult>, ApduFault>
     ensures { Reads (λ results. results) result reader.new (list_at result_at reader.old) }
 {
-    let count = reader.length()?;
+    let count = read_length(reader)?;
     Ok(Listed::from_vec(read_result_items(alloc, count, reader)?))
 }
 

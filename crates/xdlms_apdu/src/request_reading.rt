@@ -5,11 +5,14 @@ ghost use Rattle.xdlms_apdu.specs.Spelling.{SpellsRequest};
 ghost use Rattle.xdlms_apdu.specs.declared.request.Request.{Request};
 
 use crate::fault::ApduFault;
-use crate::field_reading::{read_block, read_invoke_id, read_method, read_parameter, read_target};
+use crate::field_reading::{
+    read_block, read_block_number, read_data, read_invoke_id, read_method, read_parameter,
+    read_target,
+};
 use crate::list_reading::read_targets;
-use crate::reader::Reader;
 use crate::request::Request;
 use crate::tag;
+use byte_reading::Reader;
 use std::alloc::Global;
 
 /// Reads a request: a tag of GET, SET or ACTION, the form, and what it holds, which has to end where the bytes end.
@@ -38,11 +41,7 @@ fn read_whole(alloc: Global, bytes: &[u8]) -> Result<Request, ApduFault>
     };
     let mut reader = Reader::new(body);
     let request = read_tagged(alloc, *tag, &mut reader)?;
-    if !reader.is_empty() {
-        drop(request);
-        return Err(ApduFault::Unreadable);
-    }
-    Ok(request)
+    reader.finish(request, ApduFault::Unreadable)
 }
 
 // What stands behind the tag of a request.
@@ -63,7 +62,7 @@ fn read_tagged(alloc: Global, tag: u8, reader: &mut Reader) -> Result<Request, A
 fn read_get(alloc: Global, reader: &mut Reader) -> Result<Request, ApduFault>
     ensures { Reads (λ request. request) result reader.new (get_request_at reader.old) }
 {
-    match reader.byte()? {
+    match reader.byte(ApduFault::Unreadable)? {
         tag::get_request::NORMAL => read_get_normal(alloc, reader),
         tag::get_request::NEXT => read_get_next(reader),
         tag::get_request::WITH_LIST => read_get_list(alloc, reader),
@@ -85,7 +84,7 @@ fn read_get_next(reader: &mut Reader) -> Result<Request, ApduFault>
     ensures { Reads (λ request. request) result reader.new (two_at Request.GetNext invoke_id_at number_at reader.old) }
 {
     let id = read_invoke_id(reader)?;
-    let number = reader.block_number()?;
+    let number = read_block_number(reader)?;
     Ok(Request::GetNext { id, number })
 }
 
@@ -103,7 +102,7 @@ fn read_get_list(alloc: Global, reader: &mut Reader) -> Result<Request, ApduFaul
 fn read_set(alloc: Global, reader: &mut Reader) -> Result<Request, ApduFault>
     ensures { Reads (λ request. request) result reader.new (set_request_at reader.old) }
 {
-    match reader.byte()? {
+    match reader.byte(ApduFault::Unreadable)? {
         tag::set_request::NORMAL => read_set_normal(alloc, reader),
         tag::set_request::WITH_FIRST_DATABLOCK => read_set_first(alloc, reader),
         tag::set_request::WITH_DATABLOCK => read_set_next(alloc, reader),
@@ -117,7 +116,7 @@ fn read_set_normal(alloc: Global, reader: &mut Reader) -> Result<Request, ApduFa
 {
     let id = read_invoke_id(reader)?;
     let target = read_target(alloc, reader)?;
-    let value = reader.data(alloc)?;
+    let value = read_data(alloc, reader)?;
     Ok(Request::Set { id, target, value })
 }
 
@@ -145,7 +144,7 @@ fn read_set_next(alloc: Global, reader: &mut Reader) -> Result<Request, ApduFaul
 fn read_action(alloc: Global, reader: &mut Reader) -> Result<Request, ApduFault>
     ensures { Reads (λ request. request) result reader.new (action_request_at reader.old) }
 {
-    match reader.byte()? {
+    match reader.byte(ApduFault::Unreadable)? {
         tag::action_request::NORMAL => read_action_normal(alloc, reader),
         tag::action_request::WITH_FIRST_PBLOCK => read_action_first(alloc, reader),
         tag::action_request::WITH_PBLOCK => read_action_next(alloc, reader),

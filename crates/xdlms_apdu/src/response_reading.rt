@@ -6,13 +6,15 @@ ghost use Rattle.xdlms_apdu.specs.declared.response.Response.{Response};
 
 use crate::block::Block;
 use crate::fault::ApduFault;
-use crate::field_reading::{read_code, read_invoke_id, read_result};
+use crate::field_reading::{
+    read_block_number, read_code, read_flag, read_invoke_id, read_raw, read_result,
+};
 use crate::invoke_id::InvokeId;
 use crate::list_reading::read_results;
-use crate::reader::Reader;
 use crate::response::{Exception, Response};
 use crate::tag;
 use crate::tag::{choice, service_error, state_error};
+use byte_reading::Reader;
 use std::alloc::Global;
 
 /// Reads a response: a tag of GET, SET or ACTION, the form, and what it holds, which has to end where the bytes end; or an exception.
@@ -41,11 +43,7 @@ fn read_whole(alloc: Global, bytes: &[u8]) -> Result<Response, ApduFault>
     };
     let mut reader = Reader::new(body);
     let response = read_tagged(alloc, *tag, &mut reader)?;
-    if !reader.is_empty() {
-        drop(response);
-        return Err(ApduFault::Unreadable);
-    }
-    Ok(response)
+    reader.finish(response, ApduFault::Unreadable)
 }
 
 // What stands behind the tag of a response.
@@ -67,7 +65,7 @@ fn read_tagged(alloc: Global, tag: u8, reader: &mut Reader) -> Result<Response, 
 fn read_get(alloc: Global, reader: &mut Reader) -> Result<Response, ApduFault>
     ensures { Reads (λ response. response) result reader.new (get_response_at reader.old) }
 {
-    match reader.byte()? {
+    match reader.byte(ApduFault::Unreadable)? {
         tag::get_response::NORMAL => read_get_normal(alloc, reader),
         tag::get_response::WITH_DATABLOCK => read_get_block(alloc, reader),
         tag::get_response::WITH_LIST => read_get_list(alloc, reader),
@@ -99,9 +97,9 @@ fn read_get_block(alloc: Global, reader: &mut Reader) -> Result<Response, ApduFa
     ensures { Reads (λ response. response) result reader.new (get_block_at reader.old) }
 {
     let id = read_invoke_id(reader)?;
-    let last = reader.flag()?;
-    let number = reader.block_number()?;
-    match reader.byte()? {
+    let last = read_flag(reader)?;
+    let number = read_block_number(reader)?;
+    match reader.byte(ApduFault::Unreadable)? {
         choice::DATA => read_block_raw(alloc, id, last, number, reader),
         choice::RESULT => read_block_refusal(id, last, number, reader),
         _ => Err(ApduFault::Unreadable),
@@ -118,7 +116,7 @@ fn read_block_raw(
 ) -> Result<Response, ApduFault>
     ensures { Reads (λ response. response) result reader.new (one_at (λ raw. Response.GetBlock id (record { last = last; number = number; raw = raw })) raw_at reader.old) }
 {
-    let raw = reader.raw(alloc)?;
+    let raw = read_raw(alloc, reader)?;
     Ok(Response::GetBlock {
         id,
         block: Block { last, number, raw },
@@ -148,7 +146,7 @@ fn read_block_refusal(
 fn read_set(reader: &mut Reader) -> Result<Response, ApduFault>
     ensures { Reads (λ response. response) result reader.new (set_response_at reader.old) }
 {
-    match reader.byte()? {
+    match reader.byte(ApduFault::Unreadable)? {
         tag::set_response::NORMAL => read_set_normal(reader),
         tag::set_response::DATABLOCK => read_set_block(reader),
         tag::set_response::LAST_DATABLOCK => read_set_last(reader),
@@ -170,7 +168,7 @@ fn read_set_block(reader: &mut Reader) -> Result<Response, ApduFault>
     ensures { Reads (λ response. response) result reader.new (two_at Response.SetBlock invoke_id_at number_at reader.old) }
 {
     let id = read_invoke_id(reader)?;
-    let number = reader.block_number()?;
+    let number = read_block_number(reader)?;
     Ok(Response::SetBlock { id, number })
 }
 
@@ -180,7 +178,7 @@ fn read_set_last(reader: &mut Reader) -> Result<Response, ApduFault>
 {
     let id = read_invoke_id(reader)?;
     let code = read_code(reader)?;
-    let number = reader.block_number()?;
+    let number = read_block_number(reader)?;
     Ok(Response::SetLastBlock { id, code, number })
 }
 
@@ -189,7 +187,7 @@ fn read_set_last(reader: &mut Reader) -> Result<Response, ApduFault>
 fn read_action(reader: &mut Reader) -> Result<Response, ApduFault>
     ensures { Reads (λ response. response) result reader.new (action_response_at reader.old) }
 {
-    match reader.byte()? {
+    match reader.byte(ApduFault::Unreadable)? {
         tag::action_response::NORMAL => read_action_normal(reader),
         tag::action_response::NEXT_PBLOCK => read_action_block(reader),
         _ => Err(ApduFault::UnknownForm),
@@ -211,7 +209,7 @@ fn read_action_block(reader: &mut Reader) -> Result<Response, ApduFault>
     ensures { Reads (λ response. response) result reader.new (two_at Response.ActionBlock invoke_id_at number_at reader.old) }
 {
     let id = read_invoke_id(reader)?;
-    let number = reader.block_number()?;
+    let number = read_block_number(reader)?;
     Ok(Response::ActionBlock { id, number })
 }
 
@@ -219,7 +217,7 @@ fn read_action_block(reader: &mut Reader) -> Result<Response, ApduFault>
 fn read_nothing(reader: &mut Reader) -> Result<(), ApduFault>
     ensures { Reads (λ nothing. nothing) result reader.new (nothing_at reader.old) }
 {
-    if reader.byte()? != tag::ABSENT {
+    if reader.byte(ApduFault::Unreadable)? != tag::ABSENT {
         return Err(ApduFault::Unreadable);
     }
     Ok(())
@@ -230,8 +228,8 @@ fn read_nothing(reader: &mut Reader) -> Result<(), ApduFault>
 fn read_exception(reader: &mut Reader) -> Result<Response, ApduFault>
     ensures { Reads (λ response. response) result reader.new (exception_at reader.old) }
 {
-    let state = reader.byte()?;
-    let service = reader.byte()?;
+    let state = reader.byte(ApduFault::Unreadable)?;
+    let service = reader.byte(ApduFault::Unreadable)?;
     Ok(Response::Exception(match (state, service) {
         (state_error::SERVICE_NOT_ALLOWED, service_error::OPERATION_NOT_POSSIBLE) =>
             Exception::NotAllowed,

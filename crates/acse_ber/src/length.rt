@@ -1,0 +1,46 @@
+//! The numbers, the lengths and what stands behind them.
+ghost use Rattle.std.specs.Prelude.{◌≡◌};
+ghost use Rattle.byte_reading.specs.Reading.{Reads};
+ghost use Rattle.acse_ber.specs.Reading.{size_at, literal_at, length_at, contents_at};
+
+use crate::fault::AcseFault;
+use byte_reading::Reader;
+
+/// A number of two bytes.
+pub(crate) fn read_size(reader: &mut Reader) -> Result<u16, AcseFault>
+    ensures { Reads (λ size. size) result reader.new (size_at reader.old) }
+{
+    Ok(u16::from_be_bytes(reader.array(AcseFault::Unreadable)?))
+}
+
+/// These very bytes.
+pub(crate) fn read_literal(expected: &[u8], reader: &mut Reader) -> Result<(), AcseFault>
+    ensures { Reads (λ unit. unit) result reader.new (literal_at expected.now reader.old) }
+{
+    if reader.bytes(expected.len(), AcseFault::Unreadable)? != expected {
+        return Err(AcseFault::Unreadable);
+    }
+    Ok(())
+}
+
+/// A length: below 80 as it is, or 81 or 82 and one or two bytes of it.
+#[tactic(auto, unfolding(crate::specs::Reading::length_at))]
+fn read_length(reader: &mut Reader) -> Result<usize, AcseFault>
+    ensures { Reads (λ n. n) result reader.new (length_at reader.old) }
+{
+    match reader.byte(AcseFault::Unreadable)? {
+        short @ 0..=0x7F => Ok(usize::from(short)),
+        0x81 => Ok(usize::from(reader.byte(AcseFault::Unreadable)?)),
+        0x82 => Ok(usize::from(read_size(reader)?)),
+        _ => Err(AcseFault::Unreadable),
+    }
+}
+
+/// Contents behind their length.
+#[tactic(auto, unfolding(crate::specs::Reading::contents_at))]
+pub(crate) fn read_contents<'a>(reader: &mut Reader<'a>) -> Result<&'a [u8], AcseFault>
+    ensures { Reads (λ contents. contents.now) result reader.new (contents_at reader.old) }
+{
+    let count = read_length(reader)?;
+    reader.bytes(count, AcseFault::Unreadable)
+}

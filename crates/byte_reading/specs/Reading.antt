@@ -1,0 +1,34 @@
+-- Reading from the front of bytes: the steps that every format has, with the fault where the bytes do not go so far.
+--     Reads                           how a step of code is compared with what a definition answers: the value and the bytes behind it, or the first fault
+--     read_as, whole_or               what was read seen as a value, and with nothing behind it
+--     first_byte, first_bytes         a byte, bytes
+use Rattle.std.specs.Prelude.{◌≡◌, ℕ, nat_le, List, [], ◌∷◌, length, take, drop, Result, Ok, Err}
+use Rattle.byte_reading.specs.Outcome.{◌>>=◌, ◌>>◌, guard}
+
+-- a step of code that moves on through the bytes answers as the definition does
+abbrev pub Reads : {X Y F : Type 0} → (X → Y) → Result X F → List ℕ → Result (Y × List ℕ) F → Type 0
+Reads view (Ok x) new given = given ≡ Ok (view x, new)
+Reads view (Err fault) new given = given ≡ Err fault
+
+-- what was read, seen as a value
+abbrev pub read_as : {X Y F : Type 0} → (X → Y) → Result (X × List ℕ) F → Result (Y × List ℕ) F
+read_as make read = do
+  x ← read
+  Ok (make x.0, x.1)
+
+-- what was read, if nothing stands behind it
+abbrev pub whole_or : {X F : Type 0} → F → Result (X × List ℕ) F → Result X F
+whole_or fault (Err first) = Err first
+whole_or fault (Ok (x, [])) = Ok x
+whole_or fault (Ok (x, byte ∷ rest)) = Err fault
+
+-- the next byte
+abbrev pub first_byte : {F : Type 0} → F → List ℕ → Result (ℕ × List ℕ) F
+first_byte fault [] = Err fault
+first_byte fault (byte ∷ rest) = Ok (byte, rest)
+
+-- the next bytes, wanted all at once
+abbrev pub first_bytes : {F : Type 0} → F → ℕ → List ℕ → Result (List ℕ × List ℕ) F
+first_bytes fault n bytes = do
+  guard (nat_le n (length bytes)) fault
+  Ok (take n bytes, drop n bytes)

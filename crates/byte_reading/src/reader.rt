@@ -1,0 +1,86 @@
+ghost use Rattle.std.specs.Prelude.{◌≡◌, ◌↔◌, [], Ok, length, IfOk, IsTrue};
+ghost use Rattle.byte_reading.specs.Reading.{Reads, whole_or, first_byte, first_bytes};
+
+use std::marker::Model;
+
+/// What is left of bytes that are read from left to right. A step that finds too few of them answers the fault that it is given.
+#[derive(Drop)]
+pub struct Reader<'a> {
+    rest: &'a [u8],
+}
+
+impl<'a> Model for Reader<'a> {
+    ghost use Rattle.std.specs.Prelude.{List, ℕ};
+
+    ghost Value = { List ℕ };
+
+    ghost view = { λ reader. reader.rest.now };
+}
+
+impl<'a> Reader<'a> {
+    /// At the front of bytes.
+    pub fn new(bytes: &'a [u8]) -> Self
+        ensures { result ≡ bytes.now }
+    {
+        Reader { rest: bytes }
+    }
+
+    /// What is left.
+    pub fn rest(&self) -> &'a [u8]
+        ensures { result.now ≡ self.now }
+    {
+        let Reader { rest } = *self;
+        rest
+    }
+
+    /// Whether nothing is left.
+    pub fn is_empty(&self) -> bool
+        ensures { IsTrue result ↔ (self.now ≡ []) }
+    {
+        self.rest.is_empty()
+    }
+
+    /// The value that was read, if nothing stands behind it.
+    pub fn finish<T: Drop, F: Copy>(&self, value: T, fault: F) -> Result<T, F>
+        ensures { result ≡ whole_or fault (Ok (value, self.now)) }
+    {
+        if self.rest.is_empty() {
+            Ok(value)
+        } else {
+            Err(fault)
+        }
+    }
+
+    /// The next byte.
+    pub fn byte<F: Copy>(&mut self, fault: F) -> Result<u8, F>
+        ensures { Reads (λ byte. byte) result self.new (first_byte fault self.old) }
+    {
+        let [byte, rest @ ..] = self.rest else {
+            return Err(fault);
+        };
+        self.rest = rest;
+        Ok(*byte)
+    }
+
+    /// The next bytes, wanted all at once.
+    pub fn bytes<F: Copy>(&mut self, count: usize, fault: F) -> Result<&'a [u8], F>
+        ensures read { Reads (λ bytes. bytes.now) result self.new (first_bytes fault count self.old) }
+        ensures len { IfOk result (λ bytes. length bytes.now ≡ count) }
+    {
+        if self.rest.len() < count {
+            return Err(fault);
+        }
+        let (bytes, rest) = self.rest.split_at(count);
+        self.rest = rest;
+        Ok(bytes)
+    }
+
+    /// The next `N` bytes.
+    pub fn array<const N: usize, F: Copy>(&mut self, fault: F) -> Result<[u8; N], F>
+        ensures { Reads (λ bytes. bytes) result self.new (first_bytes fault N self.old) }
+    {
+        let mut array = [0; N];
+        array.copy_from_slice(self.bytes(N, fault)?);
+        Ok(array)
+    }
+}

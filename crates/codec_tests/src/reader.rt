@@ -1,0 +1,27 @@
+use byte_reading::Reader;
+use std::process::Abort;
+use xdlms_apdu::ApduFault;
+
+// A response to a GET, whose value is 1 of an enumeration.
+const GOT: [u8; 6] = [0xC4, 0x01, 0xC1, 0x00, 0x16, 0x01];
+
+#[test]
+fn a_reader_goes_from_left_to_right(rt: HostRuntime) {
+    let fault = ApduFault::Unreadable;
+    let mut reader = Reader::new(&GOT);
+    assert!(rt; reader.byte(fault) == Ok(0xC4));
+    assert!(rt; reader.array(fault) == Ok([0x01, 0xC1, 0x00]));
+    assert!(rt; reader.rest() == [0x16, 0x01].as_slice());
+    assert!(rt; reader.finish(0x16, fault) == Err(fault));
+    assert!(rt; reader.bytes(2, fault) == Ok([0x16, 0x01].as_slice()));
+    assert!(rt; reader.is_empty());
+    assert!(rt; reader.finish(0x16, fault) == Ok(0x16));
+}
+
+#[test]
+fn a_reader_answers_the_fault_that_it_is_given(rt: HostRuntime) {
+    assert!(rt; Reader::new(&[]).byte(ApduFault::UnknownTag) == Err(ApduFault::UnknownTag));
+    assert!(rt; Reader::new(&GOT).bytes(7, ApduFault::UnknownForm) == Err(ApduFault::UnknownForm));
+    let array: Result<[u8; 7], ApduFault> = Reader::new(&GOT).array(ApduFault::Unreadable);
+    assert!(rt; array == Err(ApduFault::Unreadable));
+}
