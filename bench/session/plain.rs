@@ -176,19 +176,69 @@ struct Refusal {
 struct Object {
     class: u16,
     name: [u8; 6],
-    attributes: u8,
 }
 
-const OBJECTS: [Object; 8] = [
-    Object { class: 15, name: [0, 0, 40, 0, 0, 255], attributes: 2 },
-    Object { class: 1, name: [0, 0, 42, 0, 0, 255], attributes: 2 },
-    Object { class: 9, name: [0, 0, 10, 0, 106, 255], attributes: 2 },
-    Object { class: 22, name: [0, 0, 15, 0, 1, 255], attributes: 4 },
-    Object { class: 22, name: [0, 1, 15, 0, 1, 255], attributes: 4 },
-    Object { class: 22, name: [0, 2, 15, 0, 1, 255], attributes: 4 },
-    Object { class: 22, name: [0, 3, 15, 0, 1, 255], attributes: 4 },
-    Object { class: 70, name: [0, 0, 96, 3, 10, 255], attributes: 4 },
+const OBJECTS: [Object; 12] = [
+    Object { class: 15, name: [0, 0, 40, 0, 0, 255] },
+    Object { class: 1, name: [0, 0, 42, 0, 0, 255] },
+    Object { class: 3, name: [1, 0, 1, 7, 0, 255] },
+    Object { class: 3, name: [1, 0, 2, 7, 0, 255] },
+    Object { class: 9, name: [0, 0, 10, 0, 106, 255] },
+    Object { class: 22, name: [0, 0, 15, 0, 1, 255] },
+    Object { class: 22, name: [0, 1, 15, 0, 1, 255] },
+    Object { class: 22, name: [0, 2, 15, 0, 1, 255] },
+    Object { class: 22, name: [0, 3, 15, 0, 1, 255] },
+    Object { class: 70, name: [0, 0, 96, 3, 10, 255] },
+    Object { class: 71, name: [0, 0, 17, 0, 0, 255] },
+    Object { class: 71, name: [0, 1, 17, 0, 0, 255] },
 ];
+
+// An attribute of a class, and whether the public client may read it; the management client may read each.
+struct Attribute {
+    class: u16,
+    number: u8,
+    public: bool,
+}
+
+const fn attribute(class: u16, number: u8, public: bool) -> Attribute {
+    Attribute { class, number, public }
+}
+
+const ATTRIBUTES: [Attribute; 28] = [
+    attribute(15, 1, true),
+    attribute(15, 2, true),
+    attribute(1, 1, true),
+    attribute(1, 2, true),
+    attribute(3, 1, true),
+    attribute(3, 2, true),
+    attribute(3, 3, true),
+    attribute(9, 1, true),
+    attribute(9, 2, false),
+    attribute(22, 1, true),
+    attribute(22, 2, false),
+    attribute(22, 3, false),
+    attribute(22, 4, false),
+    attribute(70, 1, true),
+    attribute(70, 2, true),
+    attribute(70, 3, true),
+    attribute(70, 4, true),
+    attribute(71, 1, true),
+    attribute(71, 2, false),
+    attribute(71, 3, false),
+    attribute(71, 4, false),
+    attribute(71, 5, false),
+    attribute(71, 6, false),
+    attribute(71, 7, false),
+    attribute(71, 8, false),
+    attribute(71, 9, false),
+    attribute(71, 10, false),
+    attribute(71, 11, false),
+];
+
+fn may_read(level: Level, class: u16, number: u8) -> bool {
+    let row = ATTRIBUTES.iter().find(|row| row.class == class && row.number == number);
+    row.is_some_and(|row| row.public || level == Level::Management)
+}
 
 struct Get {
     class: u16,
@@ -204,12 +254,12 @@ struct Core {
 }
 
 impl Core {
-    fn get(&self, _level: Level, get: &Get) -> Result<Data, u8> {
+    fn get(&self, level: Level, get: &Get) -> Result<Data, u8> {
         let object = OBJECTS.iter().find(|object| object.name == get.name).ok_or(4)?;
         if object.class != get.class {
             return Err(9);
         }
-        if get.number == 0 || get.number > object.attributes {
+        if !may_read(level, object.class, get.number) {
             return Err(3);
         }
         if get.selected {
