@@ -1,5 +1,5 @@
 -- What a worker's calls are once its port was joined in, and that they stay so.
-use Rattle.std.proofs.Common.{◌≡◌, ◌⊎◌, ℕ, ◌+◌, ◌<◌, ◌≤◌, List, [], ◌++◌, refl, sym, ◌∙◌, ap, subst, inl, inr, arith, Option, Some, None, IfSome, IfOk, map}
+use Rattle.std.proofs.Common.{◌≡◌, ℕ, ◌+◌, ◌<◌, ◌≤◌, List, [], ◌++◌, refl, sym, ◌∙◌, ap, subst, inl, inr, arith, Option, Some, None, IfSome, IfOk, map}
 use Rattle.std.proofs.lemmas.Bool.{cases_eq}
 use Rattle.std.specs.Prelude.{⊤, IfErr, OnOk, replicate, Result, Ok, Err}
 use Rattle.lane_sampler.specs.Samples.{Samples}
@@ -13,26 +13,27 @@ use Rattle.turn_lock.specs.History.{IsAmong, calls_by}
 use Rattle.turn_lock.specs.Shown.{IsSame}
 use Rattle.session_threads.specs.Ports.{GoesOn, AreJoined, SplitsOff, TakesIn, child}
 use Rattle.session_threads.specs.Workers.{Ended, ComesBack}
+use Rattle.session_threads.proofs.Going.{goes_trans}
 use Rattle.meter_workers.specs.Handed.{MeterPort, handed, unread, HandsBlocks, HandsMoments, HandsPresses}
 use Rattle.meter_workers.specs.Handed.{StopsFor as WorkerStops}
 use Rattle.session_serving.specs.Settling.{fault_of}
 use Rattle.session_serving.specs.declared.fault.ServeFault.{ServeFault}
 use Rattle.session_serving.specs.declared.fault.ServeFault.TheVariants as fault
 use Rattle.meter_server.specs.declared.serving_all.Served.{Served}
-use Rattle.meter_server.specs.ServingAll.{events_by, AllBlocks, AllMoments, AllPresses, Acted, IsFresh, IsServed, IsSpent, IsSpentBy, StopsFor, OnEnded, worker_fault, first_of}
+use Rattle.meter_server.specs.ServingAll.{events_by, AllBlocks, AllMoments, AllPresses, Acted, EndsWith, IsServed, IsSpent, IsSpentBy, StopsFor, OnEnded, worker_fault, first_of}
 
 fresh_handed : (own : MeterPort) → calls_by own.known.number own.known.seen ≡ [] → handed own ≡ []
 fresh_handed own fresh = ap (map (λ (call : Entry Event Reply). call.event)) fresh
 
-whole_blocks : (told : Option (List Samples)) (own back : MeterPort) (events : List Event) → events ≡ handed back → handed own ≡ [] → HandsBlocks told own back → AllBlocks told events
+pub whole_blocks : (told : Option (List Samples)) (own back : MeterPort) (events : List Event) → events ≡ handed back → handed own ≡ [] → HandsBlocks told own back → AllBlocks told events
 whole_blocks None own back events e fresh hands = tt
 whole_blocks (Some blocks) own back events e fresh hands = ap unread e ∙ hands ∙ ap (λ xs. unread xs ++ map event.Samples blocks) fresh
 
-whole_moments : (told : Option (List ℕ)) (own back : MeterPort) (events : List Event) → events ≡ handed back → handed own ≡ [] → HandsMoments told own back → AllMoments told events
+pub whole_moments : (told : Option (List ℕ)) (own back : MeterPort) (events : List Event) → events ≡ handed back → handed own ≡ [] → HandsMoments told own back → AllMoments told events
 whole_moments None own back events e fresh hands = tt
 whole_moments (Some moments) own back events e fresh hands = e ∙ hands ∙ ap (λ xs. xs ++ map event.Moment moments) fresh
 
-whole_presses : (told : Option ℕ) (own back : MeterPort) (events : List Event) → events ≡ handed back → handed own ≡ [] → HandsPresses told own back → AllPresses told events
+pub whole_presses : (told : Option ℕ) (own back : MeterPort) (events : List Event) → events ≡ handed back → handed own ≡ [] → HandsPresses told own back → AllPresses told events
 whole_presses None own back events e fresh hands = tt
 whole_presses (Some count) own back events e fresh hands = e ∙ hands ∙ ap (λ xs. xs ++ replicate count event.Button) fresh
 
@@ -56,21 +57,16 @@ their_events : (own back before q : MeterPort) → IsSame own back → TakesIn b
 their_events own back before q same taken =
     ap (map (λ (call : Entry Event Reply). call.event)) (ap (λ n. calls_by n q.known.seen) (sym same.number) ∙ taken.theirs)
 
-module _ {W : Type 0} (own before q : MeterPort) (end : Option (Result (Unit {0}) CallFault)) where
-  pub acted_button : (told : W → Option ℕ) (worker : W) → ComesBack (Did (λ w. HandsPresses (told w)) worker) own end before q → end ≡ Some (Ok tt) → IsFresh own → Acted q own.known.number (AllPresses (told worker))
-  acted_button told worker back is fresh =
-      acted_as own back.back q (AllPresses (told worker)) back.same back.taken.joined (whole_presses (told worker) own back.back _ (their_events own back.back before q back.same back.taken) (fresh_handed own fresh) (did_all (λ w. HandsPresses (told w)) worker own back.back end back.ended is))
-
-  pub acted_clock : (told : W → Option (List ℕ)) (worker : W) → ComesBack (Did (λ w. HandsMoments (told w)) worker) own end before q → end ≡ Some (Ok tt) → IsFresh own → Acted q own.known.number (AllMoments (told worker))
-  acted_clock told worker back is fresh =
-      acted_as own back.back q (AllMoments (told worker)) back.same back.taken.joined (whole_moments (told worker) own back.back _ (their_events own back.back before q back.same back.taken) (fresh_handed own fresh) (did_all (λ w. HandsMoments (told w)) worker own back.back end back.ended is))
-
-  pub acted_sampler : (told : W → Option (List Samples)) (worker : W) → ComesBack (Did (λ w. HandsBlocks (told w)) worker) own end before q → end ≡ Some (Ok tt) → IsFresh own → Acted q own.known.number (AllBlocks (told worker))
-  acted_sampler told worker back is fresh =
-      acted_as own back.back q (AllBlocks (told worker)) back.same back.taken.joined (whole_blocks (told worker) own back.back _ (their_events own back.back before q back.same back.taken) (fresh_handed own fresh) (did_all (λ w. HandsBlocks (told w)) worker own back.back end back.ended is))
+-- all that the worker that came back was to do was done, where it came to its end
+acted_own : {W : Type 0} (hands : W → MeterPort → MeterPort → Type 0) (worker : W) (own before q : MeterPort) (end : Option (Result (Unit {0}) CallFault)) (Whole : List Event → Type 0)
+    → ((begun back : MeterPort) (events : List Event) → events ≡ handed back → handed begun ≡ [] → hands worker begun back → Whole events)
+    → ComesBack (Did hands worker) own end before q → calls_by own.known.number own.known.seen ≡ [] → end ≡ Some (Ok tt) → Acted q own.known.number Whole
+acted_own hands worker own before q end Whole whole back fresh is =
+    acted_as own back.back q Whole back.same back.taken.joined
+    (whole own back.back _ (their_events own back.back before q back.same back.taken) (fresh_handed own fresh) (did_all hands worker own back.back end back.ended is))
 
 -- what was so of a port's number stays so
-pub acted_on : (p q : MeterPort) (number : List ℕ) (Whole : List Event → Type 0) → GoesOn p q → Acted p number Whole → Acted q number Whole
+acted_on : (p q : MeterPort) (number : List ℕ) (Whole : List Event → Type 0) → GoesOn p q → Acted p number Whole → Acted q number Whole
 acted_on p q number Whole goes acted =
     let P : List Event → Type 0 = λ events. Whole events in
     record {
@@ -79,17 +75,17 @@ acted_on p q number Whole goes acted =
     }
 
 -- the same by another name of the number
-pub acted_by : (q : MeterPort) (m n : List ℕ) (Whole : List Event → Type 0) → m ≡ n → Acted q m Whole → Acted q n Whole
+acted_by : (q : MeterPort) (m n : List ℕ) (Whole : List Event → Type 0) → m ≡ n → Acted q m Whole → Acted q n Whole
 acted_by q m n Whole e acted = let Q : List ℕ → Type 0 = λ k. Acted q k Whole in subst Q e acted
 
 -- the ports that were joined in stay so, and the ports split off were those
-pub joined_on : (p q last : MeterPort) (from : ℕ) → GoesOn q last → last.known.splits ≡ q.known.splits → AreJoined from q → AreJoined from last
-joined_on p q last from goes splits joined i low high =
+joined_on : (q last : MeterPort) (from : ℕ) → GoesOn q last → last.known.splits ≡ q.known.splits → AreJoined from q → AreJoined from last
+joined_on q last from goes splits joined i low high =
     let J : List ℕ → Type 0 = λ n. IsAmong n last.known.joined in
     subst J (ap (λ n. child n i) (sym goes.number)) (goes.joined _ (joined i low (omega (arith, high, splits))))
 
 -- one more was split off first
-pub joined_more : (p own lent last : MeterPort) → SplitsOff p own lent → GoesOn lent last → AreJoined lent.known.splits last → IsAmong own.known.number last.known.joined → AreJoined p.known.splits last
+joined_more : (p own lent last : MeterPort) → SplitsOff p own lent → GoesOn lent last → AreJoined lent.known.splits last → IsAmong own.known.number last.known.joined → AreJoined p.known.splits last
 joined_more p own lent last off goes joined mine i low high =
     let number = goes.number ∙ off.goes.number in
     let J : List ℕ → Type 0 = λ n. IsAmong n last.known.joined in
@@ -124,7 +120,7 @@ ended_first (Err fault.Write) None X Y q y f = tt
 ended_first (Err fault.Write) (Some g) X Y q y f = q
 
 -- where no worker stopped, the rest ended so, and the worker came to its end
-pub on_ok : (served result : Result Served ServeFault) (end : Option (Result (Unit {0}) CallFault)) (X Y : Type 0) → result ≡ first_of served (worker_fault end) → OnEnded served Y → (Y → X) → OnEnded result X
+on_ok : (served result : Result Served ServeFault) (end : Option (Result (Unit {0}) CallFault)) (X Y : Type 0) → result ≡ first_of served (worker_fault end) → OnEnded served Y → (Y → X) → OnEnded result X
 on_ok served result end X Y is y f =
     let O : Result Served ServeFault → Type 0 = λ r. OnEnded r X in
     subst O (sym is) (ended_first served (worker_fault end) X Y (quiet end X) y (λ none. f))
@@ -137,7 +133,7 @@ any_ended (Err fault.Exhausted) = tt
 any_ended (Err fault.Read) = tt
 any_ended (Err fault.Write) = tt
 
-pub on_end : (served result : Result Served ServeFault) (end : Option (Result (Unit {0}) CallFault)) (X : Type 0) → result ≡ first_of served (worker_fault end) → (end ≡ Some (Ok tt) → X) → OnEnded result X
+on_end : (served result : Result Served ServeFault) (end : Option (Result (Unit {0}) CallFault)) (X : Type 0) → result ≡ first_of served (worker_fault end) → (end ≡ Some (Ok tt) → X) → OnEnded result X
 on_end served result end X is f =
     let O : Result Served ServeFault → Type 0 = λ r. OnEnded r X in
     subst O (sym is) (ended_first served (worker_fault end) X ⊤ (quiet end X) (any_ended served) (λ none any. f (no_fault end none)))
@@ -155,20 +151,20 @@ ok_first (Err fault.Read) (Some g) P y = tt
 ok_first (Err fault.Write) None P y = tt
 ok_first (Err fault.Write) (Some g) P y = tt
 
-pub if_ok : (served result : Result Served ServeFault) (end : Option (Result (Unit {0}) CallFault)) (P : Served → Type 0) → result ≡ first_of served (worker_fault end) → IfOk served P → IfOk result P
+if_ok : (served result : Result Served ServeFault) (end : Option (Result (Unit {0}) CallFault)) (P : Served → Type 0) → result ≡ first_of served (worker_fault end) → IfOk served P → IfOk result P
 if_ok served result end P is y =
     let O : Result Served ServeFault → Type 0 = λ r. IfOk r P in
     subst O (sym is) (ok_first served (worker_fault end) P y)
 
 -- the port of a worker was joined in since, which splits none off
-pub served_on : (served result : Result Served ServeFault) (end : Option (Result (Unit {0}) CallFault)) (from splits later : ℕ) → result ≡ first_of served (worker_fault end) → later ≡ splits
+served_on : (served result : Result Served ServeFault) (end : Option (Result (Unit {0}) CallFault)) (from splits later : ℕ) → result ≡ first_of served (worker_fault end) → later ≡ splits
     → IfOk served (IsServed from splits) → IfOk result (IsServed from later)
 served_on served result end from splits later is same so =
     let O : ℕ → Type 0 = λ n. IfOk result (IsServed from n) in
     subst O (sym same) (if_ok served result end (IsServed from splits) is so)
 
 -- the same by another count of splits
-pub served_from : (result : Result Served ServeFault) (from before later : ℕ) → from ≡ before → IfOk result (IsServed from later) → IfOk result (IsServed before later)
+served_from : (result : Result Served ServeFault) (from before later : ℕ) → from ≡ before → IfOk result (IsServed from later) → IfOk result (IsServed before later)
 served_from result from before later same so = let O : ℕ → Type 0 = λ n. IfOk result (IsServed n later) in subst O same so
 
 stops_for : (A B F : Type 0) (f : ServeFault) → (A → B) → StopsFor A F f → StopsFor B F f
@@ -203,14 +199,14 @@ worker_stops (Some (Err call.Memory)) B F spent = tt
 worker_stops (Some (Err call.Exhausted)) B F spent = spent refl
 
 -- it stops for what the rest stopped for, or since the worker's port is spent
-pub stops_by : (served result : Result Served ServeFault) (end : Option (Result (Unit {0}) CallFault)) (A B F : Type 0) → result ≡ first_of served (worker_fault end)
+stops_by : (served result : Result Served ServeFault) (end : Option (Result (Unit {0}) CallFault)) (A B F : Type 0) → result ≡ first_of served (worker_fault end)
     → IfErr served (StopsFor A F) → (A → B) → (end ≡ Some (Err call.Exhausted) → B) → IfErr result (StopsFor B F)
 stops_by served result end A B F is why so spent =
     let O : Result Served ServeFault → Type 0 = λ r. IfErr r (StopsFor B F) in
     subst O (sym is) (stops_first served (worker_fault end) (StopsFor B F) (worker_stops end B F spent) (map_stops served A B F why so))
 
 -- the port of a worker that was refused a call is spent
-pub spent_by : {W : Type 0} (hands : W → MeterPort → MeterPort → Type 0) (worker : W) (own begun before q : MeterPort) (end : Option (Result (Unit {0}) CallFault)) → ComesBack (Did hands worker) own end before q
+spent_by : {W : Type 0} (hands : W → MeterPort → MeterPort → Type 0) (worker : W) (own begun before q : MeterPort) (end : Option (Result (Unit {0}) CallFault)) → ComesBack (Did hands worker) own end before q
     → GoesOn begun before → own.lock ≡ begun.lock → own.bound ≡ begun.bound → end ≡ Some (Err call.Exhausted) → IsSpent q own.known.number
 spent_by hands worker own begun before q end back goes lock bound is =
     let E : Option (Result (Unit {0}) CallFault) → Type 0 = λ e. Ended (Did hands worker) own back.back e in
@@ -236,7 +232,7 @@ spent_on p q number goes spent =
       drawn = subst D (sym goes.bound) spent.drawn;
     }
 
-pub spent_still : (p q : MeterPort) (from count : ℕ) → GoesOn p q → IsSpentBy from count p → IsSpentBy from count q
+spent_still : (p q : MeterPort) (from count : ℕ) → GoesOn p q → IsSpentBy from count p → IsSpentBy from count q
 spent_still p q from count goes spent =
     let Q : List ℕ → Type 0 = λ n. IsSpent q (child n (from + spent.0)) in
     (spent.0, spent.1, subst Q (sym goes.number) (spent_on p q _ goes spent.2))
@@ -256,32 +252,46 @@ spent_more p own lent last count off spent =
     let low : spent.0 + 1 < count + 1 = omega (arith, spent.1) in
     (spent.0 + 1, low, subst Q (ap (λ k. child last.known.number k) next) spent.2)
 
-spent_among : (p own lent last : MeterPort) (count : ℕ) → SplitsOff p own lent → GoesOn lent last → IsSpent last own.known.number ⊎ IsSpentBy lent.known.splits count last → IsSpentBy p.known.splits (count + 1) last
-spent_among p own lent last count off goes (inl mine) = spent_first p own lent last count off goes mine
-spent_among p own lent last count off goes (inr theirs) = spent_more p own lent last count off theirs
+-- A port was split off for a worker, the rest was served, and then the worker's port was joined in
+module _ {did : MeterPort → MeterPort → Result (Unit {0}) CallFault → Type 0} {p own lent mid last : MeterPort} {served result : Result Served ServeFault}
+    (off : SplitsOff p own lent) (goes : GoesOn lent mid) (ends : EndsWith did own served result mid last) where
+  since : GoesOn lent last
+  since = goes_trans lent mid last goes ends.back.taken.goes
 
--- the last worker was started for which a port was split off
-pub stops_alone : (result : Result Served ServeFault) (F : Type 0) (p own lent last : MeterPort) → SplitsOff p own lent → GoesOn lent last
-    → IfErr result (StopsFor (IsSpent last own.known.number) F) → IfErr result (StopsFor (IsSpentBy p.known.splits 1 last) F)
-stops_alone result F p own lent last off goes why = map_stops result _ _ F why (spent_first p own lent last 0 off goes)
+  pub goes_beside : GoesOn p last
+  goes_beside = goes_trans p lent last off.goes since
 
--- a worker was started before the others
-pub stops_among : (result : Result Served ServeFault) (F : Type 0) (p own lent last : MeterPort) (count : ℕ) → SplitsOff p own lent → GoesOn lent last
-    → IfErr result (StopsFor (IsSpent last own.known.number ⊎ IsSpentBy lent.known.splits count last) F) → IfErr result (StopsFor (IsSpentBy p.known.splits (count + 1) last) F)
-stops_among result F p own lent last count off goes why = map_stops result _ _ F why (spent_among p own lent last count off goes)
+  pub joined_beside : AreJoined lent.known.splits mid → AreJoined p.known.splits last
+  joined_beside joined =
+      let J : List ℕ → Type 0 = λ n. IsAmong n last.known.joined in
+      joined_more p own lent last off since (joined_on mid last _ ends.back.taken.goes ends.back.taken.splits joined) (subst J ends.back.same.number ends.back.taken.joined)
 
-pub map_ok : (result : Result Served ServeFault) (A B : Type 0) → OnEnded result A → (A → B) → OnEnded result B
-map_ok (Ok all) A B a f = f a
-map_ok (Err fault.Memory) A B a f = tt
-map_ok (Err fault.Listen) A B a f = f a
-map_ok (Err fault.Exhausted) A B a f = tt
-map_ok (Err fault.Read) A B a f = tt
-map_ok (Err fault.Write) A B a f = tt
+  pub limit_beside : (P : Served → Type 0) → IfOk served P → IfOk result P
+  limit_beside P so = if_ok served result ends.end P ends.first so
 
--- the same by another name of the number, and of the worker
-pub acted_told : {W X : Type 0} (told : W → X) (All : X → List Event → Type 0) (q : MeterPort) (m n : List ℕ) (worker given : W) → m ≡ n → worker ≡ given → Acted q m (All (told worker)) → Acted q n (All (told given))
-acted_told {W = W} told All q m n worker given e is acted =
-    let Q : List ℕ → Type 0 = λ k. Acted q k (All (told worker)) in
-    let named : Acted q n (All (told worker)) = subst Q e acted in
-    let P : W → Type 0 = λ w. Acted q n (All (told w)) in
-    subst P is named
+  pub served_beside : (from before : ℕ) → from ≡ before → IfOk served (IsServed from mid.known.splits) → IfOk result (IsServed before last.known.splits)
+  served_beside from before same so = served_from result from before _ same (served_on served result ends.end from _ _ ends.first ends.back.taken.splits so)
+
+  -- what another worker did stays so
+  pub acted_beside : (i j : ℕ) (Whole : List Event → Type 0) → i ≡ j → OnEnded served (Acted mid (child lent.known.number i) Whole) → OnEnded result (Acted last (child p.known.number j) Whole)
+  acted_beside i j Whole same so =
+      on_ok served result ends.end _ _ ends.first so
+      (λ acted. acted_by last _ _ Whole (ap (λ n. child n i) off.goes.number ∙ ap (λ k. child p.known.number k) same) (acted_on mid last _ Whole ends.back.taken.goes acted))
+
+module _ {W : Type 0} (hands : W → MeterPort → MeterPort → Type 0) (worker : W) {p own lent mid last : MeterPort} {served result : Result Served ServeFault}
+    (off : SplitsOff p own lent) (goes : GoesOn lent mid) (ends : EndsWith (Did hands worker) own served result mid last) where
+  -- what the worker did, by its other name
+  pub acted_itself : (All : W → List Event → Type 0) (given : W) → worker ≡ given
+      → ((begun back : MeterPort) (events : List Event) → events ≡ handed back → handed begun ≡ [] → hands worker begun back → All worker events)
+      → OnEnded result (Acted last (child p.known.number p.known.splits) (All given))
+  acted_itself All given same whole =
+      let P : W → Type 0 = λ w. Acted last (child p.known.number p.known.splits) (All w) in
+      on_end served result ends.end _ ends.first
+      (λ is. subst P same (acted_by last _ _ (All worker) off.number (acted_own hands worker own mid last ends.end (All worker) whole ends.back off.fresh is)))
+
+  pub stops_beside : (A F : Type 0) (count : ℕ) → IfErr served (StopsFor A F) → (A → IsSpentBy lent.known.splits count mid) → IfErr result (StopsFor (IsSpentBy p.known.splits (count + 1) last) F)
+  stops_beside A F count why so =
+      stops_by served result ends.end A _ F ends.first why
+      (λ spent. spent_more p own lent last count off (spent_still mid last _ count ends.back.taken.goes (so spent)))
+      (λ refused. spent_first p own lent last count off (since off goes ends)
+      (spent_by hands worker own lent mid last ends.end ends.back goes (off.lock ∙ sym off.goes.lock) (off.bound ∙ sym off.goes.bound) refused))

@@ -2,7 +2,8 @@
 --     AllBlocks, AllMoments, AllPresses   the events are all that a source told
 --     Acted                               the port of a number was taken in, with these events
 --     StopsFor, first_of                  which fault comes back, and which goes before the other
-use Rattle.std.specs.Prelude.{◌≡◌, ⊤, ℕ, ◌+◌, ◌<◌, ◌≤◌, List, [], map, replicate, Option, Some, None, IfSome, Result, Ok, Err}
+--     EndsWith                            what came of clients that were served beside a worker, once it is joined
+use Rattle.std.specs.Prelude.{◌≡◌, ⊤, ℕ, ◌+◌, ◌<◌, ◌≤◌, List, map, replicate, Option, Some, None, IfSome, Result, Ok, Err}
 use Rattle.lane_sampler.specs.Samples.{Samples}
 use Rattle.session_serving.specs.Settling.{fault_of}
 use Rattle.session_serving.specs.declared.fault.ServeFault.{ServeFault}
@@ -13,6 +14,7 @@ use Rattle.relay_core.specs.declared.event.Event.{Event}
 use Rattle.relay_core.specs.declared.event.Event.TheVariants as event
 use Rattle.relay_core.specs.declared.event.Reply.{Reply}
 use Rattle.session_threads.specs.Ports.{child}
+use Rattle.session_threads.specs.Workers.{ComesBack}
 use Rattle.call_fault.specs.declared.fault.CallFault.{CallFault}
 use Rattle.turn_lock.specs.declared.turned.Entry.{Entry}
 use Rattle.turn_lock.specs.History.{IsAmong, calls_by}
@@ -37,10 +39,6 @@ AllPresses told events = IfSome told (λ count. events ≡ replicate count event
 pub record Acted (port : MeterPort) (number : List ℕ) (Whole : List Event → Type 0) : Type 0 where
   pub joined : IsAmong number port.known.joined
   pub whole : Whole (events_by number port)
-
--- nothing was called through the port so far
-abbrev pub IsFresh : MeterPort → Type 0
-IsFresh port = calls_by port.known.number port.known.seen ≡ []
 
 -- as many connections came as the limit says
 abbrev pub IsLimit : ℕ → Served → Type 0
@@ -84,6 +82,12 @@ first_of (Err other) (Some stopped) = Err stopped
 first_of (Err other) None = Err other
 first_of (Ok all) (Some stopped) = Err stopped
 first_of (Ok all) None = Ok all
+
+-- the port that was lent to a worker came back, and the result is the first of what was served beside it and of the worker's end
+pub record EndsWith (did : MeterPort → MeterPort → Result (Unit {0}) CallFault → Type 0) (lent : MeterPort) (served result : Result Served ServeFault) (before after : MeterPort) : Type 0 where
+  pub end : Option (Result (Unit {0}) CallFault)
+  pub back : ComesBack did lent end before after
+  pub first : result ≡ first_of served (worker_fault end)
 
 -- no worker stopped before its source had given all: nothing failed, or the listener alone, which is told last
 abbrev pub OnEnded : Result Served ServeFault → Type 0 → Type 0

@@ -1,11 +1,11 @@
 //! The whole server: sessions of clients, blocks of samples, moments and presses, each in a thread of its own, over one meter.
-ghost use Rattle.std.specs.Prelude.{◌≡◌, ◌⊎◌, ◌+◌, [], Err, IfOk, IfErr};
+ghost use Rattle.std.specs.Prelude.{◌≡◌, ◌+◌, [], Err, IfOk, IfErr};
 ghost use Rattle.acse_ber.specs.Password.{IsPassword};
 ghost use Rattle.kept_meter.specs.Calls.{IsLegal as IsLegalRun};
-ghost use Rattle.meter_server.specs.ServingAll.{AllBlocks, AllMoments, AllPresses, Acted, IsFresh, IsLimit, IsServed, IsSpent, IsSpentBy, StopsFor, OnEnded, worker_fault, first_of};
+ghost use Rattle.meter_server.specs.ServingAll.{AllBlocks, AllMoments, AllPresses, Acted, EndsWith, IsLimit, IsServed, IsSpentBy, StopsFor, OnEnded, worker_fault, first_of};
 ghost use Rattle.session_threads.specs.Ports.{GoesOn, AreJoined, child};
 ghost use Rattle.turn_lock.specs.Calls.{IsLegal};
-ghost use Rattle.turn_lock.specs.History.{IsAmong};
+ghost use Rattle.turn_lock.specs.Shown.{IsSame};
 
 use crate::acting::{Button, Clock, Sampler};
 use crate::listening::{Clients, Listener};
@@ -14,7 +14,7 @@ use cosem_axdr::Octets;
 use kept_meter::Kept;
 use meter_workers::{BlockSource, ButtonSource, MomentSource};
 use session_serving::ServeFault;
-use session_threads::{WorkerThread, join_worker, serve_connections, start_worker};
+use session_threads::{Worker, WorkerThread, join_worker, serve_connections, start_worker};
 use std::alloc::Global;
 use std::sync::Wait;
 use std::thread::Threads;
@@ -74,32 +74,17 @@ fn serve_clients<L: Listener, R: Threads + Wait + Copy + Send + 'static>(
     })
 }
 
-// Serves them, and then joins the button's port in.
-fn serve_until_button<
-    L: Listener,
-    U: ButtonSource + Send + 'static,
-    R: Threads + Wait + Copy + Send + 'static,
->(
+// Joins the port of a worker in, behind what was served beside it, and gives the first fault of both.
+fn join_beside<K: Worker<Port<Kept>>, R: Threads>(
     rt: &R,
-    alloc: Global,
-    listener: &mut L,
-    running: WorkerThread<Kept, Button<U>>,
+    running: WorkerThread<Kept, K>,
     port: &mut Port<Kept>,
-    password: &Octets,
-    limit: u64,
+    served: Result<Served, ServeFault>,
 ) -> Result<Served, ServeFault>
     requires lock { running.promise.port.value.lock ≡ port.old.lock }
-    requires bound { running.promise.port.value.bound ≡ port.old.bound }
-    requires password { IsPassword password.now }
-    ensures goes { GoesOn port.old port.new }
-    ensures joined { AreJoined port.old.known.splits port.new }
-    ensures own { IsAmong running.promise.port.value.known.number port.new.known.joined }
-    ensures limit { IfOk result (IsLimit limit) }
-    ensures served { IfOk result (IsServed port.old.known.splits port.new.known.splits) }
-    ensures presses { OnEnded result (IsFresh running.promise.port.value → Acted port.new running.promise.port.value.known.number (AllPresses (U.told running.promise.worker.value.source))) }
-    ensures fault { IfErr result (StopsFor (IsSpent port.new running.promise.port.value.known.number) (L.has_failed listener.new)) }
+    requires hands_back { (w : _) (p : _) (q : _) (end : _) → K.did w p q end → IsSame p q }
+    ensures { let task = running.promise in EndsWith (K.did task.worker.value) task.port.value served result port.old port.new }
 {
-    let served = serve_clients(rt, alloc, listener, port, password, limit);
     let end = join_worker(rt, running, port);
     first_fault(served, end)
 }
@@ -129,40 +114,8 @@ fn serve_with_button<
     let Some(running) = start_worker(rt, alloc, Button { source: buttons }, port) else {
         return Err(ServeFault::Memory);
     };
-    serve_until_button(rt, alloc, listener, running, port, password, limit)
-}
-
-// Serves them with the button, and then joins the clock's port in.
-fn serve_until_clock<
-    L: Listener,
-    M: MomentSource + Send + 'static,
-    U: ButtonSource + Send + 'static,
-    R: Threads + Wait + Copy + Send + 'static,
->(
-    rt: &R,
-    alloc: Global,
-    listener: &mut L,
-    running: WorkerThread<Kept, Clock<M>>,
-    buttons: U,
-    port: &mut Port<Kept>,
-    password: &Octets,
-    limit: u64,
-) -> Result<Served, ServeFault>
-    requires lock { running.promise.port.value.lock ≡ port.old.lock }
-    requires bound { running.promise.port.value.bound ≡ port.old.bound }
-    requires password { IsPassword password.now }
-    ensures goes { GoesOn port.old port.new }
-    ensures joined { AreJoined port.old.known.splits port.new }
-    ensures own { IsAmong running.promise.port.value.known.number port.new.known.joined }
-    ensures limit { IfOk result (IsLimit limit) }
-    ensures served { IfOk result (IsServed (port.old.known.splits + 1) port.new.known.splits) }
-    ensures moments { OnEnded result (IsFresh running.promise.port.value → Acted port.new running.promise.port.value.known.number (AllMoments (M.told running.promise.worker.value.source))) }
-    ensures presses { OnEnded result (Acted port.new (child port.old.known.number port.old.known.splits) (AllPresses (U.told buttons))) }
-    ensures fault { IfErr result (StopsFor (IsSpent port.new running.promise.port.value.known.number ⊎ IsSpentBy port.old.known.splits 1 port.new) (L.has_failed listener.new)) }
-{
-    let served = serve_with_button(rt, alloc, listener, buttons, port, password, limit);
-    let end = join_worker(rt, running, port);
-    first_fault(served, end)
+    let served = serve_clients(rt, alloc, listener, port, password, limit);
+    join_beside(rt, running, port, served)
 }
 
 // Serves them with the button while the clock ticks.
@@ -193,43 +146,8 @@ fn serve_with_clock<
     let Some(running) = start_worker(rt, alloc, Clock { source: moments }, port) else {
         return Err(ServeFault::Memory);
     };
-    serve_until_clock(rt, alloc, listener, running, buttons, port, password, limit)
-}
-
-// Serves them with the button and the clock, and then joins the sampler's port in.
-fn serve_until_sampler<
-    L: Listener,
-    B: BlockSource + Send + 'static,
-    M: MomentSource + Send + 'static,
-    U: ButtonSource + Send + 'static,
-    R: Threads + Wait + Copy + Send + 'static,
->(
-    rt: &R,
-    alloc: Global,
-    listener: &mut L,
-    running: WorkerThread<Kept, Sampler<B>>,
-    moments: M,
-    buttons: U,
-    port: &mut Port<Kept>,
-    password: &Octets,
-    limit: u64,
-) -> Result<Served, ServeFault>
-    requires lock { running.promise.port.value.lock ≡ port.old.lock }
-    requires bound { running.promise.port.value.bound ≡ port.old.bound }
-    requires password { IsPassword password.now }
-    ensures goes { GoesOn port.old port.new }
-    ensures joined { AreJoined port.old.known.splits port.new }
-    ensures own { IsAmong running.promise.port.value.known.number port.new.known.joined }
-    ensures limit { IfOk result (IsLimit limit) }
-    ensures served { IfOk result (IsServed (port.old.known.splits + 2) port.new.known.splits) }
-    ensures blocks { OnEnded result (IsFresh running.promise.port.value → Acted port.new running.promise.port.value.known.number (AllBlocks (B.told running.promise.worker.value.source))) }
-    ensures moments { OnEnded result (Acted port.new (child port.old.known.number port.old.known.splits) (AllMoments (M.told moments))) }
-    ensures presses { OnEnded result (Acted port.new (child port.old.known.number (port.old.known.splits + 1)) (AllPresses (U.told buttons))) }
-    ensures fault { IfErr result (StopsFor (IsSpent port.new running.promise.port.value.known.number ⊎ IsSpentBy port.old.known.splits 2 port.new) (L.has_failed listener.new)) }
-{
-    let served = serve_with_clock(rt, alloc, listener, moments, buttons, port, password, limit);
-    let end = join_worker(rt, running, port);
-    first_fault(served, end)
+    let served = serve_with_button(rt, alloc, listener, buttons, port, password, limit);
+    join_beside(rt, running, port, served)
 }
 
 // Serves them with the button and the clock while samples come.
@@ -263,9 +181,8 @@ fn serve_with_sampler<
     let Some(running) = start_worker(rt, alloc, Sampler { source: blocks }, port) else {
         return Err(ServeFault::Memory);
     };
-    serve_until_sampler(
-        rt, alloc, listener, running, moments, buttons, port, password, limit,
-    )
+    let served = serve_with_clock(rt, alloc, listener, moments, buttons, port, password, limit);
+    join_beside(rt, running, port, served)
 }
 
 /// Serves clients, and hands in blocks of samples, moments and presses, over one meter: a thread for each of at most eight open sessions, and one each for the three

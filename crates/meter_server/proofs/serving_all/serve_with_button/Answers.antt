@@ -3,20 +3,32 @@ use Rattle.std.proofs.Crossing.{crosses}
 use Rattle.kept_meter.proofs.Sent.{kept_send}
 use Rattle.session_serving.proofs.Sent.{event_send, reply_send}
 use Rattle.std.proofs.Common.{◌≡◌, ◌+◌, arith}
-use Rattle.session_threads.proofs.Going.{goes_trans}
+use Rattle.meter_workers.specs.Handed.{HandsPresses}
 use Rattle.meter_server.specs.ServingAll.{AllPresses}
-use Rattle.meter_server.proofs.ServingAllLemmas.{acted_told, joined_more, map_ok, served_from, stops_alone}
+use Rattle.meter_server.proofs.ServingAllLemmas.{acted_itself, goes_beside, joined_beside, limit_beside, served_beside, stops_beside, whole_presses}
 use Rattle.meter_server.proofs.serving_all.serve_with_button.Goals as goal
 
 pub returns-clause-goes : goal.returns-clause-goes
-returns-clause-goes g c = goes_trans _ _ _ c.in-Some.ensures.port.goes c.serve_until_button.ensures.goes
+returns-clause-goes g c = goes_beside c.in-Some.ensures.port c.serve_clients-served.ensures.goes c.join_beside.ensures
 
 pub returns-clause-joined : goal.returns-clause-joined
-returns-clause-joined g c = joined_more _ _ _ _ c.in-Some.ensures.port c.serve_until_button.ensures.goes c.serve_until_button.ensures.joined c.serve_until_button.ensures.own
+returns-clause-joined g c = joined_beside c.in-Some.ensures.port c.serve_clients-served.ensures.goes c.join_beside.ensures c.serve_clients-served.ensures.joined
+
+pub returns-clause-limit : goal.returns-clause-limit
+returns-clause-limit g c = limit_beside c.in-Some.ensures.port c.serve_clients-served.ensures.goes c.join_beside.ensures _ c.serve_clients-served.ensures.limit
+
+pub returns-clause-served : goal.returns-clause-served
+returns-clause-served g c =
+    let next : c.start_worker.new.port.known.splits ≡ c.args.port.now.known.splits + 1 = omega (arith, c.in-Some.ensures.port.splits) in
+    served_beside {lent = c.start_worker.new.port} {mid = c.serve_clients-served.new.port} c.in-Some.ensures.port c.serve_clients-served.ensures.goes c.join_beside.ensures _ _ next c.serve_clients-served.ensures.served
 
 pub returns-clause-presses : goal.returns-clause-presses
 returns-clause-presses g c =
-    map_ok _ _ _ c.serve_until_button.ensures.presses (λ all. acted_told (λ w. g.U.ButtonSource.told w.source) AllPresses _ _ _ _ _ c.in-Some.ensures.port.number c.in-Some.ensures.worker (all c.in-Some.ensures.port.fresh))
+    acted_itself (λ w. HandsPresses (g.U.ButtonSource.told w.source)) _ c.in-Some.ensures.port c.serve_clients-served.ensures.goes c.join_beside.ensures (λ w. AllPresses (g.U.ButtonSource.told w.source)) _ c.in-Some.ensures.worker (whole_presses _)
+
+pub returns-clause-fault : goal.returns-clause-fault
+returns-clause-fault g c =
+    stops_beside (λ w. HandsPresses (g.U.ButtonSource.told w.source)) c.in-Some.running.promise.worker.value c.in-Some.ensures.port c.serve_clients-served.ensures.goes c.join_beside.ensures _ _ 0 c.serve_clients-served.ensures.fault (λ none. absurd none)
 
 pub start_worker-requires-send-T : goal.start_worker-requires-send-T
 start_worker-requires-send-T g c κs within = search (sendable, crosses, kept_send) depth 20 fits 100000
@@ -26,13 +38,3 @@ start_worker-requires-send-T-Event g c κs within = search (sendable, crosses, e
 
 pub start_worker-requires-send-T-Reply : goal.start_worker-requires-send-T-Reply
 start_worker-requires-send-T-Reply g c κs within = search (sendable, crosses, reply_send) depth 20 fits 100000
-
-pub returns-clause-fault : goal.returns-clause-fault
-returns-clause-fault g c =
-    stops_alone c.serve_until_button.result _ _ _ _ _ c.in-Some.ensures.port c.serve_until_button.ensures.goes c.serve_until_button.ensures.fault
-
-pub returns-clause-served : goal.returns-clause-served
-returns-clause-served g c =
-    let off = c.in-Some.ensures.port in
-    let next : c.start_worker.new.port.known.splits ≡ c.args.port.now.known.splits + 1 = omega (arith, off.splits) in
-    served_from c.serve_until_button.result _ _ _ next c.serve_until_button.ensures.served

@@ -2,33 +2,43 @@ use denote.Param.Send.{sendable}
 use Rattle.std.proofs.Crossing.{crosses}
 use Rattle.kept_meter.proofs.Sent.{kept_send}
 use Rattle.session_serving.proofs.Sent.{event_send, reply_send}
-use Rattle.std.proofs.Common.{◌≡◌, ◌+◌, ◌∙◌, ap, arith}
-use Rattle.session_threads.specs.Ports.{child}
-use Rattle.session_threads.proofs.Going.{goes_trans}
+use Rattle.std.proofs.Common.{◌≡◌, ◌+◌, arith}
+use Rattle.meter_workers.specs.Handed.{HandsBlocks}
 use Rattle.meter_server.specs.ServingAll.{AllBlocks}
-use Rattle.meter_server.proofs.ServingAllLemmas.{acted_by, acted_told, joined_more, map_ok, served_from, stops_among}
+use Rattle.meter_server.proofs.ServingAllLemmas.{acted_beside, acted_itself, goes_beside, joined_beside, limit_beside, served_beside, stops_beside, whole_blocks}
 use Rattle.meter_server.proofs.serving_all.serve_with_sampler.Goals as goal
 
 pub returns-clause-goes : goal.returns-clause-goes
-returns-clause-goes g c = goes_trans _ _ _ c.in-Some.ensures.port.goes c.serve_until_sampler.ensures.goes
+returns-clause-goes g c = goes_beside c.in-Some.ensures.port c.serve_with_clock-served.ensures.goes c.join_beside.ensures
 
 pub returns-clause-joined : goal.returns-clause-joined
-returns-clause-joined g c = joined_more _ _ _ _ c.in-Some.ensures.port c.serve_until_sampler.ensures.goes c.serve_until_sampler.ensures.joined c.serve_until_sampler.ensures.own
+returns-clause-joined g c = joined_beside c.in-Some.ensures.port c.serve_with_clock-served.ensures.goes c.join_beside.ensures c.serve_with_clock-served.ensures.joined
+
+pub returns-clause-limit : goal.returns-clause-limit
+returns-clause-limit g c = limit_beside c.in-Some.ensures.port c.serve_with_clock-served.ensures.goes c.join_beside.ensures _ c.serve_with_clock-served.ensures.limit
+
+pub returns-clause-served : goal.returns-clause-served
+returns-clause-served g c =
+    let next : c.start_worker.new.port.known.splits + 2 ≡ c.args.port.now.known.splits + 3 = omega (arith, c.in-Some.ensures.port.splits) in
+    served_beside {lent = c.start_worker.new.port} {mid = c.serve_with_clock-served.new.port} c.in-Some.ensures.port c.serve_with_clock-served.ensures.goes c.join_beside.ensures _ _ next c.serve_with_clock-served.ensures.served
 
 pub returns-clause-blocks : goal.returns-clause-blocks
 returns-clause-blocks g c =
-    map_ok _ _ _ c.serve_until_sampler.ensures.blocks (λ all. acted_told (λ w. g.B.BlockSource.told w.source) AllBlocks _ _ _ _ _ c.in-Some.ensures.port.number c.in-Some.ensures.worker (all c.in-Some.ensures.port.fresh))
+    acted_itself (λ w. HandsBlocks (g.B.BlockSource.told w.source)) _ c.in-Some.ensures.port c.serve_with_clock-served.ensures.goes c.join_beside.ensures (λ w. AllBlocks (g.B.BlockSource.told w.source)) _ c.in-Some.ensures.worker (whole_blocks _)
 
 pub returns-clause-moments : goal.returns-clause-moments
 returns-clause-moments g c =
-    let off = c.in-Some.ensures.port in
-    map_ok _ _ _ c.serve_until_sampler.ensures.moments (λ acted. acted_by _ _ _ _ (ap (λ n. child n c.start_worker.new.port.known.splits) off.goes.number ∙ ap (λ k. child c.args.port.now.known.number k) off.splits) acted)
+    let next : c.start_worker.new.port.known.splits ≡ c.args.port.now.known.splits + 1 = omega (arith, c.in-Some.ensures.port.splits) in
+    acted_beside {lent = c.start_worker.new.port} {mid = c.serve_with_clock-served.new.port} c.in-Some.ensures.port c.serve_with_clock-served.ensures.goes c.join_beside.ensures _ _ _ next c.serve_with_clock-served.ensures.moments
 
 pub returns-clause-presses : goal.returns-clause-presses
 returns-clause-presses g c =
-    let off = c.in-Some.ensures.port in
-    let next : c.start_worker.new.port.known.splits + 1 ≡ c.args.port.now.known.splits + 2 = omega (arith, off.splits) in
-    map_ok _ _ _ c.serve_until_sampler.ensures.presses (λ acted. acted_by _ _ _ _ (ap (λ n. child n (c.start_worker.new.port.known.splits + 1)) off.goes.number ∙ ap (λ k. child c.args.port.now.known.number k) next) acted)
+    let next : c.start_worker.new.port.known.splits + 1 ≡ c.args.port.now.known.splits + 2 = omega (arith, c.in-Some.ensures.port.splits) in
+    acted_beside {lent = c.start_worker.new.port} {mid = c.serve_with_clock-served.new.port} c.in-Some.ensures.port c.serve_with_clock-served.ensures.goes c.join_beside.ensures _ _ _ next c.serve_with_clock-served.ensures.presses
+
+pub returns-clause-fault : goal.returns-clause-fault
+returns-clause-fault g c =
+    stops_beside (λ w. HandsBlocks (g.B.BlockSource.told w.source)) c.in-Some.running.promise.worker.value c.in-Some.ensures.port c.serve_with_clock-served.ensures.goes c.join_beside.ensures _ _ 2 c.serve_with_clock-served.ensures.fault (λ spent. spent)
 
 pub start_worker-requires-send-T : goal.start_worker-requires-send-T
 start_worker-requires-send-T g c κs within = search (sendable, crosses, kept_send) depth 20 fits 100000
@@ -38,13 +48,3 @@ start_worker-requires-send-T-Event g c κs within = search (sendable, crosses, e
 
 pub start_worker-requires-send-T-Reply : goal.start_worker-requires-send-T-Reply
 start_worker-requires-send-T-Reply g c κs within = search (sendable, crosses, reply_send) depth 20 fits 100000
-
-pub returns-clause-fault : goal.returns-clause-fault
-returns-clause-fault g c =
-    stops_among c.serve_until_sampler.result _ _ _ _ _ 2 c.in-Some.ensures.port c.serve_until_sampler.ensures.goes c.serve_until_sampler.ensures.fault
-
-pub returns-clause-served : goal.returns-clause-served
-returns-clause-served g c =
-    let off = c.in-Some.ensures.port in
-    let next : c.start_worker.new.port.known.splits + 2 ≡ c.args.port.now.known.splits + 3 = omega (arith, off.splits) in
-    served_from c.serve_until_sampler.result _ _ _ next c.serve_until_sampler.ensures.served
