@@ -31,5 +31,7 @@ pub fn meter_trace(alloc: Global, kept: &Kept) -> Result<Octets, AllocError>
 {
     exported_run_is_played();
     let trace = kept.recorder().export(alloc)?;
-    write_trace(alloc, &trace)
+    let text = write_trace(alloc, &trace);
+    drop(trace);
+    text
 }

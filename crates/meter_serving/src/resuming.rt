@@ -28,7 +28,8 @@ fn take_events(core: &mut RelayCore, alloc: Global, events: &[Event]) -> Result<
     ensures { OnOk result ((w : World) → StandsFor core.old w → StandsFor core.new (world_after events.now w)) }
 {
     'events: for event in events {
-        let _reply = core.step(alloc, event)?;
+        let reply = core.step(alloc, event)?;
+        drop(reply);
     }
     Ok(())
 }
@@ -48,8 +49,13 @@ pub fn resumed_recorder(alloc: Global, trace: &Trace, capacity: u16) -> Result<R
     has_range(alloc, &trace.opening);
     events_are_in_range(trace.events.as_slice());
     let mut core = opened_core(alloc, &trace.opening)?;
-    take_events(&mut core, alloc, trace.events.as_slice())?;
-    Recorder::from_core(alloc, core, capacity)
+    match take_events(&mut core, alloc, trace.events.as_slice()) {
+        Ok(()) => Recorder::from_core(alloc, core, capacity),
+        Err(error) => {
+            drop(core);
+            Err(error)
+        }
+    }
 }
 
 /// The durations of a limiter that is written down are numbers of 32 bits.

@@ -66,13 +66,24 @@ impl Recorder {
         ensures stands { IfOk result (λ recorder. (w : World) → StandsFor core w → StandsForHistory recorder [] w) }
     {
         core.stands_for_its_opening();
-        let opening = core.try_copy(alloc)?;
-        let kept = HeapCircularBuffer::with_capacity(alloc, usize::from(capacity))?;
-        Ok(Recorder {
-            core,
-            opening,
-            kept,
-        })
+        match core.try_copy(alloc) {
+            Ok(opening) => match HeapCircularBuffer::with_capacity(alloc, usize::from(capacity)) {
+                Ok(kept) => Ok(Recorder {
+                    core,
+                    opening,
+                    kept,
+                }),
+                Err(error) => {
+                    drop(core);
+                    drop(opening);
+                    Err(error.into())
+                }
+            },
+            Err(error) => {
+                drop(core);
+                Err(error)
+            }
+        }
     }
 
     /// Takes an event, answers it and keeps it. Where as many events are kept as may be, the oldest is kept no longer, and

@@ -25,7 +25,9 @@ impl Meter for RelayCore {
     ghost steps = { CoreSteps };
 
     fn call(&mut self, alloc: Global, event: Event) -> Result<Reply, CallFault> {
-        match self.step(alloc, &event) {
+        let reply = self.step(alloc, &event);
+        drop(event);
+        match reply {
             Ok(reply) => Ok(reply),
             Err(_) => Err(CallFault::Memory),
         }

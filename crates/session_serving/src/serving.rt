@@ -143,5 +143,7 @@ pub fn serve_session<R: Reader, W: Writer, M: Meter>(
     ensures { Served R.remaining R.reads R.failures W.contents W.failures M.steps password.now reader.old writer.old meter.old result reader.new writer.new meter.new }
 {
     let mut session = Session::new(alloc, password)?;
-    serve(alloc, &mut session, reader, writer, meter)
+    let end = serve(alloc, &mut session, reader, writer, meter);
+    drop(session);
+    end
 }

@@ -29,6 +29,13 @@ pub(crate) struct Connection {
     under_way: UnderWay,
 }
 
+// Something else is under way.
+fn put(under_way: &mut UnderWay, next: UnderWay)
+    ensures { under_way.new ≡ next }
+{
+    *under_way = next;
+}
+
 impl Model for Connection {
     ghost use Rattle.std.specs.Coded.{codes};
     ghost use Rattle.session_core.specs.contracts.session.Session as session_row;
@@ -126,11 +133,11 @@ impl Connection {
     {
         match self.session.next(alloc)? {
             Next::Ask(event) => {
-                self.under_way = UnderWay::Asked(event);
+                put(&mut self.under_way, UnderWay::Asked(event));
                 Ok(None)
             }
             Next::Send(frame) => {
-                self.under_way = UnderWay::Due(frame);
+                put(&mut self.under_way, UnderWay::Due(frame));
                 Ok(Some(Rest::Due))
             }
             Next::Wait => Ok(Some(Rest::Wait)),
@@ -164,7 +171,7 @@ impl Connection {
         match self.session.answer(alloc, reply) {
             Ok(()) => Ok(()),
             Err((fault, reply)) => {
-                self.under_way = UnderWay::Answered(reply);
+                put(&mut self.under_way, UnderWay::Answered(reply));
                 Err(fault)
             }
         }
@@ -183,7 +190,7 @@ impl Connection {
             return Given::NoRoom(count);
         }
         buffer[..count].copy_from_slice(frame.as_slice());
-        self.under_way = UnderWay::Nothing;
+        put(&mut self.under_way, UnderWay::Nothing);
         Given::Frame(count)
     }
 }

@@ -65,8 +65,9 @@ fn play_next(
     ensures err { IfErr result (λ fault. Fails trace_fault.Memory fault (line_as (event_of version) lines.old)) }
 {
     let event = next_event(alloc, version, lines)?;
-    play_event(alloc, number, &event, core, out)?;
-    Ok(())
+    let played = play_event(alloc, number, &event, core, out);
+    drop(event);
+    Ok(played?)
 }
 
 /// The lines of the next events, so many, each of which a meter takes as soon as it is read, the first of them with number 1. An event is let go before the next

@@ -37,7 +37,10 @@ fn ended(lines: &TraceLines, trace: Trace) -> Result<Trace, TraceFault>
 {
     match lines.end() {
         Ok(()) => Ok(trace),
-        Err(fault) => Err(fault),
+        Err(fault) => {
+            drop(trace);
+            Err(fault)
+        }
     }
 }
 

@@ -6,5 +6,5 @@ returns-in_err-session g c =
     served_none g.R.Reader.remaining g.R.Reader.reads g.R.Reader.failures g.W.Writer.contents g.W.Writer.failures g.M.Meter.steps c.args.password.now
     c.args.reader.now c.args.writer.now c.args.meter.now c.from_residual.result c.from_residual.ensures.1
 
-pub serve-requires-clause-settled : goal.serve-requires-clause-settled
-serve-requires-clause-settled g c = settled_new c.args.password.now c.in_ok-session.session c.in_ok-session.ensures
+pub serve-end-requires-clause-settled : goal.serve-end-requires-clause-settled
+serve-end-requires-clause-settled g c = settled_new c.args.password.now c.in_ok-session.session c.in_ok-session.ensures

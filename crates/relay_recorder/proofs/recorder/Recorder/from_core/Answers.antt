@@ -8,8 +8,8 @@ use Rattle.relay_recorder.proofs.recorder.Recorder.from_core.Goals as goal
 
 pub invariant_of-result : goal.invariant_of-result
 invariant_of-result c =
-    let empty = ap (λ (b : Buffer Event). b.items) c.in_ok-kept.ensures in (
+    let empty = ap (λ (b : Buffer Event). b.items) (rw c.in-Ok-with_capacity.is at c.with_capacity.ensures) in (
       Prim.search (rules, common_steps),
-      begins c.args.core c.in_ok-opening.opening c.in_ok-kept.kept (opened (opening_of c.args.core))
-          c.stands_for_its_opening.ensures c.in_ok-opening.ensures empty,
+      begins c.args.core c.in-Ok.opening c.in-Ok-with_capacity.kept (opened (opening_of c.args.core))
+          c.stands_for_its_opening.ensures (rw c.in-Ok.is at c.try_copy.ensures) empty,
     )
