@@ -51,7 +51,7 @@ impl Model for SupplyMeter {
     ghost invariant = { λ m. IsMetering (record { recorder = m.recorder; password = m.password; places = m.places }) };
 }
 
-// It tells nothing of the password, nor of what clients sent.
+// It tells nothing of the password, nor of the sessions, whose bytes may hold one.
 impl Debug for SupplyMeter {
     fn fmt<W: fmt::Write>(&self, f: &mut Formatter<W>) -> fmt::Result {
         f.debug_struct("SupplyMeter")
