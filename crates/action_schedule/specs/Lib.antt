@@ -1,3 +1,4 @@
+pub mod Attributes
 pub mod Fitting
 pub mod Forms
 pub mod Kinds

@@ -1,5 +1,5 @@
 ghost use Rattle.std.specs.Prelude.{◌≡◌, ◌↔◌, [], IsOk, IfOk, OnErr, IsErrOf, IsTrue, Err};
-ghost use Rattle.action_schedule.specs.declared.attribute.ScheduleAttribute.TheVariants.{Kind};
+ghost use Rattle.action_schedule.specs.Attributes.{is_plain};
 ghost use Rattle.cosem_names.specs.declared.write_fault.WriteFault.TheVariants.{Unmatched, Value};
 ghost use Rattle.action_schedule.specs.Fitting.{fits, is_due, IsDue};
 ghost use Rattle.action_schedule.specs.Reading.{selector_of, kind_of, entries_of};
@@ -114,7 +114,7 @@ impl ActionSchedule {
         ensures value { IfOk result (λ value. value ≡ data_at attribute self.now) }
         // Written again, it gives the attribute back.
         ensures again { IfOk result (λ value. ReadsBack attribute value self.now) }
-        ensures sure { attribute ≡ Kind → IsOk result }
+        ensures plain { IsTrue (is_plain attribute) → IsOk result }
     {
         match attribute {
             ScheduleAttribute::ExecutedScript => write_script(alloc, self.selector),

@@ -4,6 +4,8 @@
 //! then compared with that of the definition, memory aside. `specs/` has the words, and `proofs/` what is known of them.
 #![tactic(auto)]
 
+mod owned;
 mod reader;
 
+pub use owned::beside;
 pub use reader::Reader;

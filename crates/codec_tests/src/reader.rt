@@ -1,4 +1,4 @@
-use byte_reading::Reader;
+use byte_reading::{Reader, beside};
 use std::process::Abort;
 use xdlms_apdu::ApduFault;
 
@@ -24,4 +24,11 @@ fn a_reader_answers_the_fault_that_it_is_given(rt: HostRuntime) {
     assert!(rt; Reader::new(&GOT).bytes(7, ApduFault::UnknownForm) == Err(ApduFault::UnknownForm));
     let array: Result<[u8; 7], ApduFault> = Reader::new(&GOT).array(ApduFault::Unreadable);
     assert!(rt; array == Err(ApduFault::Unreadable));
+}
+
+#[test]
+fn what_was_read_before_is_let_go_at_a_fault(rt: HostRuntime) {
+    let fault = ApduFault::Unreadable;
+    assert!(rt; beside(0xC4u8, Reader::new(&GOT).byte(fault)) == Ok((0xC4, 0xC4)));
+    assert!(rt; beside(0xC4u8, Reader::new(&[]).byte(fault)) == Err(fault));
 }

@@ -5,7 +5,7 @@ use Rattle.std.proofs.lemmas.Bool.{and_from, lt-ltb, le-ltb, le-leb}
 use Rattle.std.proofs.lemmas.List.{take_at, drop_at, length-append}
 use Rattle.byte_reading.proofs.OutcomeLemmas.{done}
 use Rattle.cosem_axdr.specs.Limits.{max_items, bytes_for}
-use Rattle.cosem_axdr.specs.Reading.{Place, Read, read_as, bytes_at, byte_at, length_at, string_at, unsigned_at, bits_at, leaf_at, items_at, counted_at, value_at, nested_at}
+use Rattle.cosem_axdr.specs.Reading.{Place, Read, read_as, bytes_at, byte_at, length_at, string_at, unsigned_at, bits_at, fixed_at, leaf_at, items_at, counted_at, value_at, nested_at}
 use Rattle.cosem_axdr.specs.Spelling.{IsLength, IsString, IsBits, IsCounted, IsUnsigned, IsSigned, IsFixed, AreContents, AreSpelled, Spells, tag_of}
 use Rattle.cosem_axdr.specs.Tree.{Tree, Trees, count_of, nesting, nests, null, array, structure, boolean, bit_string, double_long, double_long_unsigned, octet_string, visible_string, utf8_string, integer, long, unsigned, long_unsigned, long64, long64_unsigned, enumerated, date_time, date, time, no_trees, tree}
 use Rattle.cosem_axdr.specs.View.{data_of, list_of}
@@ -105,7 +105,7 @@ abbrev body_at : (Place → Read Trees) → ℕ → Place → Read Data
 body_at counted tag place = cond (eqb tag 0x01) (read_as Array (counted place)) (cond (eqb tag 0x02) (read_as Structure (counted place)) (leaf_at tag place))
 
 body_again : (levels : ℕ) (counted : Place → Read Trees) → IsCountedAgain levels counted → (t : Tree) (text : List ℕ) (old new : Place) → Takes old text new → AreContents text t → nesting t ≤ levels → body_at counted (tag_of t) old ≡ Ok (data_of t, new)
-unfolding leaf_at
+unfolding leaf_at fixed_at
 body_again levels counted again null text old new t f flat =
     let none : Takes old [] new = subst (λ (x : List ℕ). Takes old x new) f t in
     let same : old ≡ new = same_place old new none in

@@ -8,7 +8,7 @@ use Rattle.std.proofs.lemmas.List.{take-append-drop, length-append, length-take}
 use Rattle.byte_reading.specs.Outcome.{◌>>=◌, ◌>>◌, guard}
 use Rattle.byte_reading.proofs.OutcomeLemmas.{done, failed, ok_is, bind_ok, guard_ok, chosen}
 use Rattle.cosem_axdr.specs.Limits.{max_items, bytes_for, cleared}
-use Rattle.cosem_axdr.specs.Reading.{Place, Read, read_as, bytes_at, byte_at, big_endian, length_at, string_at, unsigned_at, bits_at, leaf_at, items_at, counted_at, value_at, nested_at}
+use Rattle.cosem_axdr.specs.Reading.{Place, Read, read_as, bytes_at, byte_at, big_endian, length_at, string_at, unsigned_at, bits_at, fixed_at, leaf_at, items_at, counted_at, value_at, nested_at}
 use Rattle.cosem_axdr.specs.Spelling.{IsLength, IsString, IsBits, IsCounted, IsUnsigned, IsFixed, AreContents, AreSpelled, Spells, tag_of}
 use Rattle.cosem_axdr.specs.Tree.{Trees, trees_of, count_of, nesting, nests}
 use Rattle.cosem_axdr.specs.View.{tree_of, all_trees}
@@ -159,67 +159,51 @@ fixed_leaf levels tag n make body place x e = read_as_takes (IsFixed n) (IsBody 
 unknown_tag : {X : Type 0} (x : X) → failed X UnknownTag ≡ done DataFault x → ⊥
 unknown_tag x e = absurd cc
 
-pub leaf_takes : (levels tag : ℕ) (place : Place) (x : Data × Place) → leaf_at tag place ≡ Ok x → Took Data (IsBody levels tag) place x
-unfolding leaf_at
-leaf_takes levels tag place x e =
+fixed_takes : (levels tag : ℕ) (place : Place) (x : Data × Place) → fixed_at tag place ≡ Ok x → Took Data (IsBody levels tag) place x
+unfolding fixed_at
+fixed_takes levels tag place x e =
     elim (chosen (eqb tag 0x00) _ _ _ e) [
       | inl h ↦ let is : tag ≡ 0x00 = eqb-true tag 0x00 h.0 in subst (λ (z : Data × Place). Took Data (IsBody levels tag) place z) (ok_is (Null, place) x h.1) (record { text = []; takes = Takes-none place; spelled = (is, refl, least levels) })
       | inr r00 ↦
           elim (chosen (eqb tag 0x03) _ _ _ r00.1) [
             | inl h ↦ let is : tag ≡ 0x03 = eqb-true tag 0x03 h.0 in read_as_takes IsByte (IsBody levels tag) (λ byte. Boolean (not (byte == 0))) (λ text byte f. (is, (byte, f, refl), least levels)) place (byte_at place) x (byte_takes place) h.1
             | inr r03 ↦
-                elim (chosen (eqb tag 0x04) _ _ _ r03.1) [
-                  | inl h ↦ let is : tag ≡ 0x04 = eqb-true tag 0x04 h.0 in subst (λ (n : ℕ). Took Data (IsBody levels n) place x) (sym is) (bits_takes levels place x h.1)
-                  | inr r04 ↦
-                      elim (chosen (eqb tag 0x05) _ _ _ r04.1) [
-                        | inl h ↦ let is : tag ≡ 0x05 = eqb-true tag 0x05 h.0 in unsigned_leaf levels tag w32 (λ n. DoubleLong (cast_signed w32 n)) (λ text n f. (is, (f.0, ap (cast_signed w32) f.1), least levels)) place x h.1
-                        | inr r05 ↦
-                            elim (chosen (eqb tag 0x06) _ _ _ r05.1) [
-                              | inl h ↦ let is : tag ≡ 0x06 = eqb-true tag 0x06 h.0 in unsigned_leaf levels tag w32 DoubleLongUnsigned (λ text n f. (is, f, least levels)) place x h.1
-                              | inr r06 ↦
-                                  elim (chosen (eqb tag 0x09) _ _ _ r06.1) [
-                                    | inl h ↦ let is : tag ≡ 0x09 = eqb-true tag 0x09 h.0 in string_leaf levels tag OctetString (λ text bytes f. (is, f, least levels)) place x h.1
-                                    | inr r09 ↦
-                                        elim (chosen (eqb tag 0x0A) _ _ _ r09.1) [
-                                          | inl h ↦ let is : tag ≡ 0x0A = eqb-true tag 0x0A h.0 in string_leaf levels tag VisibleString (λ text bytes f. (is, f, least levels)) place x h.1
-                                          | inr r0A ↦
-                                              elim (chosen (eqb tag 0x0C) _ _ _ r0A.1) [
-                                                | inl h ↦ let is : tag ≡ 0x0C = eqb-true tag 0x0C h.0 in string_leaf levels tag Utf8String (λ text bytes f. (is, f, least levels)) place x h.1
-                                                | inr r0C ↦
-                                                    elim (chosen (eqb tag 0x0F) _ _ _ r0C.1) [
-                                                      | inl h ↦ let is : tag ≡ 0x0F = eqb-true tag 0x0F h.0 in unsigned_leaf levels tag w8 (λ n. Integer (cast_signed w8 n)) (λ text n f. (is, (f.0, ap (cast_signed w8) f.1), least levels)) place x h.1
-                                                      | inr r0F ↦
-                                                          elim (chosen (eqb tag 0x10) _ _ _ r0F.1) [
-                                                            | inl h ↦ let is : tag ≡ 0x10 = eqb-true tag 0x10 h.0 in unsigned_leaf levels tag w16 (λ n. Long (cast_signed w16 n)) (λ text n f. (is, (f.0, ap (cast_signed w16) f.1), least levels)) place x h.1
-                                                            | inr r10 ↦
-                                                                elim (chosen (eqb tag 0x11) _ _ _ r10.1) [
-                                                                  | inl h ↦ let is : tag ≡ 0x11 = eqb-true tag 0x11 h.0 in unsigned_leaf levels tag w8 Unsigned (λ text n f. (is, f, least levels)) place x h.1
-                                                                  | inr r11 ↦
-                                                                      elim (chosen (eqb tag 0x12) _ _ _ r11.1) [
-                                                                        | inl h ↦ let is : tag ≡ 0x12 = eqb-true tag 0x12 h.0 in unsigned_leaf levels tag w16 LongUnsigned (λ text n f. (is, f, least levels)) place x h.1
-                                                                        | inr r12 ↦
-                                                                            elim (chosen (eqb tag 0x14) _ _ _ r12.1) [
-                                                                              | inl h ↦ let is : tag ≡ 0x14 = eqb-true tag 0x14 h.0 in unsigned_leaf levels tag w64 (λ n. Long64 (cast_signed w64 n)) (λ text n f. (is, (f.0, ap (cast_signed w64) f.1), least levels)) place x h.1
-                                                                              | inr r14 ↦
-                                                                                  elim (chosen (eqb tag 0x15) _ _ _ r14.1) [
-                                                                                    | inl h ↦ let is : tag ≡ 0x15 = eqb-true tag 0x15 h.0 in unsigned_leaf levels tag w64 Long64Unsigned (λ text n f. (is, f, least levels)) place x h.1
-                                                                                    | inr r15 ↦
-                                                                                        elim (chosen (eqb tag 0x16) _ _ _ r15.1) [
-                                                                                          | inl h ↦ let is : tag ≡ 0x16 = eqb-true tag 0x16 h.0 in unsigned_leaf levels tag w8 Enum (λ text n f. (is, f, least levels)) place x h.1
-                                                                                          | inr r16 ↦
-                                                                                              elim (chosen (eqb tag 0x19) _ _ _ r16.1) [
-                                                                                                | inl h ↦ let is : tag ≡ 0x19 = eqb-true tag 0x19 h.0 in fixed_leaf levels tag 12 DateTime (λ text bytes f. (is, f, least levels)) place x h.1
-                                                                                                | inr r19 ↦
-                                                                                                    elim (chosen (eqb tag 0x1A) _ _ _ r19.1) [
-                                                                                                      | inl h ↦ let is : tag ≡ 0x1A = eqb-true tag 0x1A h.0 in fixed_leaf levels tag 5 Date (λ text bytes f. (is, f, least levels)) place x h.1
-                                                                                                      | inr r1A ↦
-                                                                                                          elim (chosen (eqb tag 0x1B) _ _ _ r1A.1) [
-                                                                                                            | inl h ↦ let is : tag ≡ 0x1B = eqb-true tag 0x1B h.0 in fixed_leaf levels tag 4 Time (λ text bytes f. (is, f, least levels)) place x h.1
-                                                                                                            | inr r1B ↦ absurd (unknown_tag x r1B.1)
-                                                                                                          ]
-                                                                                                    ]
-                                                                                              ]
-                                                                                        ]
+                elim (chosen (eqb tag 0x05) _ _ _ r03.1) [
+                  | inl h ↦ let is : tag ≡ 0x05 = eqb-true tag 0x05 h.0 in unsigned_leaf levels tag w32 (λ n. DoubleLong (cast_signed w32 n)) (λ text n f. (is, (f.0, ap (cast_signed w32) f.1), least levels)) place x h.1
+                  | inr r05 ↦
+                      elim (chosen (eqb tag 0x06) _ _ _ r05.1) [
+                        | inl h ↦ let is : tag ≡ 0x06 = eqb-true tag 0x06 h.0 in unsigned_leaf levels tag w32 DoubleLongUnsigned (λ text n f. (is, f, least levels)) place x h.1
+                        | inr r06 ↦
+                            elim (chosen (eqb tag 0x0F) _ _ _ r06.1) [
+                              | inl h ↦ let is : tag ≡ 0x0F = eqb-true tag 0x0F h.0 in unsigned_leaf levels tag w8 (λ n. Integer (cast_signed w8 n)) (λ text n f. (is, (f.0, ap (cast_signed w8) f.1), least levels)) place x h.1
+                              | inr r0F ↦
+                                  elim (chosen (eqb tag 0x10) _ _ _ r0F.1) [
+                                    | inl h ↦ let is : tag ≡ 0x10 = eqb-true tag 0x10 h.0 in unsigned_leaf levels tag w16 (λ n. Long (cast_signed w16 n)) (λ text n f. (is, (f.0, ap (cast_signed w16) f.1), least levels)) place x h.1
+                                    | inr r10 ↦
+                                        elim (chosen (eqb tag 0x11) _ _ _ r10.1) [
+                                          | inl h ↦ let is : tag ≡ 0x11 = eqb-true tag 0x11 h.0 in unsigned_leaf levels tag w8 Unsigned (λ text n f. (is, f, least levels)) place x h.1
+                                          | inr r11 ↦
+                                              elim (chosen (eqb tag 0x12) _ _ _ r11.1) [
+                                                | inl h ↦ let is : tag ≡ 0x12 = eqb-true tag 0x12 h.0 in unsigned_leaf levels tag w16 LongUnsigned (λ text n f. (is, f, least levels)) place x h.1
+                                                | inr r12 ↦
+                                                    elim (chosen (eqb tag 0x14) _ _ _ r12.1) [
+                                                      | inl h ↦ let is : tag ≡ 0x14 = eqb-true tag 0x14 h.0 in unsigned_leaf levels tag w64 (λ n. Long64 (cast_signed w64 n)) (λ text n f. (is, (f.0, ap (cast_signed w64) f.1), least levels)) place x h.1
+                                                      | inr r14 ↦
+                                                          elim (chosen (eqb tag 0x15) _ _ _ r14.1) [
+                                                            | inl h ↦ let is : tag ≡ 0x15 = eqb-true tag 0x15 h.0 in unsigned_leaf levels tag w64 Long64Unsigned (λ text n f. (is, f, least levels)) place x h.1
+                                                            | inr r15 ↦
+                                                                elim (chosen (eqb tag 0x16) _ _ _ r15.1) [
+                                                                  | inl h ↦ let is : tag ≡ 0x16 = eqb-true tag 0x16 h.0 in unsigned_leaf levels tag w8 Enum (λ text n f. (is, f, least levels)) place x h.1
+                                                                  | inr r16 ↦
+                                                                      elim (chosen (eqb tag 0x19) _ _ _ r16.1) [
+                                                                        | inl h ↦ let is : tag ≡ 0x19 = eqb-true tag 0x19 h.0 in fixed_leaf levels tag 12 DateTime (λ text bytes f. (is, f, least levels)) place x h.1
+                                                                        | inr r19 ↦
+                                                                            elim (chosen (eqb tag 0x1A) _ _ _ r19.1) [
+                                                                              | inl h ↦ let is : tag ≡ 0x1A = eqb-true tag 0x1A h.0 in fixed_leaf levels tag 5 Date (λ text bytes f. (is, f, least levels)) place x h.1
+                                                                              | inr r1A ↦
+                                                                                  elim (chosen (eqb tag 0x1B) _ _ _ r1A.1) [
+                                                                                    | inl h ↦ let is : tag ≡ 0x1B = eqb-true tag 0x1B h.0 in fixed_leaf levels tag 4 Time (λ text bytes f. (is, f, least levels)) place x h.1
+                                                                                    | inr r1B ↦ absurd (unknown_tag x r1B.1)
                                                                                   ]
                                                                             ]
                                                                       ]
@@ -230,6 +214,26 @@ leaf_takes levels tag place x e =
                                         ]
                                   ]
                             ]
+                      ]
+                ]
+          ]
+    ]
+
+pub leaf_takes : (levels tag : ℕ) (place : Place) (x : Data × Place) → leaf_at tag place ≡ Ok x → Took Data (IsBody levels tag) place x
+unfolding leaf_at
+leaf_takes levels tag place x e =
+    elim (chosen (eqb tag 0x04) _ _ _ e) [
+      | inl h ↦ let is : tag ≡ 0x04 = eqb-true tag 0x04 h.0 in subst (λ (n : ℕ). Took Data (IsBody levels n) place x) (sym is) (bits_takes levels place x h.1)
+      | inr r04 ↦
+          elim (chosen (eqb tag 0x09) _ _ _ r04.1) [
+            | inl h ↦ let is : tag ≡ 0x09 = eqb-true tag 0x09 h.0 in string_leaf levels tag OctetString (λ text bytes f. (is, f, least levels)) place x h.1
+            | inr r09 ↦
+                elim (chosen (eqb tag 0x0A) _ _ _ r09.1) [
+                  | inl h ↦ let is : tag ≡ 0x0A = eqb-true tag 0x0A h.0 in string_leaf levels tag VisibleString (λ text bytes f. (is, f, least levels)) place x h.1
+                  | inr r0A ↦
+                      elim (chosen (eqb tag 0x0C) _ _ _ r0A.1) [
+                        | inl h ↦ let is : tag ≡ 0x0C = eqb-true tag 0x0C h.0 in string_leaf levels tag Utf8String (λ text bytes f. (is, f, least levels)) place x h.1
+                        | inr r0C ↦ fixed_takes levels tag place x r0C.1
                       ]
                 ]
           ]

@@ -1,7 +1,7 @@
 -- Reading a Data from the front of bytes (A-XDR: IEC 61334-6, IEC 62056-5-3), with the fault that is met first. The order of faults is this meter's.
 --     Place                    what is left of the bytes, and how many of them may still be wanted
 --     bytes_at                 the one rule of wanting: all of them at once, TooLong before Truncated
---     length_at .. leaf_at     a length, a string, a number, a bit-string, a value with no items
+--     length_at .. leaf_at     a length, a string, a number, a bit-string, a value of a fixed length, a value with no items
 --     items_at .. value_at     items one after the other, a counted list of them, a value
 --     first_data               the Data at the front of bytes, and how many of them it takes
 use Rattle.std.specs.Prelude.{◌≡◌, ℕ, zero, suc, ◌+◌, ◌-◌, ◌*◌, not, ◌&&◌, List, [], ◌∷◌, length, take, drop, fold, Result, Ok, Err, nat_lt, nat_le, ◌==◌, slice_index, if◌then◌else◌}
@@ -79,17 +79,13 @@ bits_at place = do
   bytes ← bytes_at (bytes_for bits.0) bits.1
   Ok (BitString bits.0 (cleared bits.0 bytes.0), bytes.1)
 
--- the value of a tag that has no items
-unfoldable pub leaf_at : ℕ → Place → Read Data
-leaf_at tag place =
+-- a value of a fixed length, by its tag
+unfoldable pub fixed_at : ℕ → Place → Read Data
+fixed_at tag place =
     if tag == 0x00 then Ok (Null, place) else
     if tag == 0x03 then read_as (λ byte. Boolean (not (byte == 0))) (byte_at place) else
-    if tag == 0x04 then bits_at place else
     if tag == 0x05 then read_as (λ n. DoubleLong (cast_signed w32 n)) (unsigned_at w32 place) else
     if tag == 0x06 then read_as DoubleLongUnsigned (unsigned_at w32 place) else
-    if tag == 0x09 then read_as OctetString (string_at place) else
-    if tag == 0x0A then read_as VisibleString (string_at place) else
-    if tag == 0x0C then read_as Utf8String (string_at place) else
     if tag == 0x0F then read_as (λ n. Integer (cast_signed w8 n)) (unsigned_at w8 place) else
     if tag == 0x10 then read_as (λ n. Long (cast_signed w16 n)) (unsigned_at w16 place) else
     if tag == 0x11 then read_as Unsigned (unsigned_at w8 place) else
@@ -101,6 +97,15 @@ leaf_at tag place =
     if tag == 0x1A then read_as Date (bytes_at 5 place) else
     if tag == 0x1B then read_as Time (bytes_at 4 place) else
     Err UnknownTag
+
+-- the value of a tag that has no items
+unfoldable pub leaf_at : ℕ → Place → Read Data
+leaf_at tag place =
+    if tag == 0x04 then bits_at place else
+    if tag == 0x09 then read_as OctetString (string_at place) else
+    if tag == 0x0A then read_as VisibleString (string_at place) else
+    if tag == 0x0C then read_as Utf8String (string_at place) else
+    fixed_at tag place
 
 -- so many items one after the other, each read by the given reader
 unfoldable pub items_at : (Place → Read Data) → ℕ → Place → Read (List Data)

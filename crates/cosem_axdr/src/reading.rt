@@ -3,7 +3,7 @@ ghost use Rattle.cosem_axdr.specs.Spelling.{IsSpelling};
 ghost use Rattle.cosem_axdr.specs.View.{tree_of};
 ghost use Rattle.cosem_axdr.specs.declared.value.Data.{Data};
 ghost use Rattle.byte_reading.specs.Outcome.{Gives};
-ghost use Rattle.cosem_axdr.specs.Reading.{Reads, string_at, bits_at, leaf_at, items_at, nested_at, value_at, first_data};
+ghost use Rattle.cosem_axdr.specs.Reading.{Reads, string_at, bits_at, fixed_at, leaf_at, items_at, nested_at, value_at, first_data};
 
 use crate::fault::DataFault;
 use crate::limits::{MAX_ITEMS, MAX_NESTING, bytes_for, clear_unused};
@@ -90,15 +90,25 @@ fn read_items(
 fn read_leaf(alloc: Global, tag: u8, reader: &mut Reader) -> Result<Data, DataFault>
     ensures { Reads (λ value. value) result reader.new (leaf_at tag reader.old) }
 {
+    match tag {
+        tag::BIT_STRING => read_bits(alloc, reader),
+        tag::OCTET_STRING => Ok(Data::OctetString(read_string(alloc, reader)?)),
+        tag::VISIBLE_STRING => Ok(Data::VisibleString(read_string(alloc, reader)?)),
+        tag::UTF8_STRING => Ok(Data::Utf8String(read_string(alloc, reader)?)),
+        tag => read_fixed(tag, reader),
+    }
+}
+
+// A value of a fixed length, by its tag.
+#[tactic(auto, unfolding(crate::specs::Reading::fixed_at))]
+fn read_fixed(tag: u8, reader: &mut Reader) -> Result<Data, DataFault>
+    ensures { Reads (λ value. value) result reader.new (fixed_at tag reader.old) }
+{
     Ok(match tag {
         tag::NULL_DATA => Data::Null,
         tag::BOOLEAN => Data::Boolean(reader.byte()? != 0),
-        tag::BIT_STRING => read_bits(alloc, reader)?,
         tag::DOUBLE_LONG => Data::DoubleLong(i32::from_be_bytes(reader.array()?)),
         tag::DOUBLE_LONG_UNSIGNED => Data::DoubleLongUnsigned(u32::from_be_bytes(reader.array()?)),
-        tag::OCTET_STRING => Data::OctetString(read_string(alloc, reader)?),
-        tag::VISIBLE_STRING => Data::VisibleString(read_string(alloc, reader)?),
-        tag::UTF8_STRING => Data::Utf8String(read_string(alloc, reader)?),
         tag::INTEGER => Data::Integer(i8::from_be_bytes(reader.array()?)),
         tag::LONG => Data::Long(i16::from_be_bytes(reader.array()?)),
         tag::UNSIGNED => Data::Unsigned(u8::from_be_bytes(reader.array()?)),

@@ -1,5 +1,6 @@
 //! The command line of the program.
 use clap::{Arg, ArgAction, Command, value_parser};
+use program_start::with_subcommand;
 use std::alloc::{AllocError, Global};
 
 /// What `--help` tells below the options.
@@ -80,19 +81,23 @@ fn run_command<'a>(alloc: Global) -> Result<Command<'a>, AllocError> {
         .arg(verbose(alloc))
 }
 
-/// The commands of the program, as its users see them.
-pub fn command_line<'a>(alloc: Global) -> Result<Command<'a>, AllocError> {
-    let check = Command::new(alloc, "check")
+/// The command that counts the jobs of a list.
+fn check_command<'a>(alloc: Global) -> Result<Command<'a>, AllocError> {
+    Command::new(alloc, "check")
         .about(
             "Reads the jobs on standard input and prints how many they are: a line each, ID ADDRESS VERB, the verb disconnect, reconnect or state",
         )
-        .arg(verbose(alloc))?;
-    Command::new(alloc, "head_end")
+        .arg(verbose(alloc))
+}
+
+/// The commands of the program, as its users see them.
+pub fn command_line<'a>(alloc: Global) -> Result<Command<'a>, AllocError> {
+    let program = Command::new(alloc, "head_end")
         .bin_name("head_end")?
         .version("0.1.0")
         .about("Switching campaigns over DLMS/COSEM electricity meters")
         .after_help(LIMITS_AND_STATUSES)
-        .subcommand_required(true)
-        .subcommand(check)?
-        .subcommand(run_command(alloc)?)
+        .subcommand_required(true);
+    let program = with_subcommand(program, check_command(alloc))?;
+    with_subcommand(program, run_command(alloc))
 }

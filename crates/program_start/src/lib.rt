@@ -3,13 +3,13 @@
 
 ghost use Rattle.std.specs.Prelude.{◌≡◌, true, IfOk, IfErr};
 ghost use Rattle.std.specs.Process.{exit_status};
-ghost use Rattle.clap.specs.Words.{kind_of};
+ghost use Rattle.clap.specs.Words.{AddsSubcommand, kind_of};
 ghost use Rattle.program_start.specs.Ends.{is_of_words, is_of_texts, status_without_work, status_by};
 
-use clap::Error;
 use clap::error::ErrorKind;
+use clap::{Command, Error};
 use program_fault::Fault;
-use std::alloc::AllocGlobal;
+use std::alloc::{AllocError, AllocGlobal};
 use std::process::ExitCode;
 use std::rt::Env;
 use std::{env, io};
@@ -35,6 +35,22 @@ pub fn words<R: Env + AllocGlobal>(rt: &R) -> Result<Vec<String>, Fault>
     match words.collect(rt.alloc()) {
         Ok(words) => Ok(words),
         Err(_) => Err(Fault::Memory),
+    }
+}
+
+/// A program's command with one of its subcommands, once that is made; for want of memory there is neither.
+pub fn with_subcommand<'a>(
+    program: Command<'a>,
+    made: Result<Command<'a>, AllocError>,
+) -> Result<Command<'a>, AllocError>
+    ensures { IfOk result (λ command. IfOk made.entry (λ subcommand. AddsSubcommand program.entry subcommand command)) }
+{
+    match made {
+        Ok(subcommand) => program.subcommand(subcommand),
+        Err(error) => {
+            drop(program);
+            Err(error)
+        }
     }
 }
 

@@ -15,6 +15,9 @@ use Rattle.cosem_names.specs.declared.service.AttributeSelection.{AttributeSelec
 use Rattle.cosem_names.specs.declared.service.GetResult.{GetResult}
 use Rattle.cosem_names.specs.declared.service.GetResult.TheVariants as result
 use Rattle.cosem_names.specs.Objects.{rights_of, may_execute_of}
+use Rattle.disconnect_control.specs.Attributes.{attribute_numbered as control_attribute, mode_form}
+use Rattle.disconnect_control.specs.declared.attribute.ControlAttribute.{ControlAttribute}
+use Rattle.disconnect_control.specs.declared.attribute.ControlAttribute.TheVariants as control
 use Rattle.disconnect_control.specs.declared.state.ControlMode.{ControlMode}
 use Rattle.disconnect_control.specs.declared.state.Trigger.{Trigger}
 use Rattle.disconnect_control.specs.declared.state.Trigger.TheVariants.{ManualDisconnect, ManualReconnect}
@@ -45,7 +48,7 @@ use Rattle.relay_core.specs.Schedules.{all_schedules}
 use Rattle.relay_core.specs.Scripts.{at_script}
 use Rattle.relay_core.specs.Switch.{at_trigger}
 use Rattle.relay_core.specs.World.{World, Outcome}
-use Rattle.relay_core.specs.Writing.{refused, at_mode_form, mode_form, at_scripts, at_setting_form, at_groups, at_limiter, at_schedule, at_write, write_at, at_set}
+use Rattle.relay_core.specs.Writing.{refused, at_mode_form, at_control, at_scripts, at_setting_form, at_groups, at_limiter, at_schedule, at_write, write_at, at_set}
 use Rattle.relay_core.proofs.Agreeing.{Alike, AreAlike, of_rows, trigger_alike, mode_alike, setting_alike, script_alike, steps_in_range, running_in_range, samples_alike, either_alike}
 use Rattle.script_steps.specs.declared.step.Script.{Script}
 use Rattle.script_steps.specs.declared.step.Step.{Step}
@@ -137,9 +140,15 @@ limiter_alike which (Some attribute.EmergencyProfileGroupIdList) value v w small
 limiter_alike which (Some attribute.EmergencyProfileActive) value v w small range agree = setting_form_alike which _ v w (small.setting attribute.EmergencyProfileActive) range agree
 limiter_alike which (Some attribute.Actions) value v w small range agree = setting_form_alike which _ v w (small.setting attribute.Actions) range agree
 
-mode_form_alike : (read : Result ControlMode ResultCode) (v w : World) → IsWorld v → Agree v w → Alike (at_mode_form read v) (at_mode_form read w)
-mode_form_alike (Err refusal) v w range agree = refused_alike _ v w range agree
+mode_form_alike : (read : Result ControlMode WriteFault) (v w : World) → IsWorld v → Agree v w → Alike (at_mode_form read v) (at_mode_form read w)
+mode_form_alike (Err fault) v w range agree = refused_alike _ v w range agree
 mode_form_alike (Ok mode) v w range agree = mode_alike mode v w range agree
+
+control_alike : (found : Option ControlAttribute) (value : Data) (v w : World) → IsWorld v → Agree v w → Alike (at_control found value v) (at_control found value w)
+control_alike None value v w range agree = refused_alike _ v w range agree
+control_alike (Some control.OutputState) value v w range agree = refused_alike _ v w range agree
+control_alike (Some control.ControlState) value v w range agree = refused_alike _ v w range agree
+control_alike (Some control.ControlMode) value v w range agree = mode_form_alike (mode_form value) v w range agree
 
 write_alike : (instance : Instance) (number : ℕ) (value : Data) (v w : World) → IsValue value → IsWorld v → Agree v w
     → Alike (at_write instance number value v) (at_write instance number value w)
@@ -156,8 +165,7 @@ write_alike (Schedule which) number value v w small range agree =
       world = record { same = refl; import = i; export = e };
       range = record { import = range.import; export = range.export; scripts = range.scripts };
     })
-write_alike DisconnectControl number value v w small range agree =
-    either_alike (number == 4) (number == 4) _ _ _ _ refl (mode_form_alike (mode_form value) v w range agree) (refused_alike _ v w range agree)
+write_alike DisconnectControl number value v w small range agree = control_alike (control_attribute number) value v w range agree
 write_alike (Limiter which) number value v w small range agree = limiter_alike which (attribute_numbered number) value v w small range agree
 
 write_at_alike : (target : Result Instance ResultCode) (number : ℕ) (value : Data) (v w : World) → IsValue value → IsWorld v → Agree v w

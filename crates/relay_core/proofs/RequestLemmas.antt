@@ -4,6 +4,7 @@ use Rattle.byte_reading.specs.Outcome.{◌>>=◌}
 use Rattle.cosem_names.specs.Objects.{object_of, class_attribute_of, class_method_of, attribute_of, method_of, rights_of, may_execute_of}
 use Rattle.cosem_names.specs.declared.objects.Which.{Which}
 use Rattle.cosem_names.specs.declared.objects.Which.TheVariants.{Import, Export}
+use Rattle.disconnect_control.specs.Attributes.{mode_form}
 use Rattle.disconnect_control.specs.declared.state.ControlMode.TheVariants.{Mode0, Mode1, Mode2, Mode3, Mode4, Mode5, Mode6}
 use Rattle.limiter_attributes.specs.Attributes.{attribute_numbered}
 use Rattle.limiter_attributes.specs.Reading.{setting_of}
@@ -14,7 +15,7 @@ use Rattle.relay_core.specs.Acting.{switch_trigger, at_method, at_execute}
 use Rattle.relay_core.specs.Requests.{at_request}
 use Rattle.relay_core.specs.Scripts.{at_step}
 use Rattle.relay_core.specs.World.{World, Outcome}
-use Rattle.relay_core.specs.Writing.{mode_form, at_setting_form, at_write, at_set}
+use Rattle.relay_core.specs.Writing.{at_setting_form, at_write, at_set}
 use Rattle.relay_core.specs.declared.scripts.Origin.TheVariants.{Remote}
 use Rattle.script_steps.proofs.Again.{profile_again}
 use Rattle.script_steps.specs.Table.{IsStep}

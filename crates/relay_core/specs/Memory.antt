@@ -1,5 +1,7 @@
 -- Which reads and writes take no memory, so that they are always answered.
 use Rattle.std.specs.Prelude.{ℕ, Bool, true, Result, Ok, Err, ◌==◌, ◌||◌, ◌&&◌, not, Option, Some, None}
+use Rattle.action_schedule.specs.Attributes.{attribute_numbered as schedule_attribute, is_plain as is_plain_schedule}
+use Rattle.action_schedule.specs.declared.attribute.ScheduleAttribute.{ScheduleAttribute}
 use Rattle.cosem_names.specs.declared.name.AttrRef.{AttrRef}
 use Rattle.cosem_names.specs.declared.level.Level.{Level}
 use Rattle.cosem_names.specs.declared.objects.Instance.{Instance}
@@ -10,10 +12,14 @@ use Rattle.limiter_attributes.specs.declared.attribute.LimiterAttribute.{Limiter
 use Rattle.limiter_attributes.specs.Attributes.{attribute_numbered, is_plain as is_plain_limiter}
 use Rattle.relay_core.specs.Access.{target_of}
 
--- whether an attribute of a limiter takes no memory to read
+-- whether an attribute of a limiter or a schedule takes no memory to read
 abbrev pub is_plain_attribute : Option LimiterAttribute → Bool
 is_plain_attribute None = true
 is_plain_attribute (Some attribute) = is_plain_limiter attribute
+
+abbrev pub is_plain_schedule_attribute : Option ScheduleAttribute → Bool
+is_plain_schedule_attribute None = true
+is_plain_schedule_attribute (Some attribute) = is_plain_schedule attribute
 
 -- whether the value of an attribute is a boolean, an enum or a number, which takes no memory
 abbrev pub is_plain : Instance → ℕ → Bool
@@ -21,7 +27,7 @@ is_plain Association number = not (number == 1 || number == 2)
 is_plain DeviceName number = not (number == 1 || number == 2)
 is_plain (Register which) number = not (number == 1 || number == 3)
 is_plain ScriptTable number = not (number == 1 || number == 2)
-is_plain (Schedule which) number = not (number == 1 || (number == 2 || number == 4))
+is_plain (Schedule which) number = not (number == 1) && is_plain_schedule_attribute (schedule_attribute number)
 is_plain DisconnectControl number = not (number == 1)
 is_plain (Limiter which) number = not (number == 1) && is_plain_attribute (attribute_numbered number)
 

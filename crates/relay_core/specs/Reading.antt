@@ -1,6 +1,7 @@
 use Rattle.std.specs.Prelude.{ℕ, pos, Bool, List, [], ◌∷◌, Result, Ok, Err, ◌==◌, map, Option, Some, None, if◌then◌else◌}
+use Rattle.action_schedule.specs.Attributes.{attribute_numbered as schedule_attribute}
 use Rattle.cosem_axdr.specs.declared.value.Data.{Data}
-use Rattle.cosem_axdr.specs.declared.value.Data.TheVariants.{OctetString, Boolean, Enum, Integer, DoubleLongUnsigned}
+use Rattle.cosem_axdr.specs.declared.value.Data.TheVariants.{OctetString, Enum, Integer, DoubleLongUnsigned}
 use Rattle.cosem_names.specs.declared.name.AttrRef.{AttrRef}
 use Rattle.cosem_names.specs.declared.level.Level.{Level}
 use Rattle.cosem_names.specs.declared.objects.Instance.{Instance}
@@ -12,9 +13,9 @@ use Rattle.cosem_names.specs.declared.service.GetResult.{GetResult}
 use Rattle.cosem_names.specs.declared.service.GetResult.TheVariants.{Value, Code}
 use Rattle.cosem_names.specs.ObjectList.{structure_with, object_list_of}
 use Rattle.cosem_names.specs.Objects.{rights_of}
-use Rattle.disconnect_control.specs.declared.state.ControlState.TheVariants.{Connected}
+use Rattle.disconnect_control.specs.Attributes.{attribute_numbered as control_attribute, data_at as control_data}
 use Rattle.disconnect_control.specs.Control.{Control}
-use Rattle.disconnect_control.specs.Transitions.{state_number, mode_number, is_state}
+use Rattle.disconnect_control.specs.declared.attribute.ControlAttribute.{ControlAttribute}
 use Rattle.cosem_names.specs.declared.objects.Which.{Which}
 use Rattle.limiter_attributes.specs.declared.attribute.LimiterAttribute.{LimiterAttribute}
 use Rattle.limiter_attributes.specs.Attributes.{attribute_numbered}
@@ -27,12 +28,9 @@ use Rattle.relay_core.specs.World.{World, Metered}
 use Rattle.script_steps.specs.Writing.{data_of}
 
 -- the attributes of the switch past its logical name (IEC 62056-6-2, class 70)
-abbrev pub control_value : Control → ℕ → GetResult
-control_value control number =
-    if number == 2 then Value (Boolean (is_state control.state Connected))
-    else if number == 3 then Value (Enum (state_number control.state))
-    else if number == 4 then Value (Enum (mode_number control.mode))
-    else Code ReadWriteDenied
+abbrev pub control_value : Control → Option ControlAttribute → GetResult
+control_value control None = Code ReadWriteDenied
+control_value control (Some attribute) = Value (control_data attribute control)
 
 -- the scaler_unit of a register of active power: 10 to the power 0 W (IEC 62056-6-2, class 3)
 abbrev pub scaler_unit : Data
@@ -56,8 +54,8 @@ own_value_in level Association number w = if number == 2 then Value (object_list
 own_value_in level DeviceName number w = if number == 2 then Value (OctetString w.device) else Code ReadWriteDenied
 own_value_in level (Register which) number w = register_value (metered_of which w) number
 own_value_in level ScriptTable number w = if number == 2 then Value (data_of w.scripts) else Code ReadWriteDenied
-own_value_in level (Schedule which) number w = schedule_value (schedule_of which w.schedules) number
-own_value_in level DisconnectControl number w = control_value w.control number
+own_value_in level (Schedule which) number w = schedule_value (schedule_of which w.schedules) (schedule_attribute number)
+own_value_in level DisconnectControl number w = control_value w.control (control_attribute number)
 own_value_in level (Limiter which) number w = limiter_value which (metered_of which w).settings (attribute_numbered number)
 
 -- the value of an attribute: attribute 1 is the logical name, in every class (IEC 62056-6-2)

@@ -1,6 +1,6 @@
 -- The four single action schedules, and their attributes as they are read and written (IEC 62056-6-2, class 22).
-use Rattle.std.specs.Prelude.{ℕ, List, [], ◌∷◌, Result, Ok, Err, ◌==◌, if◌then◌else◌}
-use Rattle.action_schedule.specs.declared.attribute.ScheduleAttribute.TheVariants.{ExecutedScript, Kind, ExecutionTime}
+use Rattle.std.specs.Prelude.{ℕ, List, [], ◌∷◌, Option, Some, None, Result, Ok, Err, ◌==◌, if◌then◌else◌}
+use Rattle.action_schedule.specs.declared.attribute.ScheduleAttribute.{ScheduleAttribute}
 use Rattle.cosem_names.specs.WriteFault.{fault_code}
 use Rattle.cosem_names.specs.declared.write_fault.WriteFault.{WriteFault}
 use Rattle.action_schedule.specs.Reading.{selector_of, kind_of, entries_of}
@@ -34,12 +34,9 @@ abbrev pub all_schedules : Schedules → List Schedule
 all_schedules s = s.first ∷ s.second ∷ s.third ∷ s.fourth ∷ []
 
 -- the attributes of a schedule past its logical name
-unfoldable pub schedule_value : Schedule → ℕ → GetResult
-schedule_value schedule number =
-    if number == 2 then Value (data_at ExecutedScript schedule)
-    else if number == 3 then Value (data_at Kind schedule)
-    else if number == 4 then Value (data_at ExecutionTime schedule)
-    else Code ReadWriteDenied
+abbrev pub schedule_value : Schedule → Option ScheduleAttribute → GetResult
+schedule_value schedule None = Code ReadWriteDenied
+schedule_value schedule (Some attribute) = Value (data_at attribute schedule)
 
 -- the result of a write
 abbrev pub write_code : {A : Type 0} → Result A WriteFault → ResultCode

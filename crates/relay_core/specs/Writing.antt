@@ -2,7 +2,6 @@
 use Rattle.std.specs.Prelude.{ℕ, Bool, List, Option, Some, None, Result, Ok, Err, ◌==◌, if◌then◌else◌}
 use Rattle.cosem_axdr.specs.declared.value.Data.{Data}
 use Rattle.cosem_datetime.specs.declared.entry.EntryPattern.{EntryPattern}
-use Rattle.cosem_axdr.specs.Forms.{enumerated_of}
 use Rattle.cosem_names.specs.declared.name.AttrRef.{AttrRef}
 use Rattle.cosem_names.specs.declared.level.Level.{Level}
 use Rattle.cosem_names.specs.declared.objects.Instance.{Instance}
@@ -10,10 +9,12 @@ use Rattle.cosem_names.specs.declared.objects.Instance.TheVariants.{Association,
 use Rattle.cosem_names.specs.declared.objects.ScheduleNumber.{ScheduleNumber}
 use Rattle.cosem_names.specs.declared.objects.Which.{Which}
 use Rattle.cosem_names.specs.declared.result_code.ResultCode.{ResultCode}
-use Rattle.cosem_names.specs.declared.result_code.ResultCode.TheVariants.{Success, ReadWriteDenied, TypeUnmatched, OtherReason}
+use Rattle.cosem_names.specs.declared.result_code.ResultCode.TheVariants.{Success, ReadWriteDenied}
 use Rattle.cosem_names.specs.Objects.{rights_of}
+use Rattle.disconnect_control.specs.declared.attribute.ControlAttribute.{ControlAttribute}
+use Rattle.disconnect_control.specs.declared.attribute.ControlAttribute.TheVariants as attribute
 use Rattle.disconnect_control.specs.declared.state.ControlMode.{ControlMode}
-use Rattle.disconnect_control.specs.Transitions.{mode_of}
+use Rattle.disconnect_control.specs.Attributes.{attribute_numbered as control_attribute, mode_form}
 use Rattle.disconnect_control.specs.Control.{with_mode, mode_result}
 use Rattle.limiter_attributes.specs.declared.attribute.LimiterAttribute.{LimiterAttribute}
 use Rattle.limiter_attributes.specs.declared.attribute.LimiterAttribute.TheVariants.{EmergencyProfileGroupIdList}
@@ -34,25 +35,18 @@ use Rattle.script_steps.specs.Reading.{table_of}
 abbrev pub refused : ResultCode → World → Outcome
 refused code w = record { world = w; code = code }
 
--- a control_mode: an enum, 0 to 6 (IEC 62056-6-2, class 70)
-abbrev pub mode_numbered : Option ControlMode → Result ControlMode ResultCode
-mode_numbered None = Err OtherReason
-mode_numbered (Some mode) = Ok mode
-
-abbrev pub mode_written : Option ℕ → Result ControlMode ResultCode
-mode_written None = Err TypeUnmatched
-mode_written (Some number) = mode_numbered (mode_of number)
-
-unfoldable pub mode_form : Data → Result ControlMode ResultCode
-mode_form value = mode_written (enumerated_of value)
-
 -- a write of the mode, which the switch's state may refuse
 unfoldable pub at_mode : ControlMode → World → Outcome
 at_mode mode w = record { world = record w { control = with_mode mode w.control }; code = mode_result mode w.control }
 
-abbrev pub at_mode_form : Result ControlMode ResultCode → World → Outcome
-at_mode_form (Err refusal) w = refused refusal w
+abbrev pub at_mode_form : Result ControlMode WriteFault → World → Outcome
+at_mode_form (Err fault) w = refused (fault_code fault) w
 at_mode_form (Ok mode) w = at_mode mode w
+
+-- a write of an attribute of the switch: its mode alone is written
+abbrev pub at_control : Option ControlAttribute → Data → World → Outcome
+at_control (Some attribute.ControlMode) value w = at_mode_form (mode_form value) w
+at_control _ value w = refused ReadWriteDenied w
 
 -- a write of the script table's scripts
 abbrev pub at_scripts : Result (List Script) WriteFault → World → Outcome
@@ -104,7 +98,7 @@ at_write DeviceName number value w = refused ReadWriteDenied w
 at_write (Register which) number value w = refused ReadWriteDenied w
 at_write ScriptTable number value w = if number == 2 then at_scripts (table_of value) w else refused ReadWriteDenied w
 at_write (Schedule which) number value w = at_schedule which number value w
-at_write DisconnectControl number value w = if number == 4 then at_mode_form (mode_form value) w else refused ReadWriteDenied w
+at_write DisconnectControl number value w = at_control (control_attribute number) value w
 at_write (Limiter which) number value w = at_limiter which (attribute_numbered number) value w
 
 -- a write of an object that was reached

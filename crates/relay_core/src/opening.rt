@@ -7,7 +7,7 @@ ghost use Rattle.relay_core.specs.World.{World};
 
 use crate::relay::RelayCore;
 use crate::schedules::Schedules;
-use action_schedule::ActionSchedule;
+use byte_reading::beside;
 use cosem_axdr::Octets;
 use disconnect_control::{ControlMode, ControlState, DisconnectControl};
 use limiter_core::{Actions, Count, Limiter, MAX_GROUPS, Profile};
@@ -149,15 +149,19 @@ impl RelayCore {
         ensures fit { IfOk result IsFitOpening }
         ensures range { IfOk result (λ opening. IsWorld (opened opening)) }
     {
+        let import = LimiterOpening::of(alloc, &self.import)?;
+        let (import, export) = beside(import, LimiterOpening::of(alloc, &self.export))?;
+        let copies = copied(alloc, &self.device, &self.scripts, &self.schedules);
+        let ((import, export), (device, scripts, schedules)) = beside((import, export), copies)?;
         Ok(Opening {
-            device: self.device.try_clone(alloc)?,
+            device,
             state: self.control.state(),
             mode: self.control.mode(),
             moment: self.moment,
-            import: LimiterOpening::of(alloc, &self.import)?,
-            export: LimiterOpening::of(alloc, &self.export)?,
-            scripts: self.scripts.try_clone(alloc)?,
-            schedules: self.schedules.try_clone(alloc)?,
+            import,
+            export,
+            scripts,
+            schedules,
         })
     }
 
@@ -189,24 +193,73 @@ impl RelayCore {
         ensures stands { IfOk result (λ core. StandsFor core (opened opening.now)) }
         ensures same { IfOk result (λ core. opening_of core ≡ opening.now) }
     {
-        let Some((control, mut import, mut export)) = opening.bare_parts(alloc) else {
+        let Some((control, import, export)) = opening.bare_parts(alloc) else {
             return Err(OpeningFault::Unfit);
         };
-        import.set_groups(alloc, opening.import.groups.as_slice())?;
-        export.set_groups(alloc, opening.export.groups.as_slice())?;
+        let limiters = opening.with_groups(alloc, import, export)?;
+        let copies = copied(alloc, &opening.device, &opening.scripts, &opening.schedules);
+        let ((import, export), (device, scripts, schedules)) = beside(limiters, copies)?;
         Ok(RelayCore {
-            device: opening.device.try_clone(alloc)?,
+            device,
             control,
             moment: opening.moment,
             import,
             export,
-            scripts: opening.scripts.try_clone(alloc)?,
-            schedules: opening.schedules.try_clone(alloc)?,
+            scripts,
+            schedules,
         })
     }
 }
 
+/// Equals of what a core has of lists.
+fn copied(
+    alloc: Global,
+    device: &Octets,
+    scripts: &ScriptTable,
+    schedules: &Schedules,
+) -> Result<(Octets, ScriptTable, Schedules), AllocError>
+    ensures device { IfOk result (λ copies. copies.0 ≡ device.now) }
+    ensures scripts { IfOk result (λ copies. copies.1 ≡ scripts.now) }
+    ensures schedules { IfOk result (λ copies. copies.2 ≡ schedules.now) }
+{
+    let device = device.try_clone(alloc)?;
+    let (device, scripts) = beside(device, scripts.try_clone(alloc))?;
+    let ((device, scripts), schedules) = beside((device, scripts), schedules.try_clone(alloc))?;
+    Ok((device, scripts, schedules))
+}
+
+/// A limiter with these group ids. Where memory runs out it is let go.
+fn with_groups(alloc: Global, limiter: Limiter, groups: &[u16]) -> Result<Limiter, AllocError>
+    requires { length groups.now ≤ 32 }
+    ensures { IfOk result (λ filled. filled ≡ record limiter { settings = record limiter.settings { groups = groups.now } }) }
+{
+    let mut limiter = limiter;
+    match limiter.set_groups(alloc, groups) {
+        Ok(()) => Ok(limiter),
+        Err(error) => {
+            drop(limiter);
+            Err(error)
+        }
+    }
+}
+
 impl Opening {
+    /// Both limiters with their group ids.
+    fn with_groups(
+        &self,
+        alloc: Global,
+        import: Limiter,
+        export: Limiter,
+    ) -> Result<(Limiter, Limiter), AllocError>
+        requires { (length self.now.import.groups ≤ 32) × (length self.now.export.groups ≤ 32) }
+        ensures import { IfOk result (λ both. both.0 ≡ record import { settings = record import.settings { groups = self.now.import.groups } }) }
+        ensures export { IfOk result (λ both. both.1 ≡ record export { settings = record export.settings { groups = self.now.export.groups } }) }
+    {
+        let import = with_groups(alloc, import, self.import.groups.as_slice());
+        let (export, import) = beside(export, import)?;
+        beside(import, with_groups(alloc, export, self.export.groups.as_slice()))
+    }
+
     /// The switch, and both limiters but for their group ids, or None where no core is so. It takes no memory.
     fn bare_parts(&self, alloc: Global) -> Option<(DisconnectControl, Limiter, Limiter)>
         ensures fit { IsSome result ↔ IsFitOpening self.now }

@@ -1,6 +1,7 @@
 ghost use Rattle.std.specs.Prelude.{◌≡◌, ◌≢◌, IfOk, IsOk, IsTrue};
 ghost use Rattle.relay_core.specs.World.{World};
 ghost use Rattle.relay_core.specs.Stands.{StandsFor};
+ghost use Rattle.disconnect_control.specs.Attributes.{attribute_numbered as control_attribute};
 ghost use Rattle.limiter_attributes.specs.Attributes.{attribute_numbered};
 ghost use Rattle.relay_core.specs.Limiters.{metered_of};
 ghost use Rattle.relay_core.specs.Memory.{is_plain_attribute, is_plain, reads_plainly};
@@ -13,6 +14,7 @@ use cosem_axdr::{Data, Items, Octets};
 use cosem_names::{
     AttrRef, AttributeSelection, GetResult, Instance, Level, ResultCode, Which, object_list, rights,
 };
+use disconnect_control::ControlAttribute;
 use limiter_attributes::{LimiterAttribute, read_attribute};
 use listed::Listed;
 use std::alloc::{AllocError, Global};
@@ -31,15 +33,12 @@ fn scaler_unit(alloc: Global) -> Result<Data, AllocError>
 impl RelayCore {
     /// An attribute of the switch past its logical name.
     fn control_value(&self, number: u8) -> GetResult
-        ensures { (w : World) → StandsFor self.now w → result ≡ control_value w.control number }
+        ensures { (w : World) → StandsFor self.now w → result ≡ control_value w.control (control_attribute number) }
     {
-        let data = match number {
-            2 => Data::Boolean(self.control.output()),
-            3 => Data::Enum(self.control.state().number()),
-            4 => Data::Enum(self.control.mode().number()),
-            _ => return GetResult::Code(ResultCode::ReadWriteDenied),
-        };
-        GetResult::Value(data)
+        match ControlAttribute::of_number(number) {
+            Some(attribute) => GetResult::Value(self.control.to_data(attribute)),
+            None => GetResult::Code(ResultCode::ReadWriteDenied),
+        }
     }
 
     /// An attribute of a register past its logical name.

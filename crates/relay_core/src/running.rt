@@ -65,7 +65,7 @@ impl RelayCore {
         ensures { (w : World) → StandsFor self.old w → StandsFor self.new (at_event event.now w).world }
     {
         match event {
-            Event::Get { .. } | Event::GetList { .. } => {}
+            Event::Get { .. } | Event::GetList { .. } => drop(parts),
             Event::Set {
                 level,
                 attr,
@@ -77,16 +77,20 @@ impl RelayCore {
                 method,
                 parameter,
             } => {
+                drop(parts);
                 let _code = self.execute(*level, method, parameter);
             }
             Event::Button => {
+                drop(parts);
                 let _code = self.press();
             }
             Event::Samples(block) => {
-                let _reply = self.take_block(block);
+                drop(parts);
+                drop(self.take_block(block));
             }
             Event::Moment(now) => {
-                let _reply = self.tick(*now);
+                drop(parts);
+                drop(self.tick(*now));
             }
         }
     }

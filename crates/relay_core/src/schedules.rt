@@ -1,6 +1,8 @@
-ghost use Rattle.std.specs.Prelude.{◌≡◌, ◌≢◌, ◌==◌, ◌||◌, not, Ok, IfOk, IsOk, IsTrue};
+ghost use Rattle.std.specs.Prelude.{◌≡◌, ◌≢◌, Ok, IfOk, IsOk, IsTrue};
+ghost use Rattle.action_schedule.specs.Attributes.{attribute_numbered};
 ghost use Rattle.action_schedule.specs.Reading.{selector_of, kind_of};
 ghost use Rattle.action_schedule.specs.Schedule.{with_selector, with_kind, with_entries};
+ghost use Rattle.relay_core.specs.Memory.{is_plain_schedule_attribute};
 ghost use Rattle.relay_core.specs.Schedules.{schedule_of, schedule_value, schedule_written, schedule_code, write_code};
 ghost use Rattle.relay_core.specs.Stands.{StandsFor};
 ghost use Rattle.relay_core.specs.World.{World, new_schedules};
@@ -8,6 +10,7 @@ ghost use Rattle.relay_core.specs.Writing.{at_schedule, with_schedule_entries};
 
 use crate::relay::RelayCore;
 use action_schedule::{ActionSchedule, ScheduleAttribute};
+use byte_reading::beside;
 use cosem_axdr::Data;
 use cosem_names::{GetResult, ResultCode, ScheduleNumber, WriteFault};
 use std::alloc::{AllocError, Global};
@@ -50,30 +53,43 @@ impl Schedules {
     pub(crate) fn try_clone(&self, alloc: Global) -> Result<Schedules, AllocError>
         ensures { IfOk result (λ copy. copy ≡ self.now) }
     {
+        let halves = copied_pair(alloc, &self.first, &self.second)?;
+        let (halves, others) = beside(halves, copied_pair(alloc, &self.third, &self.fourth))?;
+        let (first, second) = halves;
+        let (third, fourth) = others;
         Ok(Schedules {
-            first: self.first.try_clone(alloc)?,
-            second: self.second.try_clone(alloc)?,
-            third: self.third.try_clone(alloc)?,
-            fourth: self.fourth.try_clone(alloc)?,
+            first,
+            second,
+            third,
+            fourth,
         })
     }
 }
 
+/// Equal schedules to two.
+fn copied_pair(
+    alloc: Global,
+    one: &ActionSchedule,
+    other: &ActionSchedule,
+) -> Result<(ActionSchedule, ActionSchedule), AllocError>
+    ensures one { IfOk result (λ copies. copies.0 ≡ one.now) }
+    ensures other { IfOk result (λ copies. copies.1 ≡ other.now) }
+{
+    let copy = one.try_clone(alloc)?;
+    beside(copy, other.try_clone(alloc))
+}
+
 /// An attribute of a schedule past its logical name.
-#[tactic(auto, unfolding(crate::specs::Schedules::schedule_value))]
 pub(crate) fn read_schedule(
     alloc: Global,
     schedule: &ActionSchedule,
     number: u8,
 ) -> Result<GetResult, AllocError>
-    ensures value { IfOk result (λ r. r ≡ schedule_value schedule.now number) }
-    ensures plain { IsTrue (not (number == 2 || number == 4)) → IsOk result }
+    ensures value { IfOk result (λ r. r ≡ schedule_value schedule.now (attribute_numbered number)) }
+    ensures plain { IsTrue (is_plain_schedule_attribute (attribute_numbered number)) → IsOk result }
 {
-    let attribute = match number {
-        2 => ScheduleAttribute::ExecutedScript,
-        3 => ScheduleAttribute::Kind,
-        4 => ScheduleAttribute::ExecutionTime,
-        _ => return Ok(GetResult::Code(ResultCode::ReadWriteDenied)),
+    let Some(attribute) = ScheduleAttribute::of_number(number) else {
+        return Ok(GetResult::Code(ResultCode::ReadWriteDenied));
     };
     Ok(GetResult::Value(schedule.to_data(alloc, attribute)?))
 }

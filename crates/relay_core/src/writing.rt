@@ -4,7 +4,7 @@ ghost use Rattle.relay_core.specs.Stands.{StandsFor};
 ghost use Rattle.limiter_attributes.specs.Attributes.{attribute_numbered};
 ghost use Rattle.cosem_names.specs.declared.objects.Instance.TheVariants.{ScriptTable, Schedule, DisconnectControl};
 ghost use Rattle.relay_core.specs.Moving.{parts_read, parts_or_plain, set_parts};
-ghost use Rattle.relay_core.specs.Writing.{mode_form, at_mode, at_setting, at_groups, at_limiter, at_write, at_set};
+ghost use Rattle.relay_core.specs.Writing.{at_mode, at_setting, at_groups, at_limiter, at_write, at_set};
 ghost use Rattle.relay_core.specs.Memory.{writes_plainly_in, writes_plainly};
 
 use crate::access::target;
@@ -12,24 +12,10 @@ use crate::parts::{Parts, read_parts};
 use crate::relay::RelayCore;
 use cosem_axdr::Data;
 use cosem_names::{AttrRef, Instance, Level, ResultCode, ScheduleNumber, Which, rights};
-use disconnect_control::ControlMode;
+use disconnect_control::{ControlAttribute, ControlMode, read_mode};
 use limiter_attributes::{LimiterAttribute, Setting, read_setting};
 use limiter_core::Limiter;
 use std::alloc::{AllocError, Global};
-
-/// The mode of a written control_mode: an enum of 0 to 6.
-#[tactic(auto, unfolding(crate::specs::Writing::mode_form))]
-fn read_mode(value: &Data) -> Result<ControlMode, ResultCode>
-    ensures { result ≡ mode_form value.now }
-{
-    let Some(number) = value.enumerated() else {
-        return Err(ResultCode::TypeUnmatched);
-    };
-    match ControlMode::of_number(number) {
-        Some(mode) => Ok(mode),
-        None => Err(ResultCode::OtherReason),
-    }
-}
 
 impl RelayCore {
     /// Writes the mode, which the switch's state may refuse.
@@ -149,12 +135,12 @@ impl RelayCore {
         ensures world { (w : World) → StandsFor self.old w → StandsFor self.new (at_write DisconnectControl number value.now w).world }
         ensures code { (w : World) → StandsFor self.old w → result ≡ (at_write DisconnectControl number value.now w).code }
     {
-        if number != 4 {
+        let Some(ControlAttribute::ControlMode) = ControlAttribute::of_number(number) else {
             return ResultCode::ReadWriteDenied;
-        }
+        };
         match read_mode(value) {
             Ok(mode) => self.write_mode(mode),
-            Err(refusal) => refusal,
+            Err(fault) => fault.code(),
         }
     }
 
@@ -239,6 +225,8 @@ impl RelayCore {
     {
         if let Ok(instance) = target(attr.name, attr.class, rights(level, attr).write, selected) {
             let _code = self.move_in(instance, attr.number, value, parts);
+        } else {
+            drop(parts);
         }
     }
 }

@@ -11,9 +11,8 @@ use Rattle.cosem_axdr.proofs.OneTree.{list_of_trees}
 use Rattle.cosem_datetime.specs.Fields.{DateTimeFields, IsDateTimeFields, date_time_bytes, year_bytes, deviation_bytes}
 use Rattle.cosem_datetime.specs.Reading.{date_time_of}
 use Rattle.cosem_datetime.proofs.Spelled.{date_time_again}
-use Rattle.disconnect_control.specs.declared.state.ControlMode.{ControlMode}
-use Rattle.disconnect_control.specs.declared.state.ControlMode.TheVariants.{Mode0, Mode1, Mode2, Mode3, Mode4, Mode5, Mode6}
-use Rattle.disconnect_control.specs.Transitions.{mode_of, mode_number}
+use Rattle.disconnect_control.proofs.ModeLemmas.{mode_found}
+use Rattle.disconnect_control.specs.Attributes.{mode_form}
 use Rattle.limiter_core.specs.declared.settings.Profile.{Profile}
 use Rattle.script_steps.specs.Addresses.{action_at, address_of, action_of}
 use Rattle.script_steps.specs.Forms.{step_parts_of, script_parts_of, identifier_of}
@@ -32,16 +31,6 @@ use Rattle.script_steps.specs.declared.step.Script.{Script}
 use Rattle.script_steps.specs.declared.step.Step.{Step}
 use Rattle.script_steps.specs.declared.step.Step.TheVariants as step
 use Rattle.cosem_names.specs.declared.objects.Which.TheVariants.{Import, Export}
-
--- each mode is found by its number
-mode_again : (mode : ControlMode) → mode_of (mode_number mode) ≡ Some mode
-mode_again Mode0 = refl
-mode_again Mode1 = refl
-mode_again Mode2 = refl
-mode_again Mode3 = refl
-mode_again Mode4 = refl
-mode_again Mode5 = refl
-mode_again Mode6 = refl
 
 -- a date-time has twelve bytes
 two_of_year : (year : Option ℕ) → length (year_bytes year) ≡ 2
@@ -85,8 +74,8 @@ profile_again profile fits =
 
 -- the parameter of a step that is written
 parameter_again : (s : Step) → IsStep s → step_with (action_of s) (parameter_of s) ≡ Ok s
-unfolding step_with
-parameter_again (step.WriteMode mode) fits = ap (λ o. ok_or o Value >>= λ m. done WriteFault (step.WriteMode m)) (mode_again mode)
+unfolding step_with mode_form
+parameter_again (step.WriteMode mode) fits = ap (λ o. ok_or o Value >>= λ m. done WriteFault (step.WriteMode m)) (mode_found mode)
 parameter_again (step.WriteNormal which watts) fits = refl
 parameter_again (step.WriteEmergency which watts) fits = refl
 parameter_again (step.WriteMinOver which seconds) fits = refl

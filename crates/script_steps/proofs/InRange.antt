@@ -4,13 +4,13 @@ use Rattle.std.specs.List.{cons_option}
 use Rattle.std.specs.Result.{result_ok}
 use Rattle.byte_reading.specs.Outcome.{◌>>=◌, ◌>>◌}
 use Rattle.byte_reading.proofs.OutcomeLemmas.{bind_ok, done, ok_is}
-use Rattle.cosem_axdr.specs.Forms.{array_of, double_long_unsigned_of, enumerated_of}
+use Rattle.cosem_axdr.specs.Forms.{array_of, double_long_unsigned_of}
 use Rattle.cosem_axdr.specs.declared.value.Data.{Data}
 use Rattle.script_steps.specs.Ranges.{IsStepInRange, AreStepsInRange, AreScriptsInRange}
 use Rattle.script_steps.specs.Forms.{step_parts_of}
 use Rattle.script_steps.proofs.Tables.{judged_parts}
 use Rattle.script_steps.proofs.Within.{Within, AllWithin, array_within, number_within, parameter_within, steps_within}
-use Rattle.disconnect_control.specs.Transitions.{mode_of}
+use Rattle.disconnect_control.specs.Attributes.{mode_form}
 use Rattle.script_steps.specs.Addresses.{action_at}
 use Rattle.cosem_names.specs.WriteFault.{values}
 use Rattle.script_steps.specs.Reading.{number_of, profile_of, method_parameter_of, step_with, step_of, judged_script, script_of, judged_scripts, table_of}
@@ -43,9 +43,7 @@ no_seconds read make s none e =
 
 with_in_range : (a : Action) (parameter : Data) (s : Step) → Within parameter → step_with a parameter ≡ Ok s → IsStepInRange s
 unfolding step_with
-with_in_range action.Mode parameter s within e =
-    let number = bind_ok (ok_or (enumerated_of parameter) Unmatched) _ s e in
-    no_seconds (ok_or (mode_of number.0) Value) (λ mode. step.WriteMode mode) s (λ mode. tt) number.2
+with_in_range action.Mode parameter s within e = no_seconds (mode_form parameter) (λ mode. step.WriteMode mode) s (λ mode. tt) e
 with_in_range (action.Normal which) parameter s within e = no_seconds (number_of parameter) (λ n. step.WriteNormal which n) s (λ n. tt) e
 with_in_range (action.Emergency which) parameter s within e = no_seconds (number_of parameter) (λ n. step.WriteEmergency which n) s (λ n. tt) e
 with_in_range (action.MinOver which) parameter s within e = seconds_of parameter (λ n. step.WriteMinOver which n) s within (λ n small. small) e

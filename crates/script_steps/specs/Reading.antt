@@ -6,9 +6,9 @@ use Rattle.std.specs.Result.{result_ok}
 use Rattle.byte_reading.specs.Outcome.{◌>>=◌, ◌>>◌, guard}
 use Rattle.cosem_axdr.specs.declared.value.Data.{Data}
 use Rattle.cosem_axdr.specs.declared.value.Data.TheVariants.{Null, Integer}
-use Rattle.cosem_axdr.specs.Forms.{array_of, enumerated_of, double_long_unsigned_of}
+use Rattle.cosem_axdr.specs.Forms.{array_of, double_long_unsigned_of}
 use Rattle.cosem_datetime.specs.Reading.{date_time_of}
-use Rattle.disconnect_control.specs.Transitions.{mode_of}
+use Rattle.disconnect_control.specs.Attributes.{mode_form}
 use Rattle.limiter_core.specs.declared.settings.Profile.{Profile}
 use Rattle.script_steps.specs.Addresses.{action_at}
 use Rattle.script_steps.specs.Forms.{step_parts_of, script_parts_of, profile_parts_of, identifier_of}
@@ -47,10 +47,7 @@ method_parameter_of _ = Err Unmatched
 
 -- the step of an action, with its parameter
 unfoldable pub step_with : Action → Data → Result Step WriteFault
-step_with action.Mode parameter = do
-  number ← ok_or (enumerated_of parameter) Unmatched
-  mode ← ok_or (mode_of number) Value
-  Ok (WriteMode mode)
+step_with action.Mode parameter = mode_form parameter >>= λ mode. Ok (WriteMode mode)
 step_with (action.Normal which) parameter = number_of parameter >>= λ watts. Ok (WriteNormal which watts)
 step_with (action.Emergency which) parameter = number_of parameter >>= λ watts. Ok (WriteEmergency which watts)
 step_with (action.MinOver which) parameter = number_of parameter >>= λ seconds. Ok (WriteMinOver which seconds)

@@ -14,7 +14,7 @@ use crate::table::{MAX_SCRIPTS, MAX_STEPS};
 use cosem_axdr::Data;
 use cosem_datetime::read_date_time;
 use cosem_names::WriteFault;
-use disconnect_control::ControlMode;
+use disconnect_control::read_mode;
 use limiter_core::Profile;
 use listed::Listed;
 use std::alloc::{AllocError, Global};
@@ -60,10 +60,7 @@ fn step_with(action: Action, parameter: &Data) -> Result<Step, WriteFault>
     ensures fit { IfOk result IsStep }
 {
     Ok(match action {
-        Action::Mode => {
-            let number = parameter.enumerated().ok_or(WriteFault::Unmatched)?;
-            Step::WriteMode(ControlMode::of_number(number).ok_or(WriteFault::Value)?)
-        }
+        Action::Mode => Step::WriteMode(read_mode(parameter)?),
         Action::Normal(which) => Step::WriteNormal(which, read_number(parameter)?),
         Action::Emergency(which) => Step::WriteEmergency(which, read_number(parameter)?),
         Action::MinOver(which) => Step::WriteMinOver(which, read_number(parameter)?),

@@ -1,5 +1,6 @@
 //! The command line, as its users see it.
 use clap::{Arg, ArgAction, Command, value_parser};
+use program_start::with_subcommand;
 use std::alloc::{AllocError, Global};
 
 /// What `--help` tells below the options.
@@ -191,20 +192,6 @@ fn serve<'a>(alloc: Global, has_password: bool) -> Result<Command<'a>, AllocErro
     let command = with_meter(alloc, command, has_password)?;
     let command = with_bounds(alloc, command)?;
     with_flags(alloc, command)
-}
-
-/// The program's command with one of its subcommands.
-fn with_subcommand<'a>(
-    program: Command<'a>,
-    made: Result<Command<'a>, AllocError>,
-) -> Result<Command<'a>, AllocError> {
-    match made {
-        Ok(command) => program.subcommand(command),
-        Err(error) => {
-            drop(program);
-            Err(error)
-        }
-    }
 }
 
 /// The commands of the program. The environment may have the password of `serve`.

@@ -1,4 +1,4 @@
-ghost use Rattle.std.specs.Prelude.{◌≡◌, ℕ, ◌<◌, ◌≤◌, false, None, length, IfOk, IsOk, IsTrue, OnErr};
+ghost use Rattle.std.specs.Prelude.{◌≡◌, ℕ, ◌<◌, ◌≤◌, false, Some, None, length, IfOk, IsOk, IsTrue, OnErr};
 ghost use Rattle.acse_ber.specs.Password.{IsPassword};
 ghost use Rattle.disconnect_control.specs.declared.state.ControlState.TheVariants.{Connected};
 ghost use Rattle.disconnect_control.specs.Transitions.{is_state};
@@ -34,6 +34,13 @@ pub struct SupplyMeter {
     recorder: Recorder,
     password: Octets,
     places: [Option<Connection>; SESSIONS],
+}
+
+// A session is in a place.
+fn put(place: &mut Option<Connection>, connection: Connection)
+    ensures { place.new ≡ Some connection }
+{
+    *place = Some(connection);
 }
 
 impl Model for SupplyMeter {
@@ -113,7 +120,7 @@ impl SupplyMeter {
         }
         match Connection::new(alloc, &self.password) {
             Ok(connection) => {
-                *place = Some(connection);
+                put(place, connection);
                 Ok(())
             }
             Err(_) => Err(MeterFault::Memory),

@@ -1,5 +1,8 @@
-use cosem_names::ResultCode;
-use disconnect_control::{ControlMode, ControlState, DisconnectControl, Trigger};
+use cosem_axdr::Data;
+use cosem_names::{ResultCode, WriteFault};
+use disconnect_control::{
+    ControlAttribute, ControlMode, ControlState, DisconnectControl, Trigger, read_mode,
+};
 use std::process::Abort;
 
 /// A trigger, its result, and what the switch then shows: its state, the number of that, and whether it is closed.
@@ -106,4 +109,27 @@ fn modes_have_their_numbers(rt: HostRuntime) {
         assert!(rt; has_its_mode(number), "{number}");
     }
     assert!(rt; ControlMode::of_number(7).is_none());
+}
+
+/// An attribute of a switch, by its number.
+fn attribute_of(control: &DisconnectControl, number: u8) -> Option<Data> {
+    let attribute = ControlAttribute::of_number(number)?;
+    Some(control.to_data(attribute))
+}
+
+#[test]
+fn attributes_are_told_by_their_numbers(rt: HostRuntime) {
+    let control = in_mode(&rt, ControlMode::Mode3);
+    assert!(rt; attribute_of(&control, 1).is_none());
+    assert!(rt; attribute_of(&control, 2) == Some(Data::Boolean(true)));
+    assert!(rt; attribute_of(&control, 3) == Some(Data::Enum(1)));
+    assert!(rt; attribute_of(&control, 4) == Some(Data::Enum(3)));
+    assert!(rt; attribute_of(&control, 5).is_none());
+}
+
+#[test]
+fn a_mode_is_written_as_an_enum_of_0_to_6(rt: HostRuntime) {
+    assert!(rt; read_mode(&Data::Enum(4)) == Ok(ControlMode::Mode4));
+    assert!(rt; read_mode(&Data::Enum(7)) == Err(WriteFault::Value));
+    assert!(rt; read_mode(&Data::Unsigned(4)) == Err(WriteFault::Unmatched));
 }

@@ -16,8 +16,9 @@ use Rattle.cosem_datetime.proofs.Spelled.{date_time_again}
 use Rattle.cosem_datetime.specs.Fields.{DateTimeFields, IsDateTimeFields, date_time_bytes}
 use Rattle.cosem_datetime.specs.declared.entry.EntryPattern.{EntryPattern}
 use Rattle.cosem_names.specs.declared.objects.Which.{Which}
+use Rattle.disconnect_control.proofs.ModeLemmas.{mode_found}
 use Rattle.disconnect_control.specs.Control.{is_mode_fit}
-use Rattle.disconnect_control.specs.Transitions.{mode_of, mode_number, state_number}
+use Rattle.disconnect_control.specs.Transitions.{mode_number, state_number}
 use Rattle.disconnect_control.specs.declared.state.ControlMode.{ControlMode}
 use Rattle.disconnect_control.specs.declared.state.ControlMode.TheVariants.{Mode0, Mode1, Mode2, Mode3, Mode4, Mode5, Mode6}
 use Rattle.disconnect_control.specs.declared.state.ControlState.{ControlState}
@@ -68,15 +69,6 @@ state_again : (state : ControlState) → state_in (decimal (state_number state))
 state_again Disconnected = let read = number_word_again 2 0 (omega arith) (omega arith) in rw read refl
 state_again Connected = let read = number_word_again 2 1 (omega arith) (omega arith) in rw read refl
 state_again ReadyForReconnection = let read = number_word_again 2 2 (omega arith) (omega arith) in rw read refl
-
-mode_found : (mode : ControlMode) → mode_of (mode_number mode) ≡ Some mode
-mode_found Mode0 = refl
-mode_found Mode1 = refl
-mode_found Mode2 = refl
-mode_found Mode3 = refl
-mode_found Mode4 = refl
-mode_found Mode5 = refl
-mode_found Mode6 = refl
 
 mode_fits : (mode : ControlMode) (state : ControlState) → (mode ≡ Mode0 → state ≡ Connected) → is_mode_fit mode state ≡ true
 unfolding is_mode_fit

@@ -11,7 +11,6 @@
 //! of an event by itself. What is written is read again.
 #![tactic(auto)]
 
-mod beside;
 mod data;
 mod event_lines;
 mod event_places;

@@ -5,11 +5,11 @@ ghost use Rattle.trace_lines.specs.OpeningFields.{label, labelled};
 ghost use Rattle.trace_lines.specs.Places.{ReadsLines, line_as};
 ghost use Rattle.trace_lines.specs.Reading.{value_in};
 
-use crate::beside::beside;
 use crate::fault::TraceFault;
 use crate::limiter_fields::{actions, groups, over, profile, under, value};
 use crate::place::TraceLines;
 use crate::version::Version;
+use byte_reading::beside;
 use cosem_datetime::DateTimeField;
 use cosem_names::Which;
 use limiter_core::{Actions, Count, Profile};

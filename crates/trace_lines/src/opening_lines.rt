@@ -4,13 +4,13 @@ ghost use Rattle.trace_lines.specs.OpeningFields.{schedule_from};
 ghost use Rattle.trace_lines.specs.OpeningReading.{IsFitStart, opening_behind_import, opening_with, schedules_from, opening_in, opening_from};
 ghost use Rattle.trace_lines.specs.Places.{ReadsLines, line_as};
 
-use crate::beside::beside;
 use crate::fault::TraceFault;
 use crate::limiter_lines::{read_export, read_last, read_limiter};
 use crate::opening_fields::{device, mode, moment, schedule, state, table, version};
 use crate::place::TraceLines;
 use crate::version::Version;
 use action_schedule::ActionSchedule;
+use byte_reading::beside;
 use cosem_axdr::Octets;
 use cosem_names::Which;
 use disconnect_control::{ControlMode, ControlState};
