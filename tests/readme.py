@@ -1,5 +1,5 @@
 #!/usr/bin/env python3
-"""Runs what README.md shows: its first command, and the session over a socket, and compares what they print."""
+"""Runs what README.md shows: its first commands, and the session over a socket, and compares what they print."""
 import os
 import re
 import socket
@@ -73,9 +73,8 @@ def session(text, place):
 
 def rows(place):
     text = (TOP / "README.md").read_text()
-    first = block_after(text, "Two commands")[0]
-    prints = re.search(r"prints `([0-9A-F]+)`", text)[1]
-    yield f"the first command: {first}", ran(first, place, dict(os.environ)) == [prints]
+    for command, wanted in steps(block_after(text, "Two commands")):
+        yield f"a first command: {command}", ran(command, place, dict(os.environ)) == wanted
     yield from session(text, place)
 
 

@@ -257,7 +257,10 @@ impl Opening {
     {
         let import = with_groups(alloc, import, self.import.groups.as_slice());
         let (export, import) = beside(export, import)?;
-        beside(import, with_groups(alloc, export, self.export.groups.as_slice()))
+        beside(
+            import,
+            with_groups(alloc, export, self.export.groups.as_slice()),
+        )
     }
 
     /// The switch, and both limiters but for their group ids, or None where no core is so. It takes no memory.
