@@ -73,7 +73,7 @@ def session(text, place):
 
 def rows(place):
     text = (TOP / "README.md").read_text()
-    for command, wanted in steps(block_after(text, "Two commands")):
+    for command, wanted in steps(block_after(text, "First commands")):
         yield f"a first command: {command}", ran(command, place, dict(os.environ)) == wanted
     yield from session(text, place)
 
