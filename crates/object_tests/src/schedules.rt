@@ -517,3 +517,12 @@ fn a_schedule_without_entries_is_never_due(rt: HostRuntime) {
     assert!(rt; !other.fits());
     drop(other);
 }
+
+#[test]
+fn attributes_of_a_schedule_have_their_numbers(rt: HostRuntime) {
+    assert!(rt; ScheduleAttribute::of_number(1).is_none());
+    assert!(rt; ScheduleAttribute::of_number(2) == Some(ScheduleAttribute::ExecutedScript));
+    assert!(rt; ScheduleAttribute::of_number(3) == Some(ScheduleAttribute::Kind));
+    assert!(rt; ScheduleAttribute::of_number(4) == Some(ScheduleAttribute::ExecutionTime));
+    assert!(rt; ScheduleAttribute::of_number(5).is_none());
+}

@@ -1,7 +1,7 @@
 //! How each program begins and ends: the words of its command line, what comes of one that asks for no work, and the exit status.
 #![tactic(auto)]
 
-ghost use Rattle.std.specs.Prelude.{◌≡◌, true, IfOk, IfErr};
+ghost use Rattle.std.specs.Prelude.{◌≡◌, true, IfOk, IfErr, IsOk};
 ghost use Rattle.std.specs.Process.{exit_status};
 ghost use Rattle.clap.specs.Words.{AddsSubcommand, kind_of};
 ghost use Rattle.program_start.specs.Ends.{is_of_words, is_of_texts, status_without_work, status_by};
@@ -43,7 +43,8 @@ pub fn with_subcommand<'a>(
     program: Command<'a>,
     made: Result<Command<'a>, AllocError>,
 ) -> Result<Command<'a>, AllocError>
-    ensures { IfOk result (λ command. IfOk made.entry (λ subcommand. AddsSubcommand program.entry subcommand command)) }
+    ensures made { IfOk result (λ _. IsOk made.entry) }
+    ensures added { IfOk result (λ command. IfOk made.entry (λ subcommand. AddsSubcommand program.entry subcommand command)) }
 {
     match made {
         Ok(subcommand) => program.subcommand(subcommand),
