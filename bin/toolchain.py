@@ -1,10 +1,17 @@
-"""The command rt as a module, for the scripts that use its parts as they are, and what they ask of the libraries that it left."""
+"""The command rt as a module, for the scripts that use its parts as they are, what they ask of the libraries that it left, and how many checks may run at once.
+
+usage: toolchain.py     prints what RT_JOBS is to be for a run of many checks, or an empty line where rt is to decide
+"""
 import importlib.machinery
 import importlib.util
 import os
 import shutil
 import subprocess
 import sys
+
+
+# A check of this repository was seen to take 3.5 GB at most.
+BYTES_OF_A_CHECK = 4_000_000_000
 
 
 def command():
@@ -28,3 +35,14 @@ def is_left_by_ci(rt, crates):
         if any(os.path.getmtime(file) > os.path.getmtime(it.rlib) for file in rt.rtlib.files_of(it.folder)):
             return False
     return True
+
+
+def lanes(rt):
+    """How many checks may run at once: one for each processor, where each can have the memory that a check takes at most. Else None: rt guesses at what each needs, by its
+    lines, and leaves processors idle for it."""
+    processors = rt.processors()
+    return processors if rt.free() >= processors * BYTES_OF_A_CHECK else None
+
+
+if __name__ == "__main__":
+    print(lanes(command()) or "")

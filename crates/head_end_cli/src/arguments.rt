@@ -1,6 +1,6 @@
 //! The command line of the program.
 use clap::{Arg, ArgAction, Command, value_parser};
-use program_start::with_subcommand;
+use program_start::{with_argument, with_subcommand};
 use std::alloc::{AllocError, Global};
 
 /// What `--help` tells below the options.
@@ -69,16 +69,15 @@ fn progress<'a>(alloc: Global) -> Arg<'a> {
 
 /// The command that runs a campaign.
 fn run_command<'a>(alloc: Global) -> Result<Command<'a>, AllocError> {
-    Command::new(alloc, "run")
-        .about(
-            "Runs the jobs on standard input, and prints the report: a line for each job, in their order",
-        )
-        .arg(password(alloc))?
-        .arg(workers(alloc))?
-        .arg(timeout(alloc))?
-        .arg(connect_timeout(alloc))?
-        .arg(progress(alloc))?
-        .arg(verbose(alloc))
+    let made = Ok(Command::new(alloc, "run").about(
+        "Runs the jobs on standard input, and prints the report: a line for each job, in their order",
+    ));
+    let made = with_argument(made, password(alloc));
+    let made = with_argument(made, workers(alloc));
+    let made = with_argument(made, timeout(alloc));
+    let made = with_argument(made, connect_timeout(alloc));
+    let made = with_argument(made, progress(alloc));
+    with_argument(made, verbose(alloc))
 }
 
 /// The command that counts the jobs of a list.
@@ -90,14 +89,19 @@ fn check_command<'a>(alloc: Global) -> Result<Command<'a>, AllocError> {
         .arg(verbose(alloc))
 }
 
-/// The commands of the program, as its users see them.
-pub fn command_line<'a>(alloc: Global) -> Result<Command<'a>, AllocError> {
+/// The program's own part of its command line.
+fn program<'a>(alloc: Global) -> Result<Command<'a>, AllocError> {
     let program = Command::new(alloc, "head_end")
         .bin_name("head_end")?
         .version("0.1.0")
         .about("Switching campaigns over DLMS/COSEM electricity meters")
         .after_help(LIMITS_AND_STATUSES)
         .subcommand_required(true);
-    let program = with_subcommand(program, check_command(alloc))?;
+    Ok(program)
+}
+
+/// The commands of the program, as its users see them.
+pub fn command_line<'a>(alloc: Global) -> Result<Command<'a>, AllocError> {
+    let program = with_subcommand(program(alloc), check_command(alloc));
     with_subcommand(program, run_command(alloc))
 }

@@ -3,11 +3,11 @@
 
 ghost use Rattle.std.specs.Prelude.{◌≡◌, true, IfOk, IfErr, IsOk};
 ghost use Rattle.std.specs.Process.{exit_status};
-ghost use Rattle.clap.specs.Words.{AddsSubcommand, kind_of};
+ghost use Rattle.clap.specs.Words.{AddsArg, AddsSubcommand, kind_of};
 ghost use Rattle.program_start.specs.Ends.{is_of_words, is_of_texts, status_without_work, status_by};
 
 use clap::error::ErrorKind;
-use clap::{Command, Error};
+use clap::{Arg, Command, Error};
 use program_fault::Fault;
 use std::alloc::{AllocError, AllocGlobal};
 use std::process::ExitCode;
@@ -38,8 +38,25 @@ pub fn words<R: Env + AllocGlobal>(rt: &R) -> Result<Vec<String>, Fault>
     }
 }
 
+/// A command with one more argument, once the command is made; for want of memory there is none.
+pub fn with_argument<'a>(
+    made: Result<Command<'a>, AllocError>,
+    argument: Arg<'a>,
+) -> Result<Command<'a>, AllocError>
+    ensures made { IfOk result (λ _. IsOk made.entry) }
+    ensures added { IfOk result (λ command. IfOk made.entry (λ before. AddsArg before argument.entry command)) }
+{
+    match made {
+        Ok(command) => command.arg(argument),
+        Err(error) => {
+            drop(argument);
+            Err(error)
+        }
+    }
+}
+
 /// A program's command with one of its subcommands, once that is made; for want of memory there is neither.
-pub fn with_subcommand<'a>(
+fn with_made<'a>(
     program: Command<'a>,
     made: Result<Command<'a>, AllocError>,
 ) -> Result<Command<'a>, AllocError>
@@ -50,6 +67,24 @@ pub fn with_subcommand<'a>(
         Ok(subcommand) => program.subcommand(subcommand),
         Err(error) => {
             drop(program);
+            Err(error)
+        }
+    }
+}
+
+/// A program's command with one of its subcommands, once both are made; for want of memory there is neither.
+pub fn with_subcommand<'a>(
+    program: Result<Command<'a>, AllocError>,
+    made: Result<Command<'a>, AllocError>,
+) -> Result<Command<'a>, AllocError>
+    ensures program { IfOk result (λ _. IsOk program.entry) }
+    ensures made { IfOk result (λ _. IsOk made.entry) }
+    ensures added { IfOk result (λ command. IfOk program.entry (λ before. IfOk made.entry (λ subcommand. AddsSubcommand before subcommand command))) }
+{
+    match program {
+        Ok(program) => with_made(program, made),
+        Err(error) => {
+            drop(made);
             Err(error)
         }
     }

@@ -1,6 +1,6 @@
 //! The command line, as its users see it.
 use clap::{Arg, ArgAction, Command, value_parser};
-use program_start::with_subcommand;
+use program_start::{with_argument, with_subcommand};
 use std::alloc::{AllocError, Global};
 
 /// What `--help` tells below the options.
@@ -66,13 +66,12 @@ fn verbose<'a>(alloc: Global) -> Arg<'a> {
 
 /// The command `hex`.
 fn hex<'a>(alloc: Global) -> Result<Command<'a>, AllocError> {
-    Command::new(alloc, "hex")
-        .about(
-            "Runs a client's session: standard input is its stream in hexadecimal, and each frame sent is a line",
-        )
-        .arg(password(alloc, true))?
-        .arg(device(alloc))?
-        .arg(verbose(alloc))
+    let made = Ok(Command::new(alloc, "hex").about(
+        "Runs a client's session: standard input is its stream in hexadecimal, and each frame sent is a line",
+    ));
+    let made = with_argument(made, password(alloc, true));
+    let made = with_argument(made, device(alloc));
+    with_argument(made, verbose(alloc))
 }
 
 /// The option `--listen`.
@@ -146,52 +145,79 @@ fn apdu<'a>(alloc: Global) -> Result<Command<'a>, AllocError> {
 /// A command with the options of `serve` that tell who is served and where. Where the environment has no password, the command line has to give it.
 fn with_meter<'a>(
     alloc: Global,
-    command: Command<'a>,
+    made: Result<Command<'a>, AllocError>,
     has_password: bool,
 ) -> Result<Command<'a>, AllocError> {
-    command
-        .arg(password(alloc, !has_password))?
-        .arg(device(alloc))?
-        .arg(listen(alloc))
+    let made = with_argument(made, password(alloc, !has_password));
+    let made = with_argument(made, device(alloc));
+    with_argument(made, listen(alloc))
 }
 
 /// A command with the options of `serve` that bound what it keeps and for how long it serves.
-fn with_bounds<'a>(alloc: Global, command: Command<'a>) -> Result<Command<'a>, AllocError> {
-    command
-        .arg(depth(alloc))?
-        .arg(connections(alloc))?
-        .arg(inactivity(alloc))?
-        .arg(session(alloc))
+fn with_bounds<'a>(
+    alloc: Global,
+    made: Result<Command<'a>, AllocError>,
+) -> Result<Command<'a>, AllocError> {
+    let made = with_argument(made, depth(alloc));
+    let made = with_argument(made, connections(alloc));
+    let made = with_argument(made, inactivity(alloc));
+    with_argument(made, session(alloc))
+}
+
+/// A command with one more option without a value.
+fn with_flag<'a>(
+    alloc: Global,
+    made: Result<Command<'a>, AllocError>,
+    name: &'a str,
+    help: &'a str,
+) -> Result<Command<'a>, AllocError> {
+    with_argument(made, flag(alloc, name, help))
 }
 
 /// A command with the options of `serve` that have no value.
-fn with_flags<'a>(alloc: Global, command: Command<'a>) -> Result<Command<'a>, AllocError> {
-    command
-        .arg(flag(
-            alloc,
-            "stop-with-input",
-            "Accept no further connection once standard input has ended",
-        ))?
-        .arg(flag(
-            alloc,
-            "resume",
-            "Go on from the trace at the head of standard input",
-        ))?
-        .arg(flag(
-            alloc,
-            "verbose",
-            "Tell on standard error who connects and how each session ends",
-        ))
+fn with_flags<'a>(
+    alloc: Global,
+    made: Result<Command<'a>, AllocError>,
+) -> Result<Command<'a>, AllocError> {
+    let made = with_flag(
+        alloc,
+        made,
+        "stop-with-input",
+        "Accept no further connection once standard input has ended",
+    );
+    let made = with_flag(
+        alloc,
+        made,
+        "resume",
+        "Go on from the trace at the head of standard input",
+    );
+    with_flag(
+        alloc,
+        made,
+        "verbose",
+        "Tell on standard error who connects and how each session ends",
+    )
 }
 
 /// The command `serve`. Where the environment has no password, the command line has to give it.
 fn serve<'a>(alloc: Global, has_password: bool) -> Result<Command<'a>, AllocError> {
-    let command = Command::new(alloc, "serve").about(
+    let made = Ok(Command::new(alloc, "serve").about(
         "Serves clients over TCP. Lines of standard input press the button, give samples and tell the time; at the end the trace is printed",
-    );
-    let command = with_meter(alloc, command, has_password)?;
-    let command = with_bounds(alloc, command)?;
-    with_flags(alloc, command)
+    ));
+    let made = with_meter(alloc, made, has_password);
+    let made = with_bounds(alloc, made);
+    with_flags(alloc, made)
+}
+
+/// The program's own part of its command line.
+fn program<'a>(alloc: Global) -> Result<Command<'a>, AllocError> {
+    let program = Command::new(alloc, "meter_server")
+        .bin_name("meter_server")?
+        .version("0.1.0")
+        .about("The supply switch of a DLMS/COSEM electricity meter")
+        .after_help(LIMITS_AND_STATUSES)
+        .subcommand_required(true);
+    Ok(program)
 }
 
 /// The commands of the program. The environment may have the password of `serve`.
@@ -199,13 +225,7 @@ pub(crate) fn command_line<'a>(
     alloc: Global,
     has_password: bool,
 ) -> Result<Command<'a>, AllocError> {
-    let program = Command::new(alloc, "meter_server")
-        .bin_name("meter_server")?
-        .version("0.1.0")
-        .about("The supply switch of a DLMS/COSEM electricity meter")
-        .after_help(LIMITS_AND_STATUSES)
-        .subcommand_required(true);
-    let program = with_subcommand(program, apdu(alloc))?;
-    let program = with_subcommand(program, hex(alloc))?;
+    let program = with_subcommand(program(alloc), apdu(alloc));
+    let program = with_subcommand(program, hex(alloc));
     with_subcommand(program, serve(alloc, has_password))
 }
