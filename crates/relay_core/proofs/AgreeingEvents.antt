@@ -1,13 +1,17 @@
 use Rattle.std.proofs.Common.{◌≡◌, ℕ, Bool, true, false, nat_lt, ◌==◌, if◌then◌else◌, List, [], ◌∷◌, Option, Some, None, option_and_then, Result, Ok, Err, IfOk, IfSome, refl, ap, sym, ◌∙◌, subst}
+use Rattle.action_schedule.specs.Attributes.{attribute_numbered as schedule_attribute}
 use Rattle.action_schedule.specs.Fitting.{is_due}
+use Rattle.action_schedule.specs.Reading.{entries_of}
 use Rattle.action_schedule.specs.Schedule.{Schedule as ScheduleState}
 use Rattle.cosem_axdr.specs.declared.value.Data.{Data}
 use Rattle.cosem_axdr.specs.declared.value.Data.TheVariants.{OctetString}
 use Rattle.cosem_axdr.specs.Forms.{long_unsigned_of}
+use Rattle.cosem_datetime.specs.declared.entry.EntryPattern.{EntryPattern}
 use Rattle.cosem_names.specs.declared.level.Level.{Level}
 use Rattle.cosem_names.specs.declared.name.AttrRef.{AttrRef}
 use Rattle.cosem_names.specs.declared.objects.Instance.{Instance}
 use Rattle.cosem_names.specs.declared.objects.Instance.TheVariants.{Association, DeviceName, Register, ScriptTable, Schedule, DisconnectControl, Limiter}
+use Rattle.cosem_names.specs.declared.objects.ScheduleNumber.{ScheduleNumber}
 use Rattle.cosem_names.specs.declared.objects.Which.{Which}
 use Rattle.cosem_names.specs.declared.objects.Which.TheVariants.{Import, Export}
 use Rattle.cosem_names.specs.declared.result_code.ResultCode.{ResultCode}
@@ -25,7 +29,6 @@ use Rattle.disconnect_control.specs.declared.state.ControlState.TheVariants.{Con
 use Rattle.disconnect_control.specs.Transitions.{is_state}
 use Rattle.disconnect_control.specs.Control.{Control}
 use Rattle.limiter_attributes.specs.declared.attribute.LimiterAttribute.{LimiterAttribute}
-use Rattle.limiter_attributes.specs.declared.attribute.LimiterAttribute.TheVariants as attribute
 use Rattle.cosem_names.specs.declared.write_fault.WriteFault.{WriteFault}
 use Rattle.limiter_attributes.specs.declared.setting.Setting.{Setting}
 use Rattle.limiter_attributes.specs.Attributes.{attribute_numbered}
@@ -41,6 +44,9 @@ use Rattle.relay_core.specs.Agreeing.{with_rows, Agree, IsSettingInRange, IsWorl
 use Rattle.script_steps.specs.Ranges.{AreStepsInRange, AreScriptsInRange}
 use Rattle.relay_core.specs.Clock.{after_schedule, after_schedules, ran, moment_after, at_moment}
 use Rattle.relay_core.specs.Limiters.{with_moment}
+use Rattle.relay_core.specs.declared.parts.WrittenList.{WrittenList}
+use Rattle.relay_core.specs.declared.parts.WrittenList.TheVariants as written
+use Rattle.relay_core.specs.Moving.{list_numbered, scripts_part, entries_part, groups_part, list_read}
 use Rattle.relay_core.specs.Machine.{reply_of, stepped, at_event}
 use Rattle.relay_core.specs.Reading.{own_value_in, value_in, read_at, get_result, get_results}
 use Rattle.relay_core.specs.Sampling.{measurements, no_firings, sampled, at_samples}
@@ -48,7 +54,7 @@ use Rattle.relay_core.specs.Schedules.{all_schedules}
 use Rattle.relay_core.specs.Scripts.{at_script}
 use Rattle.relay_core.specs.Switch.{at_trigger}
 use Rattle.relay_core.specs.World.{World, Outcome}
-use Rattle.relay_core.specs.Writing.{refused, at_mode_form, at_control, at_scripts, at_setting_form, at_groups, at_limiter, at_schedule, at_write, write_at, at_set}
+use Rattle.relay_core.specs.Writing.{refused, at_mode_form, at_control, at_setting_form, at_limiter, at_schedule, at_list, at_plain, at_attribute, at_write, write_at, at_set}
 use Rattle.relay_core.proofs.Agreeing.{Alike, AreAlike, of_rows, trigger_alike, mode_alike, setting_alike, script_alike, steps_in_range, running_in_range, samples_alike, either_alike}
 use Rattle.script_steps.specs.declared.step.Script.{Script}
 use Rattle.script_steps.specs.declared.step.Step.{Step}
@@ -93,16 +99,6 @@ gets_alike level (item ∷ items) v w agree =
     ∙ ap (λ (rest : List GetResult). get_result level item.attr item.selected w ∷ rest) (gets_alike level items v w agree)
 
 -- what is written to agreeing worlds
-scripts_alike : (read : Result (List Script) WriteFault) (v w : World) → IfOk read AreScriptsInRange → IsWorld v → Agree v w
-    → Alike (at_scripts read v) (at_scripts read w)
-scripts_alike (Err fault) v w small range agree = refused_alike _ v w range agree
-scripts_alike (Ok scripts) v w small range agree = of_rows (λ w. Alike (at_scripts (Ok scripts) v) (at_scripts (Ok scripts) w)) v w agree
-    (λ rows others i e. record {
-      code = refl;
-      world = record { same = refl; import = i; export = e };
-      range = record { import = range.import; export = range.export; scripts = small };
-    })
-
 setting_form_alike : (which : Which) (read : Result (Option Setting) WriteFault) (v w : World)
     → IfOk read (λ setting. IfSome setting IsSettingInRange) → IsWorld v → Agree v w
     → Alike (at_setting_form which read v) (at_setting_form which read w)
@@ -110,35 +106,30 @@ setting_form_alike which (Err fault) v w small range agree = refused_alike _ v w
 setting_form_alike which (Ok None) v w small range agree = refused_alike _ v w range agree
 setting_form_alike which (Ok (Some one)) v w small range agree = setting_alike which one v w small range agree
 
-groups_alike : (which : Which) (read : Result (List ℕ) WriteFault) (v w : World) → IsWorld v → Agree v w
-    → Alike (at_groups which read v) (at_groups which read w)
-groups_alike which (Err fault) v w range agree = refused_alike _ v w range agree
-groups_alike Import (Ok ids) v w range agree = of_rows (λ w. Alike (at_groups Import (Ok ids) v) (at_groups Import (Ok ids) w)) v w agree
+groups_alike : (which : Which) (ids : List ℕ) (v w : World) → IsWorld v → Agree v w
+    → Alike (at_list (written.Groups which) (groups_part (Ok ids)) v) (at_list (written.Groups which) (groups_part (Ok ids)) w)
+groups_alike Import ids v w range agree = of_rows (λ w. Alike (at_list (written.Groups Import) (groups_part (Ok ids)) v) (at_list (written.Groups Import) (groups_part (Ok ids)) w)) v w agree
     (λ rows others i e. record {
       code = refl;
       world = record { same = refl; import = i; export = e };
       range = record { import = record { over = range.import.over; under = range.import.under }; export = range.export; scripts = range.scripts };
     })
-groups_alike Export (Ok ids) v w range agree = of_rows (λ w. Alike (at_groups Export (Ok ids) v) (at_groups Export (Ok ids) w)) v w agree
+groups_alike Export ids v w range agree = of_rows (λ w. Alike (at_list (written.Groups Export) (groups_part (Ok ids)) v) (at_list (written.Groups Export) (groups_part (Ok ids)) w)) v w agree
     (λ rows others i e. record {
       code = refl;
       world = record { same = refl; import = i; export = e };
       range = record { import = range.import; export = record { over = range.export.over; under = range.export.under }; scripts = range.scripts };
     })
 
+group_ids_alike : (which : Which) (read : Result (List ℕ) WriteFault) (v w : World) → IsWorld v → Agree v w
+    → Alike (at_list (written.Groups which) (groups_part read) v) (at_list (written.Groups which) (groups_part read) w)
+group_ids_alike which (Err fault) v w range agree = refused_alike _ v w range agree
+group_ids_alike which (Ok ids) v w range agree = groups_alike which ids v w range agree
+
 limiter_alike : (which : Which) (found : Option LimiterAttribute) (value : Data) (v w : World) → IsValue value → IsWorld v → Agree v w
     → Alike (at_limiter which found value v) (at_limiter which found value w)
 limiter_alike which None value v w small range agree = refused_alike _ v w range agree
-limiter_alike which (Some attribute.MonitoredValue) value v w small range agree = setting_form_alike which _ v w (small.setting attribute.MonitoredValue) range agree
-limiter_alike which (Some attribute.ThresholdActive) value v w small range agree = setting_form_alike which _ v w (small.setting attribute.ThresholdActive) range agree
-limiter_alike which (Some attribute.ThresholdNormal) value v w small range agree = setting_form_alike which _ v w (small.setting attribute.ThresholdNormal) range agree
-limiter_alike which (Some attribute.ThresholdEmergency) value v w small range agree = setting_form_alike which _ v w (small.setting attribute.ThresholdEmergency) range agree
-limiter_alike which (Some attribute.MinOverThresholdDuration) value v w small range agree = setting_form_alike which _ v w (small.setting attribute.MinOverThresholdDuration) range agree
-limiter_alike which (Some attribute.MinUnderThresholdDuration) value v w small range agree = setting_form_alike which _ v w (small.setting attribute.MinUnderThresholdDuration) range agree
-limiter_alike which (Some attribute.EmergencyProfile) value v w small range agree = setting_form_alike which _ v w (small.setting attribute.EmergencyProfile) range agree
-limiter_alike which (Some attribute.EmergencyProfileGroupIdList) value v w small range agree = groups_alike which (groups_of value) v w range agree
-limiter_alike which (Some attribute.EmergencyProfileActive) value v w small range agree = setting_form_alike which _ v w (small.setting attribute.EmergencyProfileActive) range agree
-limiter_alike which (Some attribute.Actions) value v w small range agree = setting_form_alike which _ v w (small.setting attribute.Actions) range agree
+limiter_alike which (Some attribute) value v w small range agree = setting_form_alike which _ v w (small.setting attribute) range agree
 
 mode_form_alike : (read : Result ControlMode WriteFault) (v w : World) → IsWorld v → Agree v w → Alike (at_mode_form read v) (at_mode_form read w)
 mode_form_alike (Err fault) v w range agree = refused_alike _ v w range agree
@@ -150,23 +141,63 @@ control_alike (Some control.OutputState) value v w range agree = refused_alike _
 control_alike (Some control.ControlState) value v w range agree = refused_alike _ v w range agree
 control_alike (Some control.ControlMode) value v w range agree = mode_form_alike (mode_form value) v w range agree
 
-write_alike : (instance : Instance) (number : ℕ) (value : Data) (v w : World) → IsValue value → IsWorld v → Agree v w
-    → Alike (at_write instance number value v) (at_write instance number value w)
-unfolding at_write at_schedule
-write_alike Association number value v w small range agree = refused_alike _ v w range agree
-write_alike DeviceName number value v w small range agree = refused_alike _ v w range agree
-write_alike (Register which) number value v w small range agree = refused_alike _ v w range agree
-write_alike ScriptTable number value v w small range agree =
-    either_alike (number == 2) (number == 2) _ _ _ _ refl (scripts_alike (table_of value) v w small.scripts range agree) (refused_alike _ v w range agree)
-write_alike (Schedule which) number value v w small range agree =
-    of_rows (λ w. Alike (at_schedule which number value v) (at_schedule which number value w)) v w agree
+plain_alike : (instance : Instance) (number : ℕ) (value : Data) (v w : World) → IsValue value → IsWorld v → Agree v w
+    → Alike (at_plain instance number value v) (at_plain instance number value w)
+unfolding at_schedule
+plain_alike Association number value v w small range agree = refused_alike _ v w range agree
+plain_alike DeviceName number value v w small range agree = refused_alike _ v w range agree
+plain_alike (Register which) number value v w small range agree = refused_alike _ v w range agree
+plain_alike ScriptTable number value v w small range agree = refused_alike _ v w range agree
+plain_alike (Schedule which) number value v w small range agree =
+    let at : World → Outcome = at_schedule which (schedule_attribute number) value in
+    of_rows (λ w. Alike (at v) (at w)) v w agree
     (λ rows others i e. record {
       code = refl;
       world = record { same = refl; import = i; export = e };
       range = record { import = range.import; export = range.export; scripts = range.scripts };
     })
-write_alike DisconnectControl number value v w small range agree = control_alike (control_attribute number) value v w range agree
-write_alike (Limiter which) number value v w small range agree = limiter_alike which (attribute_numbered number) value v w small range agree
+plain_alike DisconnectControl number value v w small range agree = control_alike (control_attribute number) value v w range agree
+plain_alike (Limiter which) number value v w small range agree = limiter_alike which (attribute_numbered number) value v w small range agree
+
+scripts_alike : (read : Result (List Script) WriteFault) (v w : World) → IfOk read AreScriptsInRange → IsWorld v → Agree v w
+    → Alike (at_list written.Scripts (scripts_part read) v) (at_list written.Scripts (scripts_part read) w)
+scripts_alike (Err fault) v w small range agree = refused_alike _ v w range agree
+scripts_alike (Ok scripts) v w small range agree =
+    let at : World → Outcome = at_list written.Scripts (scripts_part (Ok scripts)) in
+    of_rows (λ w. Alike (at v) (at w)) v w agree
+    (λ rows others i e. record {
+      code = refl;
+      world = record { same = refl; import = i; export = e };
+      range = record { import = range.import; export = range.export; scripts = small };
+    })
+
+entries_alike : (which : ScheduleNumber) (read : Result (List EntryPattern) WriteFault) (v w : World) → IsWorld v → Agree v w
+    → Alike (at_list (written.Entries which) (entries_part read) v) (at_list (written.Entries which) (entries_part read) w)
+entries_alike which (Err fault) v w range agree = refused_alike _ v w range agree
+entries_alike which (Ok entries) v w range agree =
+    let at : World → Outcome = at_list (written.Entries which) (entries_part (Ok entries)) in
+    of_rows (λ w. Alike (at v) (at w)) v w agree
+    (λ rows others i e. record {
+      code = refl;
+      world = record { same = refl; import = i; export = e };
+      range = record { import = range.import; export = range.export; scripts = range.scripts };
+    })
+
+list_alike : (list : WrittenList) (value : Data) (v w : World) → IsValue value → IsWorld v → Agree v w
+    → Alike (at_list list (list_read list value) v) (at_list list (list_read list value) w)
+list_alike written.Scripts value v w small range agree = scripts_alike (table_of value) v w small.scripts range agree
+list_alike (written.Entries which) value v w small range agree = entries_alike which (entries_of value) v w range agree
+list_alike (written.Groups which) value v w small range agree = group_ids_alike which (groups_of value) v w range agree
+
+attribute_alike : (list : Option WrittenList) (instance : Instance) (number : ℕ) (value : Data) (v w : World) → IsValue value → IsWorld v → Agree v w
+    → Alike (at_attribute list instance number value v) (at_attribute list instance number value w)
+attribute_alike None instance number value v w small range agree = plain_alike instance number value v w small range agree
+attribute_alike (Some list) instance number value v w small range agree = list_alike list value v w small range agree
+
+write_alike : (instance : Instance) (number : ℕ) (value : Data) (v w : World) → IsValue value → IsWorld v → Agree v w
+    → Alike (at_write instance number value v) (at_write instance number value w)
+unfolding at_write
+write_alike instance number value v w small range agree = attribute_alike (list_numbered instance number) instance number value v w small range agree
 
 write_at_alike : (target : Result Instance ResultCode) (number : ℕ) (value : Data) (v w : World) → IsValue value → IsWorld v → Agree v w
     → Alike (write_at target number value v) (write_at target number value w)

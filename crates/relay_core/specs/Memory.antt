@@ -1,5 +1,5 @@
 -- Which reads and writes take no memory, so that they are always answered.
-use Rattle.std.specs.Prelude.{ℕ, Bool, true, Result, Ok, Err, ◌==◌, ◌||◌, ◌&&◌, not, Option, Some, None}
+use Rattle.std.specs.Prelude.{ℕ, Bool, true, false, Result, Ok, Err, ◌==◌, ◌||◌, ◌&&◌, not, Option, Some, None}
 use Rattle.action_schedule.specs.Attributes.{attribute_numbered as schedule_attribute, is_plain as is_plain_schedule}
 use Rattle.action_schedule.specs.declared.attribute.ScheduleAttribute.{ScheduleAttribute}
 use Rattle.cosem_names.specs.declared.name.AttrRef.{AttrRef}
@@ -10,7 +10,9 @@ use Rattle.cosem_names.specs.declared.result_code.ResultCode.{ResultCode}
 use Rattle.cosem_names.specs.Objects.{rights_of}
 use Rattle.limiter_attributes.specs.declared.attribute.LimiterAttribute.{LimiterAttribute}
 use Rattle.limiter_attributes.specs.Attributes.{attribute_numbered, is_plain as is_plain_limiter}
+use Rattle.relay_core.specs.declared.parts.WrittenList.{WrittenList}
 use Rattle.relay_core.specs.Access.{target_of}
+use Rattle.relay_core.specs.Moving.{list_numbered}
 
 -- whether an attribute of a limiter or a schedule takes no memory to read
 abbrev pub is_plain_attribute : Option LimiterAttribute → Bool
@@ -41,11 +43,12 @@ unfoldable pub reads_plainly : Level → AttrRef → Bool → Bool
 reads_plainly level attr selected = is_plain_at (target_of attr.name attr.class (rights_of level attr).read selected) attr.number
 
 -- whether a write of an attribute moves no list in
+abbrev pub is_no_list : Option WrittenList → Bool
+is_no_list None = true
+is_no_list (Some list) = false
+
 abbrev pub writes_plainly_in : Instance → ℕ → Bool
-writes_plainly_in ScriptTable number = not (number == 2)
-writes_plainly_in (Schedule which) number = not (number == 4)
-writes_plainly_in (Limiter which) number = not (number == 9)
-writes_plainly_in _ number = true
+writes_plainly_in instance number = is_no_list (list_numbered instance number)
 
 -- whether a write of an object that was reached takes no memory
 abbrev pub writes_plainly_at : Result Instance ResultCode → ℕ → Bool

@@ -1,16 +1,16 @@
--- The owned values that a write moves in, apart from the write itself.
-use Rattle.std.specs.Prelude.{ℕ, Bool, List, Result, Ok, Err, ◌==◌, if◌then◌else◌}
-use Rattle.cosem_names.specs.WriteFault.{fault_code}
-use Rattle.cosem_names.specs.declared.write_fault.WriteFault.{WriteFault}
+-- The lists that a client writes, as they are read apart from the write itself: all that a write takes of memory is in them.
+use Rattle.std.specs.Prelude.{ℕ, Bool, List, Option, Some, None, Result, Ok, Err, ◌==◌, if◌then◌else◌}
 use Rattle.action_schedule.specs.Reading.{entries_of}
 use Rattle.action_schedule.specs.Schedule.{new_schedule}
 use Rattle.cosem_axdr.specs.declared.value.Data.{Data}
 use Rattle.cosem_datetime.specs.declared.entry.EntryPattern.{EntryPattern}
-use Rattle.cosem_names.specs.declared.name.AttrRef.{AttrRef}
+use Rattle.cosem_names.specs.WriteFault.{fault_code}
 use Rattle.cosem_names.specs.declared.level.Level.{Level}
+use Rattle.cosem_names.specs.declared.name.AttrRef.{AttrRef}
 use Rattle.cosem_names.specs.declared.objects.Instance.{Instance}
 use Rattle.cosem_names.specs.declared.objects.Instance.TheVariants.{ScriptTable, Schedule, Limiter}
 use Rattle.cosem_names.specs.declared.result_code.ResultCode.{ResultCode}
+use Rattle.cosem_names.specs.declared.write_fault.WriteFault.{WriteFault}
 use Rattle.cosem_names.specs.Objects.{rights_of}
 use Rattle.limiter_attributes.specs.Reading.{groups_of}
 use Rattle.limiter_attributes.specs.Settings.{limiter_with_groups}
@@ -18,9 +18,21 @@ use Rattle.relay_core.specs.declared.event.Event.{Event}
 use Rattle.relay_core.specs.declared.event.Event.TheVariants.{Set}
 use Rattle.relay_core.specs.declared.parts.Parts.{Parts}
 use Rattle.relay_core.specs.declared.parts.Parts.TheVariants as part
+use Rattle.relay_core.specs.declared.parts.WrittenList.{WrittenList}
+use Rattle.relay_core.specs.declared.parts.WrittenList.TheVariants as written
 use Rattle.relay_core.specs.Access.{target_of}
+use Rattle.relay_core.specs.Limiters.{metered_of, with_metered, with_settings}
+use Rattle.relay_core.specs.Schedules.{schedule_of, with_schedule}
+use Rattle.relay_core.specs.World.{World}
 use Rattle.script_steps.specs.declared.step.Script.{Script}
 use Rattle.script_steps.specs.Reading.{table_of}
+
+-- the attributes that are lists (IEC 62056-6-2): scripts of class 9, execution_time of class 22, emergency_profile_group_id_list of class 71
+abbrev pub list_numbered : Instance → ℕ → Option WrittenList
+list_numbered ScriptTable number = if number == 2 then Some written.Scripts else None
+list_numbered (Schedule which) number = if number == 4 then Some (written.Entries which) else None
+list_numbered (Limiter which) number = if number == 9 then Some (written.Groups which) else None
+list_numbered _ number = None
 
 -- scripts, entries and group ids that are moved in, or why they are refused
 abbrev pub scripts_part : Result (List Script) WriteFault → Result Parts ResultCode
@@ -35,21 +47,34 @@ abbrev pub groups_part : Result (List ℕ) WriteFault → Result Parts ResultCod
 groups_part (Ok ids) = Ok (part.Groups (limiter_with_groups ids))
 groups_part (Err fault) = Err (fault_code fault)
 
--- what a write of an attribute moves in: a list alone is moved
-unfoldable pub parts_read : Instance → ℕ → Data → Result Parts ResultCode
-parts_read ScriptTable number value = if number == 2 then scripts_part (table_of value) else Ok part.Plain
-parts_read (Schedule which) number value = if number == 4 then entries_part (entries_of value) else Ok part.Plain
-parts_read (Limiter which) number value = if number == 9 then groups_part (groups_of value) else Ok part.Plain
-parts_read _ number value = Ok part.Plain
+-- what a list is read as where it is written: the one reading of it
+abbrev pub list_read : WrittenList → Data → Result Parts ResultCode
+list_read written.Scripts value = scripts_part (table_of value)
+list_read (written.Entries which) value = entries_part (entries_of value)
+list_read (written.Groups which) value = groups_part (groups_of value)
 
--- nothing is moved in by a write that is refused
-abbrev pub parts_or_plain : Result Parts ResultCode → Parts
-parts_or_plain (Ok parts) = parts
-parts_or_plain (Err refusal) = part.Plain
+-- the world with a list in its place
+abbrev pub moved : WrittenList → Parts → World → World
+moved written.Scripts (part.Scripts scripts) w = record w { scripts = scripts }
+moved (written.Entries which) (part.Entries schedule) w =
+    record w { schedules = with_schedule which (record (schedule_of which w.schedules) { entries = schedule.entries }) w.schedules }
+moved (written.Groups which) (part.Groups limiter) w =
+    with_metered which (with_settings (record (metered_of which w).settings { groups = limiter.settings.groups }) (metered_of which w)) w
+moved _ _ w = w
+
+-- a list that is refused moves nothing in
+abbrev pub or_plain : Result Parts ResultCode → Parts
+or_plain (Ok parts) = parts
+or_plain (Err refusal) = part.Plain
+
+-- what a write of an attribute moves in
+abbrev pub parts_read : Option WrittenList → Data → Parts
+parts_read None value = part.Plain
+parts_read (Some list) value = or_plain (list_read list value)
 
 abbrev pub parts_at : Result Instance ResultCode → ℕ → Data → Parts
 parts_at (Err refusal) number value = part.Plain
-parts_at (Ok instance) number value = parts_or_plain (parts_read instance number value)
+parts_at (Ok instance) number value = parts_read (list_numbered instance number) value
 
 -- what a client's write moves in, and what an event does
 unfoldable pub set_parts : Level → AttrRef → Bool → Data → Parts

@@ -1,10 +1,11 @@
 -- The four single action schedules, and their attributes as they are read and written (IEC 62056-6-2, class 22).
-use Rattle.std.specs.Prelude.{ℕ, List, [], ◌∷◌, Option, Some, None, Result, Ok, Err, ◌==◌, if◌then◌else◌}
+use Rattle.std.specs.Prelude.{List, [], ◌∷◌, Option, Some, None, Result, Ok, Err}
 use Rattle.action_schedule.specs.declared.attribute.ScheduleAttribute.{ScheduleAttribute}
+use Rattle.action_schedule.specs.declared.attribute.ScheduleAttribute.TheVariants.{ExecutedScript, Kind}
 use Rattle.cosem_names.specs.WriteFault.{fault_code}
 use Rattle.cosem_names.specs.declared.write_fault.WriteFault.{WriteFault}
-use Rattle.action_schedule.specs.Reading.{selector_of, kind_of, entries_of}
-use Rattle.action_schedule.specs.Schedule.{Schedule, with_selector, with_kind, with_entries}
+use Rattle.action_schedule.specs.Reading.{selector_of, kind_of}
+use Rattle.action_schedule.specs.Schedule.{Schedule, with_selector, with_kind}
 use Rattle.action_schedule.specs.Writing.{data_at}
 use Rattle.cosem_axdr.specs.declared.value.Data.{Data}
 use Rattle.cosem_names.specs.declared.objects.ScheduleNumber.{ScheduleNumber}
@@ -43,17 +44,13 @@ abbrev pub write_code : {A : Type 0} → Result A WriteFault → ResultCode
 write_code (Ok x) = Success
 write_code (Err fault) = fault_code fault
 
--- a schedule after a write of an attribute, and the result
-unfoldable pub schedule_written : ℕ → Data → Schedule → Schedule
-schedule_written number value schedule =
-    if number == 2 then with_selector (selector_of value) schedule
-    else if number == 3 then with_kind (kind_of value) schedule
-    else if number == 4 then with_entries (entries_of value) schedule
-    else schedule
+-- a schedule after a write of an attribute, and the result: its entries are written as a list
+unfoldable pub schedule_written : Option ScheduleAttribute → Data → Schedule → Schedule
+schedule_written (Some ExecutedScript) value schedule = with_selector (selector_of value) schedule
+schedule_written (Some Kind) value schedule = with_kind (kind_of value) schedule
+schedule_written _ value schedule = schedule
 
-unfoldable pub schedule_code : ℕ → Data → ResultCode
-schedule_code number value =
-    if number == 2 then write_code (selector_of value)
-    else if number == 3 then write_code (kind_of value)
-    else if number == 4 then write_code (entries_of value)
-    else ReadWriteDenied
+unfoldable pub schedule_code : Option ScheduleAttribute → Data → ResultCode
+schedule_code (Some ExecutedScript) value = write_code (selector_of value)
+schedule_code (Some Kind) value = write_code (kind_of value)
+schedule_code _ value = ReadWriteDenied

@@ -1,7 +1,8 @@
 -- What a client's write does (IEC 62056-5-3, SET; IEC 62056-6-2, classes 9, 22, 70 and 71).
-use Rattle.std.specs.Prelude.{ℕ, Bool, List, Option, Some, None, Result, Ok, Err, ◌==◌, if◌then◌else◌}
+use Rattle.std.specs.Prelude.{ℕ, Bool, Option, Some, None, Result, Ok, Err}
+use Rattle.action_schedule.specs.Attributes.{attribute_numbered as schedule_attribute}
+use Rattle.action_schedule.specs.declared.attribute.ScheduleAttribute.{ScheduleAttribute}
 use Rattle.cosem_axdr.specs.declared.value.Data.{Data}
-use Rattle.cosem_datetime.specs.declared.entry.EntryPattern.{EntryPattern}
 use Rattle.cosem_names.specs.declared.name.AttrRef.{AttrRef}
 use Rattle.cosem_names.specs.declared.level.Level.{Level}
 use Rattle.cosem_names.specs.declared.objects.Instance.{Instance}
@@ -17,19 +18,19 @@ use Rattle.disconnect_control.specs.declared.state.ControlMode.{ControlMode}
 use Rattle.disconnect_control.specs.Attributes.{attribute_numbered as control_attribute, mode_form}
 use Rattle.disconnect_control.specs.Control.{with_mode, mode_result}
 use Rattle.limiter_attributes.specs.declared.attribute.LimiterAttribute.{LimiterAttribute}
-use Rattle.limiter_attributes.specs.declared.attribute.LimiterAttribute.TheVariants.{EmergencyProfileGroupIdList}
 use Rattle.cosem_names.specs.declared.write_fault.WriteFault.{WriteFault}
 use Rattle.cosem_names.specs.WriteFault.{fault_code}
 use Rattle.limiter_attributes.specs.declared.setting.Setting.{Setting}
 use Rattle.limiter_attributes.specs.Attributes.{attribute_numbered}
-use Rattle.limiter_attributes.specs.Reading.{setting_of, groups_of}
+use Rattle.limiter_attributes.specs.Reading.{setting_of}
 use Rattle.limiter_attributes.specs.Settings.{with_setting}
 use Rattle.relay_core.specs.Access.{target_of}
 use Rattle.relay_core.specs.Limiters.{metered_of, with_metered, with_settings}
+use Rattle.relay_core.specs.declared.parts.Parts.{Parts}
+use Rattle.relay_core.specs.declared.parts.WrittenList.{WrittenList}
+use Rattle.relay_core.specs.Moving.{list_numbered, list_read, moved}
 use Rattle.relay_core.specs.Schedules.{schedule_of, with_schedule, schedule_written, schedule_code}
 use Rattle.relay_core.specs.World.{World, Outcome}
-use Rattle.script_steps.specs.declared.step.Script.{Script}
-use Rattle.script_steps.specs.Reading.{table_of}
 
 -- a write that is refused changes nothing
 abbrev pub refused : ResultCode → World → Outcome
@@ -48,11 +49,6 @@ abbrev pub at_control : Option ControlAttribute → Data → World → Outcome
 at_control (Some attribute.ControlMode) value w = at_mode_form (mode_form value) w
 at_control _ value w = refused ReadWriteDenied w
 
--- a write of the script table's scripts
-abbrev pub at_scripts : Result (List Script) WriteFault → World → Outcome
-at_scripts (Err fault) w = refused (fault_code fault) w
-at_scripts (Ok scripts) w = record { world = record w { scripts = scripts }; code = Success }
-
 -- a setting of a limiter
 unfoldable pub at_setting : Which → Setting → World → Outcome
 at_setting which setting w = record {
@@ -65,41 +61,40 @@ at_setting_form which (Err fault) w = refused (fault_code fault) w
 at_setting_form which (Ok None) w = refused ReadWriteDenied w
 at_setting_form which (Ok (Some setting)) w = at_setting which setting w
 
--- group ids of a limiter
-abbrev pub at_groups : Which → Result (List ℕ) WriteFault → World → Outcome
-at_groups which (Err fault) w = refused (fault_code fault) w
-at_groups which (Ok ids) w = record {
-  world = with_metered which (with_settings (record (metered_of which w).settings { groups = ids }) (metered_of which w)) w;
-  code = Success;
-}
-
--- a write of an attribute of a limiter
+-- a write of an attribute of a limiter that isn't its list of group ids
 abbrev pub at_limiter : Which → Option LimiterAttribute → Data → World → Outcome
 at_limiter which None value w = refused ReadWriteDenied w
-at_limiter which (Some EmergencyProfileGroupIdList) value w = at_groups which (groups_of value) w
 at_limiter which (Some attribute) value w = at_setting_form which (setting_of attribute value) w
 
--- a write of an attribute of a schedule
-unfoldable pub at_schedule : ScheduleNumber → ℕ → Data → World → Outcome
-at_schedule which number value w = record {
-  world = record w { schedules = with_schedule which (schedule_written number value (schedule_of which w.schedules)) w.schedules };
-  code = schedule_code number value;
+-- a write of an attribute of a schedule that isn't its list of entries
+unfoldable pub at_schedule : ScheduleNumber → Option ScheduleAttribute → Data → World → Outcome
+at_schedule which attribute value w = record {
+  world = record w { schedules = with_schedule which (schedule_written attribute value (schedule_of which w.schedules)) w.schedules };
+  code = schedule_code attribute value;
 }
 
--- one of the schedules with other entries
-abbrev pub with_schedule_entries : ScheduleNumber → List EntryPattern → World → World
-with_schedule_entries which entries w =
-    record w { schedules = with_schedule which (record (schedule_of which w.schedules) { entries = entries }) w.schedules }
+-- a write of a list: what was read of it, or why it is refused
+abbrev pub at_list : WrittenList → Result Parts ResultCode → World → Outcome
+at_list list (Err code) w = refused code w
+at_list list (Ok parts) w = record { world = moved list parts w; code = Success }
+
+-- a write of an attribute of an object that is no list
+abbrev pub at_plain : Instance → ℕ → Data → World → Outcome
+at_plain Association number value w = refused ReadWriteDenied w
+at_plain DeviceName number value w = refused ReadWriteDenied w
+at_plain (Register which) number value w = refused ReadWriteDenied w
+at_plain ScriptTable number value w = refused ReadWriteDenied w
+at_plain (Schedule which) number value w = at_schedule which (schedule_attribute number) value w
+at_plain DisconnectControl number value w = at_control (control_attribute number) value w
+at_plain (Limiter which) number value w = at_limiter which (attribute_numbered number) value w
+
+abbrev pub at_attribute : Option WrittenList → Instance → ℕ → Data → World → Outcome
+at_attribute None instance number value w = at_plain instance number value w
+at_attribute (Some list) instance number value w = at_list list (list_read list value) w
 
 -- a write of an attribute of an object
 unfoldable pub at_write : Instance → ℕ → Data → World → Outcome
-at_write Association number value w = refused ReadWriteDenied w
-at_write DeviceName number value w = refused ReadWriteDenied w
-at_write (Register which) number value w = refused ReadWriteDenied w
-at_write ScriptTable number value w = if number == 2 then at_scripts (table_of value) w else refused ReadWriteDenied w
-at_write (Schedule which) number value w = at_schedule which number value w
-at_write DisconnectControl number value w = at_control (control_attribute number) value w
-at_write (Limiter which) number value w = at_limiter which (attribute_numbered number) value w
+at_write instance number value w = at_attribute (list_numbered instance number) instance number value w
 
 -- a write of an object that was reached
 abbrev pub write_at : Result Instance ResultCode → ℕ → Data → World → Outcome

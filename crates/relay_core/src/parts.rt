@@ -1,9 +1,9 @@
 ghost use Rattle.std.specs.Prelude.{◌≡◌, IfOk, IsOk, IsTrue};
-ghost use Rattle.relay_core.specs.Machine.{is_sure};
-ghost use Rattle.relay_core.specs.Moving.{scripts_part, entries_part, groups_part, parts_read, parts_or_plain, set_parts, parts_of};
-ghost use Rattle.relay_core.specs.Memory.{writes_plainly_in, writes_plainly};
 ghost use Rattle.action_schedule.specs.Reading.{entries_of};
 ghost use Rattle.limiter_attributes.specs.Reading.{groups_of};
+ghost use Rattle.relay_core.specs.Machine.{is_sure};
+ghost use Rattle.relay_core.specs.Memory.{writes_plainly, writes_plainly_in};
+ghost use Rattle.relay_core.specs.Moving.{scripts_part, entries_part, groups_part, list_numbered, list_read, parts_read, set_parts, parts_of};
 ghost use Rattle.script_steps.specs.Reading.{table_of};
 
 use crate::access::target;
@@ -11,7 +11,9 @@ use crate::event::Event;
 use crate::relay::RelayCore;
 use action_schedule::ActionSchedule;
 use cosem_axdr::Data;
-use cosem_names::{AttrRef, Instance, Level, ResultCode, WriteFault, rights};
+use cosem_names::{
+    AttrRef, Instance, Level, ResultCode, ScheduleNumber, Which, WriteFault, rights,
+};
 use limiter_attributes::read_groups;
 use limiter_core::Limiter;
 use script_steps::ScriptTable;
@@ -28,6 +30,31 @@ pub enum Parts {
     Groups(Limiter),
     /// The entries of a schedule, in one that is else new.
     Entries(ActionSchedule),
+}
+
+/// The attributes that are lists, which alone take memory where they are written.
+#[derive(Clone, Copy)]
+pub(crate) enum WrittenList {
+    /// `scripts` of the script table (IEC 62056-6-2, class 9, attribute 2).
+    Scripts,
+    /// `execution_time` of a schedule (class 22, attribute 4).
+    Entries(ScheduleNumber),
+    /// `emergency_profile_group_id_list` of a limiter (class 71, attribute 9).
+    Groups(Which),
+}
+
+impl WrittenList {
+    /// The list that an attribute is, if it is one.
+    pub(crate) fn of_number(instance: Instance, number: u8) -> Option<WrittenList>
+        ensures { result ≡ list_numbered instance number }
+    {
+        match (instance, number) {
+            (Instance::ScriptTable, 2) => Some(WrittenList::Scripts),
+            (Instance::Schedule(which), 4) => Some(WrittenList::Entries(which)),
+            (Instance::Limiter(which), 9) => Some(WrittenList::Groups(which)),
+            _ => None,
+        }
+    }
 }
 
 /// The scripts that are moved in, or why they are refused.
@@ -67,22 +94,37 @@ fn read_group_ids(alloc: Global, value: &Data) -> Result<Result<Parts, ResultCod
     })
 }
 
-/// What a write of an attribute moves in, or why a list that is written is refused.
-#[tactic(auto, unfolding(crate::specs::Moving::parts_read))]
-pub(crate) fn read_parts(
+/// What is moved in of a list that is written, or why it is refused.
+pub(crate) fn read_list(
+    alloc: Global,
+    list: WrittenList,
+    value: &Data,
+) -> Result<Result<Parts, ResultCode>, AllocError>
+    ensures { IfOk result (λ parts. parts ≡ list_read list value.now) }
+{
+    match list {
+        WrittenList::Scripts => read_scripts(alloc, value),
+        WrittenList::Entries(_) => read_entries(alloc, value),
+        WrittenList::Groups(_) => read_group_ids(alloc, value),
+    }
+}
+
+/// What a write of an attribute moves in.
+fn read_parts(
     alloc: Global,
     instance: Instance,
     number: u8,
     value: &Data,
-) -> Result<Result<Parts, ResultCode>, AllocError>
-    ensures parts { IfOk result (λ parts. parts ≡ parts_read instance number value.now) }
+) -> Result<Parts, AllocError>
+    ensures parts { IfOk result (λ parts. parts ≡ parts_read (list_numbered instance number) value.now) }
     ensures plain { IsTrue (writes_plainly_in instance number) → IsOk result }
 {
-    match (instance, number) {
-        (Instance::ScriptTable, 2) => read_scripts(alloc, value),
-        (Instance::Schedule(_), 4) => read_entries(alloc, value),
-        (Instance::Limiter(_), 9) => read_group_ids(alloc, value),
-        _ => Ok(Ok(Parts::Plain)),
+    let Some(list) = WrittenList::of_number(instance, number) else {
+        return Ok(Parts::Plain);
+    };
+    match read_list(alloc, list, value)? {
+        Ok(parts) => Ok(parts),
+        Err(_refusal) => Ok(Parts::Plain),
     }
 }
 
@@ -99,10 +141,7 @@ fn read_set_parts(
     ensures plain { IsTrue (writes_plainly level attr.now selected) → IsOk result }
 {
     match target(attr.name, attr.class, rights(level, attr).write, selected) {
-        Ok(instance) => match read_parts(alloc, instance, attr.number, value)? {
-            Ok(parts) => Ok(parts),
-            Err(_refusal) => Ok(Parts::Plain),
-        },
+        Ok(instance) => read_parts(alloc, instance, attr.number, value),
         Err(_refusal) => Ok(Parts::Plain),
     }
 }

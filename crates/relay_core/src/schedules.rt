@@ -1,12 +1,15 @@
-ghost use Rattle.std.specs.Prelude.{◌≡◌, ◌≢◌, Ok, IfOk, IsOk, IsTrue};
+ghost use Rattle.std.specs.Prelude.{◌≡◌, IfOk, IsOk, IsTrue};
 ghost use Rattle.action_schedule.specs.Attributes.{attribute_numbered};
 ghost use Rattle.action_schedule.specs.Reading.{selector_of, kind_of};
-ghost use Rattle.action_schedule.specs.Schedule.{with_selector, with_kind, with_entries};
+ghost use Rattle.action_schedule.specs.Schedule.{with_selector, with_kind};
 ghost use Rattle.relay_core.specs.Memory.{is_plain_schedule_attribute};
 ghost use Rattle.relay_core.specs.Schedules.{schedule_of, schedule_value, schedule_written, schedule_code, write_code};
 ghost use Rattle.relay_core.specs.Stands.{StandsFor};
 ghost use Rattle.relay_core.specs.World.{World, new_schedules};
-ghost use Rattle.relay_core.specs.Writing.{at_schedule, with_schedule_entries};
+ghost use Rattle.relay_core.specs.Writing.{at_schedule};
+ghost use Rattle.relay_core.specs.Moving.{moved};
+ghost use Rattle.relay_core.specs.declared.parts.Parts.TheVariants as part;
+ghost use Rattle.relay_core.specs.declared.parts.WrittenList.TheVariants as written;
 
 use crate::relay::RelayCore;
 use action_schedule::{ActionSchedule, ScheduleAttribute};
@@ -122,29 +125,21 @@ fn write_kind(schedule: &mut ActionSchedule, value: &Data) -> ResultCode
     code_of(schedule.set_kind(value))
 }
 
-/// Writes an attribute of a schedule that isn't a list.
+/// Writes an attribute of a schedule that isn't its list of entries.
 #[tactic(auto, unfolding(crate::specs::Schedules::schedule_written, crate::specs::Schedules::schedule_code))]
 fn write_attribute(schedule: &mut ActionSchedule, number: u8, value: &Data) -> ResultCode
-    requires { number ≢ 4 }
-    ensures schedule { schedule.new ≡ schedule_written number value.now schedule.old }
-    ensures code { result ≡ schedule_code number value.now }
+    ensures schedule { schedule.new ≡ schedule_written (attribute_numbered number) value.now schedule.old }
+    ensures code { result ≡ schedule_code (attribute_numbered number) value.now }
 {
-    match number {
-        2 => write_script(schedule, value),
-        3 => write_kind(schedule, value),
-        _ => ResultCode::ReadWriteDenied,
+    match ScheduleAttribute::of_number(number) {
+        Some(ScheduleAttribute::ExecutedScript) => write_script(schedule, value),
+        Some(ScheduleAttribute::Kind) => write_kind(schedule, value),
+        Some(ScheduleAttribute::ExecutionTime) | None => ResultCode::ReadWriteDenied,
     }
 }
 
-/// Trades the entries of a schedule for others.
-fn trade_entries(schedule: &mut ActionSchedule, other: &mut ActionSchedule)
-    ensures { schedule.new ≡ with_entries (Ok other.old.entries) schedule.old }
-{
-    schedule.swap_entries(other);
-}
-
 impl RelayCore {
-    /// Writes an attribute of one of the schedules that isn't a list.
+    /// Writes an attribute of one of the schedules that isn't its list of entries.
     #[tactic(auto, unfolding(crate::specs::Writing::at_schedule))]
     pub(crate) fn write_schedule(
         &mut self,
@@ -152,9 +147,8 @@ impl RelayCore {
         number: u8,
         value: &Data,
     ) -> ResultCode
-        requires { number ≢ 4 }
-        ensures world { (w : World) → StandsFor self.old w → StandsFor self.new (at_schedule which number value.now w).world }
-        ensures code { (w : World) → StandsFor self.old w → result ≡ (at_schedule which number value.now w).code }
+        ensures world { (w : World) → StandsFor self.old w → StandsFor self.new (at_schedule which (attribute_numbered number) value.now w).world }
+        ensures code { (w : World) → StandsFor self.old w → result ≡ (at_schedule which (attribute_numbered number) value.now w).code }
     {
         match which {
             ScheduleNumber::First => write_attribute(&mut self.schedules.first, number, value),
@@ -164,15 +158,15 @@ impl RelayCore {
         }
     }
 
-    /// Moves entries into one of the schedules.
+    /// Moves the entries of another schedule into one of these.
     pub(crate) fn trade_entries(&mut self, which: ScheduleNumber, other: &mut ActionSchedule)
-        ensures { (w : World) → StandsFor self.old w → StandsFor self.new (with_schedule_entries which other.old.entries w) }
+        ensures { (w : World) → StandsFor self.old w → StandsFor self.new (moved (written.Entries which) (part.Entries other.old) w) }
     {
         match which {
-            ScheduleNumber::First => trade_entries(&mut self.schedules.first, other),
-            ScheduleNumber::Second => trade_entries(&mut self.schedules.second, other),
-            ScheduleNumber::Third => trade_entries(&mut self.schedules.third, other),
-            ScheduleNumber::Fourth => trade_entries(&mut self.schedules.fourth, other),
+            ScheduleNumber::First => self.schedules.first.swap_entries(other),
+            ScheduleNumber::Second => self.schedules.second.swap_entries(other),
+            ScheduleNumber::Third => self.schedules.third.swap_entries(other),
+            ScheduleNumber::Fourth => self.schedules.fourth.swap_entries(other),
         }
     }
 }

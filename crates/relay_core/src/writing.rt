@@ -1,20 +1,19 @@
-ghost use Rattle.std.specs.Prelude.{◌≡◌, ◌≢◌, Ok, IfOk, IsOk, IsTrue, OnOk, OnErr};
-ghost use Rattle.relay_core.specs.World.{World};
-ghost use Rattle.relay_core.specs.Stands.{StandsFor};
+ghost use Rattle.std.specs.Prelude.{◌≡◌, IfOk, IsOk, IsTrue, OnOk, OnErr};
+ghost use Rattle.disconnect_control.specs.Attributes.{attribute_numbered as control_attribute};
 ghost use Rattle.limiter_attributes.specs.Attributes.{attribute_numbered};
-ghost use Rattle.cosem_names.specs.declared.objects.Instance.TheVariants.{ScriptTable, Schedule, DisconnectControl};
-ghost use Rattle.relay_core.specs.Moving.{parts_read, parts_or_plain, set_parts};
-ghost use Rattle.relay_core.specs.Writing.{at_mode, at_setting, at_groups, at_limiter, at_write, at_set};
 ghost use Rattle.relay_core.specs.Memory.{writes_plainly_in, writes_plainly};
+ghost use Rattle.relay_core.specs.Moving.{list_numbered, moved, parts_read, set_parts};
+ghost use Rattle.relay_core.specs.Stands.{StandsFor};
+ghost use Rattle.relay_core.specs.World.{World};
+ghost use Rattle.relay_core.specs.Writing.{at_mode, at_setting, at_limiter, at_control, at_plain, at_write, at_set};
 
 use crate::access::target;
-use crate::parts::{Parts, read_parts};
+use crate::parts::{Parts, WrittenList, read_list};
 use crate::relay::RelayCore;
 use cosem_axdr::Data;
 use cosem_names::{AttrRef, Instance, Level, ResultCode, ScheduleNumber, Which, rights};
 use disconnect_control::{ControlAttribute, ControlMode, read_mode};
 use limiter_attributes::{LimiterAttribute, Setting, read_setting};
-use limiter_core::Limiter;
 use std::alloc::{AllocError, Global};
 
 impl RelayCore {
@@ -44,10 +43,8 @@ impl RelayCore {
         ResultCode::Success
     }
 
-    /// Writes an attribute of a limiter that moves nothing in.
-    #[tactic(auto, using(crate::proofs::WriteLemmas::limiter_written))]
+    /// Writes an attribute of a limiter that isn't its list of group ids.
     fn write_limiter(&mut self, which: Which, number: u8, value: &Data) -> ResultCode
-        requires { number ≢ 9 }
         ensures world { (w : World) → StandsFor self.old w → StandsFor self.new (at_limiter which (attribute_numbered number) value.now w).world }
         ensures code { (w : World) → StandsFor self.old w → result ≡ (at_limiter which (attribute_numbered number) value.now w).code }
     {
@@ -62,78 +59,51 @@ impl RelayCore {
     }
 
     /// Moves scripts in.
-    #[tactic(auto, using(crate::proofs::WriteLemmas::scripts_moved))]
-    fn move_scripts(&mut self, number: u8, value: &Data, parts: Parts) -> ResultCode
-        requires { parts ≡ parts_or_plain (parts_read ScriptTable number value.now) }
-        ensures world { (w : World) → StandsFor self.old w → StandsFor self.new (at_write ScriptTable number value.now w).world }
-        ensures code { (w : World) → StandsFor self.old w → IsOk (parts_read ScriptTable number value.now)
-            → result ≡ (at_write ScriptTable number value.now w).code }
+    fn move_scripts(&mut self, parts: Parts)
+        ensures { (w : World) → StandsFor self.old w → StandsFor self.new (moved WrittenList.Scripts parts w) }
     {
-        let Parts::Scripts(scripts) = parts else {
-            return ResultCode::ReadWriteDenied;
-        };
-        self.scripts = scripts;
-        ResultCode::Success
+        if let Parts::Scripts(scripts) = parts {
+            self.scripts = scripts;
+        }
     }
 
-    /// Moves group ids in, or writes another attribute of a limiter.
-    #[tactic(auto, unfolding(crate::specs::Writing::at_write))]
-    fn move_limiter(&mut self, which: Which, number: u8, value: &Data, parts: Parts) -> ResultCode
-        requires { parts ≡ parts_or_plain (parts_read (Instance.Limiter which) number value.now) }
-        ensures world { (w : World) → StandsFor self.old w → StandsFor self.new (at_write (Instance.Limiter which) number value.now w).world }
-        ensures code { (w : World) → StandsFor self.old w → IsOk (parts_read (Instance.Limiter which) number value.now)
-            → result ≡ (at_write (Instance.Limiter which) number value.now w).code }
+    /// Moves the group ids of a limiter in.
+    fn move_groups(&mut self, which: Which, parts: Parts)
+        ensures { (w : World) → StandsFor self.old w → StandsFor self.new (moved (WrittenList.Groups which) parts w) }
     {
-        if number != 9 {
-            return self.write_limiter(which, number, value);
-        }
         let Parts::Groups(mut groups) = parts else {
-            return ResultCode::ReadWriteDenied;
+            return;
         };
-        self.trade_groups(which, &mut groups);
-        ResultCode::Success
-    }
-
-    /// Trades the group ids of a limiter.
-    fn trade_groups(&mut self, which: Which, groups: &mut Limiter)
-        ensures { (w : World) → StandsFor self.old w
-            → StandsFor self.new (at_groups which (Ok groups.old.settings.groups) w).world }
-    {
         match which {
-            Which::Import => self.import.swap_groups(groups),
-            Which::Export => self.export.swap_groups(groups),
+            Which::Import => self.import.swap_groups(&mut groups),
+            Which::Export => self.export.swap_groups(&mut groups),
         }
     }
 
-    /// Moves entries in, or writes another attribute of a schedule.
-    #[tactic(auto, unfolding(crate::specs::Writing::at_write))]
-    fn move_schedule(
-        &mut self,
-        which: ScheduleNumber,
-        number: u8,
-        value: &Data,
-        parts: Parts,
-    ) -> ResultCode
-        requires { parts ≡ parts_or_plain (parts_read (Schedule which) number value.now) }
-        ensures world { (w : World) → StandsFor self.old w → StandsFor self.new (at_write (Schedule which) number value.now w).world }
-        ensures code { (w : World) → StandsFor self.old w → IsOk (parts_read (Schedule which) number value.now)
-            → result ≡ (at_write (Schedule which) number value.now w).code }
+    /// Moves the entries of a schedule in.
+    fn move_entries(&mut self, which: ScheduleNumber, parts: Parts)
+        ensures { (w : World) → StandsFor self.old w → StandsFor self.new (moved (WrittenList.Entries which) parts w) }
     {
-        if number != 4 {
-            return self.write_schedule(which, number, value);
+        if let Parts::Entries(mut entries) = parts {
+            self.trade_entries(which, &mut entries);
         }
-        let Parts::Entries(mut entries) = parts else {
-            return ResultCode::ReadWriteDenied;
-        };
-        self.trade_entries(which, &mut entries);
-        ResultCode::Success
+    }
+
+    /// Moves a list in. One that was refused moves nothing.
+    fn move_in(&mut self, list: WrittenList, parts: Parts)
+        ensures { (w : World) → StandsFor self.old w → StandsFor self.new (moved list parts w) }
+    {
+        match list {
+            WrittenList::Scripts => self.move_scripts(parts),
+            WrittenList::Entries(which) => self.move_entries(which, parts),
+            WrittenList::Groups(which) => self.move_groups(which, parts),
+        }
     }
 
     /// Writes an attribute of the switch.
-    #[tactic(auto, unfolding(crate::specs::Writing::at_write))]
     fn write_control(&mut self, number: u8, value: &Data) -> ResultCode
-        ensures world { (w : World) → StandsFor self.old w → StandsFor self.new (at_write DisconnectControl number value.now w).world }
-        ensures code { (w : World) → StandsFor self.old w → result ≡ (at_write DisconnectControl number value.now w).code }
+        ensures world { (w : World) → StandsFor self.old w → StandsFor self.new (at_control (control_attribute number) value.now w).world }
+        ensures code { (w : World) → StandsFor self.old w → result ≡ (at_control (control_attribute number) value.now w).code }
     {
         let Some(ControlAttribute::ControlMode) = ControlAttribute::of_number(number) else {
             return ResultCode::ReadWriteDenied;
@@ -144,33 +114,24 @@ impl RelayCore {
         }
     }
 
-    /// Writes an attribute of an object, and moves in what was read apart. A list that is refused has nothing to move in; then
-    /// the result says nothing.
-    #[tactic(auto, unfolding(crate::specs::Writing::at_write))]
-    pub(crate) fn move_in(
-        &mut self,
-        instance: Instance,
-        number: u8,
-        value: &Data,
-        parts: Parts,
-    ) -> ResultCode
-        requires { parts ≡ parts_or_plain (parts_read instance number value.now) }
-        ensures world { (w : World) → StandsFor self.old w → StandsFor self.new (at_write instance number value.now w).world }
-        ensures code { (w : World) → StandsFor self.old w → IsOk (parts_read instance number value.now)
-            → result ≡ (at_write instance number value.now w).code }
+    /// Writes an attribute of an object that is no list.
+    fn write_plain(&mut self, instance: Instance, number: u8, value: &Data) -> ResultCode
+        ensures world { (w : World) → StandsFor self.old w → StandsFor self.new (at_plain instance number value.now w).world }
+        ensures code { (w : World) → StandsFor self.old w → result ≡ (at_plain instance number value.now w).code }
     {
         match instance {
-            Instance::ScriptTable => self.move_scripts(number, value, parts),
-            Instance::Schedule(which) => self.move_schedule(which, number, value, parts),
-            Instance::Limiter(which) => self.move_limiter(which, number, value, parts),
+            Instance::Schedule(which) => self.write_schedule(which, number, value),
+            Instance::Limiter(which) => self.write_limiter(which, number, value),
             Instance::DisconnectControl => self.write_control(number, value),
-            Instance::Association | Instance::DeviceName | Instance::Register(_) => {
-                ResultCode::ReadWriteDenied
-            }
+            Instance::Association
+            | Instance::DeviceName
+            | Instance::Register(_)
+            | Instance::ScriptTable => ResultCode::ReadWriteDenied,
         }
     }
 
     /// Writes an attribute of an object.
+    #[tactic(auto, unfolding(crate::specs::Writing::at_write))]
     fn write(
         &mut self,
         alloc: Global,
@@ -183,9 +144,30 @@ impl RelayCore {
         ensures plain { IsTrue (writes_plainly_in instance number) → IsOk result }
         ensures err { OnErr result (self.new ≡ self.old) }
     {
-        match read_parts(alloc, instance, number, value)? {
-            Ok(parts) => Ok(self.move_in(instance, number, value, parts)),
+        let Some(list) = WrittenList::of_number(instance, number) else {
+            return Ok(self.write_plain(instance, number, value));
+        };
+        match read_list(alloc, list, value)? {
+            Ok(parts) => {
+                self.move_in(list, parts);
+                Ok(ResultCode::Success)
+            }
             Err(refusal) => Ok(refusal),
+        }
+    }
+
+    /// Writes an attribute of an object, whose list has been read apart.
+    #[tactic(auto, unfolding(crate::specs::Writing::at_write), using(crate::proofs::WriteLemmas::moved_list))]
+    fn write_by(&mut self, instance: Instance, number: u8, value: &Data, parts: Parts)
+        requires { parts ≡ parts_read (list_numbered instance number) value.now }
+        ensures { (w : World) → StandsFor self.old w → StandsFor self.new (at_write instance number value.now w).world }
+    {
+        match WrittenList::of_number(instance, number) {
+            Some(list) => self.move_in(list, parts),
+            None => {
+                drop(parts);
+                let _code = self.write_plain(instance, number, value);
+            }
         }
     }
 
@@ -210,7 +192,7 @@ impl RelayCore {
         }
     }
 
-    /// A client's write, of which the owned values have been read apart.
+    /// A client's write, whose list has been read apart.
     #[tactic(auto, unfolding(crate::specs::Writing::at_set, crate::specs::Moving::set_parts))]
     pub(crate) fn set_by(
         &mut self,
@@ -224,7 +206,7 @@ impl RelayCore {
         ensures { (w : World) → StandsFor self.old w → StandsFor self.new (at_set level attr.now selected value.now w).world }
     {
         if let Ok(instance) = target(attr.name, attr.class, rights(level, attr).write, selected) {
-            let _code = self.move_in(instance, attr.number, value, parts);
+            self.write_by(instance, attr.number, value, parts);
         } else {
             drop(parts);
         }
