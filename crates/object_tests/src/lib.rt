@@ -1,10 +1,23 @@
-//! Tests of `script_steps`, `action_schedule` and `limiter_attributes`: attributes as their texts are read and written.
+//! Tests of the crates of names, times and objects below the core: `cosem_names`, `cosem_datetime`, `disconnect_control`, `limiter_core`, `lane_sampler`, `script_steps`,
+//! `action_schedule` and `limiter_attributes`: the worked values of names, dates, the switch, its limiters and their samples, and attributes as their texts are read and written.
 //!
 //! They stand apart from what they test, since a check of tests proves anew all that stands in their crate.
 #![tactic(auto)]
 
 #[cfg(test)]
+mod controls;
+#[cfg(test)]
+mod date_fields;
+#[cfg(test)]
+mod dates;
+#[cfg(test)]
+mod lanes;
+#[cfg(test)]
+mod limiter_attributes;
+#[cfg(test)]
 mod limiters;
+#[cfg(test)]
+mod names;
 #[cfg(test)]
 mod schedules;
 #[cfg(test)]

@@ -1,568 +1,284 @@
-//! Attributes of limiters as they are read and written.
-use crate::texts::{data, is_text};
-use cosem_axdr::Data;
-use cosem_names::Which;
-use limiter_attributes::{
-    LimiterAttribute, Setting, SettingFault, read_attribute, read_groups, read_setting,
-};
-use limiter_core::{Actions, Fire, Limiter};
+//! The worked values: 5000 W held for a second is ten samples.
+use cosem_datetime::{PatternFault, read_date_time};
+use limiter_core::{Actions, Count, Fire, Kind, Limiter, Profile, RUN_LIMIT, are_fit};
 use std::alloc::{AllocError, Global};
 use std::process::Abort;
 use std::test::Fail;
 
-/// Group 7, from 1 January 2000, 00:01:40, for ten seconds.
-const PROFILE: &str = "0203120007090C07D00101FF00012800800000060000000A";
-
-/// Script 1 over the threshold, script 258 under it.
-const ACTIONS: &str = "020202020906\
-    00000A006AFF12000102020906\
-    00000A006AFF120102";
-
-// The calls under test, without their contracts: a test is run for what no clause says, and its own proof then has little to look at.
-fn shown(
-    alloc: Global,
-    which: Which,
-    limiter: &Limiter,
-    attribute: LimiterAttribute,
-) -> Result<Data, AllocError> {
-    read_attribute(alloc, which, limiter, attribute)
-}
-
-fn setting_of(attribute: LimiterAttribute, value: &Data) -> Result<Option<Setting>, SettingFault> {
-    read_setting(attribute, value)
-}
-
-fn groups_of(alloc: Global, value: &Data) -> Result<Limiter, SettingFault> {
-    read_groups(alloc, value)
-}
-
-fn apply(setting: Setting, limiter: &mut Limiter) {
-    setting.apply(limiter);
-}
-
-fn swap_groups(one: &mut Limiter, other: &mut Limiter) {
-    one.swap_groups(other);
-}
-
-/// Whether an attribute is read as the bytes of this text.
-fn is_read(
-    alloc: Global,
-    which: Which,
-    limiter: &Limiter,
-    attribute: LimiterAttribute,
-    text: &str,
-) -> bool {
-    match shown(alloc, which, limiter, attribute) {
-        Ok(value) => {
-            let found = is_text(alloc, &value, text);
-            drop(value);
-            found
-        }
-        Err(_) => false,
-    }
-}
-
-/// The setting of an attribute by the Data of this text; none where there is no Data.
-fn setting(
-    alloc: Global,
-    attribute: LimiterAttribute,
-    text: &str,
-) -> Option<Result<Option<Setting>, SettingFault>> {
-    let value = data(alloc, text)?;
-    let setting = setting_of(attribute, &value);
-    drop(value);
-    Some(setting)
-}
-
-/// Writes an attribute with the Data of this text, and says whether it is taken.
-fn write(alloc: Global, limiter: &mut Limiter, attribute: LimiterAttribute, text: &str) -> bool {
-    match setting(alloc, attribute, text) {
-        Some(Ok(Some(setting))) => {
-            apply(setting, limiter);
-            true
-        }
-        _ => false,
-    }
-}
-
-/// A limiter with the group ids of this text.
-fn with_ids(alloc: Global, text: &str) -> Option<Limiter> {
-    let value = data(alloc, text)?;
-    let limiter = groups_of(alloc, &value).ok();
-    drop(value);
+/// A limiter of 5000 W that acts after that many seconds over the threshold.
+fn limiter(alloc: Global, seconds: u32) -> Limiter {
+    let mut limiter = Limiter::new(alloc);
+    limiter.set_normal_threshold(5000);
+    limiter.set_min_over_duration(seconds);
     limiter
 }
 
-/// Writes the group ids with the Data of this text, and says whether they are taken.
-fn write_ids(alloc: Global, limiter: &mut Limiter, text: &str) -> bool {
-    match with_ids(alloc, text) {
-        Some(mut other) => {
-            swap_groups(limiter, &mut other);
-            drop(other);
-            true
-        }
-        None => false,
-    }
-}
-
-/// The fault of a write of group ids with the Data of this text, if it has one; none where there is no Data.
-fn ids_fault(alloc: Global, text: &str) -> Option<Option<SettingFault>> {
-    let value = data(alloc, text)?;
-    let fault = groups_of(alloc, &value).err();
-    drop(value);
-    Some(fault)
-}
-
-/// Adds so many items, all of them long-unsigned 5 but the last one.
-fn push_ids(text: &mut String, count: u8, last: &str) -> Result<(), AllocError> {
-    for _ in 1..count {
-        text.push_str("120005")?;
-    }
-    text.push_str(last)
-}
-
-/// An array of so many items, all of them long-unsigned 5 but the last one.
-fn ids_text(alloc: Global, count: u8, last: &str) -> Result<String, AllocError> {
-    let mut text = format!(in alloc; "01{count:02X}")?;
-    match push_ids(&mut text, count, last) {
-        Ok(()) => Ok(text),
-        Err(fault) => {
-            drop(text);
-            Err(fault)
+/// What the last of that many samples brings, where all before it bring nothing.
+fn after_quiet(limiter: &mut Limiter, samples: u32, value: u32) -> Option<Fire> {
+    for _ in 1..samples {
+        if limiter.sample(value) != Fire::Quiet {
+            return None;
         }
     }
+    Some(limiter.sample(value))
 }
 
-/// What is done with an import limiter, and what it then is to show.
+/// Skips samples of a kind; false where they may fire, or the last is not of that kind.
+fn skip(limiter: &mut Limiter, kind: Kind, n: u64, last: u32) -> bool {
+    let threshold = limiter.threshold();
+    if n > limiter.before_fire(kind) {
+        return false;
+    }
+    match kind {
+        Kind::Over if last > threshold => limiter.skip_run(Kind::Over, n, last),
+        Kind::Under if last < threshold => limiter.skip_run(Kind::Under, n, last),
+        Kind::Equal if last == threshold => limiter.skip_run(Kind::Equal, n, last),
+        _ => return false,
+    }
+    true
+}
+
+/// What is done with a limiter, and what it then shows.
 enum Step {
-    /// An attribute is written, and takes it.
-    Write(LimiterAttribute, &'static str),
-    /// The group ids are written.
-    WriteIds(&'static str),
-    /// The clock shows another moment.
-    At(u32),
-    /// A sample comes, and a script runs over the threshold, or doesn't.
-    Sample(u32, bool),
-    /// An attribute is read.
-    Read(LimiterAttribute, &'static str),
+    /// So many samples of a value come, of which the last brings this, and those before it nothing.
+    Samples(u32, u32, Fire),
+    /// So many samples of a kind are skipped, the last of which has this value.
+    Skip(Kind, u64, u32),
+    /// The switch is closed.
+    Closed,
+    /// An action is to be due after so many seconds over the threshold.
+    MinOver(u32),
+    /// An action is to be due after so many seconds under the threshold.
+    MinUnder(u32),
+    /// So many samples of a kind bring nothing.
+    BeforeFire(Kind, u64),
+    /// The last sample was this.
+    Value(u32),
 }
 
 /// Takes a step, and says whether it went as it is to go.
-fn take(alloc: Global, limiter: &mut Limiter, step: &Step) -> bool {
+fn take(limiter: &mut Limiter, step: &Step) -> bool {
     match step {
-        Step::Write(attribute, text) => write(alloc, limiter, *attribute, text),
-        Step::WriteIds(text) => write_ids(alloc, limiter, text),
-        Step::At(moment) => {
-            limiter.at(*moment);
+        Step::Samples(samples, value, last) => {
+            after_quiet(limiter, *samples, *value) == Some(*last)
+        }
+        Step::Skip(kind, n, last) => skip(limiter, *kind, *n, *last),
+        Step::Closed => {
+            limiter.closed();
             true
         }
-        Step::Sample(sample, is_over) => (limiter.sample(*sample) == Fire::Over) == *is_over,
-        Step::Read(attribute, text) => is_read(alloc, Which::Import, limiter, *attribute, text),
-    }
-}
-
-/// Takes these steps with a new limiter.
-fn play(rt: &impl Abort, alloc: Global, steps: &[Step]) {
-    let mut limiter = Limiter::new(alloc);
-    for (place, step) in steps.iter().enumerate() {
-        assert!(*rt; take(alloc, &mut limiter, step), "at step {place}");
-    }
-    drop(limiter);
-}
-
-const NUMBERS: [(u8, LimiterAttribute); 10] = [
-    (2, LimiterAttribute::MonitoredValue),
-    (3, LimiterAttribute::ThresholdActive),
-    (4, LimiterAttribute::ThresholdNormal),
-    (5, LimiterAttribute::ThresholdEmergency),
-    (6, LimiterAttribute::MinOverThresholdDuration),
-    (7, LimiterAttribute::MinUnderThresholdDuration),
-    (8, LimiterAttribute::EmergencyProfile),
-    (9, LimiterAttribute::EmergencyProfileGroupIdList),
-    (10, LimiterAttribute::EmergencyProfileActive),
-    (11, LimiterAttribute::Actions),
-];
-
-#[test]
-fn attributes_have_the_numbers_2_to_11(rt: HostRuntime) {
-    for (number, attribute) in &NUMBERS {
-        let found = LimiterAttribute::of_number(*number);
-        assert!(rt;
-            found == Some(*attribute) && attribute.number() == *number,
-            "{number}"
-        );
-    }
-    for number in [0, 1, 12, 255] {
-        assert!(rt; LimiterAttribute::of_number(number).is_none(), "{number}");
-    }
-}
-
-const MONITORED: [(Which, &str); 2] = [
-    (Which::Import, "020312000309060100010700FF0F02"),
-    (Which::Export, "020312000309060100020700FF0F02"),
-];
-
-#[test]
-fn each_limiter_monitors_its_register(rt: HostRuntime) {
-    let limiter = Limiter::new(rt.alloc());
-    for (which, text) in &MONITORED {
-        let attribute = LimiterAttribute::MonitoredValue;
-        assert!(rt;
-            is_read(rt.alloc(), *which, &limiter, attribute, text),
-            "{text}"
-        );
-    }
-    drop(limiter);
-}
-
-const OF_A_NEW_LIMITER: [Step; 9] = [
-    Step::Read(LimiterAttribute::ThresholdActive, "06FFFFFFFF"),
-    Step::Read(LimiterAttribute::ThresholdNormal, "06FFFFFFFF"),
-    Step::Read(LimiterAttribute::ThresholdEmergency, "06FFFFFFFF"),
-    Step::Read(LimiterAttribute::MinOverThresholdDuration, "0600000000"),
-    Step::Read(LimiterAttribute::MinUnderThresholdDuration, "0600000000"),
-    Step::Read(
-        LimiterAttribute::EmergencyProfile,
-        "0203120000090CFFFFFFFFFFFFFFFFFF8000FF0600000000",
-    ),
-    Step::Read(LimiterAttribute::EmergencyProfileGroupIdList, "0100"),
-    Step::Read(LimiterAttribute::EmergencyProfileActive, "0300"),
-    Step::Read(
-        LimiterAttribute::Actions,
-        "02020202090600000A006AFF1200000202090600000A006AFF120000",
-    ),
-];
-
-#[test]
-fn a_new_limiter(rt: HostRuntime) {
-    play(&rt, rt.alloc(), &OF_A_NEW_LIMITER);
-}
-
-const THRESHOLDS_AND_DURATIONS: [Step; 21] = [
-    Step::Write(LimiterAttribute::ThresholdNormal, "0600000BB8"),
-    Step::Write(LimiterAttribute::ThresholdEmergency, "06000001F4"),
-    Step::Write(LimiterAttribute::MinOverThresholdDuration, "0600000001"),
-    Step::Write(LimiterAttribute::MinUnderThresholdDuration, "06FFFFFFFE"),
-    Step::Read(LimiterAttribute::ThresholdNormal, "0600000BB8"),
-    Step::Read(LimiterAttribute::ThresholdEmergency, "06000001F4"),
-    Step::Read(LimiterAttribute::MinOverThresholdDuration, "0600000001"),
-    Step::Read(LimiterAttribute::MinUnderThresholdDuration, "06FFFFFFFE"),
-    Step::Read(LimiterAttribute::ThresholdActive, "0600000BB8"),
-    Step::Read(LimiterAttribute::EmergencyProfileGroupIdList, "0100"),
-    Step::Read(LimiterAttribute::EmergencyProfileActive, "0300"),
-    Step::Sample(3001, false),
-    Step::Sample(3001, false),
-    Step::Sample(3001, false),
-    Step::Sample(3001, false),
-    Step::Sample(3001, false),
-    Step::Sample(3001, false),
-    Step::Sample(3001, false),
-    Step::Sample(3001, false),
-    Step::Sample(3001, false),
-    // The tenth sample ends the first second.
-    Step::Sample(3001, true),
-];
-
-#[test]
-fn thresholds_and_durations_are_read_back(rt: HostRuntime) {
-    play(&rt, rt.alloc(), &THRESHOLDS_AND_DURATIONS);
-}
-
-const EMERGENCY: [Step; 17] = [
-    Step::Write(LimiterAttribute::ThresholdEmergency, "06000003E8"),
-    Step::WriteIds("0101120007"),
-    Step::Write(LimiterAttribute::EmergencyProfile, PROFILE),
-    Step::At(99),
-    Step::Read(LimiterAttribute::ThresholdActive, "06FFFFFFFF"),
-    Step::Read(LimiterAttribute::EmergencyProfileActive, "0300"),
-    Step::At(100),
-    Step::Read(LimiterAttribute::ThresholdActive, "06000003E8"),
-    Step::Read(LimiterAttribute::EmergencyProfileActive, "0301"),
-    Step::At(109),
-    Step::Read(LimiterAttribute::ThresholdActive, "06000003E8"),
-    Step::Read(LimiterAttribute::EmergencyProfileActive, "0301"),
-    Step::At(110),
-    Step::Read(LimiterAttribute::ThresholdActive, "06FFFFFFFF"),
-    Step::Read(LimiterAttribute::EmergencyProfileActive, "0300"),
-    Step::Read(LimiterAttribute::EmergencyProfile, PROFILE),
-    Step::Read(LimiterAttribute::EmergencyProfileGroupIdList, "0101120007"),
-];
-
-#[test]
-fn an_emergency_profile_is_active_in_its_time(rt: HostRuntime) {
-    play(&rt, rt.alloc(), &EMERGENCY);
-}
-
-const START_AS_A_DATE_TIME: [Step; 2] = [
-    Step::Write(
-        LimiterAttribute::EmergencyProfile,
-        "02031200071907D00101FF00012800800000060000000A",
-    ),
-    Step::Read(LimiterAttribute::EmergencyProfile, PROFILE),
-];
-
-#[test]
-fn a_start_may_be_a_date_time(rt: HostRuntime) {
-    play(&rt, rt.alloc(), &START_AS_A_DATE_TIME);
-}
-
-#[test]
-fn actions_are_read_back(rt: HostRuntime) {
-    let alloc = rt.alloc();
-    let attribute = LimiterAttribute::Actions;
-    let mut limiter = Limiter::new(alloc);
-    assert!(rt; write(alloc, &mut limiter, attribute, ACTIONS));
-    assert!(rt;
-        limiter.actions()
-            == Actions {
-                over: 1,
-                under: 258
-            }
-    );
-    assert!(rt; is_read(alloc, Which::Import, &limiter, attribute, ACTIONS));
-    drop(limiter);
-}
-
-/// Trades group ids for those of a limiter, and says what both then have.
-fn traded(limiter: &mut Limiter, other: &mut Limiter) -> [bool; 4] {
-    swap_groups(limiter, other);
-    [
-        limiter.groups() == [7, 1, 7].as_slice(),
-        limiter.normal_threshold() == 3000,
-        other.groups().is_empty(),
-        other.normal_threshold() == u32::MAX,
-    ]
-}
-
-/// Trades group ids of a text for those of a limiter, and says whether both then have what they are to have.
-fn is_traded(alloc: Global, limiter: &mut Limiter) -> bool {
-    match with_ids(alloc, "0103120007120001120007") {
-        Some(mut other) => {
-            let found = traded(limiter, &mut other);
-            drop(other);
-            found == [true; 4]
+        Step::MinOver(seconds) => {
+            limiter.set_min_over_duration(*seconds);
+            limiter.min_over_duration() == *seconds
         }
-        None => false,
+        Step::MinUnder(seconds) => {
+            limiter.set_min_under_duration(*seconds);
+            limiter.min_under_duration() == *seconds
+        }
+        Step::BeforeFire(kind, samples) => limiter.before_fire(*kind) == *samples,
+        Step::Value(value) => limiter.value() == *value,
     }
 }
 
-/// Writes as many group ids as a limiter has at most, and says whether it has them.
-fn is_filled(alloc: Global, limiter: &mut Limiter, full: &str) -> [bool; 4] {
-    let attribute = LimiterAttribute::EmergencyProfileGroupIdList;
-    [
-        write_ids(alloc, limiter, full),
-        limiter.groups().len() == 32,
-        limiter.groups().get(31) == Some(&65_535),
-        is_read(alloc, Which::Import, limiter, attribute, full),
-    ]
+/// Takes these steps with a limiter that acts after that many seconds over the threshold.
+fn play(rt: &impl Abort, alloc: Global, seconds: u32, steps: &[Step]) {
+    let mut limiter = limiter(alloc, seconds);
+    for (place, step) in steps.iter().enumerate() {
+        assert!(*rt; take(&mut limiter, step), "at step {place}");
+    }
+    drop(limiter);
 }
 
-/// Trades a limiter's group ids, of which there are none at first, and writes others, at last these.
-fn trade(rt: &impl Abort, alloc: Global, limiter: &mut Limiter, full: &str) {
-    let attribute = LimiterAttribute::ThresholdNormal;
-    assert!(*rt; write(alloc, limiter, attribute, "0600000BB8"));
-    assert!(*rt; is_traded(alloc, limiter));
-    assert!(*rt; write_ids(alloc, limiter, "0100") && limiter.groups().is_empty());
-    assert!(*rt; is_filled(alloc, limiter, full) == [true; 4]);
+const TEN_OVER_TWICE: [Step; 7] = [
+    Step::BeforeFire(Kind::Over, 9),
+    Step::Samples(9, 5001, Fire::Quiet),
+    Step::Samples(1, 5001, Fire::Over),
+    Step::Value(5001),
+    Step::Closed,
+    Step::Samples(9, 5001, Fire::Quiet),
+    Step::Samples(1, 5001, Fire::Over),
+];
+
+#[test]
+fn the_tenth_sample_over_the_threshold_fires(rt: HostRuntime) {
+    play(&rt, rt.alloc(), 1, &TEN_OVER_TWICE);
+}
+
+const EQUAL: [Step; 2] = [
+    Step::BeforeFire(Kind::Equal, u64::MAX),
+    Step::Samples(10, 5000, Fire::Quiet),
+];
+
+#[test]
+fn an_equal_value_is_not_over(rt: HostRuntime) {
+    play(&rt, rt.alloc(), 1, &EQUAL);
+}
+
+const OTHER_DURATIONS: [Step; 7] = [
+    Step::Samples(70, 5001, Fire::Quiet),
+    Step::MinOver(5),
+    Step::Samples(1, 5001, Fire::Over),
+    Step::Samples(1, 5001, Fire::Quiet),
+    Step::MinOver(20),
+    Step::Samples(200, 5001, Fire::Quiet),
+    Step::BeforeFire(Kind::Over, u64::MAX),
+];
+
+#[test]
+fn a_shorter_duration_acts_at_once_and_a_run_fires_once(rt: HostRuntime) {
+    play(&rt, rt.alloc(), 10, &OTHER_DURATIONS);
+}
+
+const TEN_UNDER: [Step; 5] = [
+    Step::MinUnder(1),
+    Step::Skip(Kind::Under, 9, 4999),
+    Step::Value(4999),
+    Step::Samples(1, 4999, Fire::Under),
+    Step::Samples(10, 4999, Fire::Quiet),
+];
+
+#[test]
+fn ten_samples_under_the_threshold_fire_once(rt: HostRuntime) {
+    play(&rt, rt.alloc(), 1, &TEN_UNDER);
+}
+
+const A_FIRED_RUN: [Step; 6] = [
+    Step::Samples(1, 5001, Fire::Over),
+    Step::Skip(Kind::Over, 42_949_672_950, 6000),
+    Step::Value(6000),
+    Step::Samples(1, 5001, Fire::Quiet),
+    Step::Skip(Kind::Equal, 1, 5000),
+    Step::Samples(1, 5001, Fire::Over),
+];
+
+#[test]
+fn a_fired_run_of_any_length_is_skipped(rt: HostRuntime) {
+    play(&rt, rt.alloc(), 0, &A_FIRED_RUN);
+}
+
+/// Gives a limiter without groups group 7 of another, and says what both then have.
+fn trade_groups(limiter: &mut Limiter, other: &mut Limiter) -> [bool; 2] {
+    let has_group = other.groups() == [7].as_slice();
+    limiter.swap_groups(other);
+    [has_group, other.groups().is_empty()]
+}
+
+/// Gives a limiter group 7.
+fn give_group(alloc: Global, limiter: &mut Limiter) -> Result<[bool; 2], AllocError> {
+    let mut other = Limiter::new(alloc);
+    let given = other.set_groups(alloc, &[7]);
+    let found = trade_groups(limiter, &mut other);
+    drop(other);
+    given?;
+    Ok(found)
+}
+
+/// Profile 7, from 1 January 2000, 00:01:40, for ten seconds.
+fn profile() -> Result<Profile, PatternFault> {
+    let start = read_date_time(&[0x07, 0xD0, 1, 1, 0xFF, 0, 1, 40, 0, 0x80, 0, 0])?;
+    Ok(Profile {
+        id: 7,
+        start,
+        duration: 10,
+    })
+}
+
+/// Whether a limiter of 5000 W keeps an emergency threshold of 3000 W and a profile.
+fn is_prepared(limiter: &mut Limiter, profile: Profile) -> bool {
+    limiter.set_emergency_threshold(3000);
+    limiter.set_profile(profile);
+    limiter.normal_threshold() == 5000
+        && limiter.emergency_threshold() == 3000
+        && limiter.profile().id == 7
+        && limiter.profile().duration == 10
+}
+
+/// Wants the emergency threshold from start on, and no longer than the duration.
+fn check_moments(rt: &impl Abort, limiter: &mut Limiter) {
+    for (moment, active, threshold) in [
+        (99, false, 5000),
+        (100, true, 3000),
+        (109, true, 3000),
+        (110, false, 5000),
+    ] {
+        limiter.at(moment);
+        assert!(*rt; limiter.emergency_active() == active, "at {moment}");
+        assert!(*rt; limiter.threshold() == threshold, "at {moment}");
+    }
 }
 
 #[test]
-fn group_ids_are_traded(rt: HostRuntime) -> Result<(), Fail> {
-    let full = ids_text(rt.alloc(), 32, "12FFFF")?;
-    let mut limiter = Limiter::new(rt.alloc());
-    trade(&rt, rt.alloc(), &mut limiter, full.as_str());
+fn the_emergency_profile_ends_before_start_and_duration(rt: HostRuntime) -> Result<(), Fail> {
+    let profile = profile()?;
+    let mut limiter = limiter(rt.alloc(), 0);
+    assert!(rt; is_prepared(&mut limiter, profile));
+    assert!(rt; give_group(rt.alloc(), &mut limiter) == Ok([true; 2]));
+    assert!(rt; limiter.groups() == [7].as_slice());
+    check_moments(&rt, &mut limiter);
     drop(limiter);
-    drop(full);
     Ok(())
 }
 
-#[test]
-fn other_attributes_set_nothing(rt: HostRuntime) {
-    for attribute in [
-        LimiterAttribute::MonitoredValue,
-        LimiterAttribute::ThresholdActive,
-        LimiterAttribute::EmergencyProfileGroupIdList,
-        LimiterAttribute::EmergencyProfileActive,
-    ] {
-        let setting = setting(rt.alloc(), attribute, "0600000001");
-        assert!(rt; matches!(setting, Some(Ok(None))), "{attribute:?}");
+/// What the next sample of 5001 W brings a new limiter with such runs; none where they don't fit.
+fn next_fire(alloc: Global, last: u32, over: Count, under: Count) -> Option<Fire> {
+    match limiter(alloc, 1).with_runs(last, over, under) {
+        Some(mut limiter) => {
+            let fire = limiter.sample(5001);
+            drop(limiter);
+            Some(fire)
+        }
+        None => None,
     }
 }
 
-/// No double-long-unsigned.
-const NUMBERS_OF_OTHER_TYPES: [&str; 7] = [
-    "00",
-    "0500000001",
-    "110A",
-    "12000A",
-    "150000000000000001",
-    "09040000000A",
-    "02010600000001",
-];
-
-/// No emergency profile.
-const PROFILES_OF_OTHER_TYPES: [&str; 11] = [
-    "00",
-    "0103120007090C07D00101FF00012800800000060000000A",
-    "0202120007090C07D00101FF00012800800000",
-    "0204120007090C07D00101FF00012800800000060000000A00",
-    "02031107090C07D00101FF00012800800000060000000A",
-    "0203120007090B07D00101FF000128008000060000000A",
-    "0203120007090D07D00101FF0001280080000000060000000A",
-    "02031200070A0C07D00101FF00012800800000060000000A",
-    "02031200071A07D00101FF060000000A",
-    "0203120007090C07D00101FF0001280080000012000A",
-    // Types come before the thirteenth month.
-    "0203120007090C07D00D01FF0001280080000012000A",
-];
-
-/// A start with a month, a day or a time that there isn't.
-const STARTS_OUT_OF_RANGE: [&str; 7] = [
-    "0203120007090C07D00D01FF00012800800000060000000A",
-    "0203120007090C07D0FD01FF00012800800000060000000A",
-    "0203120007090C07D00100FF00012800800000060000000A",
-    "0203120007090C07D00101FF18012800800000060000000A",
-    "0203120007090C07D00101FF00013C00800000060000000A",
-    "0203120007090C07D00101FF00012800034900060000000A",
-    "02031200071907D00D01FF00012800800000060000000A",
-];
-
-/// No two scripts.
-const ACTIONS_OF_OTHER_TYPES: [&str; 14] = [
-    "00",
-    "01020202090600000A006AFF1200010202090600000A006AFF120002",
-    "02010202090600000A006AFF120001",
-    "02030202090600000A006AFF1200010202090600000A006AFF12000200",
-    "02020102090600000A006AFF1200010202090600000A006AFF120002",
-    "02020201090600000A006AFF0202090600000A006AFF120002",
-    "02020203090600000A006AFF120001000202090600000A006AFF120002",
-    "02020202090500000A006A1200010202090600000A006AFF120002",
-    "02020202090700000A006AFFFF1200010202090600000A006AFF120002",
-    "020202020A0600000A006AFF1200010202090600000A006AFF120002",
-    "02020202090600000A006AFF11010202090600000A006AFF120002",
-    "02020202090600000A006AFF1200010202090600000A006AFF1102",
-    "02020202090600000A006AFF1200010202090500000A006A120002",
-    // Types come before the name of another table.
-    "020202020906000060030AFF1200010202090600000A006AFF1102",
-];
-
-/// Scripts of a table that isn't the meter's.
-const ACTIONS_OF_OTHER_TABLES: [&str; 4] = [
-    "020202020906000060030AFF1200010202090600000A006AFF120002",
-    "02020202090600000A006AFF12000102020906000060030AFF120002",
-    "020202020906000060030AFF12000102020906000060030AFF120002",
-    "02020202090600000A006BFF1200010202090600000A006AFF120002",
-];
-
-const REFUSED: [(LimiterAttribute, &[&str], SettingFault); 8] = [
-    (
-        LimiterAttribute::ThresholdNormal,
-        &NUMBERS_OF_OTHER_TYPES,
-        SettingFault::Unmatched,
-    ),
-    (
-        LimiterAttribute::ThresholdEmergency,
-        &NUMBERS_OF_OTHER_TYPES,
-        SettingFault::Unmatched,
-    ),
-    (
-        LimiterAttribute::MinOverThresholdDuration,
-        &NUMBERS_OF_OTHER_TYPES,
-        SettingFault::Unmatched,
-    ),
-    (
-        LimiterAttribute::MinUnderThresholdDuration,
-        &NUMBERS_OF_OTHER_TYPES,
-        SettingFault::Unmatched,
-    ),
-    (
-        LimiterAttribute::EmergencyProfile,
-        &PROFILES_OF_OTHER_TYPES,
-        SettingFault::Unmatched,
-    ),
-    (
-        LimiterAttribute::EmergencyProfile,
-        &STARTS_OUT_OF_RANGE,
-        SettingFault::Value,
-    ),
-    (
-        LimiterAttribute::Actions,
-        &ACTIONS_OF_OTHER_TYPES,
-        SettingFault::Unmatched,
-    ),
-    (
-        LimiterAttribute::Actions,
-        &ACTIONS_OF_OTHER_TABLES,
-        SettingFault::Value,
-    ),
-];
-
-/// The fault of a write of an attribute with the Data of this text.
-fn fault(alloc: Global, attribute: LimiterAttribute, text: &str) -> Option<SettingFault> {
-    match setting(alloc, attribute, text) {
-        Some(Err(fault)) => Some(fault),
-        _ => None,
-    }
-}
-
-/// Wants this fault of an attribute for each of these texts.
-fn check_faults(
-    rt: &impl Abort,
-    alloc: Global,
-    (attribute, texts, expected): &(LimiterAttribute, &[&str], SettingFault),
-) {
-    for text in *texts {
-        let found = fault(alloc, *attribute, text);
-        assert!(*rt; found == Some(*expected), "{attribute:?} of {text}");
-    }
+/// The last sample and the runs of a limiter that had nine samples over the threshold.
+fn runs_of_nine(rt: &impl Abort, alloc: Global) -> (u32, Count, Count) {
+    let mut limiter = limiter(alloc, 1);
+    assert!(*rt; after_quiet(&mut limiter, 9, 5001) == Some(Fire::Quiet));
+    let runs = (limiter.value(), limiter.over_run(), limiter.under_run());
+    drop(limiter);
+    runs
 }
 
 #[test]
-fn what_an_attribute_does_not_take_is_refused(rt: HostRuntime) {
-    for row in &REFUSED {
-        check_faults(&rt, rt.alloc(), row);
-    }
+fn runs_are_written_down_and_read_back(rt: HostRuntime) {
+    let (last, over, under) = runs_of_nine(&rt, rt.alloc());
+    assert!(rt; over == run(9, false) && under == run(0, false));
+    assert!(rt; next_fire(rt.alloc(), last, over, under) == Some(Fire::Over));
+    assert!(rt; next_fire(rt.alloc(), 0, over, under).is_none());
+    assert!(rt; next_fire(rt.alloc(), 5001, over, over).is_none());
 }
 
-/// No group ids.
-const IDS_OF_OTHER_TYPES: [&str; 7] = [
-    "00",
-    "120007",
-    "0201120007",
-    "01010600000007",
-    "01011107",
-    "01021200071107",
-    "0101100007",
-];
-
-#[test]
-fn group_ids_of_other_types_are_refused(rt: HostRuntime) {
-    for text in &IDS_OF_OTHER_TYPES {
-        let found = ids_fault(rt.alloc(), text);
-        assert!(rt; found == Some(Some(SettingFault::Unmatched)), "{text}");
-    }
-}
-
-/// How many ids, the text of the last one, and the fault.
-const MANY_IDS: [(u8, &str, Option<SettingFault>); 3] = [
-    (32, "120005", None),
-    (33, "120005", Some(SettingFault::Value)),
-    // Types come before the number of ids.
-    (33, "1105", Some(SettingFault::Unmatched)),
-];
-
-/// The fault of so many ids, if they have one; none where there is no Data.
-fn many_ids_fault(alloc: Global, count: u8, last: &str) -> Option<Option<SettingFault>> {
-    let text = ids_text(alloc, count, last).ok()?;
-    let found = ids_fault(alloc, text.as_str());
-    drop(text);
-    found
+/// Whether a new limiter has no threshold and no actions, and keeps those that are set.
+fn keeps_actions(limiter: &mut Limiter) -> [bool; 3] {
+    let is_new = limiter.threshold() == 4_294_967_295 && limiter.value() == 0;
+    let has_none = limiter.actions() == Actions { over: 0, under: 0 };
+    limiter.set_actions(Actions { over: 1, under: 2 });
+    let has_both = limiter.actions() == Actions { over: 1, under: 2 };
+    [is_new, has_none, has_both]
 }
 
 #[test]
-fn a_limiter_has_32_groups_at_most(rt: HostRuntime) {
-    for (count, last, expected) in &MANY_IDS {
-        let found = many_ids_fault(rt.alloc(), *count, last);
-        assert!(rt; found == Some(*expected), "{count}, {last}");
-    }
+fn the_actions_are_kept(rt: HostRuntime) {
+    let mut limiter = Limiter::new(rt.alloc());
+    assert!(rt; keeps_actions(&mut limiter) == [true; 3]);
+    drop(limiter);
+}
+
+/// A run of so many samples.
+fn run(run: u64, fired: bool) -> Count {
+    Count { run, fired }
+}
+
+#[test]
+fn runs_fit_where_samples_can_give_them(rt: HostRuntime) {
+    let none = run(0, false);
+    assert!(rt; are_fit(0, none, none) && are_fit(1, run(9, false), none));
+    assert!(rt; are_fit(5_001, run(RUN_LIMIT, true), none) && are_fit(0, none, run(1, true)));
+    assert!(rt; !are_fit(0, run(1, false), none) && !are_fit(u32::MAX, none, run(1, false)));
+    assert!(rt;
+        !are_fit(5_001, run(1, false), run(1, false)) && !are_fit(5_001, run(0, true), none)
+    );
+    assert!(rt; !are_fit(5_001, run(RUN_LIMIT, false), none));
+    assert!(rt; !are_fit(5_001, run(RUN_LIMIT + 1, true), none));
 }
