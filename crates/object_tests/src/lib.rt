@@ -13,7 +13,7 @@ mod dates;
 #[cfg(test)]
 mod lanes;
 #[cfg(test)]
-mod limiter_attributes;
+mod limiter_texts;
 #[cfg(test)]
 mod limiters;
 #[cfg(test)]
