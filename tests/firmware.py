@@ -80,10 +80,10 @@ def from_kept_work(rt, crate, target):
 
 
 def from_what_ci_left(rt, crate, target):
-    """As `rt ci` makes a program: a check, and a compiler over what it proved."""
+    """As `rt ci` makes a program: a check, and a compiler over what it proved. One job costs least, and other stages run beside it."""
     checked, copy = place / f"checked-{target}", place / f"libmeter-{target}.a"
     rt.rtlib.Crate.cuts_libraries = True
-    words = [*crate.words(["--jobs", str(os.cpu_count())], keeps=False), *(["--target", target] if target != PC_TARGET else [])]
+    words = [*crate.words(["--jobs", "1"], keeps=False), *(["--target", target] if target != PC_TARGET else [])]
     with open(place / "log", "w+", encoding="utf-8", errors="replace") as crate.out:
         status = crate.call(rt.rtlib.RATTLE, "check", *words, "-o", str(checked))
         for flag in ("--logic-built", "--jobs"):
