@@ -2,32 +2,26 @@
 ghost use Rattle.std.specs.Prelude.{◌≡◌, length, IfOk};
 ghost use Rattle.acse_ber.specs.Password.{IsPassword};
 
-use crate::console::{Console, Sources};
-use crate::lasting::Limits;
-use crate::listening::{Sockets, Stopped};
-use crate::plan::Plan;
+use client_sockets::{Closing, Limits, Sockets, Stopped};
 use cosem_axdr::Octets;
 use kept_meter::Kept;
+use meter_console::{Console, Reading, Sources};
 use meter_server::{ServeFault, serve_all};
 use meter_serving::{closed_meter, meter_trace};
 use program_fault::Fault;
 use relay_recorder::Recorder;
-use server_options::Bounds;
+use serve_plan::{Plan, planned};
+use server_options::{Bounds, ServeOptions};
 use std::alloc::Global;
-use std::io::{BufReader, Read, Write};
-use std::net::{SocketAddr, TcpListener, TcpStream};
-use std::sync::atomic::{AtomicBool, Ordering};
+use std::io::{BufReader, Stdin, Write};
+use std::net::{SocketAddr, TcpListener};
+use std::sync::atomic::AtomicBool;
 use std::sync::{Arc, Wait};
-use std::thread;
 use std::thread::{JoinHandle, Threads};
-use std::time::Duration;
 use turn_lock::{Port, Shared};
 
 /// The meter takes so many calls.
 const MOST_CALLS: u64 = 4_611_686_018_427_387_904;
-
-/// So often a connection is tried that wakes the listener.
-const MOST_CALLS_TO_WAKE: u32 = 100;
 
 /// The fault of a server. That no further client was taken is none where the listener did not fail: standard input had ended.
 fn fault_of(fault: ServeFault, has_failed: bool) -> Result<(), Fault> {
@@ -78,16 +72,6 @@ fn serve_sockets<R: Threads + Wait + Copy + Drop + Send + 'static>(
     }
 }
 
-/// Wakes the listener at this address, which waits for a client.
-fn wake(rt: &HostRuntime, address: SocketAddr) {
-    for _ in 0..MOST_CALLS_TO_WAKE {
-        if TcpStream::connect(rt, address).is_ok() {
-            return;
-        }
-        thread::sleep(rt, Duration::from_millis(100));
-    }
-}
-
 /// The meter, taken out from behind its lock.
 fn taken_out(shared: Shared<Kept>, port: Port<Kept>) -> Result<Kept, Fault>
     requires { port.lock ≡ shared }
@@ -130,17 +114,8 @@ fn print_trace(rt: &HostRuntime, shared: Shared<Kept>, port: Port<Kept>) -> Resu
     }
 }
 
-/// A limit of time; 0 seconds stand for none.
-fn limit_of(seconds: u32) -> Option<Duration> {
-    if seconds == 0 {
-        None
-    } else {
-        Some(Duration::from_secs(u64::from(seconds)))
-    }
-}
-
 /// A lock over a recorder that no event has come to, and its first port.
-#[tactic(auto, using(crate::proofs::Unused::unused))]
+#[tactic(auto, using(serve_plan::proofs::Unused::unused))]
 fn locked(alloc: Global, recorder: Recorder) -> Result<(Shared<Kept>, Port<Kept>), Fault>
     requires { length recorder.events ≡ 0 }
     ensures { IfOk result (λ r. r.1.lock ≡ r.0) }
@@ -164,50 +139,9 @@ fn sockets_of(
     let Ok(theirs) = Arc::try_clone(&stopped) else {
         return Err(Fault::Memory);
     };
-    let limits = Limits {
-        call: limit_of(bounds.inactivity),
-        session: limit_of(bounds.session),
-    };
+    let limits = Limits::of_seconds(bounds.inactivity, bounds.session);
     let sockets = Sockets::new(*rt, listener, limits, theirs, bounds.is_verbose);
     Ok((sockets, stopped))
-}
-
-/// What the console's thread reads, and where it hands that; where an address is given, the end of the input ends the listening there.
-#[derive(Drop)]
-struct Reading<I> {
-    input: BufReader<I>,
-    console: Console,
-    stopped: Stopped,
-    address: Option<SocketAddr>,
-}
-
-/// What the console's thread does: it hands on the lines of its input, and then, where an address is given, ends the listening there.
-fn run_console<W: Wait + Drop, I: Read + Drop>(rt: HostRuntime, wait: W, reading: Reading<I>) {
-    let Reading {
-        mut input,
-        console,
-        stopped,
-        address,
-    } = reading;
-    console.run(&wait, rt.alloc(), &mut input);
-    if let Some(address) = address {
-        stopped.store(true, Ordering::SeqCst);
-        wake(&rt, address);
-    }
-}
-
-/// Starts the console's thread.
-fn start_console<R: Threads + Wait + Copy + Drop + Send + 'static, I: Read + Drop + Send + 'static>(
-    rt: &HostRuntime,
-    threads: &R,
-    reading: Reading<I>,
-) -> Result<JoinHandle<()>, Fault> {
-    let here = *rt;
-    let wait = *threads;
-    match thread::spawn(threads, move || run_console(here, wait, reading)) {
-        Ok(thread) => Ok(thread),
-        Err(_) => Err(Fault::Memory),
-    }
 }
 
 /// Serves the clients, and prints the trace of the meter when that ends. The fault of each is told.
@@ -256,16 +190,25 @@ fn serve_recorder<R: Threads + Wait + Copy + Drop + Send + 'static>(
 }
 
 /// The sockets, the sources of the meter's own events, and what the console's thread reads.
-fn prepared<R: Wait + Copy, I: Read + Drop>(
+fn prepared<R: Wait + Copy>(
     rt: &HostRuntime,
     threads: &R,
     bounds: Bounds,
-    input: BufReader<I>,
+    input: BufReader<Stdin>,
     listener: TcpListener,
     address: SocketAddr,
-) -> Result<(Sockets<HostRuntime>, Sources<R>, Reading<I>), Fault> {
+) -> Result<
+    (
+        Sockets<HostRuntime>,
+        Sources<R>,
+        Reading<Stdin, Closing<HostRuntime>>,
+    ),
+    Fault,
+> {
     let (sockets, stopped) = sockets_of(rt, bounds, listener)?;
-    let (console, sources) = Console::new(threads, rt.alloc()).map_err(|_| Fault::Memory)?;
+    let Ok((console, sources)) = Console::new(threads, rt.alloc()) else {
+        return Err(Fault::Memory);
+    };
     let address = if bounds.stops_with_input {
         Some(address)
     } else {
@@ -274,40 +217,85 @@ fn prepared<R: Wait + Copy, I: Read + Drop>(
     let reading = Reading {
         input,
         console,
-        stopped,
-        address,
+        ended: Closing {
+            rt: *rt,
+            stopped,
+            address,
+        },
     };
     Ok((sockets, sources, reading))
 }
 
 /// The sockets and the sources of the meter's own events, once the console's thread has begun.
-fn started<R: Threads + Wait + Copy + Drop + Send + 'static, I: Read + Drop + Send + 'static>(
+fn started<R: Threads + Wait + Copy + Drop + Send + 'static>(
     rt: &HostRuntime,
     threads: &R,
     bounds: Bounds,
-    input: BufReader<I>,
+    input: BufReader<Stdin>,
     listener: TcpListener,
     address: SocketAddr,
 ) -> Result<(Sockets<HostRuntime>, Sources<R>, JoinHandle<()>), Fault> {
     let (sockets, sources, reading) = prepared(rt, threads, bounds, input, listener, address)?;
-    match start_console(rt, threads, reading) {
-        Ok(console) => Ok((sockets, sources, console)),
-        Err(fault) => Err(fault),
+    match meter_console::start(threads, rt.alloc(), reading) {
+        Some(console) => Ok((sockets, sources, console)),
+        None => Err(Fault::Memory),
+    }
+}
+
+/// What is served, and where clients come to.
+#[derive(Drop)]
+pub(crate) struct Server {
+    plan: Plan<Stdin>,
+    listener: TcpListener,
+    address: SocketAddr,
+}
+
+/// Listens where the command line says.
+fn listening(
+    rt: &HostRuntime,
+    address: &str,
+    is_verbose: bool,
+) -> Result<(TcpListener, SocketAddr), Fault> {
+    let listener = TcpListener::bind(rt, address).map_err(|_| Fault::Listen)?;
+    let address = listener.local_addr().map_err(|_| Fault::Listen)?;
+    if is_verbose {
+        let _ = eprintln!(rt; "listening on {address}");
+    }
+    Ok((listener, address))
+}
+
+/// Does all that is done before the first client comes: judges the options, reads the trace to go on from, and listens.
+pub(crate) fn begun(rt: &HostRuntime, options: &ServeOptions) -> Result<Server, Fault> {
+    let plan = planned(rt.alloc(), rt.stdin(), options)?;
+    match listening(rt, options.address.as_str(), options.bounds.is_verbose) {
+        Ok((listener, address)) => Ok(Server {
+            plan,
+            listener,
+            address,
+        }),
+        Err(fault) => {
+            drop(plan);
+            Err(fault)
+        }
     }
 }
 
 /// Serves clients beside the lines of the console, and prints the trace of the meter when it ends.
-pub(crate) fn run<
-    R: Threads + Wait + Copy + Drop + Send + 'static,
-    I: Read + Drop + Send + 'static,
->(rt: &HostRuntime, threads: &R, plan: Plan<I>) -> Result<(), Fault> {
+pub(crate) fn run<R: Threads + Wait + Copy + Drop + Send + 'static>(
+    rt: &HostRuntime,
+    threads: &R,
+    server: Server,
+) -> Result<(), Fault> {
+    let Server {
+        plan,
+        listener,
+        address,
+    } = server;
     let Plan {
         bounds,
         password,
         recorder,
         input,
-        listener,
-        address,
     } = plan;
     match started(rt, threads, bounds, input, listener, address) {
         Ok((mut sockets, sources, console)) => {

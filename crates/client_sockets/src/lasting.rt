@@ -1,17 +1,9 @@
 //! A client's stream, with limits of time.
+use crate::limits::Limits;
 use std::io;
 use std::io::{ErrorKind, Read, Write};
 use std::net::TcpStream;
 use std::time::{Clock, Duration, Instant};
-
-/// How long a client may take: None is no limit.
-#[derive(Clone, Copy)]
-pub struct Limits {
-    /// For a read or a write.
-    pub call: Option<Duration>,
-    /// For its session as a whole.
-    pub session: Option<Duration>,
-}
 
 /// One way of a client's stream. Its calls fail where they take too long, or once the session has.
 #[derive(Drop)]
@@ -24,7 +16,7 @@ pub struct Lasting<R> {
 
 impl<R: Clock + Copy> Lasting<R> {
     /// Both ways of a stream whose session begins now: what comes, and what goes out.
-    pub fn both_ways(rt: R, stream: TcpStream, limits: Limits) -> io::Result<(Self, Self)> {
+    pub(crate) fn both_ways(rt: R, stream: TcpStream, limits: Limits) -> io::Result<(Self, Self)> {
         stream.set_nodelay(true)?;
         stream.set_read_timeout(limits.call)?;
         stream.set_write_timeout(limits.call)?;
@@ -47,17 +39,14 @@ impl<R: Clock + Copy> Lasting<R> {
 
     /// How long the next call may take. Error: `TimedOut` once the session's time is over.
     fn left(&self) -> io::Result<Option<Duration>> {
-        let Some(session) = self.limits.session else {
+        if self.limits.session.is_none() {
             return Ok(self.limits.call);
-        };
-        let left = session.saturating_sub(self.opened.elapsed(&self.rt)?);
-        if left.is_zero() {
+        }
+        let lasted = self.opened.elapsed(&self.rt)?;
+        if self.limits.is_over(lasted) {
             return Err(io::Error::from(ErrorKind::TimedOut));
         }
-        match self.limits.call {
-            Some(call) => Ok(Some(call.min(left))),
-            None => Ok(Some(left)),
-        }
+        Ok(self.limits.left_after(lasted))
     }
 }
 

@@ -1,9 +1,12 @@
 //! Where and why standard input is not what `apdu` and `hex` take.
+ghost use Rattle.std.specs.Prelude.{◌≡◌, true};
+ghost use Rattle.hex_commands.specs.Faults.{is_of_commands};
+
 use program_fault::Fault;
 
-/// Why the commands `apdu` and `hex` have no input.
+/// Why the commands `apdu` and `hex` have no input, or no output.
 #[derive(Clone, Copy, Debug, PartialEq, Eq)]
-pub enum InputFault {
+pub(crate) enum InputFault {
     /// There are more than 1,048,576 bytes.
     TooLong,
     /// The line with this number, counted from 1, has an odd number of characters.
@@ -18,26 +21,25 @@ pub enum InputFault {
     Password,
     /// The device name has not 1 to 16 bytes.
     Device,
-    /// It is not the input that is wrong.
-    Other(Fault),
-}
-
-/// Why standard input was not read.
-pub(crate) fn reading_fault(fault: byte_streams::InputFault) -> InputFault {
-    match fault {
-        byte_streams::InputFault::TooLong => InputFault::TooLong,
-        byte_streams::InputFault::Read => InputFault::Other(Fault::Read),
-        byte_streams::InputFault::Memory => InputFault::Other(Fault::Memory),
-    }
+    /// Standard input could not be read.
+    Read,
+    /// Standard output could not be written.
+    Write,
+    /// Memory ran out.
+    Memory,
 }
 
 /// The fault of the program. With `is_verbose`, a line on standard error tells first where and why the input is wrong.
-pub fn tell_fault<R: Eprint>(rt: &R, is_verbose: bool, fault: InputFault) -> Fault {
+pub(crate) fn tell_fault<R: Eprint>(rt: &R, is_verbose: bool, fault: InputFault) -> Fault
+    ensures { is_of_commands result ≡ true }
+{
     if is_verbose {
         tell(rt, fault);
     }
     match fault {
-        InputFault::Other(fault) => fault,
+        InputFault::Read => Fault::Read,
+        InputFault::Write => Fault::Write,
+        InputFault::Memory => Fault::Memory,
         _ => Fault::Input,
     }
 }
@@ -54,8 +56,8 @@ fn tell<R: Eprint>(rt: &R, fault: InputFault) {
         InputFault::OddDigits => eprintln!(rt; "standard input: an odd number of digits"),
         InputFault::Password => eprintln!(rt; "password: none that has 1 to 32 bytes"),
         InputFault::Device => eprintln!(rt; "device: no name that has 1 to 16 bytes"),
-        InputFault::Other(Fault::Memory) => eprintln!(rt; "no memory"),
-        InputFault::Other(Fault::Write) => eprintln!(rt; "standard output: a write failed"),
-        InputFault::Other(_) => eprintln!(rt; "standard input: a read failed"),
+        InputFault::Memory => eprintln!(rt; "no memory"),
+        InputFault::Write => eprintln!(rt; "standard output: a write failed"),
+        InputFault::Read => eprintln!(rt; "standard input: a read failed"),
     };
 }

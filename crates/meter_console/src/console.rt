@@ -2,8 +2,8 @@
 use crate::lines::{MAX_LINE, NextLine, next_line};
 use crossbeam_channel::{Receiver, Sender, bounded};
 use lane_sampler::Block;
-use meter_server::{BlockSource, ButtonSource, MomentSource};
 use meter_serving::console_event;
+use meter_workers::{BlockSource, ButtonSource, MomentSource};
 use relay_core::Event;
 use std::alloc::{AllocError, Global};
 use std::io::BufRead;
@@ -105,7 +105,7 @@ impl Console {
 
     /// Hands on the events of an input's lines, up to its end or to a read that fails. A line that brings no event is passed over, and so is one for which there
     /// is no memory.
-    pub fn run<W: Wait, B: BufRead>(self, rt: &W, alloc: Global, input: &mut B) {
+    pub(crate) fn run<W: Wait, B: BufRead>(self, rt: &W, alloc: Global, input: &mut B) {
         let Ok(mut line) = Vec::with_capacity(alloc, MAX_LINE) else {
             return;
         };

@@ -1,6 +1,11 @@
 //! The sockets that clients come to.
-use crate::lasting::{Lasting, Limits};
-use meter_server::{ListenFault, Listener, Observer, ServeFault, SessionEnd};
+ghost use Rattle.std.specs.Prelude.{◌≡◌, false};
+ghost use Rattle.client_sockets.specs.Clients.{has_failed};
+
+use crate::client_log::ClientLog;
+use crate::lasting::Lasting;
+use crate::limits::Limits;
+use meter_server::{ListenFault, Listener};
 use std::alloc::Global;
 use std::io;
 use std::io::ErrorKind;
@@ -31,7 +36,9 @@ impl<R: Clock + Eprint + Copy> Sockets<R> {
         limits: Limits,
         stopped: Stopped,
         is_verbose: bool,
-    ) -> Sockets<R> {
+    ) -> Sockets<R>
+        ensures { has_failed result ≡ false }
+    {
         Sockets {
             rt,
             listener,
@@ -43,7 +50,9 @@ impl<R: Clock + Eprint + Copy> Sockets<R> {
     }
 
     /// Whether the listener failed, and did not end since standard input did.
-    pub fn has_failed(&self) -> bool {
+    pub fn has_failed(&self) -> bool
+        ensures { result ≡ has_failed self.now }
+    {
         self.has_failed
     }
 
@@ -54,8 +63,13 @@ impl<R: Clock + Eprint + Copy> Sockets<R> {
         address: SocketAddr,
     ) -> io::Result<(Lasting<R>, Lasting<R>, ClientLog<R>)> {
         let log = ClientLog::new(self.rt, address, self.is_verbose);
-        let (input, output) = Lasting::both_ways(self.rt, stream, self.limits)?;
-        Ok((input, output, log))
+        match Lasting::both_ways(self.rt, stream, self.limits) {
+            Ok((input, output)) => Ok((input, output, log)),
+            Err(error) => {
+                drop(log);
+                Err(error)
+            }
+        }
     }
 }
 
@@ -88,68 +102,5 @@ impl<R: Clock + Eprint + Copy + Drop + Send + 'static> Listener for Sockets<R> {
         }
         self.has_failed = true;
         Err(ListenFault)
-    }
-}
-
-/// What standard error is told of one client, where that is asked for.
-pub struct ClientLog<R: Eprint + Copy> {
-    rt: R,
-    address: SocketAddr,
-    is_verbose: bool,
-    was_served: AtomicBool,
-}
-
-impl<R: Eprint + Copy> ClientLog<R> {
-    fn new(rt: R, address: SocketAddr, is_verbose: bool) -> ClientLog<R> {
-        let log = ClientLog {
-            rt,
-            address,
-            is_verbose,
-            was_served: AtomicBool::new(false),
-        };
-        log.say("connected");
-        log
-    }
-
-    fn say(&self, what: &str) {
-        if self.is_verbose {
-            let _ = eprintln!(self.rt; "{}: {what}", self.address);
-        }
-    }
-}
-
-/// How a session ended, in words.
-fn words_of(end: &Result<SessionEnd, ServeFault>) -> &'static str {
-    match end {
-        Ok(SessionEnd::Closed) => "closed by the client",
-        Ok(SessionEnd::Cut) => "closed by the client within a frame",
-        Ok(SessionEnd::BadVersion) => "ended at a frame of another version",
-        Ok(SessionEnd::TooLong) => "ended at a frame that is too long",
-        Err(ServeFault::Read) => "ended: nothing could be read, or nothing came in time",
-        Err(ServeFault::Write) => "ended: nothing could be written, or nothing was taken in time",
-        Err(ServeFault::Memory) => "ended: no memory",
-        Err(ServeFault::Exhausted) => "ended: the meter takes no more calls",
-        Err(ServeFault::Listen) => "ended",
-    }
-}
-
-impl<R: Eprint + Copy> Observer for ClientLog<R> {
-    fn ended(&self, end: &Result<SessionEnd, ServeFault>) {
-        self.was_served.store(true, Ordering::SeqCst);
-        self.say(words_of(end));
-    }
-}
-
-impl<R: Eprint + Copy> Drop for ClientLog<R> {
-    fn drop(self) {
-        if !self.was_served.load(Ordering::SeqCst) {
-            self.say("turned away");
-        }
-        let ClientLog {
-            rt: _,
-            address: _,
-            is_verbose: _,
-            was_served: _,
-        } = self;
     }
 }

@@ -2,11 +2,11 @@
 use std::io::{BufRead, Read};
 
 /// A line has at most so many bytes, with the byte 0A that ends it. Each that brings an event is shorter.
-pub const MAX_LINE: usize = 8_192;
+pub(crate) const MAX_LINE: usize = 8_192;
 
 /// What was read.
 #[derive(Clone, Copy, Debug, PartialEq, Eq, Drop)]
-pub enum NextLine {
+pub(crate) enum NextLine {
     /// A line, without the byte 0A that ended it.
     Whole,
     /// A line of more than `MAX_LINE` bytes, which is lost.
@@ -16,7 +16,7 @@ pub enum NextLine {
 }
 
 /// Reads the next line.
-pub fn next_line<B: BufRead>(input: &mut B, line: &mut Vec<u8>) -> NextLine {
+pub(crate) fn next_line<B: BufRead>(input: &mut B, line: &mut Vec<u8>) -> NextLine {
     line.clear();
     let mut first = input.by_ref().take(MAX_LINE as u64);
     if first.read_until(b'\n', line).is_err() {

@@ -1,0 +1,14 @@
+//! The sockets that clients come to: their streams, whose reads and writes have limits of time, and what standard error is told of each client.
+#![tactic(auto)]
+
+mod client_log;
+mod closing;
+mod lasting;
+mod limits;
+mod listening;
+
+pub use client_log::ClientLog;
+pub use closing::Closing;
+pub use lasting::Lasting;
+pub use limits::Limits;
+pub use listening::{Sockets, Stopped};

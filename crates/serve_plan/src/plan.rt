@@ -1,0 +1,121 @@
+ghost use Rattle.std.specs.Prelude.{◌≡◌, ◌≤◌, [], length, false, IfOk, IfErr};
+ghost use Rattle.std.specs.String.{string_bytes};
+ghost use Rattle.acse_ber.specs.Password.{IsPassword};
+ghost use Rattle.program_fault.specs.declared.Fault.TheVariants.{Memory};
+ghost use Rattle.relay_core.specs.World.{IsDeviceName, new_world};
+ghost use Rattle.relay_recorder.specs.Histories.{StandsForHistory};
+ghost use Rattle.serve_plan.specs.Plans.{IsNewMeter};
+
+use acse_ber::MAX_PASSWORD;
+use cosem_axdr::Octets;
+use meter_serving::{read_head, resumed_recorder};
+use program_fault::Fault;
+use relay_core::MAX_DEVICE_NAME;
+use relay_recorder::Recorder;
+use server_options::{Bounds, ServeOptions, octets_of};
+use std::alloc::Global;
+use std::io::{BufRead, BufReader, Read};
+
+/// The trace of an earlier run has at most so many bytes.
+const LONGEST_TRACE: u64 = 33_554_432;
+
+/// The recorder of a meter that goes on from the trace at the head of an input.
+fn recorder_of_head<B: BufRead>(alloc: Global, input: &mut B, depth: u16) -> Result<Recorder, Fault>
+    requires { (1 ≤ depth) × (depth ≤ 1024) }
+    ensures unused { IfOk result (λ recorder. recorder.events ≡ []) }
+    ensures capacity { IfOk result (λ recorder. recorder.capacity ≡ depth) }
+{
+    let trace = read_head(alloc, &mut input.by_ref().take(LONGEST_TRACE))?;
+    let made = resumed_recorder(alloc, &trace, depth);
+    drop(trace);
+    match made {
+        Ok(recorder) => Ok(recorder),
+        Err(_) => Err(Fault::Memory),
+    }
+}
+
+/// The recorder of a new meter of this name.
+fn new_recorder(alloc: Global, device: &Octets, depth: u16) -> Result<Recorder, Fault>
+    requires device { IsDeviceName device.now }
+    requires depth { (1 ≤ depth) × (depth ≤ 1024) }
+    ensures unused { IfOk result (λ recorder. recorder.events ≡ []) }
+    ensures capacity { IfOk result (λ recorder. recorder.capacity ≡ depth) }
+    ensures begun { IfOk result (λ recorder. StandsForHistory recorder [] (new_world device.now)) }
+    ensures err { IfErr result (λ fault. fault ≡ Memory) }
+{
+    match Recorder::new(alloc, device, depth) {
+        Ok(recorder) => Ok(recorder),
+        Err(_) => Err(Fault::Memory),
+    }
+}
+
+/// The recorder that the meter begins with: a new meter's, or that of one which goes on from the trace at the head of an input.
+fn first_recorder<B: BufRead>(
+    alloc: Global,
+    device: &Octets,
+    bounds: Bounds,
+    input: &mut B,
+) -> Result<Recorder, Fault>
+    requires { IsDeviceName device.now }
+    ensures unused { IfOk result (λ recorder. recorder.events ≡ []) }
+    ensures capacity { IfOk result (λ recorder. recorder.capacity ≡ bounds.depth) }
+    ensures begun { bounds.resumes ≡ false → IfOk result (λ recorder. StandsForHistory recorder [] (new_world device.now)) }
+    ensures err { IsNewMeter bounds → IfErr result (λ fault. fault ≡ Memory) }
+{
+    let depth = bounds.depth;
+    if depth < 1 || depth > 1024 {
+        return Err(Fault::Input);
+    }
+    if bounds.resumes {
+        recorder_of_head(alloc, input, depth)
+    } else {
+        new_recorder(alloc, device, depth)
+    }
+}
+
+/// What is to be served: the meter, and the lines of its console.
+#[derive(Drop)]
+pub struct Plan<I> {
+    /// How far it goes.
+    pub bounds: Bounds,
+    /// The password of the management client.
+    pub password: Octets,
+    /// The recorder that the meter begins with; no event has come to it.
+    pub recorder: Recorder,
+    /// The lines of the console, after the trace that was read.
+    pub input: BufReader<I>,
+    ghost sized: { IsPassword password },
+    ghost unused: { length recorder.events ≡ 0 },
+}
+
+/// Judges the options, and reads the trace to go on from where they say so. Errors, in this order: `Input` of a password that has not 1 to 32 bytes, of a device name
+/// that has not 1 to 16, of a depth that is not 1 to 1,024, and of an input at whose head no trace stands; `Read`; `Memory` in between.
+#[tactic(auto, using(crate::proofs::Unused::uncounted))]
+pub fn planned<I: Read + Drop>(
+    alloc: Global,
+    input: I,
+    options: &ServeOptions,
+) -> Result<Plan<I>, Fault>
+    ensures bounds { IfOk result (λ plan. plan.bounds ≡ options.now.bounds) }
+    ensures password { IfOk result (λ plan. plan.password ≡ string_bytes options.now.password) }
+    ensures capacity { IfOk result (λ plan. plan.recorder.capacity ≡ options.now.bounds.depth) }
+    ensures begun { options.now.bounds.resumes ≡ false → IfOk result (λ plan. StandsForHistory plan.recorder [] (new_world (string_bytes options.now.device))) }
+    ensures err { IsPassword (string_bytes options.now.password) → IsDeviceName (string_bytes options.now.device) → IsNewMeter options.now.bounds
+        → IfErr result (λ fault. fault ≡ Memory) }
+{
+    let bounds = options.bounds;
+    let password = octets_of(alloc, options.password.as_str(), MAX_PASSWORD)?;
+    let device = octets_of(alloc, options.device.as_str(), MAX_DEVICE_NAME)?;
+    let Ok(mut input) = BufReader::new(alloc, input) else {
+        return Err(Fault::Memory);
+    };
+    match first_recorder(alloc, &device, bounds, &mut input) {
+        Ok(recorder) => Ok(Plan {
+            bounds,
+            password,
+            recorder,
+            input,
+        }),
+        Err(fault) => Err(fault),
+    }
+}
