@@ -24,7 +24,7 @@ use Rattle.supply_meter.specs.declared.fault.MeterFault.{MeterFault}
 use Rattle.supply_meter.specs.declared.given.Fired.{Fired}
 use Rattle.supply_meter.specs.declared.given.Given.{Given}
 use Rattle.supply_meter.specs.declared.given.Tick.{Tick}
-use Rattle.trace_lines.specs.declared.fault.TraceFault.{TraceFault}
+use Rattle.trace_words.specs.declared.fault.TraceFault.{TraceFault}
 use Rattle.trace_player.specs.Traces.{trace_of}
 
 -- a call on the meter of a handle: where it is not open that is told, and what `shut` says

@@ -6,7 +6,7 @@ use Rattle.std.specs.Io.BufRead.{take_through, drop_through, DropsThrough}
 use Rattle.std.specs.Io.KnownBytes.{IsAtEnd}
 use Rattle.std.specs.List.{onto_first}
 use Rattle.std.specs.Prelude.{IfSome}
-use Rattle.trace_lines.specs.Rows.{Row}
+use Rattle.trace_words.specs.Rows.{Row}
 use Rattle.trace_text.specs.Lines.{all_but_last, last_of, lines_of, unended_of, rows_of}
 use Rattle.trace_text.specs.Parts.{parts_at}
 use Rattle.trace_text.specs.Words.{words_of}

@@ -11,14 +11,15 @@ use Rattle.std.proofs.lemmas.List.{append-nil, take_all, length-drop}
 use Rattle.std.proofs.lemmas.Str.Parse.{IsNumeralModel, numerals_by_value}
 use Rattle.byte_reading.specs.Outcome.{◌>>=◌, ◌>>◌, guard, Fails}
 use Rattle.byte_reading.proofs.OutcomeLemmas.{bind_ok, ok_is, guard_ok, chosen, failed}
-use Rattle.trace_lines.specs.OpeningFields.{behind, labelled, version_in, version_from}
-use Rattle.trace_lines.specs.Reading.{number_in, last_as}
-use Rattle.trace_lines.specs.Rows.{Word, Row, wanted}
-use Rattle.trace_lines.specs.declared.fault.RowFault.TheVariants.{Wrong}
-use Rattle.trace_lines.specs.declared.version.Version.{Version}
-use Rattle.trace_lines.specs.declared.version.Version.TheVariants.{One, Two}
-use Rattle.trace_lines.specs.declared.fault.TraceFault.{TraceFault}
-use Rattle.trace_lines.specs.declared.fault.TraceFault.TheVariants.{Memory}
+use Rattle.trace_words.specs.Labels.{behind, labelled}
+use Rattle.trace_openings.specs.OpeningFields.{version_in, version_from}
+use Rattle.trace_words.specs.Reading.{number_in, last_as}
+use Rattle.trace_words.specs.Rows.{Word, Row, wanted}
+use Rattle.trace_words.specs.declared.fault.RowFault.TheVariants.{Wrong}
+use Rattle.trace_words.specs.declared.version.Version.{Version}
+use Rattle.trace_words.specs.declared.version.Version.TheVariants.{One, Two}
+use Rattle.trace_words.specs.declared.fault.TraceFault.{TraceFault}
+use Rattle.trace_words.specs.declared.fault.TraceFault.TheVariants.{Memory}
 use Rattle.trace_player.specs.Traces.{trace_of}
 use Rattle.trace_text.proofs.LinesLemmas.{rows_text-rows_of, rows_text-nil}
 use Rattle.trace_text.proofs.NumbersLemmas.{chosen_some}

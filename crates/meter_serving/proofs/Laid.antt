@@ -6,14 +6,15 @@ use Rattle.cosem_names.specs.declared.objects.Which.{Which}
 use Rattle.cosem_names.specs.declared.objects.Which.TheVariants.{Import, Export}
 use Rattle.relay_core.specs.declared.opening.Opening.{Opening}
 use Rattle.relay_recorder.specs.declared.trace.Trace.{Trace}
-use Rattle.trace_lines.specs.OpeningFields.{version_from, events_from}
-use Rattle.trace_lines.specs.OpeningReading.{limiter_from, export_from, schedules_from, opening_with, opening_in, opening_from}
-use Rattle.trace_lines.specs.Places.{Place, ReadLines, place_of, line_as, passed, first_as, nothing_left, ended_at}
-use Rattle.trace_lines.specs.Rows.{Row}
-use Rattle.trace_lines.specs.declared.fault.RowFault.{RowFault}
-use Rattle.trace_lines.specs.declared.fault.TraceFault.{TraceFault}
-use Rattle.trace_lines.specs.declared.version.Version.{Version}
-use Rattle.trace_lines.specs.declared.version.Version.TheVariants.{One, Two}
+use Rattle.trace_openings.specs.OpeningFields.{version_from}
+use Rattle.trace_lines.specs.Events.{events_from}
+use Rattle.trace_openings.specs.OpeningReading.{limiter_from, export_from, schedules_from, opening_with, opening_in, opening_from}
+use Rattle.trace_words.specs.Places.{Place, ReadLines, place_of, line_as, passed, first_as, nothing_left, ended_at}
+use Rattle.trace_words.specs.Rows.{Row}
+use Rattle.trace_words.specs.declared.fault.RowFault.{RowFault}
+use Rattle.trace_words.specs.declared.fault.TraceFault.{TraceFault}
+use Rattle.trace_words.specs.declared.version.Version.{Version}
+use Rattle.trace_words.specs.declared.version.Version.TheVariants.{One, Two}
 use Rattle.trace_player.specs.Traces.{most_bytes, events_at, trace_from, trace_of}
 use Rattle.meter_serving.specs.Heads.{IsLaidOut, lines_before}
 

@@ -5,7 +5,7 @@
 use Rattle.std.specs.Prelude.{◌≡◌, ◌⊎◌, ℕ, codes, List, ◌∷◌, Ok}
 use Rattle.relay_core.specs.declared.event.Event.{Event}
 use Rattle.trace_lines.specs.Events.{event_of}
-use Rattle.trace_lines.specs.declared.version.Version.TheVariants.{Two}
+use Rattle.trace_words.specs.declared.version.Version.TheVariants.{Two}
 use Rattle.trace_text.specs.Words.{words_of}
 
 -- a press, samples, pairs of them or a moment; what a client asks for begins with other words

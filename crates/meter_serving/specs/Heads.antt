@@ -12,12 +12,13 @@ use Rattle.program_fault.specs.declared.Fault.{Fault}
 use Rattle.program_fault.specs.declared.Fault.TheVariants as program
 use Rattle.relay_core.specs.Opening.{IsFitOpening}
 use Rattle.relay_recorder.specs.declared.trace.Trace.{Trace}
-use Rattle.trace_lines.specs.OpeningFields.{version_from, events_from}
-use Rattle.trace_lines.specs.Rows.{Row}
-use Rattle.trace_lines.specs.declared.fault.TraceFault.{TraceFault}
-use Rattle.trace_lines.specs.declared.fault.TraceFault.TheVariants as trace_fault
-use Rattle.trace_lines.specs.declared.version.Version.{Version}
-use Rattle.trace_lines.specs.declared.version.Version.TheVariants.{One, Two}
+use Rattle.trace_openings.specs.OpeningFields.{version_from}
+use Rattle.trace_lines.specs.Events.{events_from}
+use Rattle.trace_words.specs.Rows.{Row}
+use Rattle.trace_words.specs.declared.fault.TraceFault.{TraceFault}
+use Rattle.trace_words.specs.declared.fault.TraceFault.TheVariants as trace_fault
+use Rattle.trace_words.specs.declared.version.Version.{Version}
+use Rattle.trace_words.specs.declared.version.Version.TheVariants.{One, Two}
 use Rattle.trace_player.specs.Traces.{trace_of}
 use Rattle.trace_text.specs.Lines.{rows_of, unended_of}
 use Rattle.trace_text.specs.Words.{words_of}

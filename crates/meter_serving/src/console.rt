@@ -5,8 +5,9 @@ ghost use Rattle.meter_serving.specs.Console.{IsOwnWord, IsOwnLine, Brings};
 
 use relay_core::Event;
 use std::alloc::{AllocError, Global};
-use trace_lines::{RowFault, Version, read_event};
+use trace_lines::read_event;
 use trace_text::Words;
+use trace_words::{RowFault, Version};
 
 /// Whether a word is the first of an event of the meter's own.
 fn is_own_word(word: &[u8]) -> bool

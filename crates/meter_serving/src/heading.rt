@@ -2,15 +2,16 @@
 ghost use Rattle.std.specs.Prelude.{◌≡◌, ◌≤◌, ◌++◌, ◌∷◌, [], ℕ, List, length, drop, Some, Ok, IfOk, IfErr, OnOk, IfSome, IsErrOf};
 ghost use Rattle.std.specs.Io.KnownBytes.{IsAtEnd};
 ghost use Rattle.meter_serving.specs.Heads.{Grows, TakesHead, HasHead, IsHeadFault, head_fault, IsLine, IsLaidOut, Ahead, first_line, lines_before};
-ghost use Rattle.trace_lines.specs.OpeningFields.{events_from};
-ghost use Rattle.trace_lines.specs.Rows.{Row};
-ghost use Rattle.trace_lines.specs.declared.version.Version.{Version};
+ghost use Rattle.trace_lines.specs.Events.{events_from};
+ghost use Rattle.trace_words.specs.Rows.{Row};
+ghost use Rattle.trace_words.specs.declared.version.Version.{Version};
 
 use program_fault::Fault;
 use std::alloc::Global;
 use std::io::{BufRead, ErrorKind};
-use trace_lines::{TraceFault, TraceLines, read_event_count};
+use trace_lines::read_event_count;
 use trace_player::{Trace, read_trace};
+use trace_words::{TraceFault, TraceLines};
 
 /// How many lines stand before the number of events, in version 1 of the text.
 const LINES_OF_VERSION_1: u32 = 20;
@@ -67,7 +68,7 @@ fn opening_lines(first: &[u8]) -> Result<u32, Fault>
 }
 
 /// How many events a line tells of. Errors: `Input` of any other line, `Memory`.
-#[tactic(auto, unfolding(trace_lines::specs::Places::line_as))]
+#[tactic(auto, unfolding(trace_words::specs::Places::line_as))]
 fn event_count(line: &[u8]) -> Result<u32, Fault>
     ensures told { (row : Row) (count : ℕ) → IsLine line.now row → events_from row ≡ Ok count → IfOk result (λ events. events ≡ count) }
     ensures input { IsErrOf result Fault.Input → (row : Row) (count : ℕ) → IsLine line.now row → ¬ (events_from row ≡ Ok count) }

@@ -8,7 +8,8 @@ use relay_recorder::Recorder;
 use std::alloc::{AllocError, Global};
 use std::process::Abort;
 use std::test::Fail;
-use trace_lines::{Version, read_event};
+use trace_lines::read_event;
+use trace_words::Version;
 use trace_player::write_trace;
 
 /// Script 3 is written: mode 0, and then the supply is cut.

@@ -4,7 +4,7 @@ ghost use Rattle.acse_ber.specs.Password.{IsPassword};
 ghost use Rattle.byte_reading.specs.Outcome.{Fails};
 ghost use Rattle.meter_serving.specs.Ending.{TellsRun};
 ghost use Rattle.supply_meter.specs.Calls.{Resumes};
-ghost use Rattle.trace_lines.specs.declared.fault.TraceFault.TheVariants.{Memory};
+ghost use Rattle.trace_words.specs.declared.fault.TraceFault.TheVariants.{Memory};
 ghost use Rattle.trace_player.specs.Traces.{trace_of};
 
 use crate::supply_meter::SupplyMeter;

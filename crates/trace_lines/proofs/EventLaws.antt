@@ -1,12 +1,10 @@
 -- The event of a line that is written is read again.
-use Rattle.std.proofs.Common.{◌≡◌, ℕ, zero, suc, ◌*◌, ◌<◌, ◌≤◌, ◌^◌, Bool, true, false, nat_eq, ◌==◌, List, [], ◌∷◌, length, map, Option, Some, None, Ok, refl, sym, ap, ◌∙◌, arith, decimal, codes, append-nil, eq-eqb}
-use Rattle.std.specs.Cmp.Lexicographic.{pointwise, nat_list_eq_equiv, unequal}
+use Rattle.std.proofs.Common.{◌≡◌, ℕ, zero, suc, ◌*◌, ◌≤◌, true, false, nat_eq, ◌==◌, List, [], ◌∷◌, length, map, Option, Some, None, Ok, refl, ap, arith, decimal, codes, eq-eqb}
+use Rattle.std.specs.Cmp.Lexicographic.{pointwise, unequal}
 use Rattle.std.specs.Prelude.{IfSome}
 use Rattle.std.specs.List.{zip}
 use Rattle.hex.specs.Hex.{encode_upper, upper_digits, IsBytes}
 use Rattle.hex.proofs.HexLemmas.{length-encode_with}
-use Rattle.cosem_axdr.proofs.Values.{text_again}
-use Rattle.cosem_axdr.specs.Reading.{first_data}
 use Rattle.cosem_axdr.specs.Spelling.{text}
 use Rattle.cosem_axdr.specs.View.{tree_of}
 use Rattle.cosem_axdr.specs.declared.value.Data.{Data}
@@ -18,34 +16,27 @@ use Rattle.cosem_names.specs.declared.name.Obis.{Obis}
 use Rattle.cosem_names.specs.declared.service.AttributeSelection.{AttributeSelection}
 use Rattle.relay_core.specs.declared.event.Event.{Event}
 use Rattle.relay_core.specs.declared.event.Event.TheVariants.{Get, GetList, Set, Execute, Button, Samples, Moment}
-use Rattle.trace_text.proofs.HexadecimalLemmas.{bytes_again}
-use Rattle.trace_text.proofs.NumbersLemmas.{number_again}
-use Rattle.trace_lines.proofs.TextBytes.{text_is_bytes}
-use Rattle.trace_lines.specs.Events.{get_from, get_list_from, set_from, execute_from, samples_from, pairs_from, moment_from, event_from, event_of}
-use Rattle.trace_lines.specs.Reading.{number_in, flag_in, level_in, bytes_in, name_in, data_in, parameter_in, attribute_from, method_at, selection_from, value_from, pair_from}
-use Rattle.trace_lines.specs.Rows.{Row, wanted, all_at}
-use Rattle.trace_lines.specs.Traced.{IsNamed, AreNamed, IsHeld, AreSamples, AreExports, IsTraced}
+use Rattle.trace_lines.specs.Events.{get_from, get_list_from, set_from, execute_from, samples_from, pairs_from, moment_from, event_from, event_of, events_from}
+use Rattle.trace_words.specs.Reading.{number_in}
+use Rattle.trace_lines.specs.Reading.{level_in, name_in, parameter_in, attribute_from, method_at, selection_from, value_from, pair_from}
+use Rattle.trace_words.specs.Rows.{Row, all_at}
+use Rattle.trace_lines.specs.Traced.{IsNamed, AreNamed, AreSamples, AreExports, IsTraced}
+use Rattle.trace_words.specs.Writing.{IsHeld, flag_number, all_words, data_word, value_words}
 use Rattle.trace_lines.specs.Verbs.{verb_word, verb_in}
-use Rattle.trace_lines.specs.Writing.{level_number, flag_number, method_words, selection_words, all_words, data_word, parameter_word, value_words, pairs_words, samples_kind, samples_words, kind_of, event_words, event_row}
+use Rattle.trace_lines.specs.Writing.{level_number, method_words, selection_words, parameter_word, pairs_words, samples_kind, samples_words, kind_of, event_words, event_row}
 use Rattle.trace_lines.specs.declared.verb.Verb.{Verb}
 use Rattle.trace_lines.specs.declared.verb.Verb.TheVariants.{OfGet, OfGetList, OfSet, OfExecute, OfButton, OfSamples, OfPairs, OfMoment}
-use Rattle.trace_lines.specs.declared.version.Version.TheVariants.{Two}
+use Rattle.trace_words.specs.declared.version.Version.TheVariants.{Two}
+use Rattle.trace_words.proofs.PlaceLemmas.{line_again}
+use Rattle.trace_words.proofs.WordLaws.{labelled_again, number_word_again, flag_again, bytes_word_again, data_word_again}
+use Rattle.trace_words.specs.Labels.{number_row}
+use Rattle.trace_words.specs.Places.{line_as}
 
 -- ---- words
-
-pub number_word_again : (limit n : ℕ) → n ≤ limit → limit < 2 ^ 64 → number_in limit (decimal n) ≡ Ok n
-number_word_again limit n le small = ap (λ (o : Option ℕ). wanted o) (number_again limit n le small)
 
 level_again : (level : Level) → level_in (decimal (level_number level)) ≡ Ok level
 level_again Management = let h = number_word_again 16 1 (omega arith) (omega arith) in rw h refl
 level_again Public = let h = number_word_again 16 16 (omega arith) (omega arith) in rw h refl
-
-pub flag_again : (flag : Bool) → flag_in (decimal (flag_number flag)) ≡ Ok flag
-flag_again true = let h = number_word_again 1 1 (omega arith) (omega arith) in rw h refl
-flag_again false = let h = number_word_again 1 0 (omega arith) (omega arith) in rw h refl
-
-pub bytes_word_again : (bytes : List ℕ) → 0 < length bytes → IsBytes bytes → bytes_in (encode_upper bytes) ≡ Ok bytes
-bytes_word_again bytes some are = ap (λ (o : Option (List ℕ)). wanted o) (bytes_again bytes some are)
 
 name_again : (name : Obis) → length name.0 ≡ 6 → IsBytes name.0 → name_in (encode_upper name.0) ≡ Ok name
 unfolding name_in
@@ -53,19 +44,6 @@ name_again name long are =
     let h = bytes_word_again name.0 (omega arith) are in
     let six : (length name.0 == 6) ≡ true = eq-eqb (length name.0) 6 long in
     rw (h, six) refl
-
--- a list of bytes is the same as itself
-pub same_bytes : (bytes : List ℕ) → pointwise nat_eq bytes bytes ≡ true
-same_bytes bytes = nat_list_eq_equiv.refl bytes
-
-pub data_word_again : (value : Data) → IsHeld value → data_in (data_word value) ≡ Ok value
-unfolding data_in
-data_word_again value held =
-    let bytes = text (tree_of value) in
-    let h = bytes_word_again bytes (omega arith) (text_is_bytes (tree_of value) held.fits) in
-    let whole : first_data bytes ≡ Ok (value, length bytes) = ap first_data (sym (append-nil bytes)) ∙ text_again value [] held.fits in
-    let same = same_bytes bytes in
-    rw (h, whole, same) refl
 
 verb_again : (verb : Verb) → verb_in (verb_word verb) ≡ Ok verb
 unfolding verb_in
@@ -204,3 +182,14 @@ event_again event traced =
     let verb = verb_again (kind_of event) in
     let rest = words_again event traced in
     rw (verb, rest) refl
+
+-- ---- how many there are
+
+pub events_again : (count : ℕ) → count ≤ 65536 → events_from (number_row (codes "events") count) ≡ Ok count
+events_again count le =
+    let read = number_word_again 65536 count le (omega arith) in
+    labelled_again (codes "events") (number_in 65536) (decimal count) count read
+
+pub event_count_again : (count number : ℕ) (rows : List Row) (unended : List ℕ) → count ≤ 65536
+    → line_as events_from (record { number = number; rows = number_row (codes "events") count ∷ rows; unended = unended }) ≡ Ok (count, record { number = suc number; rows = rows; unended = unended })
+event_count_again count number rows unended le = line_again events_from (number_row (codes "events") count) count number rows unended (events_again count le)

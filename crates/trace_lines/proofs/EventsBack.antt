@@ -1,5 +1,5 @@
 -- The event of a line is written as that line.
-use Rattle.std.proofs.Common.{◌≡◌, ℕ, Bool, cond, nat_eq, ◌==◌, List, [], ◌∷◌, length, map, Option, Some, None, Result, Ok, refl, sym, ap, ◌∙◌, arith, inl, inr, decimal, codes}
+use Rattle.std.proofs.Common.{◌≡◌, ℕ, Bool, cond, nat_eq, ◌==◌, List, [], ◌∷◌, length, map, Option, Some, None, Result, Ok, refl, sym, ap, ◌∙◌, arith, inl, inr, decimal, codes, Err}
 use Rattle.std.proofs.lemmas.Bool.{eqb-true}
 use Rattle.std.specs.Cmp.Lexicographic.{pointwise}
 use Rattle.byte_reading.specs.Outcome.{◌>>=◌}
@@ -7,6 +7,7 @@ use Rattle.byte_reading.proofs.OutcomeLemmas.{done, ok_is, bind_ok, guard_ok, ch
 use Rattle.hex.specs.Hex.{encode_upper}
 use Rattle.cosem_axdr.specs.declared.value.Data.{Data}
 use Rattle.cosem_names.specs.declared.level.Level.{Level}
+use Rattle.cosem_names.specs.declared.level.Level.TheVariants.{Public, Management}
 use Rattle.cosem_names.specs.declared.name.AttrRef.{AttrRef}
 use Rattle.cosem_names.specs.declared.name.MethodRef.{MethodRef}
 use Rattle.cosem_names.specs.declared.name.Obis.{Obis}
@@ -16,18 +17,47 @@ use Rattle.relay_core.specs.declared.event.Event.TheVariants.{GetList, Set, Exec
 use Rattle.lane_sampler.specs.Samples.{values_alone, pairs_of}
 use Rattle.trace_text.proofs.WordsLemmas.{line_of-words_of}
 use Rattle.trace_text.specs.Words.{words_of, line_of}
-use Rattle.trace_lines.proofs.WordsBack.{IsWrittenBack, AreWrittenBack, number_back, flag_back, level_back, name_back, same_is, data_back, next_back, next_number_back, last_back, last_number_back, ended_back, all_back}
-use Rattle.trace_lines.specs.Events.{get_from, get_list_from, set_from, execute_from, samples_from, pairs_from, moment_from, event_from, event_of}
-use Rattle.trace_lines.specs.Reading.{number_in, flag_in, level_in, name_in, data_in, parameter_in, attribute_from, method_at, selection_from, selection_at, value_in, value_from, pair_from, next_as, last_as}
-use Rattle.trace_lines.specs.Rows.{Word, Row, ended, all_at}
+use Rattle.trace_words.proofs.WordsBack.{IsWrittenBack, AreWrittenBack, number_back, flag_back, same_is, bytes_back, data_back, next_back, next_number_back, last_back, last_number_back, ended_back, all_back}
+use Rattle.trace_lines.specs.Events.{get_from, get_list_from, set_from, execute_from, samples_from, pairs_from, moment_from, event_from, event_of, max_events, events_from}
+use Rattle.trace_words.specs.Reading.{number_in, flag_in, data_in, value_in, next_as, last_as, bytes_in}
+use Rattle.trace_lines.specs.Reading.{level_in, name_in, parameter_in, attribute_from, method_at, selection_from, selection_at, value_from, pair_from}
+use Rattle.trace_words.specs.Rows.{Word, Row, ended, all_at}
 use Rattle.trace_lines.specs.Verbs.{verb_word, is_word_of, verb_in}
-use Rattle.trace_lines.specs.Writing.{level_number, flag_number, attribute_words, method_words, selection_words, all_words, data_word, parameter_word, value_words, pairs_words, event_words, event_row}
-use Rattle.trace_lines.specs.declared.fault.RowFault.{RowFault}
-use Rattle.trace_lines.specs.declared.fault.RowFault.TheVariants.{Wrong}
+use Rattle.trace_lines.specs.Writing.{level_number, attribute_words, method_words, selection_words, parameter_word, pairs_words, event_words, event_row}
+use Rattle.trace_words.specs.Writing.{flag_number, all_words, data_word, value_words}
+use Rattle.trace_words.specs.declared.fault.RowFault.{RowFault}
+use Rattle.trace_words.specs.declared.fault.RowFault.TheVariants.{Wrong}
 use Rattle.trace_lines.specs.declared.verb.Verb.{Verb}
 use Rattle.trace_lines.specs.declared.verb.Verb.TheVariants.{OfGet, OfGetList, OfSet, OfExecute, OfButton, OfSamples, OfPairs, OfMoment}
-use Rattle.trace_lines.specs.declared.version.Version.{Version}
-use Rattle.trace_lines.specs.declared.version.Version.TheVariants.{One, Two}
+use Rattle.trace_words.specs.declared.version.Version.{Version}
+use Rattle.trace_words.specs.declared.version.Version.TheVariants.{One, Two}
+use Rattle.trace_words.specs.Labels.{number_row}
+use Rattle.trace_words.proofs.LabelsBack.{IsRowBack, labelled_back}
+
+-- ---- single words
+
+level_is : (n : ℕ) (level : Level) → cond (n == 1) (done RowFault Management) (cond (n == 16) (Ok Public) (Err Wrong)) ≡ Ok level → n ≡ level_number level
+level_is n level e =
+    elim (chosen (n == 1) (done RowFault Management) (cond (n == 16) (Ok Public) (Err Wrong)) (Ok level) e) [
+      | inl one ↦ eqb-true n 1 one.0 ∙ ap level_number (ok_is Management level one.1)
+      | inr other ↦
+          elim (chosen (n == 16) (done RowFault Public) (Err Wrong) (Ok level) other.1) [
+            | inl sixteen ↦ eqb-true n 16 sixteen.0 ∙ ap level_number (ok_is Public level sixteen.1)
+            | inr none ↦ absurd (cc (none.1))
+          ]
+    ]
+
+level_back : IsWrittenBack Level level_in (λ level. decimal (level_number level))
+level_back word level e =
+    let read = bind_ok (number_in 16 word) _ level e in
+    number_back 16 (omega arith) word read.0 read.1 ∙ ap decimal (level_is read.0 level read.2)
+
+name_back : IsWrittenBack Obis name_in (λ name. encode_upper name.0)
+unfolding name_in
+name_back word name e =
+    let read = bind_ok (bytes_in word) _ name e in
+    let six = guard_ok (length read.0 == 6) Wrong _ name read.2 in
+    bytes_back word read.0 read.1 ∙ ap (λ (n : Obis). encode_upper n.0) (ok_is (record { 0 = read.0 }) name six.1)
 
 -- ---- the first word
 
@@ -230,3 +260,12 @@ event_back version (first ∷ words) event e =
 -- the same of the line's bytes
 pub event_line_back : (version : Version) (line : List ℕ) (event : Event) → event_of version (words_of line) ≡ Ok event → line_of (event_row event) ≡ line
 event_line_back version line event e = ap line_of (event_back version (words_of line) event e) ∙ line_of-words_of line
+
+-- ---- how many there are
+
+pub events_back : IsRowBack ℕ events_from (λ count. number_row (codes "events") count)
+events_back row count e = labelled_back ℕ (codes "events") (number_in max_events) decimal (number_back max_events (omega arith)) row count e
+
+-- the line of the count of events
+pub event_count_back : (row : Row) (count : ℕ) → events_from row ≡ Ok count → number_row (codes "events") count ≡ row
+event_count_back row count e = sym (events_back row count e)

@@ -1,20 +1,31 @@
--- The event of a line.
+-- How many events there are, and the event of a line.
+--     events_from                  how many
 --     get_from .. moment_from      the event that the words behind the first one give
 --     event_of                     the event of a line of words
-use Rattle.std.specs.Prelude.{◌==◌, map, length, Result, Ok, Err}
+use Rattle.std.specs.Prelude.{◌==◌, map, length, Result, Ok, Err, ℕ, codes}
 use Rattle.byte_reading.specs.Outcome.{◌>>=◌, ◌>>◌, guard}
 use Rattle.lane_sampler.specs.Samples.{values_alone, pairs_of}
 use Rattle.relay_core.specs.declared.event.Event.{Event}
 use Rattle.relay_core.specs.declared.event.Event.TheVariants.{Get, GetList, Set, Execute, Button, Samples, Moment}
-use Rattle.trace_lines.specs.Reading.{number_in, level_in, data_in, parameter_in, next_as, last_as, method_at, selection_from, selection_at, value_from, pair_from}
-use Rattle.trace_lines.specs.Rows.{Row, ended, word_at, all_at}
+use Rattle.trace_words.specs.Reading.{number_in, data_in, next_as, last_as}
+use Rattle.trace_lines.specs.Reading.{level_in, parameter_in, method_at, selection_from, selection_at, value_from, pair_from}
+use Rattle.trace_words.specs.Rows.{Row, ended, word_at, all_at}
 use Rattle.trace_lines.specs.Verbs.{verb_in}
-use Rattle.trace_lines.specs.declared.fault.RowFault.{RowFault}
-use Rattle.trace_lines.specs.declared.fault.RowFault.TheVariants.{Wrong}
+use Rattle.trace_words.specs.declared.fault.RowFault.{RowFault}
+use Rattle.trace_words.specs.declared.fault.RowFault.TheVariants.{Wrong}
 use Rattle.trace_lines.specs.declared.verb.Verb.{Verb}
 use Rattle.trace_lines.specs.declared.verb.Verb.TheVariants.{OfGet, OfGetList, OfSet, OfExecute, OfButton, OfSamples, OfPairs, OfMoment}
-use Rattle.trace_lines.specs.declared.version.Version.{Version}
-use Rattle.trace_lines.specs.declared.version.Version.TheVariants.{One, Two}
+use Rattle.trace_words.specs.declared.version.Version.{Version}
+use Rattle.trace_words.specs.declared.version.Version.TheVariants.{One, Two}
+use Rattle.trace_words.specs.Labels.{labelled}
+
+-- the most events that a trace has
+abbrev pub max_events : ℕ
+max_events = 65536
+
+-- how many events there are
+abbrev pub events_from : Row → Result ℕ RowFault
+events_from row = labelled (codes "events") (number_in max_events) row
 
 -- level, class, name, number, selected
 unfoldable pub get_from : Row → Result Event RowFault

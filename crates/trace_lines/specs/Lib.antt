@@ -1,13 +1,6 @@
 pub mod Events
-pub mod OpeningFields
-pub mod OpeningForms
-pub mod OpeningReading
-pub mod OpeningRows
-pub mod OpeningTraced
-pub mod Places
 pub mod Reading
 pub mod Replies
-pub mod Rows
 pub mod Traced
 pub mod Verbs
 pub mod Writing

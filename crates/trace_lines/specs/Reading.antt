@@ -1,14 +1,10 @@
--- What single words and a few words in a row stand for.
---     number_in, flag_in, level_in, name_in, data_in    a word
+-- What single words of an event and a few words in a row stand for.
+--     level_in, name_in, parameter_in                  a word
 --     attribute_from, method_at, selection_from        an attribute or method: class, name, number
 --     value_from, pair_from                            samples
-use Rattle.std.specs.Prelude.{ℕ, Bool, ◌==◌, nat_eq, codes, List, length, Option, Some, None, Result, Ok, Err, if◌then◌else◌}
+use Rattle.std.specs.Prelude.{ℕ, ◌==◌, nat_eq, codes, length, Option, Some, None, Result, Ok, Err, if◌then◌else◌}
 use Rattle.std.specs.Cmp.Lexicographic.{pointwise}
-use Rattle.std.specs.Result.{result_ok}
 use Rattle.byte_reading.specs.Outcome.{◌>>=◌, ◌>>◌, guard}
-use Rattle.cosem_axdr.specs.Reading.{first_data}
-use Rattle.cosem_axdr.specs.Spelling.{text}
-use Rattle.cosem_axdr.specs.View.{tree_of}
 use Rattle.cosem_axdr.specs.declared.value.Data.{Data}
 use Rattle.cosem_names.specs.declared.level.Level.{Level}
 use Rattle.cosem_names.specs.declared.level.Level.TheVariants.{Public, Management}
@@ -16,21 +12,10 @@ use Rattle.cosem_names.specs.declared.name.AttrRef.{AttrRef}
 use Rattle.cosem_names.specs.declared.name.MethodRef.{MethodRef}
 use Rattle.cosem_names.specs.declared.name.Obis.{Obis}
 use Rattle.cosem_names.specs.declared.service.AttributeSelection.{AttributeSelection}
-use Rattle.trace_text.specs.Hexadecimal.{bytes_of}
-use Rattle.trace_text.specs.Numbers.{number_of}
-use Rattle.trace_lines.specs.Rows.{Word, Row, Read, wanted, word_at, last_word}
-use Rattle.trace_lines.specs.declared.fault.RowFault.{RowFault}
-use Rattle.trace_lines.specs.declared.fault.RowFault.TheVariants.{Wrong}
-
--- a number up to a limit
-abbrev pub number_in : ℕ → Word → Result ℕ RowFault
-number_in limit word = wanted (number_of limit word)
-
--- 0 for no, 1 for yes
-abbrev pub flag_in : Word → Result Bool RowFault
-flag_in word = do
-  number ← number_in 1 word
-  Ok (number == 1)
+use Rattle.trace_words.specs.Rows.{Word, Row, Read, word_at}
+use Rattle.trace_words.specs.declared.fault.RowFault.{RowFault}
+use Rattle.trace_words.specs.declared.fault.RowFault.TheVariants.{Wrong}
+use Rattle.trace_words.specs.Reading.{number_in, flag_in, bytes_in, data_in, next_as, value_in}
 
 -- the client's port: 1 of the management client, 16 of the public one
 abbrev pub level_in : Word → Result Level RowFault
@@ -38,42 +23,12 @@ level_in word = do
   number ← number_in 16 word
   if number == 1 then Ok Management else if number == 16 then Ok Public else Err Wrong
 
--- bytes in hexadecimal
-abbrev pub bytes_in : Word → Result (List ℕ) RowFault
-bytes_in word = wanted (bytes_of word)
-
 -- a logical name: six bytes in hexadecimal
 unfoldable pub name_in : Word → Result Obis RowFault
 name_in word = do
   bytes ← bytes_in word
   guard (length bytes == 6) Wrong
   Ok (record { 0 = bytes })
-
--- a Data read from bytes that are the spelling that is written for it
-abbrev pub spelled : List ℕ → Data → Result Data RowFault
-spelled bytes value = do
-  guard (pointwise nat_eq (text (tree_of value)) bytes) Wrong
-  Ok value
-
--- a Data in hexadecimal: all of the bytes, in that spelling
-unfoldable pub data_in : Word → Result Data RowFault
-data_in word = do
-  bytes ← bytes_in word
-  read ← wanted (result_ok (first_data bytes))
-  spelled bytes read.0
-
--- the next word, as such a value
-abbrev pub next_as : {X : Type 0} → (Word → Result X RowFault) → Row → Read X
-next_as value_in words = do
-  word ← word_at words
-  value ← value_in word.0
-  Ok (value, word.1)
-
--- the last word, as such a value
-abbrev pub last_as : {X : Type 0} → (Word → Result X RowFault) → Row → Result X RowFault
-last_as value_in words = do
-  word ← last_word words
-  value_in word
 
 -- an attribute or method, its class in the word given: class, name, number
 abbrev pub attribute_from : Word → Row → Read AttrRef
@@ -111,9 +66,6 @@ parameter_in word = if pointwise nat_eq word (codes "-") then Ok None else do
   Ok (Some value)
 
 -- a sample
-abbrev pub value_in : Word → Result ℕ RowFault
-value_in word = number_in 4294967295 word
-
 abbrev pub value_from : Word → Row → Read ℕ
 value_from word words = do
   value ← value_in word

@@ -7,8 +7,8 @@ use Rattle.disconnect_control.specs.Transitions.{state_number}
 use Rattle.relay_core.specs.declared.event.Line.{Line}
 use Rattle.relay_core.specs.declared.event.Reply.{Reply}
 use Rattle.relay_core.specs.declared.event.Reply.TheVariants.{Value, Values, Code, Sampled, SampledBoth, Ran, Stale}
-use Rattle.trace_lines.specs.Rows.{Row}
-use Rattle.trace_lines.specs.Writing.{data_word, blanked, all_words}
+use Rattle.trace_words.specs.Rows.{Row}
+use Rattle.trace_words.specs.Writing.{data_word, blanked, all_words}
 
 -- what a read of one attribute of several gives, before other words
 abbrev pub result_words : GetResult → Row → Row

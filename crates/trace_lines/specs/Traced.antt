@@ -1,15 +1,12 @@
 -- The events that a trace can hold: of the ranges of their types, and within the limits of a line.
 --     IsNamed      a class of 16 bits, a name of six bytes, a number of 8 bits
---     IsHeld       a Data that fits the limits of its text
 --     IsTraced     an event whose line is read again
 use Rattle.std.specs.Prelude.{◌≡◌, ℕ, ◌≤◌, List, [], ◌∷◌, length, Option, Some, None, IfSome}
 use Rattle.hex.specs.Hex.{IsBytes}
-use Rattle.cosem_axdr.specs.Spelling.{IsFit}
-use Rattle.cosem_axdr.specs.View.{tree_of}
-use Rattle.cosem_axdr.specs.declared.value.Data.{Data}
 use Rattle.cosem_names.specs.declared.service.AttributeSelection.{AttributeSelection}
 use Rattle.relay_core.specs.declared.event.Event.{Event}
 use Rattle.relay_core.specs.declared.event.Event.TheVariants.{Get, GetList, Set, Execute, Button, Samples, Moment}
+use Rattle.trace_words.specs.Writing.{IsHeld}
 
 -- a class of 16 bits, a name of six bytes, a number of 8 bits
 pub record IsNamed (class : ℕ) (name : List ℕ) (number : ℕ) : Type 0 where
@@ -22,10 +19,6 @@ pub record IsNamed (class : ℕ) (name : List ℕ) (number : ℕ) : Type 0 where
 abbrev pub AreNamed : List AttributeSelection → Type 0
 AreNamed [] = Unit {0}
 AreNamed (item ∷ items) = IsNamed item.attr.class.0 item.attr.name.0 item.attr.number × AreNamed items
-
--- a Data that fits the limits of a reader, so that its text is read again
-pub record IsHeld (value : Data) : Type 0 where
-  pub fits : IsFit (tree_of value)
 
 -- samples of 32 bits
 abbrev pub AreSamples : List ℕ → Type 0

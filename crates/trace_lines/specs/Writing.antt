@@ -1,11 +1,8 @@
 -- The words that are written for an event.
---     level_number .. result_words      values as words
+--     level_number .. samples_words     values as words
 --     event_row                        the line of an event
---     blanked                          words, each behind a blank
-use Rattle.std.specs.Prelude.{ℕ, Bool, true, false, codes, decimal, List, [], ◌∷◌, ◌++◌, length, Option, Some, None}
+use Rattle.std.specs.Prelude.{ℕ, codes, decimal, List, [], ◌∷◌, length, Option, Some, None}
 use Rattle.hex.specs.Hex.{encode_upper}
-use Rattle.cosem_axdr.specs.Spelling.{text}
-use Rattle.cosem_axdr.specs.View.{tree_of}
 use Rattle.cosem_axdr.specs.declared.value.Data.{Data}
 use Rattle.cosem_names.specs.declared.level.Level.{Level}
 use Rattle.cosem_names.specs.declared.level.Level.TheVariants.{Public, Management}
@@ -14,25 +11,16 @@ use Rattle.cosem_names.specs.declared.name.MethodRef.{MethodRef}
 use Rattle.cosem_names.specs.declared.service.AttributeSelection.{AttributeSelection}
 use Rattle.relay_core.specs.declared.event.Event.{Event}
 use Rattle.relay_core.specs.declared.event.Event.TheVariants.{Get, GetList, Set, Execute, Button, Samples, Moment}
-use Rattle.trace_lines.specs.Rows.{Word, Row}
+use Rattle.trace_words.specs.Rows.{Word, Row}
 use Rattle.trace_lines.specs.Verbs.{verb_word}
 use Rattle.trace_lines.specs.declared.verb.Verb.{Verb}
 use Rattle.trace_lines.specs.declared.verb.Verb.TheVariants.{OfGet, OfGetList, OfSet, OfExecute, OfButton, OfSamples, OfPairs, OfMoment}
-
--- words, each behind a blank
-abbrev pub blanked : Row → List ℕ
-blanked [] = []
-blanked (word ∷ words) = 32 ∷ word ++ blanked words
+use Rattle.trace_words.specs.Writing.{data_word, flag_number, all_words, value_words}
 
 -- the port of a client
 abbrev pub level_number : Level → ℕ
 level_number Management = 1
 level_number Public = 16
-
--- 1 for yes, 0 for no
-abbrev pub flag_number : Bool → ℕ
-flag_number true = 1
-flag_number false = 0
 
 -- class, name and number, before other words
 abbrev pub attribute_words : AttrRef → Row → Row
@@ -45,22 +33,9 @@ method_words method words = decimal method.class.0 ∷ encode_upper method.name.
 abbrev pub selection_words : AttributeSelection → Row → Row
 selection_words item words = attribute_words item.attr (decimal (flag_number item.selected) ∷ words)
 
--- the words of several values, one after the other
-unfoldable pub all_words : {X : Type 0} → (X → Row → Row) → List X → Row
-all_words words [] = []
-all_words words (x ∷ xs) = words x (all_words words xs)
-
--- a Data as its written text
-abbrev pub data_word : Data → Word
-data_word value = encode_upper (text (tree_of value))
-
 abbrev pub parameter_word : Option Data → Word
 parameter_word None = codes "-"
 parameter_word (Some value) = data_word value
-
--- a sample, before other words
-abbrev pub value_words : ℕ → Row → Row
-value_words value words = decimal value ∷ words
 
 -- samples in pairs
 unfoldable pub pairs_words : List ℕ → List ℕ → Row

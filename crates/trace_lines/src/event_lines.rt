@@ -1,17 +1,18 @@
 ghost use Rattle.std.specs.Prelude.{◌≡◌, ◌++◌, ◌∷◌, [], OnOk, OnErr, decimal};
 ghost use Rattle.trace_text.specs.Words.{line_of};
-ghost use Rattle.trace_lines.specs.Writing.{blanked, attribute_words, flag_number, level_number, kind_of, event_words, event_row, samples_kind, samples_words};
+ghost use Rattle.trace_words.specs.Writing.{blanked, flag_number};
+ghost use Rattle.trace_lines.specs.Writing.{attribute_words, level_number, kind_of, event_words, event_row, samples_kind, samples_words};
 
 use crate::verb::Verb;
 use crate::writing::{
-    add_attribute, add_data, add_flag, add_level, add_method, add_pairs, add_parameter,
-    add_selections, add_values,
+    add_attribute, add_level, add_method, add_pairs, add_parameter, add_selections, add_values,
 };
 use cosem_names::{AttrRef, Level};
 use lane_sampler::Block;
 use relay_core::Event;
 use std::alloc::{AllocError, Global};
 use trace_text::add_number;
+use trace_words::{add_data, add_flag};
 
 /// The kind of a block's line.
 fn samples_kind(block: &Block) -> Verb
@@ -105,7 +106,7 @@ fn add_words(alloc: Global, out: &mut Vec<u8>, event: &Event) -> Result<(), Allo
 }
 
 /// Writes the line of an event behind what is there, without the byte 0A that ends it. Where memory runs out nothing is written.
-#[tactic(auto, using(crate::proofs::Blanks::line_of_first))]
+#[tactic(auto, using(trace_words::proofs::Blanks::line_of_first))]
 pub fn write_event(alloc: Global, out: &mut Vec<u8>, event: &Event) -> Result<(), AllocError>
     ensures ok { OnOk result (out.new.items ≡ out.old.items ++ line_of (event_row event.now)) }
     ensures err { OnErr result (out.new.items ≡ out.old.items) }

@@ -2,17 +2,15 @@ ghost use Rattle.std.specs.Prelude.{◌≡◌, IfOk, map};
 ghost use Rattle.byte_reading.specs.Outcome.{Gives};
 ghost use Rattle.trace_text.specs.Words.{words_of};
 ghost use Rattle.trace_lines.specs.Events.{get_from, get_list_from, set_from, execute_from, samples_from, pairs_from, moment_from, event_from, event_of};
-ghost use Rattle.trace_lines.specs.Reading.{level_in, next_as, number_in, parameter_in};
-ghost use Rattle.trace_lines.specs.Rows.{Reads, ended};
-ghost use Rattle.trace_lines.specs.declared.fault.RowFault.TheVariants.{Memory};
+ghost use Rattle.trace_lines.specs.Reading.{level_in, parameter_in};
+ghost use Rattle.trace_words.specs.Reading.{next_as, number_in};
+ghost use Rattle.trace_words.specs.Rows.{Reads, ended};
+ghost use Rattle.trace_words.specs.declared.fault.RowFault.TheVariants.{Memory};
 
-use crate::data::data;
-use crate::fault::RowFault;
 use crate::items::{next_method, next_selection, selections};
 use crate::samples::{pairs, values};
 use crate::verb::{Verb, verb_of};
-use crate::version::Version;
-use crate::words::{end, last_word, level, next_word, number};
+use crate::words::level;
 use cosem_axdr::Data;
 use cosem_names::Level;
 use lane_sampler::{Block, BlockMade};
@@ -20,6 +18,7 @@ use listed::Listed;
 use relay_core::Event;
 use std::alloc::{AllocError, Global};
 use trace_text::Words;
+use trace_words::{RowFault, Version, data_in, ended, last_word, next_word, number_in};
 
 /// The next word as the port of a client.
 fn next_level(words: &mut Words) -> Result<Level, RowFault>
@@ -34,7 +33,7 @@ fn get(alloc: Global, words: &mut Words) -> Result<Event, RowFault>
 {
     let level = next_level(words)?;
     let item = next_selection(alloc, words)?;
-    end(words)?;
+    ended(words)?;
     Ok(Event::Get {
         level,
         attr: item.attr,
@@ -47,7 +46,7 @@ fn get_list(alloc: Global, words: &mut Words) -> Result<Event, RowFault>
     ensures { Gives Memory (λ event. event) result (get_list_from words.old) }
 {
     let level = next_level(words)?;
-    let count = number(next_word(words)?, 102)? as usize;
+    let count = number_in(next_word(words)?, 102)? as usize;
     let items = selections(alloc, words)?;
     if items.len() != count {
         return Err(RowFault::Wrong);
@@ -64,7 +63,7 @@ fn set(alloc: Global, words: &mut Words) -> Result<Event, RowFault>
 {
     let level = next_level(words)?;
     let item = next_selection(alloc, words)?;
-    let value = data(alloc, last_word(words)?)?;
+    let value = data_in(alloc, last_word(words)?)?;
     Ok(Event::Set {
         level,
         attr: item.attr,
@@ -80,7 +79,7 @@ fn parameter(alloc: Global, word: &[u8]) -> Result<Option<Data>, RowFault>
     if word == b"-".as_slice() {
         return Ok(None);
     }
-    Ok(Some(data(alloc, word)?))
+    Ok(Some(data_in(alloc, word)?))
 }
 
 #[tactic(auto, unfolding(crate::specs::Events::execute_from))]
@@ -139,7 +138,7 @@ fn sample_pairs(alloc: Global, words: &mut Words) -> Result<Event, RowFault>
 fn moment(words: &mut Words) -> Result<Event, RowFault>
     ensures { Gives Memory (λ event. event) result (moment_from words.old) }
 {
-    Ok(Event::Moment(number(last_word(words)?, u32::MAX)?))
+    Ok(Event::Moment(number_in(last_word(words)?, u32::MAX)?))
 }
 
 /// The event of a kind, from the words behind the first.
@@ -158,7 +157,7 @@ fn event_from(
         Verb::OfSet => set(alloc, words),
         Verb::OfExecute => execute(alloc, words),
         Verb::OfButton => {
-            end(words)?;
+            ended(words)?;
             Ok(Event::Button)
         }
         Verb::OfSamples => samples(alloc, words),

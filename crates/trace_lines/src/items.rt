@@ -1,14 +1,13 @@
-ghost use Rattle.std.specs.Prelude.{◌≡◌};
 ghost use Rattle.byte_reading.specs.Outcome.{Gives};
-ghost use Rattle.trace_lines.specs.Rows.{Reads, all_at};
+ghost use Rattle.trace_words.specs.Rows.{Reads, all_at};
 ghost use Rattle.trace_lines.specs.Reading.{attribute_from, method_at, selection_from, selection_at};
-ghost use Rattle.trace_lines.specs.declared.fault.RowFault.TheVariants.{Memory};
+ghost use Rattle.trace_words.specs.declared.fault.RowFault.TheVariants.{Memory};
 
-use crate::fault::RowFault;
-use crate::words::{flag, next_byte, next_long, next_name, next_word, number};
+use crate::words::{next_byte, next_name};
 use cosem_names::{AttrRef, AttributeSelection, ClassId, MethodRef};
 use std::alloc::Global;
 use trace_text::Words;
+use trace_words::{RowFault, flag_in, next_long, next_word, number_in};
 
 /// How many items a GET with list has at most.
 pub const MAX_ITEMS: usize = 102;
@@ -17,7 +16,7 @@ pub const MAX_ITEMS: usize = 102;
 fn attribute_from(alloc: Global, word: &[u8], words: &mut Words) -> Result<AttrRef, RowFault>
     ensures { Reads (λ attr. attr) result words.new (attribute_from word.now words.old) }
 {
-    let class = ClassId(number(word, 65_535)? as u16);
+    let class = ClassId(number_in(word, 65_535)? as u16);
     let name = next_name(alloc, words)?;
     let number = next_byte(words)?;
     Ok(AttrRef {
@@ -51,7 +50,7 @@ fn selection_from(
     ensures { Reads (λ item. item) result words.new (selection_from word.now words.old) }
 {
     let attr = attribute_from(alloc, word, words)?;
-    let selected = flag(next_word(words)?)?;
+    let selected = flag_in(next_word(words)?)?;
     Ok(AttributeSelection { attr, selected })
 }
 

@@ -1,24 +1,16 @@
 //! What holds of such lines as such: the function is a law, which its contract states and a call of it makes known.
-ghost use Rattle.std.specs.Prelude.{◌≡◌, ℕ, ◌+◌, ◌≤◌, suc, List, ◌∷◌, ◌++◌, codes, IsTrue, Ok};
-ghost use Rattle.std.specs.List.{list_all};
+ghost use Rattle.std.specs.Prelude.{◌≡◌, ℕ, ◌≤◌, suc, List, ◌∷◌, codes, IsTrue, Ok};
 ghost use Rattle.trace_text.specs.Lines.{is_row};
 ghost use Rattle.trace_text.specs.Words.{words_of, line_of};
 ghost use Rattle.relay_core.specs.declared.event.Event.{Event};
-ghost use Rattle.relay_core.specs.declared.opening.Opening.{Opening};
-ghost use Rattle.trace_lines.specs.Events.{event_of};
-ghost use Rattle.trace_lines.specs.OpeningFields.{events_from};
-ghost use Rattle.trace_lines.specs.OpeningForms.{Forms, AreFormsOf, written_forms, rows_with};
-ghost use Rattle.trace_lines.specs.OpeningReading.{opening_from};
-ghost use Rattle.trace_lines.specs.OpeningRows.{number_row, opening_rows};
-ghost use Rattle.trace_lines.specs.OpeningTraced.{IsWritable};
-ghost use Rattle.trace_lines.specs.Places.{Place, line_as};
-ghost use Rattle.trace_lines.specs.Rows.{Row};
+ghost use Rattle.trace_lines.specs.Events.{event_of, events_from};
+ghost use Rattle.trace_words.specs.Labels.{number_row};
+ghost use Rattle.trace_words.specs.Places.{line_as};
+ghost use Rattle.trace_words.specs.Rows.{Row};
 ghost use Rattle.trace_lines.specs.Traced.{IsTraced};
 ghost use Rattle.trace_lines.specs.Writing.{event_row};
-ghost use Rattle.trace_lines.specs.declared.version.Version.{Version};
-ghost use Rattle.trace_lines.specs.declared.version.Version.TheVariants.{Two};
-
-use limiter_core::fit_runs_mean;
+ghost use Rattle.trace_words.specs.declared.version.Version.{Version};
+ghost use Rattle.trace_words.specs.declared.version.Version.TheVariants.{Two};
 
 /// An event that is written is read again, from its words and from its line; and its words are a line's.
 #[tactic(auto, using(crate::proofs::EventLaws::event_again, crate::proofs::EventRows::line_again, crate::proofs::EventRows::event_is_row))]
@@ -35,36 +27,14 @@ pub fn read_event_is_written()
     ensures line { (version : Version) (line : List ℕ) (event : Event) → event_of version (words_of line) ≡ Ok event → line_of (event_row event) ≡ line }
 {}
 
-/// An opening of numbers of their types' ranges that a core can have is read again from the 30 lines that are written for it, whatever stands behind them; and
-/// these are lines of words.
-pub fn written_opening_is_read()
-    ensures again { (opening : Opening) (rows : List Row) (unended : List ℕ) → IsWritable opening
-        → opening_from (record { number = 1; rows = opening_rows opening ++ rows; unended = unended })
-        ≡ Ok ((Two, opening), record { number = 31; rows = rows; unended = unended }) }
-    ensures rows { (opening : Opening) → IsWritable opening → IsTrue (list_all is_row (opening_rows opening)) }
-{
-    fit_runs_mean();
-}
-
-/// The lines of version 2 that an opening is read from are the 30 that are written for it, but that a script table and the entries of a schedule may stand there as
-/// another Data that is read as these: they are the lines written where these Datas are the ones that are written.
-#[tactic(auto, using(crate::proofs::OpeningBack::opening_back, crate::proofs::OpeningBack::opening_lines, crate::proofs::OpeningBack::written_rows))]
-pub fn read_opening_is_written()
-    ensures lines { (place behind : Place) (opening : Opening) → opening_from place ≡ Ok ((Two, opening), behind)
-        → (forms : Forms) × AreFormsOf opening forms × (place.rows ≡ rows_with opening forms ++ behind.rows) }
-    ensures behind { (place behind : Place) (opening : Opening) → opening_from place ≡ Ok ((Two, opening), behind)
-        → (behind.number ≡ place.number + 30) × (behind.unended ≡ place.unended) }
-    ensures written { (opening : Opening) → rows_with opening (written_forms opening) ≡ opening_rows opening }
-{}
-
 /// The line that a count of events is read from is the one that is written for it.
-#[tactic(auto, using(crate::proofs::OpeningBack::event_count_back))]
+#[tactic(auto, using(crate::proofs::EventsBack::event_count_back))]
 pub fn read_event_count_is_written()
     ensures { (row : Row) (count : ℕ) → events_from row ≡ Ok count → number_row (codes "events") count ≡ row }
 {}
 
 /// How many events there are is read again from the line that is written, which is a line of words.
-#[tactic(auto, using(crate::proofs::OpeningLaws::event_count_again, crate::proofs::OpeningIsRows::event_count_is_row))]
+#[tactic(auto, using(crate::proofs::EventLaws::event_count_again, crate::proofs::EventRows::event_count_is_row))]
 pub fn written_event_count_is_read()
     ensures again { (count number : ℕ) (rows : List Row) (unended : List ℕ) → count ≤ 65536
         → line_as events_from (record { number = number; rows = number_row (codes "events") count ∷ rows; unended = unended })

@@ -2,15 +2,15 @@ ghost use Rattle.std.specs.Prelude.{◌≡◌, ◌++◌, ◌∷◌, [], codes, d
 ghost use Rattle.cosem_names.specs.ResultCode.{code_of};
 ghost use Rattle.disconnect_control.specs.Transitions.{state_number};
 ghost use Rattle.trace_lines.specs.Replies.{result_words, reply_row, line_text};
-ghost use Rattle.trace_lines.specs.Writing.{data_word, blanked, all_words};
+ghost use Rattle.trace_words.specs.Writing.{data_word, blanked, all_words};
 
-use crate::writing::add_data;
 use cosem_axdr::Data;
 use cosem_names::{GetResult, ResultCode};
 use disconnect_control::ControlState;
 use relay_core::{Line, Reply};
 use std::alloc::{AllocError, Global};
 use trace_text::{add_number, add_word, write_number};
+use trace_words::add_data;
 
 /// Adds a word and a number.
 fn add_named(out: &mut Vec<u8>, name: &[u8], number: u64) -> Result<(), AllocError>

@@ -1,21 +1,21 @@
 ghost use Rattle.std.specs.Prelude.{◌≡◌};
 ghost use Rattle.byte_reading.specs.Outcome.{Gives};
 ghost use Rattle.lane_sampler.specs.declared.samples.TheConstants.{MAX_VALUES};
-ghost use Rattle.trace_lines.specs.Rows.{Reads, all_at};
-ghost use Rattle.trace_lines.specs.Reading.{value_in, value_from, pair_from};
-ghost use Rattle.trace_lines.specs.declared.fault.RowFault.TheVariants.{Memory};
+ghost use Rattle.trace_words.specs.Rows.{Reads, all_at};
+ghost use Rattle.trace_words.specs.Reading.{value_in};
+ghost use Rattle.trace_lines.specs.Reading.{value_from, pair_from};
+ghost use Rattle.trace_words.specs.declared.fault.RowFault.TheVariants.{Memory};
 
-use crate::fault::RowFault;
-use crate::words::{next_word, number};
 use lane_sampler::MAX_VALUES;
 use std::alloc::Global;
 use trace_text::Words;
+use trace_words::{RowFault, next_word, number_in};
 
 /// A sample.
 fn value(word: &[u8]) -> Result<u32, RowFault>
     ensures { result ≡ value_in word.now }
 {
-    number(word, u32::MAX)
+    number_in(word, u32::MAX)
 }
 
 /// A pair of samples, the import value in the word given.

@@ -1,7 +1,7 @@
 ghost use Rattle.std.specs.Prelude.{◌≡◌};
 ghost use Rattle.trace_lines.specs.Verbs.{is_word_of, verb_in, verb_word};
 
-use crate::fault::RowFault;
+use trace_words::RowFault;
 
 /// The first word of an event's line.
 #[derive(Clone, Copy)]

@@ -1,11 +1,12 @@
 ghost use Rattle.std.specs.Prelude.{◌≡◌, ◌++◌, ◌∷◌, [], OnOk, decimal, length};
-ghost use Rattle.hex.specs.Hex.{encode_upper};
-ghost use Rattle.trace_lines.specs.Writing.{blanked, attribute_words, method_words, selection_words, all_words, value_words, pairs_words, data_word, flag_number, level_number, parameter_word};
+ghost use Rattle.trace_words.specs.Writing.{blanked, all_words, value_words};
+ghost use Rattle.trace_lines.specs.Writing.{attribute_words, method_words, selection_words, pairs_words, level_number, parameter_word};
 
-use cosem_axdr::{Data, Octets, write};
+use cosem_axdr::Data;
 use cosem_names::{AttrRef, AttributeSelection, Level, MethodRef};
 use std::alloc::{AllocError, Global};
 use trace_text::{add_hex, add_number, add_word};
+use trace_words::{add_data, add_flag};
 
 /// Adds the port of a client.
 pub(crate) fn add_level(out: &mut Vec<u8>, level: Level) -> Result<(), AllocError>
@@ -18,13 +19,6 @@ pub(crate) fn add_level(out: &mut Vec<u8>, level: Level) -> Result<(), AllocErro
             Level::Public => 16,
         },
     )
-}
-
-/// Adds 1 for yes, 0 for no.
-pub(crate) fn add_flag(out: &mut Vec<u8>, flag: bool) -> Result<(), AllocError>
-    ensures { OnOk result (out.new.items ≡ out.old.items ++ blanked (decimal (flag_number flag) ∷ [])) }
-{
-    add_number(out, if flag { 1 } else { 0 })
 }
 
 /// Adds an attribute: class, name, number.
@@ -77,15 +71,6 @@ pub(crate) fn add_selections(
         add_selection(alloc, out, item)?;
     }
     Ok(())
-}
-
-/// Adds the written text of a Data.
-pub(crate) fn add_data(alloc: Global, out: &mut Vec<u8>, value: &Data) -> Result<(), AllocError>
-    ensures { OnOk result (out.new.items ≡ out.old.items ++ blanked (data_word value.now ∷ [])) }
-{
-    let mut text = Octets::new(alloc);
-    write(alloc, value, &mut text)?;
-    add_hex(alloc, out, text.as_slice())
 }
 
 /// Adds a parameter, or `-` for none.

@@ -3,8 +3,9 @@ use Rattle.std.proofs.Common.{◌≡◌, ℕ, suc, ◌+◌, ◌<◌, ◌≤◌, 
 use Rattle.std.proofs.lemmas.List.{drop_all}
 use Rattle.relay_core.specs.declared.event.Event.{Event}
 use Rattle.relay_recorder.specs.declared.trace.Trace.{Trace}
-use Rattle.trace_lines.specs.OpeningRows.{number_row, opening_rows}
-use Rattle.trace_lines.specs.Rows.{Row}
+use Rattle.trace_words.specs.Labels.{number_row}
+use Rattle.trace_openings.specs.OpeningRows.{opening_rows}
+use Rattle.trace_words.specs.Rows.{Row}
 use Rattle.trace_lines.specs.Writing.{event_row}
 use Rattle.trace_player.specs.Traces.{trace_text}
 use Rattle.trace_text.proofs.LinesLemmas.{rows_text-cons, rows_text-nil, rows_text-append}

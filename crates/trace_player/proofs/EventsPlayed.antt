@@ -9,9 +9,9 @@ use Rattle.relay_core.specs.declared.event.Event.{Event}
 use Rattle.relay_core.specs.declared.event.Line.{Line}
 use Rattle.relay_core.specs.declared.relay.RelayCore.{RelayCore}
 use Rattle.relay_core.proofs.RunLemmas.{world_after-append, lines_of-append}
-use Rattle.trace_lines.specs.Places.{Place}
+use Rattle.trace_words.specs.Places.{Place}
 use Rattle.trace_lines.specs.Replies.{line_text}
-use Rattle.trace_lines.specs.declared.version.Version.{Version}
+use Rattle.trace_words.specs.declared.version.Version.{Version}
 use Rattle.trace_player.specs.Playing.{PlaysEvent, PlaysEvents, lines_text}
 use Rattle.trace_player.specs.Traces.{events_at}
 use Rattle.trace_player.proofs.EventsRead.{EventsRead, none_read, event_read, events_read}

@@ -4,10 +4,10 @@ use Rattle.byte_reading.specs.Outcome.{◌>>=◌, Fails}
 use Rattle.byte_reading.proofs.OutcomeLemmas.{done}
 use Rattle.relay_core.specs.declared.event.Event.{Event}
 use Rattle.trace_lines.specs.Events.{event_of}
-use Rattle.trace_lines.specs.Places.{Place, ReadLines, line_as}
-use Rattle.trace_lines.specs.declared.fault.TraceFault.{TraceFault}
-use Rattle.trace_lines.specs.declared.fault.TraceFault.TheVariants.{Memory}
-use Rattle.trace_lines.specs.declared.version.Version.{Version}
+use Rattle.trace_words.specs.Places.{Place, ReadLines, line_as}
+use Rattle.trace_words.specs.declared.fault.TraceFault.{TraceFault}
+use Rattle.trace_words.specs.declared.fault.TraceFault.TheVariants.{Memory}
+use Rattle.trace_words.specs.declared.version.Version.{Version}
 use Rattle.trace_player.specs.Traces.{events_at}
 
 -- what was read before, joined with what is still read

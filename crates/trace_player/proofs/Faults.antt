@@ -4,14 +4,14 @@ use Rattle.std.proofs.lemmas.Bool.Decides.{nat_tests}
 use Rattle.byte_reading.specs.Outcome.{◌>>=◌}
 use Rattle.cosem_names.specs.declared.objects.Which.{Which}
 use Rattle.cosem_names.specs.declared.objects.Which.TheVariants.{Import, Export}
-use Rattle.trace_lines.specs.OpeningReading.{limiter_from, export_from, schedules_from, opening_with, opening_in, opening_from}
-use Rattle.trace_lines.specs.Places.{Place, place_of, line_as, passed, first_as, nothing_left, ended_at}
-use Rattle.trace_lines.specs.Rows.{Row}
-use Rattle.trace_lines.specs.declared.fault.RowFault.{RowFault}
-use Rattle.trace_lines.specs.declared.fault.TraceFault.{TraceFault}
-use Rattle.trace_lines.specs.declared.fault.TraceFault.TheVariants.{TooLong}
-use Rattle.trace_lines.specs.declared.version.Version.{Version}
-use Rattle.trace_lines.specs.declared.version.Version.TheVariants.{One, Two}
+use Rattle.trace_openings.specs.OpeningReading.{limiter_from, export_from, schedules_from, opening_with, opening_in, opening_from}
+use Rattle.trace_words.specs.Places.{Place, place_of, line_as, passed, first_as, nothing_left, ended_at}
+use Rattle.trace_words.specs.Rows.{Row}
+use Rattle.trace_words.specs.declared.fault.RowFault.{RowFault}
+use Rattle.trace_words.specs.declared.fault.TraceFault.{TraceFault}
+use Rattle.trace_words.specs.declared.fault.TraceFault.TheVariants.{TooLong}
+use Rattle.trace_words.specs.declared.version.Version.{Version}
+use Rattle.trace_words.specs.declared.version.Version.TheVariants.{One, Two}
 use Rattle.trace_player.specs.Traces.{most_bytes, events_at, trace_from, trace_of}
 
 -- an answer other than that a text is too long

@@ -5,9 +5,9 @@ use Rattle.relay_core.specs.Stands.{StandsFor}
 use Rattle.relay_core.specs.declared.opening.Opening.{Opening}
 use Rattle.relay_core.specs.declared.relay.RelayCore.{RelayCore}
 use Rattle.relay_recorder.specs.declared.trace.Trace.{Trace}
-use Rattle.trace_lines.specs.Places.{Place, ended_at}
-use Rattle.trace_lines.specs.declared.fault.TraceFault.{TraceFault}
-use Rattle.trace_lines.specs.declared.version.Version.{Version}
+use Rattle.trace_words.specs.Places.{Place, ended_at}
+use Rattle.trace_words.specs.declared.fault.TraceFault.{TraceFault}
+use Rattle.trace_words.specs.declared.version.Version.{Version}
 use Rattle.trace_player.specs.Playing.{PlaysEvents, PlaysTrace}
 use Rattle.trace_player.specs.Traces.{trace_behind}
 use Rattle.trace_player.proofs.Ends.{ended_as, unended_as}

@@ -6,19 +6,18 @@ use Rattle.std.specs.List.{list_all}
 use Rattle.relay_core.specs.declared.event.Event.{Event}
 use Rattle.relay_core.specs.declared.opening.Opening.{Opening}
 use Rattle.relay_recorder.specs.declared.trace.Trace.{Trace}
-use Rattle.trace_lines.proofs.EventLaws.{event_again}
-use Rattle.trace_lines.proofs.EventRows.{event_is_row}
-use Rattle.trace_lines.proofs.OpeningIsRows.{event_count_is_row}
-use Rattle.trace_lines.proofs.OpeningLaws.{event_count_again}
-use Rattle.trace_lines.specs.OpeningReading.{opening_from}
-use Rattle.trace_lines.specs.OpeningRows.{number_row, opening_rows}
-use Rattle.trace_lines.specs.OpeningTraced.{IsWritable}
-use Rattle.trace_lines.specs.Places.{Place, line_as, ended_at, place_of}
-use Rattle.trace_lines.specs.Rows.{Row}
+use Rattle.trace_lines.proofs.EventLaws.{event_again, event_count_again}
+use Rattle.trace_lines.proofs.EventRows.{event_is_row, event_count_is_row}
+use Rattle.trace_openings.specs.OpeningReading.{opening_from}
+use Rattle.trace_words.specs.Labels.{number_row}
+use Rattle.trace_openings.specs.OpeningRows.{opening_rows}
+use Rattle.trace_openings.specs.OpeningTraced.{IsWritable}
+use Rattle.trace_words.specs.Places.{Place, line_as, ended_at, place_of}
+use Rattle.trace_words.specs.Rows.{Row}
 use Rattle.trace_lines.specs.Writing.{event_row}
-use Rattle.trace_lines.specs.declared.fault.TraceFault.{TraceFault}
-use Rattle.trace_lines.specs.declared.fault.TraceFault.TheVariants.{TooLong}
-use Rattle.trace_lines.specs.declared.version.Version.TheVariants.{Two}
+use Rattle.trace_words.specs.declared.fault.TraceFault.{TraceFault}
+use Rattle.trace_words.specs.declared.fault.TraceFault.TheVariants.{TooLong}
+use Rattle.trace_words.specs.declared.version.Version.TheVariants.{Two}
 use Rattle.trace_player.specs.Traces.{most_bytes, events_at, trace_from, trace_of, trace_rows, trace_text}
 use Rattle.trace_player.specs.Written.{AreTraced, IsWritableTrace}
 use Rattle.trace_text.proofs.Known.{rows_whole, rows_ended}

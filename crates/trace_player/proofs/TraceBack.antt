@@ -4,22 +4,21 @@ use Rattle.byte_reading.proofs.OutcomeLemmas.{ok_is, bind_ok, refused_ok}
 use Rattle.relay_core.specs.declared.event.Event.{Event}
 use Rattle.relay_core.specs.declared.opening.Opening.{Opening}
 use Rattle.relay_recorder.specs.declared.trace.Trace.{Trace}
-use Rattle.trace_lines.proofs.EventsBack.{event_back}
-use Rattle.trace_lines.proofs.OpeningBack.{opening_back, opening_lines, written_rows}
-use Rattle.trace_lines.proofs.OpeningFieldLaws.{version_again}
-use Rattle.trace_lines.proofs.OpeningFieldsBack.{events_back}
-use Rattle.trace_lines.proofs.PlacesBack.{Took, then, line_read, line_back}
-use Rattle.trace_lines.specs.Events.{event_of}
-use Rattle.trace_lines.specs.OpeningFields.{version_from, events_from}
-use Rattle.trace_lines.specs.OpeningForms.{Forms, AreFormsOf, written_forms, rows_with}
-use Rattle.trace_lines.specs.OpeningReading.{opening_in, opening_from}
-use Rattle.trace_lines.specs.OpeningRows.{number_row}
-use Rattle.trace_lines.specs.Places.{Place, nothing_left, line_as, ended_at, place_of}
-use Rattle.trace_lines.specs.Rows.{Row}
+use Rattle.trace_lines.proofs.EventsBack.{event_back, events_back}
+use Rattle.trace_openings.proofs.OpeningBack.{opening_back, opening_lines, written_rows}
+use Rattle.trace_openings.proofs.OpeningFieldLaws.{version_again}
+use Rattle.trace_words.proofs.PlacesBack.{Took, then, line_read, line_back}
+use Rattle.trace_lines.specs.Events.{event_of, events_from}
+use Rattle.trace_openings.specs.OpeningFields.{version_from}
+use Rattle.trace_openings.specs.OpeningForms.{Forms, AreFormsOf, written_forms, rows_with}
+use Rattle.trace_openings.specs.OpeningReading.{opening_in, opening_from}
+use Rattle.trace_words.specs.Labels.{number_row}
+use Rattle.trace_words.specs.Places.{Place, nothing_left, line_as, ended_at, place_of}
+use Rattle.trace_words.specs.Rows.{Row}
 use Rattle.trace_lines.specs.Writing.{event_row}
-use Rattle.trace_lines.specs.declared.fault.TraceFault.TheVariants.{TooLong}
-use Rattle.trace_lines.specs.declared.version.Version.{Version}
-use Rattle.trace_lines.specs.declared.version.Version.TheVariants.{Two}
+use Rattle.trace_words.specs.declared.fault.TraceFault.TheVariants.{TooLong}
+use Rattle.trace_words.specs.declared.version.Version.{Version}
+use Rattle.trace_words.specs.declared.version.Version.TheVariants.{Two}
 use Rattle.trace_player.specs.Traces.{most_bytes, events_at, trace_from, trace_of, trace_text}
 use Rattle.trace_player.specs.Versions.{IsOfVersionTwo, text_with}
 use Rattle.trace_text.proofs.LinesLemmas.{rows_text-rows_of}

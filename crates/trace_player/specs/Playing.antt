@@ -15,10 +15,10 @@ use Rattle.relay_core.specs.declared.event.Line.{Line}
 use Rattle.relay_core.specs.declared.relay.RelayCore.{RelayCore}
 use Rattle.relay_recorder.specs.declared.trace.Trace.{Trace}
 use Rattle.trace_lines.specs.Events.{event_of}
-use Rattle.trace_lines.specs.Places.{Place, line_as}
+use Rattle.trace_words.specs.Places.{Place, line_as}
 use Rattle.trace_lines.specs.Replies.{line_text}
-use Rattle.trace_lines.specs.declared.fault.TraceFault.{TraceFault}
-use Rattle.trace_lines.specs.declared.version.Version.{Version}
+use Rattle.trace_words.specs.declared.fault.TraceFault.{TraceFault}
+use Rattle.trace_words.specs.declared.version.Version.{Version}
 use Rattle.trace_player.specs.Traces.{events_at}
 
 -- lines of a run as text, the first of them with this number

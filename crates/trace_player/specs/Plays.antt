@@ -6,7 +6,7 @@
 use Rattle.std.specs.Prelude.{◌≡◌, ◌<◌, ◌≤◌, ℕ, Option, List, [], length, ⊤, Result, Ok, Err}
 use Rattle.std.specs.Io.KnownBytes.{Appends, Consumes, IsAtEnd}
 use Rattle.relay_recorder.specs.declared.trace.Trace.{Trace}
-use Rattle.trace_lines.specs.declared.fault.TraceFault.TheVariants as trace_fault
+use Rattle.trace_words.specs.declared.fault.TraceFault.TheVariants as trace_fault
 use Rattle.trace_player.specs.Playing.{PlaysTrace, played}
 use Rattle.trace_player.specs.Traces.{most_bytes, trace_of}
 use Rattle.trace_player.specs.declared.fault.PlayFault.{PlayFault}

@@ -8,16 +8,16 @@ use Rattle.byte_reading.specs.Outcome.{◌>>=◌}
 use Rattle.relay_core.specs.declared.event.Event.{Event}
 use Rattle.relay_core.specs.declared.opening.Opening.{Opening}
 use Rattle.relay_recorder.specs.declared.trace.Trace.{Trace}
-use Rattle.trace_lines.specs.Events.{event_of}
-use Rattle.trace_lines.specs.OpeningFields.{events_from}
-use Rattle.trace_lines.specs.OpeningReading.{opening_from}
-use Rattle.trace_lines.specs.OpeningRows.{number_row, opening_rows}
-use Rattle.trace_lines.specs.Places.{Place, ReadLines, line_as, ended_at, place_of}
-use Rattle.trace_lines.specs.Rows.{Row}
+use Rattle.trace_lines.specs.Events.{event_of, events_from}
+use Rattle.trace_openings.specs.OpeningReading.{opening_from}
+use Rattle.trace_words.specs.Labels.{number_row}
+use Rattle.trace_openings.specs.OpeningRows.{opening_rows}
+use Rattle.trace_words.specs.Places.{Place, ReadLines, line_as, ended_at, place_of}
+use Rattle.trace_words.specs.Rows.{Row}
 use Rattle.trace_lines.specs.Writing.{event_row}
-use Rattle.trace_lines.specs.declared.fault.TraceFault.{TraceFault}
-use Rattle.trace_lines.specs.declared.fault.TraceFault.TheVariants.{TooLong}
-use Rattle.trace_lines.specs.declared.version.Version.{Version}
+use Rattle.trace_words.specs.declared.fault.TraceFault.{TraceFault}
+use Rattle.trace_words.specs.declared.fault.TraceFault.TheVariants.{TooLong}
+use Rattle.trace_words.specs.declared.version.Version.{Version}
 use Rattle.trace_text.specs.Lines.{rows_text}
 
 -- the most bytes that a text has

@@ -1,9 +1,9 @@
 -- The texts of version 2, and what they say beside the Datas in the lines of their opening.
 use Rattle.std.specs.Prelude.{◌≡◌, ℕ, codes, List, ◌∷◌, ◌++◌, length, map}
 use Rattle.relay_recorder.specs.declared.trace.Trace.{Trace}
-use Rattle.trace_lines.specs.OpeningForms.{Forms, rows_with}
-use Rattle.trace_lines.specs.OpeningRows.{number_row}
-use Rattle.trace_lines.specs.Rows.{Row}
+use Rattle.trace_openings.specs.OpeningForms.{Forms, rows_with}
+use Rattle.trace_words.specs.Labels.{number_row}
+use Rattle.trace_words.specs.Rows.{Row}
 use Rattle.trace_lines.specs.Writing.{event_row}
 use Rattle.trace_text.specs.Lines.{rows_of, rows_text}
 

@@ -2,8 +2,8 @@
 use Rattle.std.specs.Prelude.{◌≤◌, List, [], ◌∷◌, length}
 use Rattle.relay_core.specs.declared.event.Event.{Event}
 use Rattle.relay_recorder.specs.declared.trace.Trace.{Trace}
-use Rattle.trace_lines.specs.OpeningFields.{max_events}
-use Rattle.trace_lines.specs.OpeningTraced.{IsWritable}
+use Rattle.trace_lines.specs.Events.{max_events}
+use Rattle.trace_openings.specs.OpeningTraced.{IsWritable}
 use Rattle.trace_lines.specs.Traced.{IsTraced}
 use Rattle.trace_player.specs.Traces.{most_bytes, trace_text}
 

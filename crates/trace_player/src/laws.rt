@@ -4,13 +4,13 @@ ghost use Rattle.relay_core.specs.Opening.{opened};
 ghost use Rattle.relay_recorder.specs.Recording.{Recording};
 ghost use Rattle.relay_recorder.specs.Replaying.{Replays};
 ghost use Rattle.relay_recorder.specs.declared.trace.Trace.{Trace};
-ghost use Rattle.trace_lines.specs.OpeningForms.{Forms, AreFormsOf, written_forms};
+ghost use Rattle.trace_openings.specs.OpeningForms.{Forms, AreFormsOf, written_forms};
 ghost use Rattle.trace_player.specs.Exported.{PrintsTheEnd};
 ghost use Rattle.trace_player.specs.Traces.{trace_of, trace_text};
 ghost use Rattle.trace_player.specs.Versions.{IsOfVersionTwo, text_with};
 ghost use Rattle.trace_player.specs.Written.{IsWritableTrace};
 
-use trace_lines::written_opening_is_read;
+use trace_openings::written_opening_is_read;
 
 /// A trace of numbers of their types' ranges, that a core can open with, is read again from the text that is written for it.
 pub fn written_trace_is_read()

@@ -17,5 +17,5 @@ pub use laws::{exported_run_is_played, read_trace_is_written, written_trace_is_r
 pub use player::play;
 pub use reading::{MAX_BYTES, read_trace};
 pub use relay_recorder::Trace;
-pub use trace_lines::TraceFault;
+pub use trace_words::TraceFault;
 pub use writing::write_trace;

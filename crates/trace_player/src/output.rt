@@ -1,7 +1,7 @@
 ghost use Rattle.std.specs.Prelude.{◌<◌, length, IfErr, IfOk, IsErrOf};
 ghost use Rattle.byte_reading.specs.Outcome.{Fails};
 ghost use Rattle.relay_core.specs.Opening.{IsFitOpening};
-ghost use Rattle.trace_lines.specs.declared.fault.TraceFault.TheVariants as trace_fault;
+ghost use Rattle.trace_words.specs.declared.fault.TraceFault.TheVariants as trace_fault;
 ghost use Rattle.trace_player.specs.Playing.{PlaysTrace};
 ghost use Rattle.trace_player.specs.Traces.{most_bytes, trace_behind, trace_from, trace_of};
 
@@ -9,7 +9,9 @@ use crate::playing::{opened_core, play_events};
 use crate::reading::MAX_BYTES;
 use relay_core::Opening;
 use std::alloc::Global;
-use trace_lines::{TraceFault, TraceLines, Version, read_event_count, read_opening};
+use trace_lines::read_event_count;
+use trace_openings::read_opening;
+use trace_words::{TraceFault, TraceLines, Version};
 
 /// What a trace prints, and how many events it has.
 #[derive(Debug, Drop)]

@@ -5,7 +5,7 @@ use crate::output::{Output, play_text};
 use crate::reading::MAX_BYTES;
 use byte_streams::{Reader, Writer, read_to_end_within};
 use std::alloc::Global;
-use trace_lines::TraceFault;
+use trace_words::TraceFault;
 
 /// What the trace that the bytes of a reader tell prints. Of these bytes nothing is held any more.
 fn play_input<R: Reader>(alloc: Global, reader: &mut R) -> Result<Output, PlayFault>

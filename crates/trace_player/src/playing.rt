@@ -6,16 +6,17 @@ ghost use Rattle.relay_core.specs.Runs.{line_at};
 ghost use Rattle.relay_core.specs.Stands.{StandsFor};
 ghost use Rattle.relay_core.specs.World.{World};
 ghost use Rattle.trace_lines.specs.Events.{event_of};
-ghost use Rattle.trace_lines.specs.Places.{line_as};
+ghost use Rattle.trace_words.specs.Places.{line_as};
 ghost use Rattle.trace_lines.specs.Replies.{line_text};
-ghost use Rattle.trace_lines.specs.declared.fault.TraceFault.TheVariants as trace_fault;
+ghost use Rattle.trace_words.specs.declared.fault.TraceFault.TheVariants as trace_fault;
 ghost use Rattle.trace_player.specs.Playing.{PlaysEvent, PlaysEvents};
 ghost use Rattle.trace_player.specs.Traces.{events_at};
 
 use relay_core::{Event, Line, Opening, OpeningFault, RelayCore, line_after};
 use std::alloc::{AllocError, Global};
-use trace_lines::{TraceFault, TraceLines, Version, next_event, write_line};
+use trace_lines::{next_event, write_line};
 use trace_text::end_line;
+use trace_words::{TraceFault, TraceLines, Version};
 
 /// A meter that stands as an opening says.
 pub(crate) fn opened_core(alloc: Global, opening: &Opening) -> Result<RelayCore, AllocError>

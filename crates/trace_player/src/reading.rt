@@ -1,14 +1,16 @@
 ghost use Rattle.std.specs.Prelude.{◌≡◌, ◌<◌, ◌↔◌, length, IfOk, IsErrOf};
 ghost use Rattle.byte_reading.specs.Outcome.{Gives};
 ghost use Rattle.relay_core.specs.Opening.{IsFitOpening};
-ghost use Rattle.trace_lines.specs.Places.{ReadsLines, ended_at};
-ghost use Rattle.trace_lines.specs.declared.fault.TraceFault.TheVariants as trace_fault;
+ghost use Rattle.trace_words.specs.Places.{ReadsLines, ended_at};
+ghost use Rattle.trace_words.specs.declared.fault.TraceFault.TheVariants as trace_fault;
 ghost use Rattle.trace_player.specs.Traces.{most_bytes, events_at, trace_from, trace_of};
 
 use relay_core::Events;
 use relay_recorder::Trace;
 use std::alloc::Global;
-use trace_lines::{TraceFault, TraceLines, Version, next_event, read_event_count, read_opening};
+use trace_lines::{next_event, read_event_count};
+use trace_openings::read_opening;
+use trace_words::{TraceFault, TraceLines, Version};
 
 /// The text of a trace has at most so many bytes.
 pub const MAX_BYTES: usize = 33_554_432;

@@ -8,7 +8,8 @@ use cosem_axdr::Octets;
 use relay_core::Event;
 use relay_recorder::Trace;
 use std::alloc::{AllocError, Global};
-use trace_lines::{write_event, write_event_count, write_opening};
+use trace_lines::{write_event, write_event_count};
+use trace_openings::write_opening;
 use trace_text::end_line;
 
 /// Writes the line of an event, and the byte that ends it.

@@ -6,9 +6,11 @@ use relay_recorder::Recorder;
 use std::alloc::{AllocError, Global};
 use std::process::Abort;
 use std::test::Fail;
-use trace_lines::{Version, read_event, write_event, write_opening};
+use trace_lines::{read_event, write_event};
+use trace_openings::write_opening;
 use trace_player::{play, write_trace};
 use trace_text::Lines;
+use trace_words::Version;
 
 // Script 1 writes a threshold of 9,000 watts; over the threshold of 5,000 it runs after 4 seconds, under it the null script after 5. Then three samples.
 const LIMITED: &[u8] =

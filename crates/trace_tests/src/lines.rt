@@ -9,8 +9,9 @@ use listed::Listed;
 use relay_core::{Event, Line, Reply};
 use std::alloc::{AllocError, Global};
 use std::test::Fail;
-use trace_lines::{RowFault, Version, read_event, write_event, write_line};
+use trace_lines::{read_event, write_event, write_line};
 use trace_text::Lines;
+use trace_words::{RowFault, Version};
 
 // 0.0.96.3.10.255, the disconnect control.
 const CONTROL: Obis = Obis([0, 0, 0x60, 3, 0x0A, 0xFF]);

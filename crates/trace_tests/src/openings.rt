@@ -5,8 +5,10 @@ use limiter_core::Count;
 use relay_core::{LimiterOpening, Opening};
 use std::alloc::{AllocError, Global};
 use std::test::Fail;
-use trace_lines::{TraceFault, TraceLines, Version, next_event, read_event_count, read_opening};
+use trace_lines::{next_event, read_event_count};
+use trace_openings::read_opening;
 use trace_text::Lines;
+use trace_words::{TraceFault, TraceLines, Version};
 
 // A meter that is new, in version 1.
 const NEW_METER: &[u8] = b"RELAYTRACE 1\n\

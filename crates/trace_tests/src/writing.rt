@@ -6,7 +6,8 @@ use limiter_core::{Actions, Count};
 use listed::Listed;
 use relay_core::{LimiterOpening, Opening, RelayCore};
 use std::alloc::{AllocError, Global};
-use trace_lines::{write_event_count, write_opening};
+use trace_lines::write_event_count;
+use trace_openings::write_opening;
 
 // The lines of a new meter of the name RELAY1.
 const NEW: &[u8] = b"RELAYTRACE 2\n\

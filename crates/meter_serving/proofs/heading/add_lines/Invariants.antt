@@ -1,6 +1,6 @@
 -- The text grew by what was read, line by line.
 use Rattle.std.proofs.Common.{◌≡◌, ℕ, List, ◌++◌, length, drop}
-use Rattle.trace_lines.specs.Rows.{Row}
+use Rattle.trace_words.specs.Rows.{Row}
 use Rattle.meter_serving.specs.Heads.{Grows, Ahead}
 use Rattle.meter_serving.proofs.heading.add_lines.Given as goal
 

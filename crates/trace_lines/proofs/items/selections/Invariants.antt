@@ -1,8 +1,8 @@
 use Rattle.std.proofs.Common.{◌-◌, vec_len}
 use Rattle.trace_lines.specs.declared.items.TheConstants.{MAX_ITEMS}
 use Rattle.trace_lines.specs.Reading.{selection_from}
-use Rattle.trace_lines.specs.Rows.{all_at}
-use Rattle.trace_lines.proofs.Steps.{SoFar}
+use Rattle.trace_words.specs.Rows.{all_at}
+use Rattle.trace_words.proofs.Steps.{SoFar}
 use Rattle.trace_lines.proofs.items.selections.Given as goal
 
 abbrev pub invariant-items : goal.invariant-items

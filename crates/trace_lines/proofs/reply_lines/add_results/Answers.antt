@@ -1,7 +1,8 @@
 use Rattle.std.proofs.Common.{◌++◌, arith}
-use Rattle.trace_lines.specs.Writing.{blanked, all_words}
+use Rattle.trace_words.specs.Writing.{blanked, all_words}
 use Rattle.trace_lines.specs.Replies.{result_words}
-use Rattle.trace_lines.proofs.Blanks.{one_more, all_written, result_stands}
+use Rattle.trace_words.proofs.Blanks.{one_more, all_written}
+use Rattle.trace_lines.proofs.ItemsWritten.{result_stands}
 use Rattle.trace_lines.proofs.reply_lines.add_results.Goals as goal
 
 pub loop-item-preserved : goal.loop-item-preserved

@@ -1,7 +1,7 @@
 use Rattle.std.proofs.Common.{◌++◌}
-use Rattle.trace_lines.specs.Writing.{blanked, all_words}
+use Rattle.trace_words.specs.Writing.{blanked, all_words}
 use Rattle.trace_lines.specs.Replies.{result_words}
-use Rattle.trace_lines.proofs.Blanks.{Left}
+use Rattle.trace_words.proofs.Blanks.{Left}
 use Rattle.trace_lines.proofs.reply_lines.add_results.Given as goal
 
 abbrev pub invariant-loop-item : goal.invariant-loop-item

@@ -2,8 +2,8 @@ use Rattle.std.proofs.Common.{◌≡◌, ◌≢◌, ◌∷◌, length, inr, rule
 use Rattle.std.proofs.lemmas.Result.{err_from_is_err_and}
 use Rattle.lane_sampler.specs.declared.samples.TheConstants.{MAX_VALUES}
 use Rattle.trace_lines.specs.Reading.{pair_from}
-use Rattle.trace_lines.specs.Rows.{all_at}
-use Rattle.trace_lines.proofs.Steps.{goes_on, refused, too_many, is_done}
+use Rattle.trace_words.specs.Rows.{all_at}
+use Rattle.trace_words.proofs.Steps.{goes_on, refused, too_many, is_done}
 use Rattle.trace_lines.proofs.samples.pairs.Goals as goal
 
 pub returns-then-len-eq-MAX_VALUES : goal.returns-then-len-eq-MAX_VALUES

@@ -1,8 +1,8 @@
 use Rattle.std.proofs.Common.{◌-◌, vec_len}
 use Rattle.lane_sampler.specs.declared.samples.TheConstants.{MAX_VALUES}
 use Rattle.trace_lines.specs.Reading.{pair_from}
-use Rattle.trace_lines.specs.Rows.{all_at}
-use Rattle.trace_lines.proofs.Steps.{SoFar}
+use Rattle.trace_words.specs.Rows.{all_at}
+use Rattle.trace_words.proofs.Steps.{SoFar}
 use Rattle.trace_lines.proofs.samples.pairs.Given as goal
 
 abbrev pub invariant-items : goal.invariant-items

@@ -1,6 +1,7 @@
 use Rattle.std.proofs.Common.{◌≤◌, ◌++◌, ◌∷◌, ℕ, length, decimal, ap, ◌∙◌, arith}
-use Rattle.trace_lines.specs.Writing.{blanked, pairs_words}
-use Rattle.trace_lines.proofs.Blanks.{pair_more, all_pairs_written}
+use Rattle.trace_words.specs.Writing.{blanked}
+use Rattle.trace_lines.specs.Writing.{pairs_words}
+use Rattle.trace_lines.proofs.ItemsWritten.{pair_more, all_pairs_written}
 use Rattle.trace_lines.proofs.writing.add_pairs.Goals as goal
 
 pub loop-i-preserved : goal.loop-i-preserved

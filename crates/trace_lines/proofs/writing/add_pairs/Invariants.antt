@@ -1,6 +1,7 @@
 use Rattle.std.proofs.Common.{◌++◌}
-use Rattle.trace_lines.specs.Writing.{blanked, pairs_words}
-use Rattle.trace_lines.proofs.Blanks.{LeftPairs}
+use Rattle.trace_words.specs.Writing.{blanked}
+use Rattle.trace_lines.specs.Writing.{pairs_words}
+use Rattle.trace_lines.proofs.ItemsWritten.{LeftPairs}
 use Rattle.trace_lines.proofs.writing.add_pairs.Given as goal
 
 abbrev pub invariant-loop-i : goal.invariant-loop-i

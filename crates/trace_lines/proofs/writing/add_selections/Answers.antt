@@ -1,8 +1,9 @@
 use Rattle.std.proofs.Common.{false, get_or, ◌++◌, [], refl, arith}
 use Rattle.cosem_names.specs.declared.service.AttributeSelection.{AttributeSelection}
-use Rattle.trace_lines.specs.Writing.{blanked, all_words}
+use Rattle.trace_words.specs.Writing.{blanked, all_words}
 use Rattle.trace_lines.specs.Writing.{selection_words}
-use Rattle.trace_lines.proofs.Blanks.{one_more, all_written, selection_stands}
+use Rattle.trace_words.proofs.Blanks.{one_more, all_written}
+use Rattle.trace_lines.proofs.ItemsWritten.{selection_stands}
 use Rattle.trace_lines.proofs.writing.add_selections.Goals as goal
 
 -- what stands where no item does

@@ -1,7 +1,6 @@
 use Rattle.std.proofs.Common.{◌≡◌, get_or, decimal, ◌++◌, List, ℕ, [], ◌∷◌, append-nil, refl, ap, sym, ◌∙◌, arith}
-use Rattle.trace_lines.specs.Writing.{blanked, all_words}
-use Rattle.trace_lines.specs.Writing.{value_words}
-use Rattle.trace_lines.proofs.Blanks.{one_more, all_written, value_stands}
+use Rattle.trace_words.specs.Writing.{blanked, all_words, value_words}
+use Rattle.trace_words.proofs.Blanks.{one_more, all_written, value_stands}
 use Rattle.trace_lines.proofs.writing.add_values.Goals as goal
 
 pub loop-value-preserved : goal.loop-value-preserved

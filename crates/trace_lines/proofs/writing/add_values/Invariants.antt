@@ -1,7 +1,6 @@
 use Rattle.std.proofs.Common.{◌++◌}
-use Rattle.trace_lines.specs.Writing.{blanked, all_words}
-use Rattle.trace_lines.specs.Writing.{value_words}
-use Rattle.trace_lines.proofs.Blanks.{Left}
+use Rattle.trace_words.specs.Writing.{blanked, all_words, value_words}
+use Rattle.trace_words.proofs.Blanks.{Left}
 use Rattle.trace_lines.proofs.writing.add_values.Given as goal
 
 abbrev pub invariant-loop-value : goal.invariant-loop-value

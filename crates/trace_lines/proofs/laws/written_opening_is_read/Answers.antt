@@ -1,6 +1,0 @@
-use Rattle.trace_lines.proofs.OpeningIsRows.{opening_are_rows}
-use Rattle.trace_lines.proofs.OpeningLaws.{opening_again}
-use Rattle.trace_lines.proofs.laws.written_opening_is_read.Goals as goal
-
-pub returns : goal.returns
-returns c = record { again = opening_again c.fit_runs_mean.ensures; rows = opening_are_rows }

@@ -1,0 +1,37 @@
+ghost use Rattle.std.specs.Prelude.{◌≡◌, ◌≤◌, ◌++◌, ◌∷◌, [], codes, IfOk, OnOk};
+ghost use Rattle.byte_reading.specs.Outcome.{Gives};
+ghost use Rattle.trace_text.specs.Lines.{rows_text};
+ghost use Rattle.trace_words.specs.Labels.{number_row};
+ghost use Rattle.trace_words.specs.Places.{ReadsLines, line_as};
+ghost use Rattle.trace_words.specs.declared.fault.RowFault.TheVariants.{Memory};
+ghost use Rattle.trace_lines.specs.Events.{events_from};
+
+use std::alloc::AllocError;
+use trace_text::Words;
+use trace_words::{RowFault, TraceFault, TraceLines, labelled, number_in, write_number_line};
+
+/// How many events a trace has at most.
+pub const MAX_EVENTS: u32 = 65_536;
+
+/// The line of the count of events.
+fn event_count(words: &mut Words) -> Result<u32, RowFault>
+    ensures count { Gives Memory (λ count. count) result (events_from words.old) }
+    ensures few { IfOk result (λ count. count ≤ 65536) }
+{
+    labelled(b"events", words, |word| number_in(word, MAX_EVENTS))
+}
+
+/// Reads the line that tells how many events there are, at most `MAX_EVENTS`. Errors: `Line` with its number where it is missing or another.
+pub fn read_event_count(lines: &mut TraceLines) -> Result<u32, TraceFault>
+    ensures reads { ReadsLines (λ count. count) result lines.new (line_as events_from lines.old) }
+    ensures few { IfOk result (λ count. count ≤ 65536) }
+{
+    lines.read(event_count)
+}
+
+/// Writes the line of how many events there are behind what is there, with the byte 0A that ends it. Where memory runs out a part of it may be written.
+pub fn write_event_count(out: &mut Vec<u8>, count: u64) -> Result<(), AllocError>
+    ensures { OnOk result (out.new.items ≡ out.old.items ++ rows_text (number_row (codes "events") count ∷ [])) }
+{
+    write_number_line(out, b"events", count)
+}

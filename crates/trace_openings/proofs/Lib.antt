@@ -1,0 +1,12 @@
+pub mod LimiterLines
+pub mod LimitersBack
+pub mod OpeningBack
+pub mod OpeningDates
+pub mod OpeningFieldLaws
+pub mod OpeningFieldsBack
+pub mod OpeningIsRows
+pub mod OpeningLaws
+pub mod OpeningLemmas
+pub mod OpeningTables
+pub mod OpeningText
+pub mod OpeningWordsBack

@@ -1,0 +1,5 @@
+pub mod OpeningFields
+pub mod OpeningForms
+pub mod OpeningReading
+pub mod OpeningRows
+pub mod OpeningTraced

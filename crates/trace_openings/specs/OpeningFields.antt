@@ -1,0 +1,168 @@
+-- The lines of an opening, each by itself: a first word that names it, and its values.
+--     behind, labelled          what stands behind the first word; a line of one value
+--     label                     the first word of a limiter's line
+--     version_in .. entries_in  a word
+--     version_from .. schedule_from   a line of words
+use Rattle.std.specs.Prelude.{ℕ, ◌==◌, nat_eq, nat_le, codes, List, ◌++◌, length, Option, Some, None, Result, Ok, Err, if◌then◌else◌}
+use Rattle.std.specs.Cmp.Lexicographic.{pointwise}
+use Rattle.std.specs.Result.{result_ok}
+use Rattle.byte_reading.specs.Outcome.{◌>>=◌, ◌>>◌, guard}
+use Rattle.action_schedule.specs.Reading.{entries_of}
+use Rattle.action_schedule.specs.Kinds.{type_of_number}
+use Rattle.action_schedule.specs.Schedule.{Schedule}
+use Rattle.action_schedule.specs.declared.kind.ScheduleType.{ScheduleType}
+use Rattle.cosem_datetime.specs.Fields.{DateTimeFields}
+use Rattle.cosem_datetime.specs.Reading.{date_time_of}
+use Rattle.cosem_datetime.specs.declared.entry.EntryPattern.{EntryPattern}
+use Rattle.cosem_names.specs.declared.objects.Which.{Which}
+use Rattle.cosem_names.specs.declared.objects.Which.TheVariants.{Import, Export}
+use Rattle.disconnect_control.specs.Control.{is_mode_fit}
+use Rattle.disconnect_control.specs.Transitions.{mode_of}
+use Rattle.disconnect_control.specs.declared.state.ControlMode.{ControlMode}
+use Rattle.disconnect_control.specs.declared.state.ControlState.{ControlState}
+use Rattle.disconnect_control.specs.declared.state.ControlState.TheVariants.{Disconnected, Connected, ReadyForReconnection}
+use Rattle.limiter_core.specs.Counting.{cap, no_run}
+use Rattle.limiter_core.specs.State.{are_fit}
+use Rattle.limiter_core.specs.declared.count.Count.{Count}
+use Rattle.limiter_core.specs.declared.settings.Actions.{Actions}
+use Rattle.limiter_core.specs.declared.settings.Profile.{Profile}
+use Rattle.script_steps.specs.Reading.{table_of}
+use Rattle.script_steps.specs.declared.step.Script.{Script}
+use Rattle.trace_words.specs.Reading.{number_in, flag_in, bytes_in, data_in, value_in, next_as, last_as}
+use Rattle.trace_words.specs.Rows.{Word, Row, Read, wanted, all_at}
+use Rattle.trace_words.specs.declared.fault.RowFault.{RowFault}
+use Rattle.trace_words.specs.declared.fault.RowFault.TheVariants.{Wrong}
+use Rattle.trace_words.specs.declared.version.Version.{Version}
+use Rattle.trace_words.specs.declared.version.Version.TheVariants.{One, Two}
+use Rattle.trace_words.specs.Labels.{labelled, behind}
+
+-- ---- words
+
+-- the first word of a line of one of the limiters: those of the export limiter begin with an x
+abbrev pub label : Which → Word → Word
+label Import name = name
+label Export name = codes "x" ++ name
+
+-- the version of the text
+abbrev pub version_in : Word → Result Version RowFault
+version_in word = do
+  number ← number_in 2 word
+  if number == 1 then Ok One else if number == 2 then Ok Two else Err Wrong
+
+-- a device name: 1 to 16 bytes in hexadecimal
+unfoldable pub device_in : Word → Result (List ℕ) RowFault
+device_in word = do
+  bytes ← bytes_in word
+  guard (nat_le (length bytes) 16) Wrong
+  Ok bytes
+
+abbrev pub state_in : Word → Result ControlState RowFault
+state_in word = do
+  number ← number_in 2 word
+  Ok (if number == 0 then Disconnected else if number == 1 then Connected else ReadyForReconnection)
+
+-- a mode that goes with the state
+unfoldable pub mode_in : ControlState → Word → Result ControlMode RowFault
+mode_in state word = do
+  number ← number_in 6 word
+  mode ← wanted (mode_of number)
+  guard (is_mode_fit mode state) Wrong
+  Ok mode
+
+-- a moment, or `-` for none
+abbrev pub moment_in : Word → Result (Option ℕ) RowFault
+moment_in word = if pointwise nat_eq word (codes "-") then Ok None else do
+  moment ← value_in word
+  Ok (Some moment)
+
+-- the twelve bytes of a date-time in hexadecimal
+unfoldable pub start_in : Word → Result DateTimeFields RowFault
+start_in word = do
+  bytes ← bytes_in word
+  wanted (result_ok (date_time_of bytes))
+
+-- a script table, its Data in hexadecimal
+unfoldable pub table_in : Word → Result (List Script) RowFault
+table_in word = do
+  value ← data_in word
+  wanted (result_ok (table_of value))
+
+-- the entries of a schedule, their Data in hexadecimal
+unfoldable pub entries_in : Word → Result (List EntryPattern) RowFault
+entries_in word = do
+  value ← data_in word
+  wanted (result_ok (entries_of value))
+
+-- the type of a schedule
+abbrev pub type_in : Word → Result ScheduleType RowFault
+type_in word = do
+  number ← number_in 5 word
+  wanted (type_of_number number)
+
+-- one of several ids
+abbrev pub id_from : Word → Row → Read ℕ
+id_from word words = do
+  id ← number_in 65535 word
+  Ok (id, words)
+
+-- ---- lines
+
+-- `RELAYTRACE` and the version
+abbrev pub version_from : Row → Result Version RowFault
+version_from row = labelled (codes "RELAYTRACE") version_in row
+
+-- id, start and duration of an emergency profile
+unfoldable pub profile_from : Which → Row → Result Profile RowFault
+profile_from which row = do
+  words ← behind (label which (codes "profile")) row
+  id ← next_as (number_in 65535) words.1
+  start ← next_as start_in id.1
+  duration ← last_as value_in start.1
+  Ok (record { id = id.0; start = start.0; duration = duration })
+
+-- up to 32 group ids
+unfoldable pub groups_from : Which → Row → Result (List ℕ) RowFault
+groups_from which row = do
+  words ← behind (label which (codes "groups")) row
+  all_at id_from 32 words.1
+
+-- the selectors of the actions, over and under
+unfoldable pub actions_from : Which → Row → Result Actions RowFault
+actions_from which row = do
+  words ← behind (label which (codes "actions")) row
+  over ← next_as (number_in 65535) words.1
+  under ← last_as (number_in 65535) over.1
+  Ok (record { over = over.0; under = under })
+
+-- a run, and whether it has fired
+unfoldable pub count_from : Word → Row → Result Count RowFault
+count_from name row = do
+  words ← behind name row
+  run ← next_as (number_in cap) words.1
+  fired ← last_as flag_in run.1
+  Ok (record { run = run.0; fired = fired })
+
+-- the run over the threshold, which the last value can end
+unfoldable pub over_from : Which → ℕ → Row → Result Count RowFault
+over_from which last row = do
+  over ← count_from (label which (codes "over")) row
+  guard (are_fit last over no_run) Wrong
+  Ok over
+
+-- the run under it, where there is none over it
+unfoldable pub under_from : Which → ℕ → Count → Row → Result Count RowFault
+under_from which last over row = do
+  under ← count_from (label which (codes "under")) row
+  guard (are_fit last over under) Wrong
+  Ok under
+
+-- one of the four schedules: its number, selector, type and entries
+unfoldable pub schedule_from : ℕ → Row → Result Schedule RowFault
+schedule_from number row = do
+  words ← behind (codes "schedule") row
+  found ← next_as (number_in 3) words.1
+  guard (found.0 == number) Wrong
+  selector ← next_as (number_in 65535) found.1
+  kind ← next_as type_in selector.1
+  entries ← last_as entries_in kind.1
+  Ok (record { selector = selector.0; kind = kind.0; entries = entries })

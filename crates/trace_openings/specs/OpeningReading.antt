@@ -1,0 +1,159 @@
+-- An opening, read from its lines.
+--     limiter_from, export_from   the lines of a limiter
+--     opening_from                all lines from the version to the last schedule
+use Rattle.std.specs.Prelude.{◌≡◌, ◌≤◌, ℕ, List, [], Option, Ok, codes, length}
+use Rattle.byte_reading.specs.Outcome.{◌>>=◌}
+use Rattle.cosem_names.specs.declared.objects.Which.{Which}
+use Rattle.cosem_names.specs.declared.objects.Which.TheVariants.{Import, Export}
+use Rattle.disconnect_control.specs.declared.state.ControlMode.{ControlMode}
+use Rattle.disconnect_control.specs.declared.state.ControlState.{ControlState}
+use Rattle.disconnect_control.specs.declared.state.ControlMode.TheVariants.{Mode0}
+use Rattle.disconnect_control.specs.declared.state.ControlState.TheVariants.{Connected}
+use Rattle.limiter_core.specs.Counting.{no_run}
+use Rattle.limiter_core.specs.Settings.{new_settings}
+use Rattle.relay_core.specs.declared.opening.LimiterOpening.{LimiterOpening}
+use Rattle.relay_core.specs.declared.opening.Opening.{Opening}
+use Rattle.relay_core.specs.declared.schedules.Schedules.{Schedules}
+use Rattle.trace_openings.specs.OpeningFields.{label, version_from, device_in, state_in, mode_in, moment_in, profile_from, groups_from, actions_from, over_from, under_from, table_in, schedule_from}
+use Rattle.trace_words.specs.Labels.{labelled}
+use Rattle.trace_words.specs.Places.{Place, ReadLines, line_as}
+use Rattle.trace_words.specs.Reading.{value_in}
+use Rattle.trace_words.specs.declared.version.Version.{Version}
+use Rattle.trace_words.specs.declared.version.Version.TheVariants.{One, Two}
+
+-- ---- a limiter
+
+-- the line of its last sample
+abbrev pub value_line : Which → Place → ReadLines ℕ
+value_line which place = line_as (labelled (label which (codes "value")) value_in) place
+
+-- its lines behind that
+unfoldable pub limiter_from : Which → ℕ → Place → ReadLines LimiterOpening
+limiter_from which last place = do
+  normal ← line_as (labelled (label which (codes "normal")) value_in) place
+  emergency ← line_as (labelled (label which (codes "emergency")) value_in) normal.1
+  min_over ← line_as (labelled (label which (codes "minover")) value_in) emergency.1
+  min_under ← line_as (labelled (label which (codes "minunder")) value_in) min_over.1
+  profile ← line_as (profile_from which) min_under.1
+  groups ← line_as (groups_from which) profile.1
+  actions ← line_as (actions_from which) groups.1
+  over ← line_as (over_from which last) actions.1
+  under ← line_as (under_from which last over.0) over.1
+  Ok (
+    record {
+      value = last;
+      normal_threshold = normal.0;
+      emergency_threshold = emergency.0;
+      min_over_duration = min_over.0;
+      min_under_duration = min_under.0;
+      profile = profile.0;
+      groups = groups.0;
+      actions = actions.0;
+      over = over.0;
+      under = under.0;
+    },
+    under.1,
+  )
+
+-- a limiter of this last sample, these thresholds and durations, its other parts from the lines behind these
+unfoldable pub limiter_with : Which → ℕ → ℕ → ℕ → ℕ → ℕ → Place → ReadLines LimiterOpening
+limiter_with which last normal emergency min_over min_under place = do
+  profile ← line_as (profile_from which) place
+  groups ← line_as (groups_from which) profile.1
+  actions ← line_as (actions_from which) groups.1
+  over ← line_as (over_from which last) actions.1
+  under ← line_as (under_from which last over.0) over.1
+  Ok (
+    record {
+      value = last;
+      normal_threshold = normal;
+      emergency_threshold = emergency;
+      min_over_duration = min_over;
+      min_under_duration = min_under;
+      profile = profile.0;
+      groups = groups.0;
+      actions = actions.0;
+      over = over.0;
+      under = under.0;
+    },
+    under.1,
+  )
+
+-- a limiter that is new
+abbrev pub new_limiter : LimiterOpening
+new_limiter = record {
+  value = 0;
+  normal_threshold = new_settings.normal_threshold;
+  emergency_threshold = new_settings.emergency_threshold;
+  min_over_duration = new_settings.min_over_duration;
+  min_under_duration = new_settings.min_under_duration;
+  profile = new_settings.profile;
+  groups = [];
+  actions = new_settings.actions;
+  over = no_run;
+  under = no_run;
+}
+
+-- the export limiter, which version 1 of the text doesn't tell
+unfoldable pub export_from : Version → Place → ReadLines LimiterOpening
+export_from One place = Ok (new_limiter, place)
+export_from Two place = do
+  last ← value_line Export place
+  limiter_from Export last.0 last.1
+
+-- ---- all of it
+
+-- the four schedules
+unfoldable pub schedules_from : Place → ReadLines Schedules
+schedules_from place = do
+  first ← line_as (schedule_from 0) place
+  second ← line_as (schedule_from 1) first.1
+  third ← line_as (schedule_from 2) second.1
+  fourth ← line_as (schedule_from 3) third.1
+  Ok (record { first = first.0; second = second.0; third = third.0; fourth = fourth.0 }, fourth.1)
+
+-- a core can have this device name, state and mode
+pub record IsFitStart (device : List ℕ) (state : ControlState) (mode : ControlMode) : Type 0 where
+  pub device_some : 1 ≤ length device
+  pub device_few : length device ≤ 16
+  pub control : mode ≡ Mode0 → state ≡ Connected
+
+-- the export limiter and what stands behind it, behind the other parts of an opening
+unfoldable pub opening_behind_import : Version → List ℕ → ControlState → ControlMode → Option ℕ → LimiterOpening → Place → ReadLines Opening
+opening_behind_import version device state mode moment import place = do
+  export ← export_from version place
+  scripts ← line_as (labelled (codes "scripts") table_in) export.1
+  schedules ← schedules_from scripts.1
+  Ok (
+    record { device = device; state = state; mode = mode; moment = moment; import = import; export = export.0; scripts = scripts.0; schedules = schedules.0 },
+    schedules.1,
+  )
+
+-- an opening of this device name, state and mode, its other parts from the lines behind these
+unfoldable pub opening_with : Version → List ℕ → ControlState → ControlMode → Place → ReadLines Opening
+opening_with version device state mode place = do
+  last ← value_line Import place
+  moment ← line_as (labelled (codes "now") moment_in) last.1
+  import ← limiter_from Import last.0 moment.1
+  export ← export_from version import.1
+  scripts ← line_as (labelled (codes "scripts") table_in) export.1
+  schedules ← schedules_from scripts.1
+  Ok (
+    record { device = device; state = state; mode = mode; moment = moment.0; import = import.0; export = export.0; scripts = scripts.0; schedules = schedules.0 },
+    schedules.1,
+  )
+
+-- the opening behind the line of the version
+unfoldable pub opening_in : Version → Place → ReadLines Opening
+opening_in version place = do
+  device ← line_as (labelled (codes "device") device_in) place
+  state ← line_as (labelled (codes "state") state_in) device.1
+  mode ← line_as (labelled (codes "mode") (mode_in state.0)) state.1
+  opening_with version device.0 state.0 mode.0 mode.1
+
+-- the version and the opening of a trace
+unfoldable pub opening_from : Place → ReadLines (Version × Opening)
+opening_from place = do
+  version ← line_as version_from place
+  opening ← opening_in version.0 version.1
+  Ok ((version.0, opening.0), opening.1)

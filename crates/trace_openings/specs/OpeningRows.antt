@@ -1,0 +1,76 @@
+-- The lines that are written for an opening, in version 2 of the text.
+use Rattle.std.specs.Prelude.{ℕ, codes, decimal, List, [], ◌∷◌, ◌++◌, Option, Some, None}
+use Rattle.hex.specs.Hex.{encode_upper}
+use Rattle.action_schedule.specs.Schedule.{Schedule}
+use Rattle.action_schedule.specs.Kinds.{number_of}
+use Rattle.action_schedule.specs.Writing.{entries_data}
+use Rattle.cosem_datetime.specs.Fields.{date_time_bytes}
+use Rattle.cosem_names.specs.declared.objects.Which.{Which}
+use Rattle.cosem_names.specs.declared.objects.Which.TheVariants.{Import, Export}
+use Rattle.disconnect_control.specs.Transitions.{state_number, mode_number}
+use Rattle.limiter_core.specs.declared.count.Count.{Count}
+use Rattle.limiter_core.specs.declared.settings.Profile.{Profile}
+use Rattle.relay_core.specs.declared.opening.LimiterOpening.{LimiterOpening}
+use Rattle.relay_core.specs.declared.opening.Opening.{Opening}
+use Rattle.relay_core.specs.declared.schedules.Schedules.{Schedules}
+use Rattle.script_steps.specs.Writing.{data_of}
+use Rattle.trace_openings.specs.OpeningFields.{label}
+use Rattle.trace_words.specs.Rows.{Word, Row}
+use Rattle.trace_words.specs.Writing.{all_words, data_word, flag_number, value_words}
+use Rattle.trace_words.specs.Labels.{number_row}
+
+abbrev pub moment_word : Option ℕ → Word
+moment_word None = codes "-"
+moment_word (Some moment) = decimal moment
+
+abbrev pub count_row : Word → Count → Row
+count_row name count = name ∷ decimal count.run ∷ decimal (flag_number count.fired) ∷ []
+
+abbrev pub profile_row : Which → Profile → Row
+profile_row which profile = label which (codes "profile") ∷ decimal profile.id ∷ encode_upper (date_time_bytes profile.start) ∷ decimal profile.duration ∷ []
+
+abbrev pub groups_row : Which → List ℕ → Row
+groups_row which groups = label which (codes "groups") ∷ all_words value_words groups
+
+-- the line of a limiter's last sample
+abbrev pub value_row : Which → LimiterOpening → Row
+value_row which limiter = number_row (label which (codes "value")) limiter.value
+
+-- its lines behind that
+abbrev pub limiter_rows : Which → LimiterOpening → List Row
+limiter_rows which limiter =
+    number_row (label which (codes "normal")) limiter.normal_threshold
+    ∷ number_row (label which (codes "emergency")) limiter.emergency_threshold
+    ∷ number_row (label which (codes "minover")) limiter.min_over_duration
+    ∷ number_row (label which (codes "minunder")) limiter.min_under_duration
+    ∷ profile_row which limiter.profile
+    ∷ groups_row which limiter.groups
+    ∷ (label which (codes "actions") ∷ decimal limiter.actions.over ∷ decimal limiter.actions.under ∷ [])
+    ∷ count_row (label which (codes "over")) limiter.over
+    ∷ count_row (label which (codes "under")) limiter.under
+    ∷ []
+
+abbrev pub schedule_row : ℕ → Schedule → Row
+schedule_row number schedule =
+    codes "schedule" ∷ decimal number ∷ decimal schedule.selector ∷ decimal (number_of schedule.kind) ∷ data_word (entries_data schedule.entries) ∷ []
+
+abbrev pub schedule_rows : Schedules → List Row
+schedule_rows schedules = schedule_row 0 schedules.first ∷ schedule_row 1 schedules.second ∷ schedule_row 2 schedules.third ∷ schedule_row 3 schedules.fourth ∷ []
+
+-- version, device name, and the switch
+abbrev pub head_rows : Opening → List Row
+head_rows opening =
+    number_row (codes "RELAYTRACE") 2
+    ∷ (codes "device" ∷ encode_upper opening.device ∷ [])
+    ∷ number_row (codes "state") (state_number opening.state)
+    ∷ number_row (codes "mode") (mode_number opening.mode)
+    ∷ []
+
+-- all lines of an opening
+unfoldable pub opening_rows : Opening → List Row
+opening_rows opening =
+    head_rows opening
+    ++ value_row Import opening.import ∷ (codes "now" ∷ moment_word opening.moment ∷ [])
+    ∷ limiter_rows Import opening.import
+    ++ value_row Export opening.export ∷ limiter_rows Export opening.export
+    ++ (codes "scripts" ∷ data_word (data_of opening.scripts) ∷ []) ∷ schedule_rows opening.schedules

@@ -1,0 +1,36 @@
+//! What holds of such lines as such: the function is a law, which its contract states and a call of it makes known.
+ghost use Rattle.std.specs.Prelude.{◌≡◌, ℕ, ◌+◌, List, ◌++◌, IsTrue, Ok};
+ghost use Rattle.std.specs.List.{list_all};
+ghost use Rattle.trace_text.specs.Lines.{is_row};
+ghost use Rattle.relay_core.specs.declared.opening.Opening.{Opening};
+ghost use Rattle.trace_openings.specs.OpeningForms.{Forms, AreFormsOf, written_forms, rows_with};
+ghost use Rattle.trace_openings.specs.OpeningReading.{opening_from};
+ghost use Rattle.trace_openings.specs.OpeningRows.{opening_rows};
+ghost use Rattle.trace_openings.specs.OpeningTraced.{IsWritable};
+ghost use Rattle.trace_words.specs.Places.{Place};
+ghost use Rattle.trace_words.specs.Rows.{Row};
+ghost use Rattle.trace_words.specs.declared.version.Version.TheVariants.{Two};
+
+use limiter_core::fit_runs_mean;
+
+/// An opening of numbers of their types' ranges that a core can have is read again from the 30 lines that are written for it, whatever stands behind them; and
+/// these are lines of words.
+pub fn written_opening_is_read()
+    ensures again { (opening : Opening) (rows : List Row) (unended : List ℕ) → IsWritable opening
+        → opening_from (record { number = 1; rows = opening_rows opening ++ rows; unended = unended })
+        ≡ Ok ((Two, opening), record { number = 31; rows = rows; unended = unended }) }
+    ensures rows { (opening : Opening) → IsWritable opening → IsTrue (list_all is_row (opening_rows opening)) }
+{
+    fit_runs_mean();
+}
+
+/// The lines of version 2 that an opening is read from are the 30 that are written for it, but that a script table and the entries of a schedule may stand there as
+/// another Data that is read as these: they are the lines written where these Datas are the ones that are written.
+#[tactic(auto, using(crate::proofs::OpeningBack::opening_back, crate::proofs::OpeningBack::opening_lines, crate::proofs::OpeningBack::written_rows))]
+pub fn read_opening_is_written()
+    ensures lines { (place behind : Place) (opening : Opening) → opening_from place ≡ Ok ((Two, opening), behind)
+        → (forms : Forms) × AreFormsOf opening forms × (place.rows ≡ rows_with opening forms ++ behind.rows) }
+    ensures behind { (place behind : Place) (opening : Opening) → opening_from place ≡ Ok ((Two, opening), behind)
+        → (behind.number ≡ place.number + 30) × (behind.unended ≡ place.unended) }
+    ensures written { (opening : Opening) → rows_with opening (written_forms opening) ≡ opening_rows opening }
+{}

@@ -1,0 +1,177 @@
+ghost use Rattle.std.specs.Prelude.{◌≡◌, ◌≤◌, IfOk, nat_eq, length};
+ghost use Rattle.std.specs.Cmp.Lexicographic.{pointwise};
+ghost use Rattle.byte_reading.specs.Outcome.{Gives};
+ghost use Rattle.limiter_core.specs.Counting.{cap};
+ghost use Rattle.limiter_core.specs.State.{IsFit};
+ghost use Rattle.limiter_core.specs.declared.settings.TheConstants.{MAX_GROUPS};
+ghost use Rattle.trace_words.specs.Labels.{behind, labelled};
+ghost use Rattle.trace_openings.specs.OpeningFields.{label, start_in, id_from, profile_from, groups_from, actions_from, count_from, over_from, under_from};
+ghost use Rattle.trace_words.specs.Reading.{number_in, value_in};
+ghost use Rattle.trace_words.specs.Rows.{Reads, all_at};
+ghost use Rattle.trace_words.specs.declared.fault.RowFault.TheVariants.{Memory};
+
+use cosem_datetime::{DateTimeField, read_date_time};
+use cosem_names::Which;
+use limiter_core::{Actions, Count, MAX_GROUPS, Profile, RUN_LIMIT, are_fit};
+use listed::Listed;
+use std::alloc::Global;
+use trace_text::{Words, read_number};
+use trace_words::{
+    RowFault, bytes_in, flag_in, last_word, long_in, next_long, next_word, number_in,
+};
+
+/// Whether a word is this name of a line of a limiter: those of the export limiter have an x in front.
+fn is_label(which: Which, name: &[u8], word: &[u8]) -> bool
+    ensures { result ≡ pointwise nat_eq word.now (label which name.now) }
+{
+    match which {
+        Which::Import => word == name,
+        Which::Export => match word {
+            [b'x', bare @ ..] => bare == name,
+            _ => false,
+        },
+    }
+}
+
+/// Passes the first word of a limiter's line, which has to be this one.
+#[tactic(auto, unfolding(trace_words::specs::Labels::behind))]
+fn behind_label(which: Which, name: &[u8], words: &mut Words) -> Result<(), RowFault>
+    ensures { Reads (λ done. done) result words.new (behind (label which name.now) words.old) }
+{
+    if is_label(which, name, next_word(words)?) {
+        Ok(())
+    } else {
+        Err(RowFault::Wrong)
+    }
+}
+
+/// A line of one value, in watts or seconds.
+pub(crate) fn value(which: Which, name: &[u8], words: &mut Words) -> Result<u32, RowFault>
+    ensures { Gives Memory (λ value. value) result (labelled (label which name.now) value_in words.old) }
+{
+    behind_label(which, name, words)?;
+    number_in(last_word(words)?, u32::MAX)
+}
+
+/// A date-time in hexadecimal.
+#[tactic(auto, unfolding(crate::specs::OpeningFields::start_in))]
+fn start_in(alloc: Global, word: &[u8]) -> Result<DateTimeField, RowFault>
+    ensures { Gives Memory (λ start. start) result (start_in word.now) }
+{
+    let bytes = bytes_in(alloc, word)?;
+    match read_date_time(bytes.as_slice()) {
+        Ok(start) => Ok(start),
+        Err(_) => Err(RowFault::Wrong),
+    }
+}
+
+/// The line of the emergency profile.
+#[tactic(auto, unfolding(crate::specs::OpeningFields::profile_from))]
+pub(crate) fn profile(alloc: Global, which: Which, words: &mut Words) -> Result<Profile, RowFault>
+    ensures { Gives Memory (λ profile. profile) result (profile_from which words.old) }
+{
+    behind_label(which, b"profile", words)?;
+    let id = next_long(words)?;
+    let start = start_in(alloc, next_word(words)?)?;
+    let duration = number_in(last_word(words)?, u32::MAX)?;
+    Ok(Profile {
+        id,
+        start,
+        duration,
+    })
+}
+
+/// Group ids up to the end of the line, at most 32.
+fn ids(alloc: Global, words: &mut Words) -> Result<Vec<u16>, RowFault>
+    ensures ids { Gives Memory (λ ids. ids.items) result (all_at id_from MAX_GROUPS words.old) }
+    ensures few { IfOk result (λ ids. length ids.items ≤ MAX_GROUPS) }
+{
+    let mut ids = Vec::new(alloc);
+    'items: while let Some(word) = words.next() {
+        if ids.len() == MAX_GROUPS {
+            return Err(RowFault::Wrong);
+        }
+        ids.push(long_in(word)?)?;
+    }
+    Ok(ids)
+}
+
+/// The line of the group ids.
+#[tactic(auto, unfolding(crate::specs::OpeningFields::groups_from))]
+pub(crate) fn groups(
+    alloc: Global,
+    which: Which,
+    words: &mut Words,
+) -> Result<Listed<u16>, RowFault>
+    ensures groups { Gives Memory (λ groups. groups) result (groups_from which words.old) }
+    ensures few { IfOk result (λ groups. length groups ≤ 32) }
+{
+    behind_label(which, b"groups", words)?;
+    let ids = ids(alloc, words)?;
+    Ok(Listed::from_vec(ids))
+}
+
+/// The line of the actions.
+#[tactic(auto, unfolding(crate::specs::OpeningFields::actions_from))]
+pub(crate) fn actions(which: Which, words: &mut Words) -> Result<Actions, RowFault>
+    ensures { Gives Memory (λ actions. actions) result (actions_from which words.old) }
+{
+    behind_label(which, b"actions", words)?;
+    let over = next_long(words)?;
+    let under = long_in(last_word(words)?)?;
+    Ok(Actions { over, under })
+}
+
+/// A run, in samples.
+fn run_in(word: &[u8]) -> Result<u64, RowFault>
+    ensures { result ≡ number_in cap word.now }
+{
+    read_number(word, RUN_LIMIT).ok_or(RowFault::Wrong)
+}
+
+/// A line of a run, and whether it has fired.
+#[tactic(auto, unfolding(crate::specs::OpeningFields::count_from))]
+fn count(which: Which, name: &[u8], words: &mut Words) -> Result<Count, RowFault>
+    ensures { Gives Memory (λ count. count) result (count_from (label which name.now) words.old) }
+{
+    behind_label(which, name, words)?;
+    let run = run_in(next_word(words)?)?;
+    let fired = flag_in(last_word(words)?)?;
+    Ok(Count { run, fired })
+}
+
+/// The line of the run over the threshold, which the last sample can end.
+#[tactic(auto, unfolding(crate::specs::OpeningFields::over_from))]
+pub(crate) fn over(which: Which, last: u32, words: &mut Words) -> Result<Count, RowFault>
+    ensures { Gives Memory (λ over. over) result (over_from which last words.old) }
+{
+    let over = count(which, b"over", words)?;
+    let none = Count {
+        run: 0,
+        fired: false,
+    };
+    if are_fit(last, over, none) {
+        Ok(over)
+    } else {
+        Err(RowFault::Wrong)
+    }
+}
+
+/// The line of the run under the threshold, beside the one over it.
+#[tactic(auto, unfolding(crate::specs::OpeningFields::under_from))]
+pub(crate) fn under(
+    which: Which,
+    last: u32,
+    over: Count,
+    words: &mut Words,
+) -> Result<Count, RowFault>
+    ensures under { Gives Memory (λ under. under) result (under_from which last over words.old) }
+    ensures fit { IfOk result (λ under. IsFit last over under) }
+{
+    let under = count(which, b"under", words)?;
+    if are_fit(last, over, under) {
+        Ok(under)
+    } else {
+        Err(RowFault::Wrong)
+    }
+}

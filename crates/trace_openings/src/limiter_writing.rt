@@ -1,0 +1,128 @@
+#![tactic(auto, unfolding(trace_text::specs::Lines::rows_text, trace_text::specs::Lines::text_of, trace_text::specs::Words::line_of))]
+
+ghost use Rattle.std.specs.Prelude.{◌≡◌, ◌++◌, ◌∷◌, [], OnOk, codes, decimal};
+ghost use Rattle.trace_text.specs.Lines.{rows_text};
+ghost use Rattle.trace_openings.specs.OpeningFields.{label};
+ghost use Rattle.trace_words.specs.Labels.{number_row};
+ghost use Rattle.trace_openings.specs.OpeningRows.{count_row, profile_row, groups_row, value_row, limiter_rows};
+ghost use Rattle.trace_words.specs.Writing.{blanked, all_words, value_words};
+
+use cosem_names::Which;
+use limiter_core::{Actions, Count, Profile};
+use listed::Listed;
+use relay_core::LimiterOpening;
+use std::alloc::{AllocError, Global};
+use trace_text::{add_hex, add_number, end_line};
+use trace_words::add_flag;
+
+/// Writes the first word of a line: that of the export limiter begins with an x.
+fn write_label(out: &mut Vec<u8>, which: Which, name: &[u8]) -> Result<(), AllocError>
+    ensures { OnOk result (out.new.items ≡ out.old.items ++ label which name.now) }
+{
+    if let Which::Export = which {
+        out.push(b'x')?;
+    }
+    out.extend_from_slice(name)
+}
+
+/// Writes a line of one number.
+fn write_value(out: &mut Vec<u8>, which: Which, name: &[u8], value: u32) -> Result<(), AllocError>
+    ensures { OnOk result (out.new.items ≡ out.old.items ++ rows_text (number_row (label which name.now) value ∷ [])) }
+{
+    write_label(out, which, name)?;
+    add_number(out, u64::from(value))?;
+    end_line(out)
+}
+
+/// Writes the line of an emergency profile: id, start and duration.
+fn write_profile(
+    alloc: Global,
+    out: &mut Vec<u8>,
+    which: Which,
+    profile: &Profile,
+) -> Result<(), AllocError>
+    ensures { OnOk result (out.new.items ≡ out.old.items ++ rows_text (profile_row which profile.now ∷ [])) }
+{
+    write_label(out, which, b"profile")?;
+    add_number(out, u64::from(profile.id))?;
+    add_hex(alloc, out, profile.start.bytes().as_slice())?;
+    add_number(out, u64::from(profile.duration))?;
+    end_line(out)
+}
+
+/// Adds ids.
+fn add_ids(out: &mut Vec<u8>, ids: &[u16]) -> Result<(), AllocError>
+    ensures { OnOk result (out.new.items ≡ out.old.items ++ blanked (all_words value_words ids.now)) }
+{
+    for id in ids {
+        add_number(out, u64::from(*id))?;
+    }
+    Ok(())
+}
+
+/// Writes the line of the groups.
+fn write_groups(out: &mut Vec<u8>, which: Which, groups: &Listed<u16>) -> Result<(), AllocError>
+    ensures { OnOk result (out.new.items ≡ out.old.items ++ rows_text (groups_row which groups.now ∷ [])) }
+{
+    write_label(out, which, b"groups")?;
+    add_ids(out, groups.as_slice())?;
+    end_line(out)
+}
+
+/// Writes the line of the actions: the selectors over and under.
+fn write_actions(out: &mut Vec<u8>, which: Which, actions: &Actions) -> Result<(), AllocError>
+    ensures { OnOk result (out.new.items ≡ out.old.items
+        ++ rows_text ((label which (codes "actions") ∷ decimal actions.now.over ∷ decimal actions.now.under ∷ []) ∷ [])) }
+{
+    write_label(out, which, b"actions")?;
+    add_number(out, u64::from(actions.over))?;
+    add_number(out, u64::from(actions.under))?;
+    end_line(out)
+}
+
+/// Writes the line of a run, and of whether it has fired.
+fn write_count(
+    out: &mut Vec<u8>,
+    which: Which,
+    name: &[u8],
+    count: &Count,
+) -> Result<(), AllocError>
+    ensures { OnOk result (out.new.items ≡ out.old.items ++ rows_text (count_row (label which name.now) count.now ∷ [])) }
+{
+    write_label(out, which, name)?;
+    add_number(out, count.run)?;
+    add_flag(out, count.fired)?;
+    end_line(out)
+}
+
+/// Writes the line of a limiter's last sample.
+pub(crate) fn write_last(
+    out: &mut Vec<u8>,
+    which: Which,
+    limiter: &LimiterOpening,
+) -> Result<(), AllocError>
+    ensures { OnOk result (out.new.items ≡ out.old.items ++ rows_text (value_row which limiter.now ∷ [])) }
+{
+    write_value(out, which, b"value", limiter.value)
+}
+
+/// Writes a limiter's lines behind that.
+#[tactic(auto)]
+pub(crate) fn write_limiter(
+    alloc: Global,
+    out: &mut Vec<u8>,
+    which: Which,
+    limiter: &LimiterOpening,
+) -> Result<(), AllocError>
+    ensures { OnOk result (out.new.items ≡ out.old.items ++ rows_text (limiter_rows which limiter.now)) }
+{
+    write_value(out, which, b"normal", limiter.normal_threshold)?;
+    write_value(out, which, b"emergency", limiter.emergency_threshold)?;
+    write_value(out, which, b"minover", limiter.min_over_duration)?;
+    write_value(out, which, b"minunder", limiter.min_under_duration)?;
+    write_profile(alloc, out, which, &limiter.profile)?;
+    write_groups(out, which, &limiter.groups)?;
+    write_actions(out, which, &limiter.actions)?;
+    write_count(out, which, b"over", &limiter.over)?;
+    write_count(out, which, b"under", &limiter.under)
+}

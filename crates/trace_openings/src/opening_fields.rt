@@ -1,0 +1,199 @@
+ghost use Rattle.std.specs.Prelude.{◌≡◌, ◌≤◌, IfOk, codes, length};
+ghost use Rattle.byte_reading.specs.Outcome.{Gives};
+ghost use Rattle.disconnect_control.specs.declared.state.ControlMode.TheVariants.{Mode0};
+ghost use Rattle.disconnect_control.specs.declared.state.ControlState.TheVariants.{Connected};
+ghost use Rattle.trace_words.specs.Labels.{labelled};
+ghost use Rattle.trace_openings.specs.OpeningFields.{version_in, device_in, state_in, mode_in, moment_in, table_in, entries_in, type_in, version_from, schedule_from};
+ghost use Rattle.trace_words.specs.declared.fault.RowFault.TheVariants.{Memory};
+
+use action_schedule::{ActionSchedule, ScheduleFault, ScheduleType};
+use cosem_axdr::Octets;
+use disconnect_control::{ControlMode, ControlState};
+use relay_core::MAX_DEVICE_NAME;
+use script_steps::{ScriptFault, ScriptTable};
+use std::alloc::Global;
+use trace_text::Words;
+use trace_words::{
+    RowFault, Version, behind, bytes_in, data_in, labelled, last_word, next_long, next_word,
+    number_in,
+};
+
+/// The version of the text.
+fn version_in(word: &[u8]) -> Result<Version, RowFault>
+    ensures { result ≡ version_in word.now }
+{
+    match number_in(word, 2)? {
+        1 => Ok(Version::One),
+        2 => Ok(Version::Two),
+        _ => Err(RowFault::Wrong),
+    }
+}
+
+/// The line of the version.
+pub(crate) fn version(words: &mut Words) -> Result<Version, RowFault>
+    ensures { Gives Memory (λ version. version) result (version_from words.old) }
+{
+    labelled(b"RELAYTRACE", words, version_in)
+}
+
+/// A device name.
+#[tactic(auto, unfolding(crate::specs::OpeningFields::device_in), using(crate::proofs::OpeningLemmas::bytes_some))]
+fn device_in(alloc: Global, word: &[u8]) -> Result<Octets, RowFault>
+    ensures device { Gives Memory (λ device. device) result (device_in word.now) }
+    ensures some { IfOk result (λ device. 1 ≤ length device) }
+    ensures few { IfOk result (λ device. length device ≤ 16) }
+{
+    let device = bytes_in(alloc, word)?;
+    if device.len() > MAX_DEVICE_NAME {
+        return Err(RowFault::Wrong);
+    }
+    Ok(device)
+}
+
+/// The line of the device name.
+pub(crate) fn device(alloc: Global, words: &mut Words) -> Result<Octets, RowFault>
+    ensures device { Gives Memory (λ device. device) result (labelled (codes "device") device_in words.old) }
+    ensures some { IfOk result (λ device. 1 ≤ length device) }
+    ensures few { IfOk result (λ device. length device ≤ 16) }
+{
+    labelled(b"device", words, |word| device_in(alloc, word))
+}
+
+/// The state of the switch.
+fn state_in(word: &[u8]) -> Result<ControlState, RowFault>
+    ensures { result ≡ state_in word.now }
+{
+    match number_in(word, 2)? {
+        0 => Ok(ControlState::Disconnected),
+        1 => Ok(ControlState::Connected),
+        _ => Ok(ControlState::ReadyForReconnection),
+    }
+}
+
+/// The line of the switch's state.
+pub(crate) fn state(words: &mut Words) -> Result<ControlState, RowFault>
+    ensures { Gives Memory (λ state. state) result (labelled (codes "state") state_in words.old) }
+{
+    labelled(b"state", words, state_in)
+}
+
+/// The mode of a switch in this state.
+#[tactic(auto, unfolding(crate::specs::OpeningFields::mode_in, disconnect_control::specs::Control::is_mode_fit))]
+fn mode_in(state: ControlState, word: &[u8]) -> Result<ControlMode, RowFault>
+    ensures mode { result ≡ mode_in state word.now }
+    ensures fit { IfOk result (λ mode. mode ≡ Mode0 → state ≡ Connected) }
+{
+    let Some(mode) = ControlMode::of_number(number_in(word, 6)? as u8) else {
+        return Err(RowFault::Wrong);
+    };
+    match (mode, state) {
+        (ControlMode::Mode0, ControlState::Connected) => Ok(mode),
+        (ControlMode::Mode0, _) => Err(RowFault::Wrong),
+        _ => Ok(mode),
+    }
+}
+
+/// The line of the mode of a switch in this state.
+pub(crate) fn mode(state: ControlState, words: &mut Words) -> Result<ControlMode, RowFault>
+    ensures mode { Gives Memory (λ mode. mode) result (labelled (codes "mode") (mode_in state) words.old) }
+    ensures fit { IfOk result (λ mode. mode ≡ Mode0 → state ≡ Connected) }
+{
+    labelled(b"mode", words, |word| mode_in(state, word))
+}
+
+/// A moment, in seconds, or None.
+fn moment_in(word: &[u8]) -> Result<Option<u32>, RowFault>
+    ensures { result ≡ moment_in word.now }
+{
+    if word == b"-".as_slice() {
+        return Ok(None);
+    }
+    Ok(Some(number_in(word, u32::MAX)?))
+}
+
+/// The line of the last moment.
+pub(crate) fn moment(words: &mut Words) -> Result<Option<u32>, RowFault>
+    ensures { Gives Memory (λ moment. moment) result (labelled (codes "now") moment_in words.old) }
+{
+    labelled(b"now", words, moment_in)
+}
+
+/// A script table.
+#[tactic(auto, unfolding(crate::specs::OpeningFields::table_in))]
+fn table_in(alloc: Global, word: &[u8]) -> Result<ScriptTable, RowFault>
+    ensures { Gives Memory (λ table. table) result (table_in word.now) }
+{
+    let value = data_in(alloc, word)?;
+    let table = ScriptTable::from_data(alloc, &value);
+    drop(value);
+    match table {
+        Ok(table) => Ok(table),
+        Err(ScriptFault::Memory) => Err(RowFault::Memory),
+        Err(ScriptFault::Unmatched) => Err(RowFault::Wrong),
+        Err(ScriptFault::Value) => Err(RowFault::Wrong),
+    }
+}
+
+/// The line of the script table.
+pub(crate) fn table(alloc: Global, words: &mut Words) -> Result<ScriptTable, RowFault>
+    ensures { Gives Memory (λ table. table) result (labelled (codes "scripts") table_in words.old) }
+{
+    labelled(b"scripts", words, |word| table_in(alloc, word))
+}
+
+/// The type of a schedule.
+fn type_in(word: &[u8]) -> Result<ScheduleType, RowFault>
+    ensures { result ≡ type_in word.now }
+{
+    match ScheduleType::of_number(number_in(word, 5)? as u8) {
+        Some(kind) => Ok(kind),
+        None => Err(RowFault::Wrong),
+    }
+}
+
+/// A schedule of the entries in a word.
+#[tactic(auto, unfolding(crate::specs::OpeningFields::entries_in))]
+fn with_entries(
+    alloc: Global,
+    selector: u16,
+    kind: ScheduleType,
+    word: &[u8],
+) -> Result<ActionSchedule, RowFault>
+    ensures entries { Gives Memory (λ schedule. schedule.entries) result (entries_in word.now) }
+    ensures selector { IfOk result (λ schedule. schedule.selector ≡ selector) }
+    ensures kind { IfOk result (λ schedule. schedule.kind ≡ kind) }
+{
+    let value = data_in(alloc, word)?;
+    let mut schedule = ActionSchedule::without_entries(alloc, selector, kind);
+    let set = schedule.set_entries(alloc, &value);
+    drop(value);
+    match set {
+        Ok(()) => Ok(schedule),
+        Err(fault) => {
+            drop(schedule);
+            Err(match fault {
+                ScheduleFault::Memory => RowFault::Memory,
+                ScheduleFault::Unmatched => RowFault::Wrong,
+                ScheduleFault::Value => RowFault::Wrong,
+            })
+        }
+    }
+}
+
+/// The line of the schedule of this number.
+#[tactic(auto, unfolding(crate::specs::OpeningFields::schedule_from))]
+pub(crate) fn schedule(
+    alloc: Global,
+    which: u32,
+    words: &mut Words,
+) -> Result<ActionSchedule, RowFault>
+    ensures { Gives Memory (λ schedule. schedule) result (schedule_from which words.old) }
+{
+    behind(b"schedule", words)?;
+    if number_in(next_word(words)?, 3)? != which {
+        return Err(RowFault::Wrong);
+    }
+    let selector = next_long(words)?;
+    let kind = type_in(next_word(words)?)?;
+    with_entries(alloc, selector, kind, last_word(words)?)
+}

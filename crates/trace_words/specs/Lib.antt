@@ -1,0 +1,5 @@
+pub mod Labels
+pub mod Places
+pub mod Reading
+pub mod Rows
+pub mod Writing

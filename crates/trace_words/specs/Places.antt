@@ -1,0 +1,72 @@
+-- The lines of a trace, read one after the other.
+--     Place            the lines that are left, and the number of the first
+--     ReadLines        what a reader of lines answers: a value and the place behind it, or a fault
+--     ReadsLines       what code that moves on through the lines answers, compared with a definition
+--     line_as          the next line, read as a value
+--     IsRowReader      what code reads from the words of a line, compared with a definition
+--     at_line          the fault of a line, by its number
+--     ended_at         a value behind which nothing is left
+--     place_of         the place at the start of a text
+use Rattle.std.specs.Prelude.{◌≡◌, ℕ, suc, List, [], ◌∷◌, Result, Ok, Err}
+use Rattle.std.specs.Fn.{Once, FnOnceReturnsAtMut}
+use denote.Ref.{MutBor}
+use Rattle.byte_reading.specs.Outcome.{Fails, Gives}
+use Rattle.trace_text.specs.Lines.{rows_of, unended_of}
+use Rattle.trace_words.specs.Rows.{Row}
+use Rattle.trace_words.specs.declared.fault.RowFault.{RowFault}
+use Rattle.trace_words.specs.declared.fault.RowFault.TheVariants as row_fault
+use Rattle.trace_words.specs.declared.fault.RowFault.TheVariants.{Wrong}
+use Rattle.trace_words.specs.declared.fault.TraceFault.{TraceFault}
+use Rattle.trace_words.specs.declared.fault.TraceFault.TheVariants.{Line, Memory}
+
+-- the words of each line that is left, the number of the first of them, and what stands behind the last byte 0A
+pub record Place : Type 0 where
+  pub number : ℕ
+  pub rows : List Row
+  pub unended : List ℕ
+
+abbrev pub ReadLines : Type 0 → Type 0
+ReadLines X = Result (X × Place) TraceFault
+
+-- code answers as the definition does, and leaves the lines behind what it took
+abbrev pub ReadsLines : {X Y : Type 0} → (X → Y) → Result X TraceFault → Place → ReadLines Y → Type 0
+ReadsLines view (Ok x) new given = given ≡ Ok (view x, new)
+ReadsLines view (Err fault) new given = Fails Memory fault given
+
+-- a line that was read, and the place behind it
+abbrev pub passed : {X : Type 0} → Result X RowFault → ℕ → List Row → List ℕ → ReadLines X
+passed (Ok x) number rows unended = Ok (x, record { number = suc number; rows = rows; unended = unended })
+passed (Err fault) number rows unended = Err (Line number)
+
+-- the first of these lines; a line that is missing, or not ended, is wrong
+abbrev pub first_as : {X : Type 0} → (Row → Result X RowFault) → ℕ → List Row → List ℕ → ReadLines X
+first_as value_in number [] unended = Err (Line number)
+first_as value_in number (row ∷ rows) unended = passed (value_in row) number rows unended
+
+-- the next line as such a value
+unfoldable pub line_as : {X : Type 0} → (Row → Result X RowFault) → Place → ReadLines X
+line_as value_in place = first_as value_in place.number place.rows place.unended
+
+-- each answer that this code can give about the words of a line is that of the definition
+abbrev pub IsRowReader : {F X : Type 0} → Once F (MutBor Row × Unit {0}) (Result X RowFault × (MutBor Row × Unit {0})) → F → (Row → Result X RowFault) → Type 0
+IsRowReader {F} {X} calls row value_from = (words after : Row) (read : Result X RowFault) → FnOnceReturnsAtMut calls row words read after → Gives row_fault.Memory (λ x. x) read (value_from words)
+
+-- what the words of a line gave, a fault by the number of the line
+abbrev pub at_line : {X : Type 0} → ℕ → Result X RowFault → Result X TraceFault
+at_line number (Ok x) = Ok x
+at_line number (Err Wrong) = Err (Line number)
+at_line number (Err row_fault.Memory) = Err Memory
+
+-- a line that is left is wrong, ended or not
+abbrev pub nothing_left : {X : Type 0} → ℕ → List Row → List ℕ → X → Result X TraceFault
+nothing_left number [] [] x = Ok x
+nothing_left number [] (byte ∷ bytes) x = Err (Line number)
+nothing_left number (row ∷ rows) unended x = Err (Line number)
+
+-- a value behind which nothing is left
+unfoldable pub ended_at : {X : Type 0} → Place → X → Result X TraceFault
+ended_at place x = nothing_left place.number place.rows place.unended x
+
+-- all of a text: its lines are counted from 1
+abbrev pub place_of : List ℕ → Place
+place_of text = record { number = 1; rows = rows_of text; unended = unended_of text }

@@ -1,0 +1,38 @@
+-- The words that are written for values.
+--     blanked                   words, each behind a blank
+--     flag_number, data_word    values as words
+--     all_words                 several values, one after the other
+--     IsHeld                    a Data that fits the limits of its text
+use Rattle.std.specs.Prelude.{ℕ, Bool, true, false, decimal, List, [], ◌∷◌, ◌++◌}
+use Rattle.hex.specs.Hex.{encode_upper}
+use Rattle.cosem_axdr.specs.Spelling.{text, IsFit}
+use Rattle.cosem_axdr.specs.View.{tree_of}
+use Rattle.cosem_axdr.specs.declared.value.Data.{Data}
+use Rattle.trace_words.specs.Rows.{Word, Row}
+
+-- words, each behind a blank
+abbrev pub blanked : Row → List ℕ
+blanked [] = []
+blanked (word ∷ words) = 32 ∷ word ++ blanked words
+
+-- 1 for yes, 0 for no
+abbrev pub flag_number : Bool → ℕ
+flag_number true = 1
+flag_number false = 0
+
+-- the words of several values, one after the other
+unfoldable pub all_words : {X : Type 0} → (X → Row → Row) → List X → Row
+all_words words [] = []
+all_words words (x ∷ xs) = words x (all_words words xs)
+
+-- a Data as its written text
+abbrev pub data_word : Data → Word
+data_word value = encode_upper (text (tree_of value))
+
+-- a number, before other words
+abbrev pub value_words : ℕ → Row → Row
+value_words value words = decimal value ∷ words
+
+-- a Data that fits the limits of a reader, so that its text is read again
+pub record IsHeld (value : Data) : Type 0 where
+  pub fits : IsFit (tree_of value)

@@ -1,0 +1,63 @@
+ghost use Rattle.std.specs.Prelude.{◌≡◌};
+ghost use Rattle.trace_words.specs.declared.fault.RowFault.TheVariants.{Memory};
+ghost use Rattle.trace_words.specs.declared.fault.TraceFault.TheVariants as trace_fault;
+
+use std::alloc::{AllocError, AllocFailed};
+use thiserror::Error;
+
+/// Why a line is not read.
+#[derive(Clone, Copy, Debug, PartialEq, Eq, Error)]
+pub enum RowFault {
+    /// The words are none that are written for a value.
+    #[error("a line of other words")]
+    Wrong = 1,
+    /// Memory ran out.
+    #[error("out of memory")]
+    Memory = 2,
+}
+
+impl From<AllocError> for RowFault {
+    ghost from_gives = { λ _ fault. fault ≡ Memory };
+
+    fn from(_error: AllocError) -> RowFault {
+        RowFault::Memory
+    }
+}
+
+impl<T: Drop> From<AllocFailed<T>> for RowFault {
+    ghost from_gives = { λ _ fault. fault ≡ Memory };
+
+    fn from(_error: AllocFailed<T>) -> RowFault {
+        RowFault::Memory
+    }
+}
+
+/// Why a trace is not read.
+#[derive(Clone, Copy, Debug, PartialEq, Eq, Error)]
+pub enum TraceFault {
+    /// The first line, counted from 1, that is not as a trace has it there, or whose value no meter has. A line that is missing counts too.
+    #[error("line {0} of the trace is wrong")]
+    Line(u64),
+    /// The text has more than 33,554,432 bytes.
+    #[error("a trace of more than 33,554,432 bytes")]
+    TooLong,
+    /// Memory ran out.
+    #[error("out of memory")]
+    Memory,
+}
+
+impl From<AllocError> for TraceFault {
+    ghost from_gives = { λ _ fault. fault ≡ trace_fault.Memory };
+
+    fn from(_error: AllocError) -> TraceFault {
+        TraceFault::Memory
+    }
+}
+
+impl<T: Drop> From<AllocFailed<T>> for TraceFault {
+    ghost from_gives = { λ _ fault. fault ≡ trace_fault.Memory };
+
+    fn from(_error: AllocFailed<T>) -> TraceFault {
+        TraceFault::Memory
+    }
+}

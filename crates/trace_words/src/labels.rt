@@ -1,0 +1,37 @@
+ghost use Rattle.std.specs.Prelude.{Result, Ok, IfOk};
+ghost use Rattle.std.specs.Fn.{FnOnceReturnsAt};
+ghost use Rattle.byte_reading.specs.Outcome.{Gives};
+ghost use Rattle.trace_words.specs.Labels.{IsWordReader, behind, labelled};
+ghost use Rattle.trace_words.specs.Rows.{Word, Reads};
+ghost use Rattle.trace_words.specs.declared.fault.RowFault.{RowFault};
+ghost use Rattle.trace_words.specs.declared.fault.RowFault.TheVariants.{Memory};
+
+use crate::fault::RowFault;
+use crate::words::{last_word, next_word};
+use trace_text::Words;
+
+/// Passes the first word of a line, which has to be this one.
+#[tactic(auto, unfolding(crate::specs::Labels::behind))]
+pub fn behind(label: &[u8], words: &mut Words) -> Result<(), RowFault>
+    ensures { Reads (λ done. done) result words.new (behind label.now words.old) }
+{
+    if next_word(words)? == label {
+        Ok(())
+    } else {
+        Err(RowFault::Wrong)
+    }
+}
+
+/// Reads a line of a first word, which has to be this one, and one word more, by `value_in`.
+pub fn labelled<X: Drop, F: FnOnce(&[u8]) -> Result<X, RowFault>>(
+    label: &[u8],
+    words: &mut Words,
+    value_in: F,
+) -> Result<X, RowFault>
+    requires { F.IsAlwaysCallable value_in }
+    ensures reads { (of_word : Word → Result X RowFault) → IsWordReader F.FnOnce value_in of_word → Gives Memory (λ x. x) result (labelled label.now of_word words.old) }
+    ensures answered { IfOk result (λ x. (word : Word) × FnOnceReturnsAt F.FnOnce value_in word (Ok x)) }
+{
+    behind(label, words)?;
+    value_in(last_word(words)?)
+}

@@ -1,0 +1,98 @@
+ghost use Rattle.std.specs.Prelude.{◌≡◌, Result, Ok, IfOk};
+ghost use Rattle.std.specs.Fn.{FnOnceReturnsAtMut};
+ghost use Rattle.trace_words.specs.Places.{ReadsLines, IsRowReader, line_as, at_line, ended_at, place_of};
+ghost use Rattle.trace_words.specs.Rows.{Row};
+ghost use Rattle.trace_words.specs.declared.fault.RowFault.{RowFault};
+
+use crate::fault::{RowFault, TraceFault};
+use std::marker::Model;
+use trace_text::{Lines, Words};
+
+/// The lines of a trace that are still to be read. Contracts see the words of each line, the number of the first, and what stands behind the last byte 0A.
+#[derive(Drop)]
+pub struct TraceLines<'a> {
+    lines: Lines<'a>,
+    number: u64,
+}
+
+impl<'a> Model for TraceLines<'a> {
+    ghost use Rattle.std.specs.Prelude.{◌+◌, ◌<◌, ◌^◌, length};
+    ghost use Rattle.trace_text.specs.Lines.{rows_of, unended_of};
+    ghost use Rattle.trace_words.specs.Places.{Place};
+
+    ghost Value = { Place };
+
+    ghost view = { λ l. record { number = l.number; rows = rows_of l.lines; unended = unended_of l.lines } };
+
+    ghost invariant = { λ l. l.number + length (rows_of l.lines) < 2 ^ 64 };
+}
+
+impl<'a> TraceLines<'a> {
+    /// All lines of a text, which are counted from 1.
+    #[tactic(auto, using(crate::proofs::PlaceLemmas::few_rows))]
+    pub fn new(text: &'a [u8]) -> Self
+        ensures { result ≡ place_of text.now }
+    {
+        TraceLines {
+            lines: Lines::new(text),
+            number: 1,
+        }
+    }
+
+    /// The number of the next line.
+    fn number(&self) -> u64
+        ensures { result ≡ self.now.number }
+    {
+        self.number
+    }
+
+    /// The words of the next line. Errors: `Line` where no line is left, or the last is not ended.
+    #[tactic(auto, unfolding(crate::specs::Places::line_as), using(crate::proofs::PlaceLemmas::row_taken, crate::proofs::PlaceLemmas::none_taken))]
+    fn next_words(&mut self) -> Result<Words<'a>, TraceFault>
+        ensures { ReadsLines (λ words. words) result self.new (line_as (λ row. Ok row) self.old) }
+    {
+        match self.lines.next() {
+            Some(line) => {
+                self.number += 1;
+                Ok(Words::new(line))
+            }
+            None => Err(TraceFault::Line(self.number)),
+        }
+    }
+
+    /// Reads the next line, a value from its words by `row`. Errors: `Line` with its number where it is missing or `row` finds it wrong, and `Memory`.
+    pub fn read<X: Drop, F: FnOnce(&mut Words<'a>) -> Result<X, RowFault>>(
+        &mut self,
+        row: F,
+    ) -> Result<X, TraceFault>
+        requires { F.IsAlwaysCallable row }
+        ensures reads { (value_from : Row → Result X RowFault) → IsRowReader F.FnOnce row value_from → ReadsLines (λ x. x) result self.new (line_as value_from self.old) }
+        ensures answered { IfOk result (λ x. (words after : Row) × FnOnceReturnsAtMut F.FnOnce row words (Ok x) after) }
+    {
+        let number = self.number();
+        let mut words = self.next_words()?;
+        at_line(number, row(&mut words))
+    }
+
+    /// Whether nothing is left. Errors: `Line` where a line is left, ended or not.
+    pub fn end(&self) -> Result<(), TraceFault>
+        ensures { result ≡ ended_at self.now tt }
+    {
+        if self.lines.rest().is_empty() {
+            Ok(())
+        } else {
+            Err(TraceFault::Line(self.number))
+        }
+    }
+}
+
+/// The fault of a line, by its number.
+fn at_line<X: Drop>(number: u64, read: Result<X, RowFault>) -> Result<X, TraceFault>
+    ensures { result ≡ at_line number read }
+{
+    match read {
+        Ok(x) => Ok(x),
+        Err(RowFault::Wrong) => Err(TraceFault::Line(number)),
+        Err(RowFault::Memory) => Err(TraceFault::Memory),
+    }
+}

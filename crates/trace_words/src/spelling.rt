@@ -1,0 +1,52 @@
+ghost use Rattle.std.specs.Prelude.{◌≡◌};
+ghost use Rattle.byte_reading.specs.Outcome.{Gives};
+ghost use Rattle.std.specs.Cmp.Lexicographic.{pointwise};
+ghost use Rattle.std.specs.Prelude.{nat_eq, IfOk};
+ghost use Rattle.cosem_axdr.specs.Spelling.{text};
+ghost use Rattle.cosem_axdr.specs.View.{tree_of};
+ghost use Rattle.trace_words.specs.Reading.{spelled, data_in};
+ghost use Rattle.trace_words.specs.declared.fault.RowFault.TheVariants.{Memory};
+
+use crate::fault::RowFault;
+use crate::words::bytes_in;
+use cosem_axdr::{Data, DataFault, Octets, read, write};
+use std::alloc::{AllocError, Global};
+
+/// Whether bytes are the spelling that is written for a value.
+fn is_written(alloc: Global, value: &Data, bytes: &[u8]) -> Result<bool, AllocError>
+    ensures { IfOk result (λ is. is ≡ pointwise nat_eq (text (tree_of value.now)) bytes.now) }
+{
+    let mut text = Octets::new(alloc);
+    write(alloc, value, &mut text)?;
+    Ok(text.as_slice() == bytes)
+}
+
+/// A value that was read from these bytes, if it is written as they are.
+fn as_written(alloc: Global, value: Data, bytes: &[u8]) -> Result<Data, RowFault>
+    ensures { Gives Memory (λ value. value) result (spelled bytes.now value) }
+{
+    match is_written(alloc, &value, bytes) {
+        Ok(true) => Ok(value),
+        Ok(false) => {
+            drop(value);
+            Err(RowFault::Wrong)
+        }
+        Err(_) => {
+            drop(value);
+            Err(RowFault::Memory)
+        }
+    }
+}
+
+/// A Data in hexadecimal.
+#[tactic(auto, unfolding(crate::specs::Reading::data_in))]
+pub fn data_in(alloc: Global, word: &[u8]) -> Result<Data, RowFault>
+    ensures { Gives Memory (λ value. value) result (data_in word.now) }
+{
+    let bytes = bytes_in(alloc, word)?;
+    match read(alloc, bytes.as_slice()) {
+        Ok((value, _)) => as_written(alloc, value, bytes.as_slice()),
+        Err(DataFault::Memory) => Err(RowFault::Memory),
+        Err(_) => Err(RowFault::Wrong),
+    }
+}

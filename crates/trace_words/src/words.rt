@@ -1,0 +1,78 @@
+ghost use Rattle.std.specs.Prelude.{◌≡◌, ◌≤◌, IfOk};
+ghost use Rattle.byte_reading.specs.Outcome.{Gives};
+ghost use Rattle.trace_words.specs.Rows.{Reads, ended, word_at, last_word};
+ghost use Rattle.trace_words.specs.Reading.{number_in, flag_in, bytes_in, next_as};
+ghost use Rattle.trace_words.specs.declared.fault.RowFault.TheVariants.{Memory, Wrong};
+
+use crate::fault::RowFault;
+use cosem_axdr::Octets;
+use std::alloc::Global;
+use trace_text::{Words, read_hex, read_number};
+
+/// The next word.
+pub fn next_word<'a>(words: &mut Words<'a>) -> Result<&'a [u8], RowFault>
+    ensures { Reads (λ word. word.now) result words.new (word_at words.old) }
+{
+    words.next().ok_or(RowFault::Wrong)
+}
+
+/// Whether no word is left.
+pub fn ended(words: &mut Words) -> Result<(), RowFault>
+    ensures { result ≡ ended words.old tt }
+{
+    match words.next() {
+        Some(_) => Err(RowFault::Wrong),
+        None => Ok(()),
+    }
+}
+
+/// The next word, behind which no other is left.
+pub fn last_word<'a>(words: &mut Words<'a>) -> Result<&'a [u8], RowFault>
+    ensures { Gives Memory (λ word. word.now) result (last_word words.old) }
+{
+    let word = next_word(words)?;
+    ended(words)?;
+    Ok(word)
+}
+
+/// A number of up to 32 bits.
+pub fn number_in(word: &[u8], limit: u32) -> Result<u32, RowFault>
+    ensures value { result ≡ number_in limit word.now }
+    ensures within { IfOk result (λ number. number ≤ limit) }
+{
+    match read_number(word, u64::from(limit)) {
+        Some(number) => Ok(number as u32),
+        None => Err(RowFault::Wrong),
+    }
+}
+
+/// Whether a word is 1, and not 0.
+pub fn flag_in(word: &[u8]) -> Result<bool, RowFault>
+    ensures { result ≡ flag_in word.now }
+{
+    Ok(number_in(word, 1)? == 1)
+}
+
+/// The bytes of a word in hexadecimal.
+pub fn bytes_in(alloc: Global, word: &[u8]) -> Result<Octets, RowFault>
+    ensures { Gives Memory (λ bytes. bytes) result (bytes_in word.now) }
+{
+    match read_hex(alloc, word)? {
+        Some(bytes) => Ok(bytes),
+        None => Err(RowFault::Wrong),
+    }
+}
+
+/// A number of up to 16 bits.
+pub fn long_in(word: &[u8]) -> Result<u16, RowFault>
+    ensures { result ≡ number_in 65535 word.now }
+{
+    Ok(number_in(word, 65_535)? as u16)
+}
+
+/// The next word as a number of up to 16 bits.
+pub fn next_long(words: &mut Words) -> Result<u16, RowFault>
+    ensures { Reads (λ number. number) result words.new (next_as (number_in 65535) words.old) }
+{
+    long_in(next_word(words)?)
+}

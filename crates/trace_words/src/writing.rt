@@ -1,0 +1,34 @@
+ghost use Rattle.std.specs.Prelude.{◌≡◌, ◌++◌, ◌∷◌, [], OnOk, decimal};
+ghost use Rattle.trace_text.specs.Lines.{rows_text};
+ghost use Rattle.trace_words.specs.Labels.{number_row};
+ghost use Rattle.trace_words.specs.Writing.{blanked, data_word, flag_number};
+
+use cosem_axdr::{Data, Octets, write};
+use std::alloc::{AllocError, Global};
+use trace_text::{add_hex, add_number, end_line};
+
+/// Adds 1 for yes, 0 for no.
+pub fn add_flag(out: &mut Vec<u8>, flag: bool) -> Result<(), AllocError>
+    ensures { OnOk result (out.new.items ≡ out.old.items ++ blanked (decimal (flag_number flag) ∷ [])) }
+{
+    add_number(out, if flag { 1 } else { 0 })
+}
+
+/// Adds the written text of a Data.
+pub fn add_data(alloc: Global, out: &mut Vec<u8>, value: &Data) -> Result<(), AllocError>
+    ensures { OnOk result (out.new.items ≡ out.old.items ++ blanked (data_word value.now ∷ [])) }
+{
+    let mut text = Octets::new(alloc);
+    write(alloc, value, &mut text)?;
+    add_hex(alloc, out, text.as_slice())
+}
+
+/// Writes a line of a first word and a number behind what is there, with the byte 0A that ends it. Where memory runs out a part of it may be written.
+#[tactic(auto, unfolding(trace_text::specs::Lines::rows_text, trace_text::specs::Lines::text_of, trace_text::specs::Words::line_of))]
+pub fn write_number_line(out: &mut Vec<u8>, name: &[u8], number: u64) -> Result<(), AllocError>
+    ensures { OnOk result (out.new.items ≡ out.old.items ++ rows_text (number_row name.now number ∷ [])) }
+{
+    out.extend_from_slice(name)?;
+    add_number(out, number)?;
+    end_line(out)
+}
