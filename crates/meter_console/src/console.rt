@@ -1,8 +1,8 @@
 //! The console: what lines of standard input hand to the meter's own workers.
+use crate::line_event::console_event;
 use crate::lines::{MAX_LINE, NextLine, next_line};
 use crossbeam_channel::{Receiver, Sender, bounded};
 use lane_sampler::Block;
-use meter_serving::console_event;
 use meter_workers::{BlockSource, ButtonSource, MomentSource};
 use relay_core::Event;
 use std::alloc::{AllocError, Global};

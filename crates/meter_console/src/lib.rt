@@ -2,8 +2,10 @@
 #![tactic(auto)]
 
 mod console;
+mod line_event;
 mod lines;
 mod reading;
 
 pub use console::{Console, ConsoleBlocks, ConsoleMoments, ConsolePresses, Sources};
+pub use line_event::console_event;
 pub use reading::{Ended, Reading, start};

@@ -1,4 +1,3 @@
-pub mod Console
 pub mod Ending
 pub mod Heads
 pub mod Resuming

@@ -1,7 +1,8 @@
 //! What no clause says: that there is an answer where there is memory.
 ghost use Rattle.relay_core.specs.Opening.{IsFitOpening};
 
-use meter_serving::{console_event, read_head, resumed_recorder};
+use meter_console::console_event;
+use meter_serving::{read_head, resumed_recorder};
 use program_fault::Fault;
 use relay_core::{Event, Reply};
 use relay_recorder::{Recorder, Trace};

@@ -1,4 +1,4 @@
-//! Tests of `meter_server` and `meter_serving`: ports of one meter, all threads over it, and what a meter that serves does beside its sockets.
+//! Tests of `meter_server`, `meter_console` and `meter_serving`: ports of one meter, all threads over it, and what a meter that serves does beside its sockets.
 //!
 //! They stand apart from what they test, since a check of tests proves anew all that stands in their crate.
 #![tactic(auto)]

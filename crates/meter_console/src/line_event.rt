@@ -1,7 +1,7 @@
-//! The lines of the console.
+//! What a line of the console brings.
 ghost use Rattle.std.specs.Prelude.{◌≡◌, ◌↔◌, IfOk, IfSome, IfNone, OnErr, IsTrue};
 ghost use Rattle.relay_core.specs.declared.event.Event.{Event};
-ghost use Rattle.meter_serving.specs.Console.{IsOwnWord, IsOwnLine, Brings};
+ghost use Rattle.meter_console.specs.Console.{IsOwnWord, IsOwnLine, Brings};
 
 use relay_core::Event;
 use std::alloc::{AllocError, Global};
