@@ -74,6 +74,7 @@ pub(crate) fn answer_reply(
 
 /// The frame with the answer to the reply to a GET of one attribute. The long GET that it begins takes the place of the last one. Want of memory changes nothing.
 #[tactic(auto, unfolding(crate::specs::Outgoing::reply_response, crate::specs::Outgoing::begun_by), using(crate::proofs::Tasks::value_cut))]
+#[inline(always)]
 pub(crate) fn answer_get(
     alloc: Global,
     asked: Asked,
@@ -102,6 +103,7 @@ pub(crate) fn answer_get(
 
 // The frame with the answer to a value.
 #[tactic(auto, unfolding(crate::specs::Answers::answer_text))]
+#[inline(always)]
 fn answer_value(
     alloc: Global,
     link: Link,

@@ -134,6 +134,7 @@ impl Session {
 
     /// Takes the frame at the front where it is whole and a GET of one attribute, with no selection, by the client of the association: then the meter is to be asked
     /// `Event::Get` of this level and attribute, and `answer_get` takes its reply. Where it gives none all is as it was, and `next` tells what the session wants.
+    #[inline(always)]
     pub fn next_get(&mut self) -> Option<(Level, AttrRef)>
         ensures asks { IfSome result (λ get. AsksFor self.old get.0 get.1 self.new) }
         ensures none { IfNone result (self.new ≡ self.old) }
@@ -157,6 +158,7 @@ impl Session {
     }
 
     /// Takes in the reply to the event of `next_get`, and gives the frame with its answer, as `answer` and then `next` would. Want of memory changes nothing.
+    #[inline(always)]
     #[tactic(auto, unfolding(crate::specs::Remaining::is_asking_value))]
     pub fn answer_get(&mut self, alloc: Global, reply: &Reply) -> Result<Octets, AllocError>
         requires { is_asking_value self.now ≡ true }
@@ -290,6 +292,7 @@ impl Session {
     }
 
     // The next task.
+    #[inline(always)]
     fn turn_to(&mut self, task: Task)
         ensures { self.new ≡ record self.old { task = task } }
     {

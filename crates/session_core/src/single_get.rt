@@ -20,6 +20,7 @@ pub(crate) struct SingleGet {
 
 /// The single GET that a payload is, where GET was negotiated. It reads what `read_call` reads, with no memory and no large value on the way; all other payloads
 /// are left to that one.
+#[inline(always)]
 pub(crate) fn read_single_get(conformance: u32, payload: &[u8]) -> Option<SingleGet>
     ensures { IfSome result (λ get. IsSingleGet conformance payload.now get.id get.attr) }
 {

@@ -75,6 +75,7 @@ impl State {
 
     /// Takes in a frame for the server that is a single GET of the client of the association: its attribute, and what the answer needs to know. Any other frame
     /// changes nothing.
+    #[inline(always)]
     pub(crate) fn hear_get(&mut self, src: u16, payload: &[u8]) -> Option<(Asked, AttrRef)>
         ensures heard { IfSome result (λ heard. HearsGet self.old (heard_frame src payload.now) heard.0 heard.1 self.new) }
         ensures none { IfNone result (self.new ≡ self.old) }
