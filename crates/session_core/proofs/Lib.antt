@@ -2,3 +2,4 @@ pub mod Short
 pub mod Meet
 pub mod Tasks
 pub mod Placed
+pub mod Gets

@@ -24,7 +24,6 @@ use Rattle.session_core.specs.Roles.{role_of_request, role_of}
 use Rattle.session_core.specs.Rules.{heard_frame, exception_answer, opens, call_in, role_in, call_turn, request_turn, turn_in, turn_of, outgoing_by_role, outgoing_in, outgoing_after, resolved, outcome_at, state_after, step_outcome, is_settled, opening_answer, reply_text}
 use Rattle.session_core.specs.Calls.{is_call}
 use Rattle.session_core.specs.Running.{known_in, asks_on, answers_on, new_state}
-use Rattle.session_core.specs.declared.answer.Answer.TheVariants.{Service}
 use Rattle.session_core.specs.declared.asked.Asked.{Asked}
 use Rattle.session_core.specs.declared.call.Call.{Call}
 use Rattle.session_core.specs.declared.call.Call.TheVariants as call

@@ -2,15 +2,19 @@
 --     tag_is, is_opening, is_call     by its first byte
 --     is_negotiated                   by its form, which has to be known and negotiated
 --     call_of                         by all of it
-use Rattle.std.specs.Prelude.{ℕ, Bool, false, ◌||◌, ◌&&◌, ◌==◌, bit_and, find, Option, Some, None, if◌then◌else◌, List, [], ◌∷◌, Result, Ok, Err}
+--     IsSingleGet                     the GET of one attribute, of which no part is selected
+use Rattle.std.specs.Prelude.{◌≡◌, ℕ, Bool, true, false, ◌||◌, ◌&&◌, ◌==◌, bit_and, find, Option, Some, None, if◌then◌else◌, List, [], ◌∷◌, Result, Ok, Err}
 use Rattle.acse_ber.specs.Reading.{is_release_text}
+use Rattle.cosem_names.specs.declared.name.AttrRef.{AttrRef}
 use Rattle.session_core.specs.Standard.{aarq_tag, rlrq_tag, request_forms, get_tag, set_tag, action_tag}
 use Rattle.session_core.specs.declared.call.Call.{Call}
 use Rattle.session_core.specs.declared.call.Call.TheVariants.{Release, Service, Refused}
 use Rattle.session_core.specs.declared.conformance.RequestForm.{RequestForm}
 use Rattle.xdlms_apdu.specs.Reading.{request_of}
 use Rattle.xdlms_apdu.specs.declared.fault.ApduFault.{ApduFault}
+use Rattle.xdlms_apdu.specs.declared.invoke_id.InvokeId.{InvokeId}
 use Rattle.xdlms_apdu.specs.declared.request.Request.{Request}
+use Rattle.xdlms_apdu.specs.declared.request.Request.TheVariants.{Get}
 use Rattle.xdlms_apdu.specs.declared.response.Exception.TheVariants.{Unknown, Unreadable}
 
 -- the payload begins with this tag
@@ -54,3 +58,9 @@ request_call conformance (tag ∷ form ∷ body) = if is_negotiated conformance 
 unfoldable pub call_of : ℕ → List ℕ → Call
 call_of conformance payload =
     if tag_is rlrq_tag payload then (if is_release_text payload then Release else Refused Unreadable) else request_call conformance payload
+
+-- a payload is a call for this attribute, whole
+pub record IsSingleGet (conformance : ℕ) (payload : List ℕ) (id : InvokeId) (attr : AttrRef) : Type 0 where
+  pub opens : is_opening payload ≡ false
+  pub calls : is_call payload ≡ true
+  pub call : call_of conformance payload ≡ Service (Get id (record { attr = attr; selected = false }))

@@ -4,12 +4,17 @@
 --     Finishes      no more bytes are to come
 --     Steps         events and texts are taken off the front
 --     Takes         a reply is the first of those to come
+--     AnswersBy     the same, and then its answer is the text taken off the front
+--     AsksFor       the event taken off the front is the GET of an attribute
 --     Leaves        what the caller may rely on after each `Next`
 use Rattle.std.specs.Prelude.{◌≡◌, ◌⊎◌, ◌<◌, ℕ, true, false, Option, Some, None, List, [], ◌∷◌, ◌++◌, Result, Ok, Err}
+use Rattle.cosem_names.specs.declared.level.Level.{Level}
+use Rattle.cosem_names.specs.declared.name.AttrRef.{AttrRef}
 use Rattle.relay_core.specs.declared.event.Event.{Event}
+use Rattle.relay_core.specs.declared.event.Event.TheVariants.{Get}
 use Rattle.relay_core.specs.declared.event.Reply.{Reply}
 use Rattle.session_core.specs.Backwards.{Asks, Answers, end_of}
-use Rattle.session_core.specs.Remaining.{still_asks, still_sends, still_ends, is_asking, ended, is_finished, load}
+use Rattle.session_core.specs.Remaining.{still_asks, still_sends, still_ends, is_asking, is_asking_value, ended, is_finished, load}
 use Rattle.session_core.specs.declared.end.SessionEnd.{SessionEnd}
 use Rattle.session_core.specs.declared.next.Next.{Next}
 use Rattle.session_core.specs.declared.next.Next.TheVariants.{Ask, Send, Wait, End}
@@ -61,6 +66,26 @@ pub record Takes (old : Session) (reply : Reply) (new : Session) : Type 0 where
   pub finished : is_finished new ≡ is_finished old
   pub less : load new < load old
 
+-- a reply came, and then the text of its answer was sent
+pub record AnswersBy (old : Session) (reply : Reply) (text : List ℕ) (new : Session) : Type 0 where
+  pub between : Session
+  pub takes : Takes old reply between
+  pub sends : Steps between [] (text ∷ []) new
+  pub silent : is_asking new ≡ false
+  pub less : load new < load old
+
+-- the reply to an event is awaited, and nothing is sent before it
+pub record IsAwaiting (s : Session) : Type 0 where
+  pub asking : is_asking s ≡ true
+  pub sends : (more : List ℕ) → still_sends s more [] ≡ []
+
+-- an attribute was asked for, for a client of this level, and the reply is awaited
+pub record AsksFor (old : Session) (level : Level) (attr : AttrRef) (new : Session) : Type 0 where
+  pub steps : Steps old (Get level attr false ∷ []) [] new
+  pub awaits : IsAwaiting new
+  pub value : is_asking_value new ≡ true
+  pub less : load new < load old
+
 -- the events and the texts of a `Next`
 abbrev pub asked_by : Next → List Event
 asked_by (Ask event) = event ∷ []
@@ -81,11 +106,6 @@ pub record IsQuiet (s : Session) : Type 0 where
   pub sends : (replies : List Reply) → still_sends s [] replies ≡ []
   pub silent : is_asking s ≡ false
   pub goes_on : is_finished s ≡ false
-
--- the reply to an event is awaited, and nothing is sent before it
-pub record IsAwaiting (s : Session) : Type 0 where
-  pub asking : is_asking s ≡ true
-  pub sends : (more : List ℕ) → still_sends s more [] ≡ []
 
 -- nothing is asked and nothing sent any more
 pub record IsOver (end : SessionEnd) (s : Session) : Type 0 where

@@ -1,6 +1,6 @@
 -- What a session still does, by what it keeps, for every way that its input goes on and for every list of replies.
 --     still_asks, still_sends, still_ends     the events, the texts of the answers, and the end
---     is_asking, ended, is_finished, is_idle  what it waits for
+--     is_asking .. is_idle                    what it waits for
 --     load                                    how much work is in what it keeps
 use Rattle.std.specs.Prelude.{ℕ, ◌+◌, ◌&&◌, not, Bool, true, false, if◌then◌else◌, Option, Some, None, option_to_list, List, [], ◌∷◌, ◌++◌, length}
 use Rattle.relay_core.specs.declared.event.Event.{Event}
@@ -10,7 +10,7 @@ use Rattle.session_core.specs.Backwards.{to_server, end_of}
 use Rattle.session_core.specs.Incoming.{whole_outcome}
 use Rattle.session_core.specs.Outcome.{Outcome, asks, says, event_of}
 use Rattle.session_core.specs.Outgoing.{outgoing_by}
-use Rattle.session_core.specs.Rules.{reply_text}
+use Rattle.session_core.specs.Rules.{asks_value, reply_text}
 use Rattle.session_core.specs.Running.{known_in, asks_on, answers_on}
 use Rattle.session_core.specs.Walks.{answers_from}
 use Rattle.session_core.specs.declared.asked.Asked.{Asked}
@@ -102,6 +102,14 @@ awaits _ = false
 -- the reply to an event is awaited
 unfoldable pub is_asking : Session → Bool
 is_asking s = awaits s.task
+
+abbrev pub awaits_value : Task → Bool
+awaits_value (Await asked) = asks_value asked.form
+awaits_value _ = false
+
+-- the reply to a GET of one attribute is awaited
+unfoldable pub is_asking_value : Session → Bool
+is_asking_value s = awaits_value s.task
 
 abbrev pub end_in : Task → Option SessionEnd
 end_in (Over end) = Some end

@@ -4,11 +4,12 @@
 --     turn_of                                      what comes of the frame
 --     link_after, incoming_after, outgoing_after   the association, the long SET or ACTION and the long GET after it
 --     outcome_at, state_after                      the same of all that a session keeps
-use Rattle.std.specs.Prelude.{ℕ, Bool, false, true, ◌&&◌, ◌==◌, if◌then◌else◌, Option, Some, None, List, Result, Ok, Err}
+use Rattle.std.specs.Prelude.{◌≡◌, ℕ, Bool, false, true, ◌&&◌, ◌==◌, if◌then◌else◌, Option, Some, None, List, Result, Ok, Err}
 use Rattle.acse_ber.specs.Reading.{aarq_of}
 use Rattle.acse_ber.specs.Verdict.{verdict_of}
 use Rattle.acse_ber.specs.declared.fault.AcseFault.{AcseFault}
 use Rattle.acse_ber.specs.declared.aarq.Aarq.{Aarq}
+use Rattle.cosem_names.specs.declared.name.AttrRef.{AttrRef}
 use Rattle.relay_core.specs.declared.event.Event.TheVariants as event
 use Rattle.relay_core.specs.declared.event.Reply.{Reply}
 use Rattle.session_core.specs.Answers.{answer_text, due_text}
@@ -71,6 +72,11 @@ is_release _ = false
 -- a frame releases this association
 abbrev pub is_closing : Link → Frame → Bool
 is_closing link f = is_heard link f && is_release (call_in link f)
+
+-- the form of the answer to a GET of one attribute
+abbrev pub asks_value : ReplyForm → Bool
+asks_value (form.Get id) = true
+asks_value _ = false
 
 -- ---- what comes of a frame
 
@@ -194,3 +200,9 @@ abbrev pub is_settled : Step → Bool
 is_settled (Ask event asked) = true
 is_settled (Say due) = true
 is_settled (Join joined) = false
+
+-- a frame asks for this attribute, and ends the transfers, whatever the password is
+pub record HearsGet (old : State) (f : Frame) (asked : Asked) (attr : AttrRef) (new : State) : Type 0 where
+  pub outcome : (password : List ℕ) → outcome_at password old f ≡ asks (event.Get asked.link.level attr false) asked
+  pub after : (password : List ℕ) → new ≡ state_after password old f None
+  pub form : asks_value asked.form ≡ true

@@ -4,15 +4,23 @@ ghost use Rattle.session_core.specs.Standard.{greatest_pdu};
 ghost use Rattle.xdlms_apdu.specs.Text.{response_text};
 
 use acse_ber::{Aare, RELEASE_RESPONSE, write_aare};
-use cosem_axdr::Octets;
+use cosem_axdr::{Data, Octets, append};
+use cosem_names::GetResult;
 use std::alloc::{AllocError, Global};
 use wrapper_frame::{HEADER_SIZE, framed};
-use xdlms_apdu::{Response, append_response};
+use xdlms_apdu::{InvokeId, Response, append_response};
 
 /// The wrapper port of the server.
 pub(crate) const SERVER_PORT: u16 = 1;
 /// An answer is begun with memory for so many bytes. Most are shorter.
 const ROOM: usize = 64;
+
+/// The tag of a Get-Response, its form Normal, and the choice of a value in it (IEC 62056-5-3).
+const GET_RESPONSE: u8 = 0xC4;
+
+const NORMAL: u8 = 1;
+
+const DATA: u8 = 0;
 
 /// What the server answers.
 #[derive(Drop)]
@@ -70,6 +78,23 @@ impl Way {
     {
         let mut text = self.begin(alloc)?;
         append_response(response, &mut text)?;
+        Ok(text)
+    }
+
+    /// The text of the response with a value, behind the bytes that are left for a header.
+    #[tactic(auto, unfolding(xdlms_apdu::specs::Text::response_text), using(std::proofs::lemmas::List::drop_at))]
+    pub(crate) fn write_value(
+        self,
+        alloc: Global,
+        id: InvokeId,
+        value: &Data,
+    ) -> Result<Octets, AllocError>
+        ensures header { IfOk result (λ text. way_size self ≤ length text) }
+        ensures payload { IfOk result (λ text. drop (way_size self) text ≡ response_text (Response.Get id (GetResult.Value value.now))) }
+    {
+        let mut text = self.begin(alloc)?;
+        text.extend_from_slice(&[GET_RESPONSE, NORMAL, id.0, DATA])?;
+        append(value, &mut text)?;
         Ok(text)
     }
 

@@ -18,6 +18,7 @@ mod password;
 mod prepared;
 mod replying;
 mod session;
+mod single_get;
 mod state;
 mod step;
 mod task;

@@ -1,6 +1,7 @@
-ghost use Rattle.std.specs.Prelude.{◌≡◌, ◌≤◌, ◌<◌, ◌*◌, ◌-◌, None, length, option_and_then, true, IfOk, IfErr, OnOk};
-ghost use Rattle.session_core.specs.Answers.{answer_text, way_text, IsSmall};
+ghost use Rattle.std.specs.Prelude.{◌≡◌, ◌≤◌, ◌<◌, ◌*◌, ◌-◌, None, length, option_and_then, true, IfOk, IfErr, OnOk, OnErr};
+ghost use Rattle.session_core.specs.Answers.{answer_text, due_text, way_text, IsSmall};
 ghost use Rattle.session_core.specs.Outgoing.{sent, unsent_by, can_go_in_blocks, long_response, long_text, response_in_blocks, text_in_blocks, block_response, code_response, reply_code, reply_response, answer_cut, reply_in, outgoing_by};
+ghost use Rattle.session_core.specs.Rules.{asks_value, reply_text};
 ghost use Rattle.session_core.specs.Standard.{block_header};
 ghost use Rattle.session_core.specs.declared.answer.Answer.TheVariants.{Service};
 ghost use Rattle.xdlms_blocks.specs.Limits.{max_blocks};
@@ -12,7 +13,7 @@ use crate::conformance::GET_IN_BLOCKS;
 use crate::due::Due;
 use crate::link::Link;
 use crate::outgoing::{Outgoing, block_given};
-use cosem_axdr::Octets;
+use cosem_axdr::{Data, Octets};
 use cosem_names::{GetResult, ResultCode};
 use relay_core::Reply;
 use std::alloc::{AllocError, Global};
@@ -69,6 +70,62 @@ pub(crate) fn answer_reply(
         },
         other => answer_result(alloc, asked, way, other),
     }
+}
+
+/// The frame with the answer to the reply to a GET of one attribute. The long GET that it begins takes the place of the last one. Want of memory changes nothing.
+#[tactic(auto, unfolding(crate::specs::Outgoing::reply_response, crate::specs::Outgoing::begun_by), using(crate::proofs::Tasks::value_cut))]
+#[inline(always)]
+pub(crate) fn answer_get(
+    alloc: Global,
+    asked: Asked,
+    reply: &Reply,
+    outgoing: &mut Option<Outgoing>,
+) -> Result<Octets, AllocError>
+    requires { asks_value asked.form ≡ true }
+    ensures text { IfOk result (λ text. text ≡ reply_text asked reply.now) }
+    ensures outgoing { OnOk result (outgoing.new ≡ outgoing_by asked reply.now) }
+    ensures err { OnErr result (outgoing.new ≡ outgoing.old) }
+{
+    let ReplyForm::Get(id) = asked.form else {
+        unreachable!()
+    };
+    let Reply::Value(value) = reply else {
+        let due = Due::response(
+            asked.link.source,
+            code_response(asked.form, reply_code(reply)),
+        );
+        let text = due.into_text(alloc, Way::Framed)?;
+        *outgoing = None;
+        return Ok(text);
+    };
+    answer_value(alloc, asked.link, id, value, outgoing)
+}
+
+// The frame with the answer to a value.
+#[tactic(auto, unfolding(crate::specs::Answers::answer_text))]
+#[inline(always)]
+fn answer_value(
+    alloc: Global,
+    link: Link,
+    id: InvokeId,
+    value: &Data,
+    outgoing: &mut Option<Outgoing>,
+) -> Result<Octets, AllocError>
+    ensures text { IfOk result (λ text. text ≡ due_text link.source (answer_text (Service (long_response link (answer_cut id (Response.Get id (GetResult.Value value.now)) 4))))) }
+    ensures outgoing { OnOk result (outgoing.new ≡ option_and_then (sent 1) (long_text link (answer_cut id (Response.Get id (GetResult.Value value.now)) 4))) }
+    ensures err { OnErr result (outgoing.new ≡ outgoing.old) }
+{
+    let text = Way::Framed.write_value(alloc, id, value)?;
+    if Way::Framed.payload(&text).len() <= usize::from(link.limit.bytes()) {
+        *outgoing = None;
+        return Ok(Way::Framed.end(link.source, text));
+    }
+    let raw = &Way::Framed.payload(&text)[GET_HEADER..];
+    let answered = answer_in_blocks(alloc, link, Way::Framed, id, raw);
+    drop(text);
+    let answered = answered?;
+    *outgoing = answered.outgoing;
+    Ok(answered.text)
 }
 
 // The answer to values. Want of memory gives them back.

@@ -1,4 +1,4 @@
-ghost use Rattle.std.specs.Prelude.{◌≡◌, ◌≤◌, ◌+◌, length, true, false, Some, IfOk, IfErr, OnOk, OnErr, Ok};
+ghost use Rattle.std.specs.Prelude.{◌≡◌, ◌≤◌, ◌+◌, length, true, false, Some, IfSome, IfNone, IfOk, IfErr, OnOk, OnErr, Ok};
 ghost use Rattle.acse_ber.specs.Password.{IsPassword};
 ghost use Rattle.session_core.specs.declared.task.Task.TheVariants.{Listen, Over};
 ghost use Rattle.wrapper_frame.specs.Header.{header_size, head_of};
@@ -8,11 +8,12 @@ use crate::answer::{SERVER_PORT, Way};
 use crate::end::SessionEnd;
 use crate::next::Next;
 use crate::password::Password;
-use crate::replying::{Answered, answer_reply};
+use crate::replying::{Answered, answer_get, answer_reply};
 use crate::state::State;
 use crate::step::Step;
 use crate::task::Task;
 use cosem_axdr::Octets;
+use cosem_names::{AttrRef, Level};
 use relay_core::Reply;
 use std::alloc::{AllocError, Global};
 use std::fmt::{self, Debug, Formatter};
@@ -40,8 +41,8 @@ impl Debug for Session {
 }
 
 impl Session {
-    ghost use Rattle.session_core.specs.Remaining.{is_asking, ended, is_idle};
-    ghost use Rattle.session_core.specs.Progress.{Owes, IsQuiet, Feeds, Finishes, StepsBy, Leaves, Takes, WorksBy, task_by, next_by};
+    ghost use Rattle.session_core.specs.Remaining.{is_asking, is_asking_value, ended, is_idle};
+    ghost use Rattle.session_core.specs.Progress.{Owes, IsQuiet, Feeds, Finishes, StepsBy, Leaves, Takes, AnswersBy, AsksFor, WorksBy, task_by, next_by};
 
     /// A session of which no byte has come. The management client has this password, 1 to 32 bytes.
     pub fn new(alloc: Global, password: &Octets) -> Result<Session, AllocError>
@@ -129,6 +130,47 @@ impl Session {
         self.state.outgoing = outgoing;
         self.turn_to(Task::Send(text));
         Ok(())
+    }
+
+    /// Takes the frame at the front where it is whole and a GET of one attribute, with no selection, by the client of the association: then the meter is to be asked
+    /// `Event::Get` of this level and attribute, and `answer_get` takes its reply. Where it gives none all is as it was, and `next` tells what the session wants.
+    #[inline(always)]
+    pub fn next_get(&mut self) -> Option<(Level, AttrRef)>
+        ensures asks { IfSome result (λ get. AsksFor self.old get.0 get.1 self.new) }
+        ensures none { IfNone result (self.new ≡ self.old) }
+    {
+        let Task::Listen = &self.task else {
+            return None;
+        };
+        let Head::Whole(size) = self.deframer.front() else {
+            return None;
+        };
+        let (source, destination) = self.deframer.ports();
+        if destination != SERVER_PORT {
+            return None;
+        }
+        let payload = self.deframer.payload(size);
+        let (asked, attr) = self.state.hear_get(source, payload)?;
+        let level = asked.link.level;
+        self.deframer.pass(size);
+        self.turn_to(Task::Await(asked));
+        Some((level, attr))
+    }
+
+    /// Takes in the reply to the event of `next_get`, and gives the frame with its answer, as `answer` and then `next` would. Want of memory changes nothing.
+    #[inline(always)]
+    #[tactic(auto, unfolding(crate::specs::Remaining::is_asking_value))]
+    pub fn answer_get(&mut self, alloc: Global, reply: &Reply) -> Result<Octets, AllocError>
+        requires { is_asking_value self.now ≡ true }
+        ensures ok { IfOk result (λ frame. AnswersBy self.old reply.now frame self.new) }
+        ensures err { OnErr result (self.new ≡ self.old) }
+    {
+        let Task::Await(asked) = self.task else {
+            unreachable!()
+        };
+        let text = answer_get(alloc, asked, reply, &mut self.state.outgoing)?;
+        self.turn_to(Task::Listen);
+        Ok(text)
     }
 
     // The end that was told.
@@ -250,6 +292,7 @@ impl Session {
     }
 
     // The next task.
+    #[inline(always)]
     fn turn_to(&mut self, task: Task)
         ensures { self.new ≡ record self.old { task = task } }
     {

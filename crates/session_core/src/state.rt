@@ -1,4 +1,4 @@
-ghost use Rattle.std.specs.Prelude.{◌≡◌, ◌≤◌, Some, None, length, true, false, IfOk, OnOk, OnErr};
+ghost use Rattle.std.specs.Prelude.{◌≡◌, ◌≤◌, Some, None, length, true, false, IfSome, IfNone, IfOk, OnOk, OnErr};
 ghost use Rattle.acse_ber.specs.Reading.{aarq_of};
 ghost use Rattle.session_core.specs.Association.{opened_by};
 ghost use Rattle.session_core.specs.Rules.{heard_frame, opening_answer};
@@ -14,10 +14,11 @@ use crate::incoming::{Incoming, LongService, Purpose, add_to};
 use crate::link::{Link, answer_to, opened};
 use crate::outgoing::{Outgoing, continue_by};
 use crate::password::Password;
+use crate::single_get::read_single_get;
 use crate::step::Step;
 use acse_ber::{AcseFault, judge, read_aarq};
 use cosem_axdr::Data;
-use cosem_names::{AttributeSelection, Level};
+use cosem_names::{AttrRef, AttributeSelection, Level};
 use relay_core::Event;
 use std::alloc::{AllocError, Global};
 use xdlms_apdu::{Block, Exception, InvokeId, Request};
@@ -32,7 +33,7 @@ pub(crate) struct State {
 }
 
 impl State {
-    ghost use Rattle.session_core.specs.Rules.{heard_frame, outcome_at, state_after, state_by_call, step_outcome, resolved, call_turn, request_turn};
+    ghost use Rattle.session_core.specs.Rules.{heard_frame, outcome_at, state_after, state_by_call, step_outcome, resolved, call_turn, request_turn, HearsGet};
     ghost use Rattle.session_core.specs.Outcome.{asks, says};
     ghost use Rattle.session_core.specs.Outgoing.{continued, continued_response};
 
@@ -70,6 +71,27 @@ impl State {
             Some(link) if link.source == src => self.call(alloc, link, payload),
             Some(_) | None => Ok(Step::Say(Due::exception(src, Exception::NotAllowed))),
         }
+    }
+
+    /// Takes in a frame for the server that is a single GET of the client of the association: its attribute, and what the answer needs to know. Any other frame
+    /// changes nothing.
+    #[inline(always)]
+    pub(crate) fn hear_get(&mut self, src: u16, payload: &[u8]) -> Option<(Asked, AttrRef)>
+        ensures heard { IfSome result (λ heard. HearsGet self.old (heard_frame src payload.now) heard.0 heard.1 self.new) }
+        ensures none { IfNone result (self.new ≡ self.old) }
+    {
+        let link = self.link?;
+        if link.source != src {
+            return None;
+        }
+        let get = read_single_get(link.conformance, payload)?;
+        self.incoming = None;
+        self.outgoing = None;
+        let asked = Asked {
+            link,
+            form: ReplyForm::Get(get.id),
+        };
+        Some((asked, get.attr))
     }
 
     // An AARQ ends the association, and opens another if it is accepted.

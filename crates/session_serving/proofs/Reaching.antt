@@ -13,7 +13,7 @@ use Rattle.session_serving.proofs.Replies.{replied_more, replied_on, refused_on}
 use Rattle.relay_core.specs.declared.event.Event.{Event}
 use Rattle.relay_core.specs.declared.event.Reply.{Reply}
 use Rattle.session_core.specs.Backwards.{Asks, Answers, end_of}
-use Rattle.session_core.specs.Progress.{Owes, Feeds, Finishes, Steps, Takes, IsQuiet, IsAwaiting, IsOver}
+use Rattle.session_core.specs.Progress.{Owes, Feeds, Finishes, Steps, Takes, AnswersBy, IsQuiet, IsAwaiting, IsOver}
 use Rattle.session_core.specs.Remaining.{still_asks, still_sends, still_ends, is_asking, ended, is_finished, end_in, awaits}
 use Rattle.session_core.specs.declared.end.SessionEnd.{SessionEnd}
 use Rattle.session_core.specs.declared.session.Session.{Session}
@@ -130,6 +130,14 @@ module _ {M : Type 0} {steps : M → Event → Result Reply CallFault → M → 
     replied = replied_more steps m m' m'' r.asked r.replies event reply r.replied step;
     wrote = r.wrote;
   }
+
+  -- an attribute was asked for, and the answer written
+  pub reached_answered : (seen : List ℕ) (old middle new : Session) (m' m'' : M) (written' written'' : Option (List ℕ)) (event : Event) (reply : Reply) (text : List ℕ)
+      → Reached steps written_as asks sends ends m written seen old m' written' → Steps old (event ∷ []) [] middle → steps m' event (Ok reply) m''
+      → AnswersBy middle reply text new → Appends written' written'' (written_as text)
+      → Reached steps written_as asks sends ends m written seen new m'' written''
+  reached_answered seen old middle new m' m'' written' written'' event reply text r st step answered wrote =
+      reached_sent seen answered.between new m'' written' written'' text (reached_asked seen old middle answered.between m' m'' written' event reply r st step answered.takes) answered.sends wrote
 
   -- after the end of the input, whatever bytes come then
   pub reached_finished : (seen : List ℕ) (old new : Session) (m' : M) (written' : Option (List ℕ))

@@ -24,6 +24,7 @@ pub trait Meter {
 impl Meter for RelayCore {
     ghost steps = { CoreSteps };
 
+    #[inline(always)]
     fn call(&mut self, alloc: Global, event: Event) -> Result<Reply, CallFault> {
         let reply = self.step(alloc, &event);
         drop(event);

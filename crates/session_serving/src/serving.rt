@@ -10,6 +10,7 @@ use crate::form::{AsBytes, Form};
 use crate::meter::Meter;
 use byte_streams::{Reader, Writer};
 use cosem_axdr::Octets;
+use relay_core::Event;
 use session_core::{Next, Session, SessionEnd};
 use std::alloc::Global;
 
@@ -34,17 +35,33 @@ fn settle<F: Form, W: Writer, M: Meter>(
     ensures err { IfErr result (λ fault. Stops M.steps F.written_as (still_asks session.old []) (still_sends session.old []) meter.old (W.contents writer.old) (W.failures writer.old) fault meter.new (W.contents writer.new) (W.failures writer.new)) }
 {
     'due: loop {
-        match session.next(alloc)? {
-            Next::Ask(event) => {
+        match session.next_get() {
+            Some((level, attr)) => {
+                let event = Event::Get {
+                    level,
+                    attr,
+                    selected: false,
+                };
                 let reply = meter.call(alloc, event)?;
-                match session.answer(alloc, reply) {
-                    Ok(()) => {}
+                let answered = session.answer_get(alloc, &reply);
+                drop(reply);
+                match answered {
+                    Ok(frame) => F::write(alloc, writer, frame.as_slice())?,
                     Err(_) => return Err(ServeFault::Memory),
                 }
             }
-            Next::Send(frame) => F::write(alloc, writer, frame.as_slice())?,
-            Next::Wait => return Ok(None),
-            Next::End(end) => return Ok(Some(end)),
+            None => match session.next(alloc)? {
+                Next::Ask(event) => {
+                    let reply = meter.call(alloc, event)?;
+                    match session.answer(alloc, reply) {
+                        Ok(()) => {}
+                        Err(_) => return Err(ServeFault::Memory),
+                    }
+                }
+                Next::Send(frame) => F::write(alloc, writer, frame.as_slice())?,
+                Next::Wait => return Ok(None),
+                Next::End(end) => return Ok(Some(end)),
+            },
         }
     }
 }

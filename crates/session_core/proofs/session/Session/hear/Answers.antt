@@ -1,4 +1,3 @@
-use Rattle.std.proofs.Common.{true, false}
 use Rattle.std.specs.contracts.alloc.AllocError.{the_row}
 use Rattle.std.proofs.lemmas.Bool.{ne_eqb}
 use Rattle.session_core.proofs.Tasks.{hears_any, passes_any}

@@ -1,0 +1,110 @@
+-- The way of a GET of one attribute, from its frame to the frame of its answer.
+use Rattle.std.proofs.Common.{◌≡◌, ◌<◌, ◌==◌, ℕ, true, false, if◌then◌else◌, Option, Some, None, Ok, List, [], ◌∷◌, get_or, ◌≤◌, length, take, drop, bit_and, refl, sym, ap, subst, arith}
+use Rattle.std.specs.Int.{w16, from_be_bytes}
+use Rattle.std.proofs.lemmas.Bool.{eq-eqb}
+use Rattle.std.proofs.lemmas.Slice.Eq.{text_from_reads}
+use Rattle.cosem_names.specs.declared.name.AttrRef.{AttrRef}
+use Rattle.relay_core.specs.declared.event.Event.{Event}
+use Rattle.relay_core.specs.declared.event.Event.TheVariants as event
+use Rattle.relay_core.specs.declared.event.Reply.{Reply}
+use Rattle.session_core.proofs.Tasks.{hears_any, takes_any, gives_any}
+use Rattle.session_core.specs.Calls.{IsSingleGet, call_by, call_of, is_negotiated, request_form}
+use Rattle.session_core.specs.Outgoing.{outgoing_by}
+use Rattle.session_core.specs.Progress.{AnswersBy, AsksFor, WorksBy}
+use Rattle.session_core.specs.Remaining.{is_asking, is_asking_value, load, task_load}
+use Rattle.session_core.specs.Rules.{HearsGet, heard_frame, incoming_after, link_after, outgoing_after, reply_text, turn_of}
+use Rattle.session_core.specs.Standard.{management_device}
+use Rattle.session_core.specs.declared.asked.Asked.{Asked}
+use Rattle.session_core.specs.declared.call.Call.TheVariants.{Refused}
+use Rattle.session_core.specs.declared.asked.ReplyForm.TheVariants as form
+use Rattle.session_core.specs.declared.link.Link.{Link}
+use Rattle.session_core.specs.declared.next.Next.TheVariants as next
+use Rattle.session_core.specs.declared.session.Session.{Session}
+use Rattle.session_core.specs.declared.state.State.{State}
+use Rattle.session_core.specs.declared.step.Step.TheVariants as step
+use Rattle.session_core.specs.declared.task.Task.TheVariants.{Listen, Await, Send}
+use Rattle.wrapper_frame.specs.Header.{head_of, header_size, src_of, dst_of}
+use Rattle.wrapper_frame.specs.Messages.{first_frame, after_first}
+use Rattle.wrapper_frame.specs.Stream.{GoesOn}
+use Rattle.wrapper_frame.specs.declared.header.Head.TheVariants as head
+use Rattle.xdlms_apdu.specs.Reading.{request_of, request_at, get_request_at, target_at, attribute_at, selection_at}
+use Rattle.xdlms_apdu.specs.declared.invoke_id.InvokeId.{InvokeId}
+use Rattle.xdlms_apdu.specs.declared.response.Exception.TheVariants.{Unknown}
+use Rattle.xdlms_blocks.specs.Transfer.{Sending}
+
+-- ---- its payload
+
+-- thirteen bytes that are such a request
+single_of : (conformance id high low a b c d e f number : ℕ) → bit_and conformance 0x10 ≡ 0x10
+    → IsSingleGet conformance (0xC0 ∷ 0x01 ∷ id ∷ high ∷ low ∷ a ∷ b ∷ c ∷ d ∷ e ∷ f ∷ number ∷ 0x00 ∷ []) (record { 0 = id })
+    (record { class = record { 0 = from_be_bytes w16 (high ∷ low ∷ []) }; name = record { 0 = a ∷ b ∷ c ∷ d ∷ e ∷ f ∷ [] }; number = number })
+unfolding call_of is_negotiated request_form request_of request_at get_request_at target_at attribute_at selection_at
+single_of conformance id high low a b c d e f number negotiated =
+    let payload : List ℕ = 0xC0 ∷ 0x01 ∷ id ∷ high ∷ low ∷ a ∷ b ∷ c ∷ d ∷ e ∷ f ∷ number ∷ 0x00 ∷ [] in
+    record {
+      opens = refl;
+      calls = refl;
+      call = ap (λ (bits : ℕ). if bits == 0x10 then call_by (request_of payload) else Refused Unknown) negotiated;
+    }
+
+pub reads_single : (conformance : ℕ) (s : List ℕ) (class : ℕ) → 13 ≤ length s → length s < 14 → get_or s 0 0 ≡ 0xC0 → get_or s 1 0 ≡ 0x01 → get_or s 12 0 ≡ 0x00
+    → bit_and conformance 0x10 ≡ 0x10 → class ≡ from_be_bytes w16 (get_or s 3 0 ∷ get_or s 4 0 ∷ [])
+    → IsSingleGet conformance s (record { 0 = get_or s 2 0 })
+    (record { class = record { 0 = class }; name = record { 0 = get_or s 5 0 ∷ get_or s 6 0 ∷ get_or s 7 0 ∷ get_or s 8 0 ∷ get_or s 9 0 ∷ get_or s 10 0 ∷ [] }; number = get_or s 11 0 })
+reads_single conformance s class least most tag form selection negotiated is_class =
+    let read : List ℕ =
+    0xC0 ∷ 0x01 ∷ get_or s 2 0 ∷ get_or s 3 0 ∷ get_or s 4 0 ∷ get_or s 5 0 ∷ get_or s 6 0 ∷ get_or s 7 0 ∷ get_or s 8 0 ∷ get_or s 9 0 ∷ get_or s 10 0 ∷ get_or s 11 0 ∷ 0x00 ∷ [] in
+    let spelled : s ≡ read =
+    text_from_reads s read (omega (arith, least, most))
+    (tag, (form, (refl, (refl, (refl, (refl, (refl, (refl, (refl, (refl, (refl, (refl, (selection, tt))))))))))))) in
+    rw (spelled, is_class) (single_of conformance _ _ _ _ _ _ _ _ _ _ negotiated)
+
+-- ---- its frame
+
+-- the client of the association asks for an attribute
+pub hears_single : (s : State) (src : ℕ) (payload : List ℕ) (link : Link) (id : InvokeId) (attr : AttrRef) → s.link ≡ Some link → link.source ≡ src
+    → IsSingleGet link.conformance payload id attr
+    → HearsGet s (heard_frame src payload) (record { link = link; form = form.Get id }) attr (record { link = s.link; incoming = None; outgoing = None })
+unfolding turn_of link_after incoming_after outgoing_after
+hears_single s src payload link id attr linked same get =
+    let here : (link.source == src) ≡ true = eq-eqb link.source src same in
+    record {
+      outcome = λ password. rw (get.opens, get.calls, linked, here, get.call) refl;
+      after = λ password. rw (get.opens, linked, get.calls, here, get.call) refl;
+      form = refl;
+    }
+
+-- the frame at the front asks for an attribute
+pub asks_single : (s t : Session) (pending payload : List ℕ) (kept : State) (src dst n : ℕ) (asked : Asked) (attr : AttrRef) → s.task ≡ Listen
+    → head_of s.deframer ≡ head.Whole n → src ≡ src_of s.deframer → dst ≡ dst_of s.deframer → dst ≡ management_device → payload ≡ take n (drop header_size s.deframer)
+    → pending ≡ after_first n s.deframer → GoesOn s.deframer (Some (first_frame n s.deframer)) pending
+    → HearsGet s.state (heard_frame src payload) asked attr kept
+    → t ≡ record { password = s.password; deframer = pending; is_finished = s.is_finished; state = kept; task = Await asked } → AsksFor s asked.link.level attr t
+unfolding is_asking_value
+asks_single s t pending payload kept src dst n asked attr listening whole src_is dst_is here payload_is left goes_on heard after =
+    let event : Event = event.Get asked.link.level attr false in
+    let works : WorksBy {E = ℕ} s (Ok (Some (next.Ask event))) t =
+    hears_any ℕ s t pending payload kept src dst n (step.Ask event asked) (Some (next.Ask event)) listening whole src_is dst_is here payload_is left goes_on
+    (sym (heard.outcome s.password)) (heard.after s.password) refl after in
+    record { steps = works.0; awaits = works.1.0; value = rw after heard.form; less = works.1.1 }
+
+-- ---- its answer
+
+-- the frame of the answer is given at once
+pub answers_any : (s t : Session) (asked : Asked) (reply : Reply) (text : List ℕ) (outgoing : Option Sending) → s.task ≡ Await asked
+    → text ≡ reply_text asked reply → outgoing ≡ outgoing_by asked reply
+    → t ≡ record { password = s.password; deframer = s.deframer; is_finished = s.is_finished; state = record { link = s.state.link; incoming = s.state.incoming; outgoing = outgoing }; task = Listen }
+    → AnswersBy s reply text t
+unfolding is_asking load
+answers_any s t asked reply text outgoing awaiting e o after =
+    let kept : State = record { link = s.state.link; incoming = s.state.incoming; outgoing = outgoing } in
+    let between : Session = record { password = s.password; deframer = s.deframer; is_finished = s.is_finished; state = kept; task = Send text } in
+    let gives : WorksBy {E = ℕ} between (Ok (Some (next.Send text))) t = subst (λ (u : Session). WorksBy {E = ℕ} between (Ok (Some (next.Send text))) u) (sym after) (gives_any ℕ between text Listen refl refl) in
+    let before : task_load s.task ≡ 3 = ap task_load awaiting in
+    record {
+      between = between;
+      takes = takes_any s between asked reply text outgoing awaiting e o refl;
+      sends = gives.0;
+      silent = gives.1.0;
+      less = rw after (omega (arith, before));
+    }
