@@ -9,8 +9,8 @@ use std::alloc::{AllocError, Global};
 use std::process::Abort;
 use std::test::Fail;
 use trace_lines::read_event;
-use trace_words::Version;
 use trace_player::write_trace;
+use trace_words::Version;
 
 /// Script 3 is written: mode 0, and then the supply is cut.
 const WRITE_TABLE: &[u8] =
