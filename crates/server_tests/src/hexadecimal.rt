@@ -5,7 +5,7 @@ ghost use Rattle.relay_core.specs.World.{IsDeviceName};
 use crate::sessions::{Input, Output, PUBLIC_AARE, PUBLIC_AARQ, PUBLIC_GET, PUBLIC_STATE};
 use byte_streams::Counted;
 use cosem_axdr::Octets;
-use meter_server::{HexFault, run_hex};
+use session_serving::{HexFault, run_hex};
 use std::alloc::{AllocError, Global};
 use std::io;
 use std::io::Read;
@@ -69,7 +69,7 @@ fn gives(
 /// A text, the lines that are written to it, and what comes of it.
 type Played = (&'static str, &'static str, Result<(), HexFault>);
 
-const TEXTS: [Played; 10] = [
+static TEXTS: [Played; 10] = [
     // Digits have either case and blanks between.
     (
         " 0001 0010 0001\r\n000 1cA\n\n",
@@ -155,7 +155,7 @@ fn a_text_has_1048576_characters(rt: HostRuntime) -> Result<(), Fail> {
 }
 
 /// Which read or write fails, the fault, and how many bytes are written.
-const FAILING: [((u32, u32), HexFault, usize); 4] = [
+static FAILING: [((u32, u32), HexFault, usize); 4] = [
     ((1, 0), HexFault::Read, 0),
     ((2, 0), HexFault::Read, 0),
     ((0, 1), HexFault::Write, 0),

@@ -1,4 +1,4 @@
-//! Tests of `meter_server`: requests and sessions.
+//! Tests of `session_serving`: requests and sessions.
 //!
 //! They stand apart from what they test, since a check of tests proves anew all that stands in their crate.
 #![tactic(auto)]

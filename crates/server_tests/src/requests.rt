@@ -1,6 +1,6 @@
 use cosem_axdr::Octets;
-use meter_server::answer_apdu;
 use relay_core::RelayCore;
+use session_serving::answer_apdu;
 use std::alloc::{AllocError, Global};
 use std::process::Abort;
 use std::test::Fail;
@@ -59,7 +59,7 @@ fn ask_all(
 /// What is shown, and requests to a new meter and their answers.
 type Asked = (&'static str, &'static [(&'static str, &'static str)]);
 
-const REQUESTS: [Asked; 6] = [
+static REQUESTS: [Asked; 6] = [
     (
         "attributes are read",
         &[

@@ -4,9 +4,9 @@ ghost use Rattle.acse_ber.specs.Password.{IsPassword};
 use byte_streams::Counted;
 use call_fault::CallFault;
 use cosem_axdr::Octets;
-use meter_server::{Meter, ServeFault, serve_session};
 use relay_core::{Event, RelayCore, Reply};
 use session_core::SessionEnd;
+use session_serving::{Meter, ServeFault, serve_session};
 use std::alloc::{AllocError, Global};
 use std::io;
 use std::io::{ErrorKind, Read, Write};
@@ -323,7 +323,7 @@ type Session = (
     SessionEnd,
 );
 
-const SESSIONS: [Session; 14] = [
+static SESSIONS: [Session; 14] = [
     (
         "a public client associates",
         "12345678",
@@ -493,7 +493,7 @@ const SECOND_BLOCK: &str =
     "C402C101000000020027030AFF000906000060030AFF000906000060030AFF000906000060030AFF000906000060030AFF";
 
 /// What a talk shows, and the talk.
-const TALKS: [(&str, Talk); 8] = [
+static TALKS: [(&str, Talk); 8] = [
     (
         "a public client reads",
         Talk {

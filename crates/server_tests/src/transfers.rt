@@ -7,7 +7,7 @@ use std::process::Abort;
 use std::test::Fail;
 
 /// What the object list of a public client tells of each object: class, version, name, attributes and methods, with the rights to them.
-const OBJECTS: [&str; 12] = [
+static OBJECTS: [&str; 12] = [
     "020412000F110109060000280000FF0202010202030F0116010002030F021601000100",
     "02041200011100090600002A0000FF0202010202030F0116010002030F021601000100",
     "0204120003110009060100010700FF0202010302030F0116010002030F0216010002030F031601000100",
@@ -352,7 +352,7 @@ fn read_wrong_block(alloc: Global, talk: &mut Talk) -> Result<(), Fail> {
     talk.ask_all(alloc, &AFTER_A_WRONG_BLOCK)
 }
 
-const AFTER_A_WRONG_BLOCK: [(&str, &str); 3] = [
+static AFTER_A_WRONG_BLOCK: [(&str, &str); 3] = [
     ("C002C100000007", "C402C101000000070113"),
     ("C002C100000001", "C402C101000000010110"),
     GET_STATE,
@@ -422,7 +422,7 @@ const ONLY_GET: (&str, &str) = (
 );
 
 /// The object list and a list of attributes are refused, and the state is read.
-const WITHOUT_BLOCKS: [(&str, &str); 4] = [
+static WITHOUT_BLOCKS: [(&str, &str); 4] = [
     (GET_LIST, "C401C101FA"),
     ("C002C100000001", "D80202"),
     ("C003C100", "D80202"),
@@ -449,7 +449,7 @@ fn a_client_without_block_transfer_reads_no_long_list(rt: HostRuntime) -> Result
 }
 
 /// The management client writes a threshold and disconnects, both in blocks, and reads after each.
-const IN_BLOCKS: [(&str, &str); 9] = [
+static IN_BLOCKS: [(&str, &str); 9] = [
     (
         "C102C100470000110000FF0400000000000103060000",
         "C502C100000001",
@@ -482,7 +482,7 @@ fn a_cut_talk_is_answered_so_far(rt: HostRuntime) -> Result<(), Fail> {
     checked
 }
 
-const NO_VALUES: [(&str, &str); 4] = [
+static NO_VALUES: [(&str, &str); 4] = [
     // Nine structures in one another.
     (
         "C102C10046000060030AFF040001000000011302010201020102010201020102010201020100",
@@ -552,7 +552,7 @@ fn an_opening_with_a_changed_byte(rt: HostRuntime) -> Result<(), Fail> {
 }
 
 /// Eight steps of a script: writes of the mode, of thresholds and durations of both limiters and of an emergency profile, and both methods of the switch.
-const STEPS: [&str; 8] = [
+static STEPS: [&str; 8] = [
     "020516011200460906000060030AFF0F041605",
     "0205160112004709060000110000FF0F040600002328",
     "0205160112004709060000110000FF0F050600001388",
