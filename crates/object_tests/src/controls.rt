@@ -36,7 +36,7 @@ fn check_steps(rt: &impl Abort, mode: ControlMode, steps: &[Step]) -> Disconnect
     control
 }
 
-const WAITING_FOR_THE_BUTTON: [Step; 2] = [
+static WAITING_FOR_THE_BUTTON: [Step; 2] = [
     (Trigger::ManualDisconnect, ResultCode::Success, READY),
     (
         Trigger::RemoteReconnect,
@@ -50,7 +50,7 @@ fn a_remote_reconnection_does_not_close_a_switch_that_waits_for_its_button(rt: H
     check_steps(&rt, ControlMode::Mode2, &WAITING_FOR_THE_BUTTON);
 }
 
-const RELEASED_AND_RESTORED: [Step; 4] = [
+static RELEASED_AND_RESTORED: [Step; 4] = [
     (Trigger::RemoteDisconnect, ResultCode::Success, DISCONNECTED),
     (Trigger::RemoteDisconnect, ResultCode::Success, DISCONNECTED),
     (Trigger::RemoteReconnect, ResultCode::Success, READY),

@@ -102,12 +102,12 @@ fn is_time(bytes: [u8; 4]) -> bool {
     }
 }
 
-const NO_DATES: [(&[u8], PatternFault); 2] = [
+static NO_DATES: [(&[u8], PatternFault); 2] = [
     (&[0xFF, 0xFF, 0xFD, 0xFF, 0xFF], PatternFault::SeasonMonth),
     (&[0xFF, 0xFF, 13, 1, 0xFF], PatternFault::Range),
 ];
 
-const NO_TIMES: [(&[u8], PatternFault); 1] = [(&[0, 60, 0, 0], PatternFault::Range)];
+static NO_TIMES: [(&[u8], PatternFault); 1] = [(&[0, 60, 0, 0], PatternFault::Range)];
 
 #[test]
 fn a_date_and_a_time_alone(rt: HostRuntime) {
@@ -117,14 +117,14 @@ fn a_date_and_a_time_alone(rt: HostRuntime) {
     check_time_faults(&rt, &NO_TIMES);
 }
 
-const FIRST_FAULTS_OF_DATES: [(&[u8], PatternFault); 4] = [
+static FIRST_FAULTS_OF_DATES: [(&[u8], PatternFault); 4] = [
     (&[0xFF, 0xFF, 0xFD, 0, 0], PatternFault::SeasonMonth),
     (&[0xFF, 0xFF, 0xFD, 1], PatternFault::Length),
     (&[], PatternFault::Length),
     (&DATE_TIME, PatternFault::Length),
 ];
 
-const FIRST_FAULTS_OF_TIMES: [(&[u8], PatternFault); 2] = [
+static FIRST_FAULTS_OF_TIMES: [(&[u8], PatternFault); 2] = [
     (&[24, 0, 0], PatternFault::Length),
     (&DATE, PatternFault::Length),
 ];

@@ -39,9 +39,9 @@ const LAST_SUNDAY: [u8; 5] = [0xFF, 0xFF, 3, 0xFE, 7];
 
 const SUNDAY_FROM_THE_25TH: [u8; 5] = [0xFF, 0xFF, 3, 25, 7];
 
-const SUNDAY_25_MARCH_2028: [u8; 5] = [0x07, 0xEC, 3, 25, 7];
+static SUNDAY_25_MARCH_2028: [u8; 5] = [0x07, 0xEC, 3, 25, 7];
 
-const SUNDAYS_OF_MARCH: [([u8; 5], u32, bool); 3] = [
+static SUNDAYS_OF_MARCH: [([u8; 5], u32, bool); 3] = [
     (LAST_SUNDAY, MARCH_26, true),
     (LAST_SUNDAY, MARCH_26 - 7 * DAY, false),
     (SUNDAY_FROM_THE_25TH, MARCH_26, true),
@@ -56,7 +56,7 @@ fn dates_of_march_2028(rt: HostRuntime) {
     }
 }
 
-const DAYS_AT_THE_TURN: [([u8; 5], u32, bool); 5] = [
+static DAYS_AT_THE_TURN: [([u8; 5], u32, bool); 5] = [
     ([0xFF, 0xFF, 12, 31, 6], 0, true),
     ([0xFF, 0xFF, 12, 31, 7], 0, false),
     ([0xFF, 0xFF, 12, 26, 6], 0, true),
@@ -73,7 +73,7 @@ const SECOND_LAST: [u8; 5] = [0xFF, 0xFF, 0xFF, 0xFD, 0xFF];
 
 const LAST: [u8; 5] = [0xFF, 0xFF, 0xFF, 0xFE, 0xFF];
 
-const LAST_DAYS_OF_MARCH: [([u8; 5], u32, bool); 4] = [
+static LAST_DAYS_OF_MARCH: [([u8; 5], u32, bool); 4] = [
     (SECOND_LAST, MARCH_26 + 4 * DAY, true),
     (LAST, MARCH_26 + 4 * DAY, false),
     (LAST, MARCH_26 + 5 * DAY, true),
@@ -86,7 +86,7 @@ fn marks_of_the_day(rt: HostRuntime) {
 }
 
 /// Two seconds, and whether the last second of a month lies behind the first and not behind the second.
-const INTERVALS: [(u32, u32, bool); 6] = [
+static INTERVALS: [(u32, u32, bool); 6] = [
     (888_710_398, 888_710_399, false),
     (888_796_798, 888_796_799, true),
     (5, 5, false),
@@ -136,7 +136,7 @@ fn are_same(one: [u8; 4], other: [u8; 4]) -> Result<bool, PatternFault> {
 
 const NOON: [u8; 4] = [12, 0, 0, 0];
 
-const TIMES: [([u8; 4], [u8; 4], bool); 5] = [
+static TIMES: [([u8; 4], [u8; 4], bool); 5] = [
     (NOON, [12, 0, 0, 0xFF], true),
     (NOON, [12, 0, 0xFF, 0], false),
     (NOON, [12, 0xFF, 0, 0], false),
@@ -159,7 +159,7 @@ fn moment(text: [u8; 12]) -> Result<Option<u32>, PatternFault> {
     Ok(moment_of(&read_date_time(&text)?))
 }
 
-const MOMENTS: [([u8; 12], Option<u32>); 20] = [
+static MOMENTS: [([u8; 12], Option<u32>); 20] = [
     // 1 January 2000, 00:01:40.
     ([0x07, 0xD0, 1, 1, 0xFF, 0, 1, 40, 0, 0x80, 0, 0], Some(100)),
     ([0x07, 0xD0, 1, 1, 6, 0, 1, 40, 0, 0, 1, 0xFF], Some(160)),
@@ -203,7 +203,7 @@ fn moments(rt: HostRuntime) {
     calendar_laws();
 }
 
-const UNSPECIFIED: [u8; 12] = [
+static UNSPECIFIED: [u8; 12] = [
     0xFF, 0xFF, 0xFF, 0xFF, 0xFF, 0xFF, 0xFF, 0xFF, 0xFF, 0x80, 0x00, 0xFF,
 ];
 

@@ -32,7 +32,7 @@ fn an_equal_value_is_on_neither_side(rt: HostRuntime) {
 }
 
 // A mask, a place in it, and how many of its 256 bits from there on are ones.
-const RUNS: [([u64; 4], u16, u16); 8] = [
+static RUNS: [([u64; 4], u16, u16); 8] = [
     (ALL, 0, 256),
     (ALL, 64, 192),
     (ALL, 255, 1),
@@ -118,9 +118,9 @@ fn the_last_scan_is_kept(rt: HostRuntime) -> Result<(), Fail> {
     Ok(())
 }
 
-const IMPORTED: [u32; 3] = [1, 2, 3];
+static IMPORTED: [u32; 3] = [1, 2, 3];
 
-const EXPORTED: [u32; 3] = [30, 20, 10];
+static EXPORTED: [u32; 3] = [30, 20, 10];
 
 // A threshold, and the values over and under it.
 type Sides = (u32, u64, u64);
@@ -208,7 +208,7 @@ fn made_of_pairs(alloc: Global, import: &[u32], export: &[u32]) -> Result<usize,
 const LONG: [u32; 257] = [0; 257];
 
 // Import values, export values, and what comes of them.
-const LENGTHS: [(&[u32], &[u32], Result<usize, BlockMade>); 5] = [
+static LENGTHS: [(&[u32], &[u32], Result<usize, BlockMade>); 5] = [
     (&[0], &[0; 2], Err(BlockMade::Uneven)),
     (&LONG, &[0; 256], Err(BlockMade::Uneven)),
     (&[0; 256], &LONG, Err(BlockMade::Uneven)),

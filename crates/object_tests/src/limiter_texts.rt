@@ -170,7 +170,7 @@ fn play(rt: &impl Abort, alloc: Global, steps: &[Step]) {
     drop(limiter);
 }
 
-const NUMBERS: [(u8, LimiterAttribute); 10] = [
+static NUMBERS: [(u8, LimiterAttribute); 10] = [
     (2, LimiterAttribute::MonitoredValue),
     (3, LimiterAttribute::ThresholdActive),
     (4, LimiterAttribute::ThresholdNormal),
@@ -197,7 +197,7 @@ fn attributes_have_the_numbers_2_to_11(rt: HostRuntime) {
     }
 }
 
-const MONITORED: [(Which, &str); 2] = [
+static MONITORED: [(Which, &str); 2] = [
     (Which::Import, "020312000309060100010700FF0F02"),
     (Which::Export, "020312000309060100020700FF0F02"),
 ];
@@ -215,7 +215,7 @@ fn each_limiter_monitors_its_register(rt: HostRuntime) {
     drop(limiter);
 }
 
-const OF_A_NEW_LIMITER: [Step; 9] = [
+static OF_A_NEW_LIMITER: [Step; 9] = [
     Step::Read(LimiterAttribute::ThresholdActive, "06FFFFFFFF"),
     Step::Read(LimiterAttribute::ThresholdNormal, "06FFFFFFFF"),
     Step::Read(LimiterAttribute::ThresholdEmergency, "06FFFFFFFF"),
@@ -238,7 +238,7 @@ fn a_new_limiter(rt: HostRuntime) {
     play(&rt, rt.alloc(), &OF_A_NEW_LIMITER);
 }
 
-const THRESHOLDS_AND_DURATIONS: [Step; 21] = [
+static THRESHOLDS_AND_DURATIONS: [Step; 21] = [
     Step::Write(LimiterAttribute::ThresholdNormal, "0600000BB8"),
     Step::Write(LimiterAttribute::ThresholdEmergency, "06000001F4"),
     Step::Write(LimiterAttribute::MinOverThresholdDuration, "0600000001"),
@@ -268,7 +268,7 @@ fn thresholds_and_durations_are_read_back(rt: HostRuntime) {
     play(&rt, rt.alloc(), &THRESHOLDS_AND_DURATIONS);
 }
 
-const EMERGENCY: [Step; 17] = [
+static EMERGENCY: [Step; 17] = [
     Step::Write(LimiterAttribute::ThresholdEmergency, "06000003E8"),
     Step::WriteIds("0101120007"),
     Step::Write(LimiterAttribute::EmergencyProfile, PROFILE),
@@ -293,7 +293,7 @@ fn an_emergency_profile_is_active_in_its_time(rt: HostRuntime) {
     play(&rt, rt.alloc(), &EMERGENCY);
 }
 
-const START_AS_A_DATE_TIME: [Step; 2] = [
+static START_AS_A_DATE_TIME: [Step; 2] = [
     Step::Write(
         LimiterAttribute::EmergencyProfile,
         "02031200071907D00101FF00012800800000060000000A",
@@ -454,7 +454,7 @@ const ACTIONS_OF_OTHER_TABLES: [&str; 4] = [
     "02020202090600000A006BFF1200010202090600000A006AFF120002",
 ];
 
-const REFUSED: [(LimiterAttribute, &[&str], SettingFault); 8] = [
+static REFUSED: [(LimiterAttribute, &[&str], SettingFault); 8] = [
     (
         LimiterAttribute::ThresholdNormal,
         &NUMBERS_OF_OTHER_TYPES,
@@ -525,7 +525,7 @@ fn what_an_attribute_does_not_take_is_refused(rt: HostRuntime) {
 }
 
 /// No group ids.
-const IDS_OF_OTHER_TYPES: [&str; 7] = [
+static IDS_OF_OTHER_TYPES: [&str; 7] = [
     "00",
     "120007",
     "0201120007",
@@ -544,7 +544,7 @@ fn group_ids_of_other_types_are_refused(rt: HostRuntime) {
 }
 
 /// How many ids, the text of the last one, and the fault.
-const MANY_IDS: [(u8, &str, Option<SettingFault>); 3] = [
+static MANY_IDS: [(u8, &str, Option<SettingFault>); 3] = [
     (32, "120005", None),
     (33, "120005", Some(SettingFault::Value)),
     // Types come before the number of ids.

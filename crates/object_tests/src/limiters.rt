@@ -89,7 +89,7 @@ fn play(rt: &impl Abort, alloc: Global, seconds: u32, steps: &[Step]) {
     drop(limiter);
 }
 
-const TEN_OVER_TWICE: [Step; 7] = [
+static TEN_OVER_TWICE: [Step; 7] = [
     Step::BeforeFire(Kind::Over, 9),
     Step::Samples(9, 5001, Fire::Quiet),
     Step::Samples(1, 5001, Fire::Over),
@@ -104,7 +104,7 @@ fn the_tenth_sample_over_the_threshold_fires(rt: HostRuntime) {
     play(&rt, rt.alloc(), 1, &TEN_OVER_TWICE);
 }
 
-const EQUAL: [Step; 2] = [
+static EQUAL: [Step; 2] = [
     Step::BeforeFire(Kind::Equal, u64::MAX),
     Step::Samples(10, 5000, Fire::Quiet),
 ];
@@ -114,7 +114,7 @@ fn an_equal_value_is_not_over(rt: HostRuntime) {
     play(&rt, rt.alloc(), 1, &EQUAL);
 }
 
-const OTHER_DURATIONS: [Step; 7] = [
+static OTHER_DURATIONS: [Step; 7] = [
     Step::Samples(70, 5001, Fire::Quiet),
     Step::MinOver(5),
     Step::Samples(1, 5001, Fire::Over),
@@ -129,7 +129,7 @@ fn a_shorter_duration_acts_at_once_and_a_run_fires_once(rt: HostRuntime) {
     play(&rt, rt.alloc(), 10, &OTHER_DURATIONS);
 }
 
-const TEN_UNDER: [Step; 5] = [
+static TEN_UNDER: [Step; 5] = [
     Step::MinUnder(1),
     Step::Skip(Kind::Under, 9, 4999),
     Step::Value(4999),
@@ -142,7 +142,7 @@ fn ten_samples_under_the_threshold_fire_once(rt: HostRuntime) {
     play(&rt, rt.alloc(), 1, &TEN_UNDER);
 }
 
-const A_FIRED_RUN: [Step; 6] = [
+static A_FIRED_RUN: [Step; 6] = [
     Step::Samples(1, 5001, Fire::Over),
     Step::Skip(Kind::Over, 42_949_672_950, 6000),
     Step::Value(6000),

@@ -34,7 +34,7 @@ fn attribute_of(class: u16, name: Obis, number: u8) -> AttrRef {
     }
 }
 
-const CLASSES: [(Obis, Option<ClassId>); 12] = [
+static CLASSES: [(Obis, Option<ClassId>); 12] = [
     (DISCONNECT_CONTROL_NAME, Some(ClassId(70))),
     (ASSOCIATION, Some(ClassId(15))),
     (DEVICE_NAME, Some(ClassId(1))),
@@ -82,7 +82,7 @@ const WRITTEN: Rights = Rights {
 };
 
 /// An attribute by its object's name, its class and its number, and the rights of the public and of the management client.
-const RIGHTS: [(Obis, u16, u8, Rights, Rights); 29] = [
+static RIGHTS: [(Obis, u16, u8, Rights, Rights); 29] = [
     (ASSOCIATION, 15, 1, READ, READ),
     (ASSOCIATION, 15, 2, READ, READ),
     (ASSOCIATION, 15, 3, NOTHING, NOTHING),
@@ -131,7 +131,7 @@ fn each_level_has_its_rights(rt: HostRuntime) {
 }
 
 /// A method by its object's name, its class and its number, and whether the management client executes it.
-const METHODS: [(Obis, u16, u8, bool); 8] = [
+static METHODS: [(Obis, u16, u8, bool); 8] = [
     (DISCONNECT_CONTROL_NAME, 70, 1, true),
     (DISCONNECT_CONTROL_NAME, 70, 2, true),
     (DISCONNECT_CONTROL_NAME, 70, 3, false),
@@ -255,7 +255,7 @@ const MANAGEMENT_LIMITER_REST: &[u8] = b"\x11\x00\x00\xFF\
 const LIST_START: &[u8] = b"\x01\x0C";
 
 /// The object_list of the public client.
-const PUBLIC_LIST: [&[u8]; 29] = [
+static PUBLIC_LIST: [&[u8]; 29] = [
     LIST_START,
     ASSOCIATION_ENTRY,
     DEVICE_NAME_ENTRY,
@@ -288,7 +288,7 @@ const PUBLIC_LIST: [&[u8]; 29] = [
 ];
 
 /// The object_list of the management client.
-const MANAGEMENT_LIST: [&[u8]; 29] = [
+static MANAGEMENT_LIST: [&[u8]; 29] = [
     LIST_START,
     ASSOCIATION_ENTRY,
     DEVICE_NAME_ENTRY,

@@ -97,7 +97,7 @@ fn is_prepared(alloc: Global, schedule: &mut ActionSchedule, kind: u8, entries: 
 }
 
 /// The type of a schedule of the last second of each month, the moment before, the moment now, and whether it is due.
-const DUE: [(u8, u32, u32, bool); 10] = [
+static DUE: [(u8, u32, u32, bool); 10] = [
     (1, 888_710_398, 888_710_399, false),
     (1, 888_710_399, 888_796_799, true),
     (1, 888_796_798, 888_796_799, true),
@@ -152,7 +152,7 @@ const ANY_DAY: &str = "01010202090400000000090507EC03FF07";
 const LAST_DAY: &str = "01010202090400000000090507EC03FE07";
 
 /// Types, entries, and whether a schedule with these entries fits the type.
-const FITS: [(u8, &str, bool); 26] = [
+static FITS: [(u8, &str, bool); 26] = [
     // One entry, or any number.
     (1, "0100", false),
     (1, LAST_SECOND, true),
@@ -210,7 +210,7 @@ fn known(schedule: &ActionSchedule) -> (u16, ScheduleType) {
     (schedule.selector(), schedule.kind())
 }
 
-const OF_A_NEW_SCHEDULE: [Written; 3] = [
+static OF_A_NEW_SCHEDULE: [Written; 3] = [
     (
         ScheduleAttribute::ExecutedScript,
         "0202090600000A006AFF120000",
@@ -231,7 +231,7 @@ fn a_new_schedule(rt: HostRuntime) {
 /// Entries of a time and a date, and not of octet-strings.
 const LAST_SECOND_AS_A_TIME: &str = "010102021B173B3B001AFFFFFFFEFF";
 
-const OF_TYPE_3: [Written; 3] = [
+static OF_TYPE_3: [Written; 3] = [
     (ScheduleAttribute::ExecutedScript, SCRIPT),
     (ScheduleAttribute::Kind, "1603"),
     (ScheduleAttribute::ExecutionTime, LAST_SECOND),
@@ -247,7 +247,7 @@ fn attributes_are_written_back(rt: HostRuntime) {
     drop(schedule);
 }
 
-const OF_A_COPY: [Written; 1] = [(ScheduleAttribute::ExecutionTime, LAST_SECOND)];
+static OF_A_COPY: [Written; 1] = [(ScheduleAttribute::ExecutionTime, LAST_SECOND)];
 
 /// Wants that a copy of a schedule of no script has the entries of the last second.
 fn check_copy(rt: &impl Abort, alloc: Global, schedule: &ActionSchedule) -> Result<(), AllocError> {
@@ -278,7 +278,7 @@ fn entries_are_traded_and_copied(rt: HostRuntime) {
 }
 
 /// The script of another table, a type that there isn't, an hour that there isn't, and no entries.
-const REFUSED_WRITES: [Write; 4] = [
+static REFUSED_WRITES: [Write; 4] = [
     (
         ScheduleAttribute::ExecutedScript,
         "0202090600000A006BFF120002",
@@ -297,7 +297,7 @@ const REFUSED_WRITES: [Write; 4] = [
     ),
 ];
 
-const OF_TYPE_1: [(ScheduleAttribute, &str); 3] = [
+static OF_TYPE_1: [(ScheduleAttribute, &str); 3] = [
     (ScheduleAttribute::ExecutedScript, SCRIPT),
     (ScheduleAttribute::Kind, "1601"),
     (ScheduleAttribute::ExecutionTime, LAST_SECOND),
@@ -314,7 +314,7 @@ fn a_refused_write_changes_nothing(rt: HostRuntime) {
 }
 
 /// Writes, each to a new schedule, and the fault of each, if it has one.
-const WRITES: [Write; 26] = [
+static WRITES: [Write; 26] = [
     // Scripts.
     (
         ScheduleAttribute::ExecutedScript,

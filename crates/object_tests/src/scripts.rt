@@ -173,7 +173,7 @@ fn copied(alloc: Global, text: &str) -> Option<ScriptTable> {
     copy
 }
 
-const COUNTS_OF_THE_TABLE: [(u16, Option<u8>); 3] = [
+static COUNTS_OF_THE_TABLE: [(u16, Option<u8>); 3] = [
     (3, Some(2)),
     (NULL_SCRIPT, Some(0)),
     (9, None),
@@ -242,7 +242,7 @@ fn a_full_table_is_read_and_written_back(rt: HostRuntime) -> Result<(), Fail> {
 }
 
 /// How many scripts of how many steps, the last of which is another, and the fault.
-const TOO_LONG: [(u8, u8, &str, ScriptFault); 3] = [
+static TOO_LONG: [(u8, u8, &str, ScriptFault); 3] = [
     (17, 1, DISCONNECT, ScriptFault::Value),
     (1, 9, DISCONNECT, ScriptFault::Value),
     // Another type is told before any value: the last step has a boolean as parameter.
@@ -270,7 +270,7 @@ fn a_table_has_limits(rt: HostRuntime) {
     }
 }
 
-const REFUSED_TABLES: [(&str, ScriptFault); 11] = [
+static REFUSED_TABLES: [(&str, ScriptFault); 11] = [
     // Identifier 0 with a step that isn't listed, and then a Data that is no script.
     (
         "010202021200000101020516031200460906000060030AFF0F040000",
@@ -300,7 +300,7 @@ fn tables_that_are_refused(rt: HostRuntime) {
     }
 }
 
-const REFUSED_STEPS: [(&str, ScriptFault); 31] = [
+static REFUSED_STEPS: [(&str, ScriptFault); 31] = [
     // Steps of another type.
     (
         "010516011200460906000060030AFF0F041600",
@@ -489,7 +489,7 @@ fn is_written_back(alloc: Global, step: &str, back: &str) -> bool {
 }
 
 /// Steps, and the one form in which they are written.
-const OTHER_FORMS: [(&str, &str); 3] = [
+static OTHER_FORMS: [(&str, &str); 3] = [
     (
         "020516021200460906000060030AFF0F0200",
         "020516021200460906000060030AFF0F020F00",
