@@ -3,7 +3,7 @@
 //! An event is a line of words with one blank between: `get`, `getlist`, `set`, `execute`, `button`, `samples`, `pairs` or `moment`, and then its values, numbers in
 //! decimal and bytes in hexadecimal capitals. A value of type Data stands as its written text. In version 1 of the text there are no `pairs`.
 //!
-//! `read_event_count` reads the count and `next_event` each event from the lines that are left of a trace (`trace_words::TraceLines`); `write_event_count` and
+//! `read_event_count` reads the count and `next_event` each event from the lines that are left of a trace (`trace_words::TraceLines`), `next_held_event` from lines that hold their text (`HeldLines`); `write_event_count` and
 //! `write_event` write these lines, in version 2, and `write_line` the line of a reply; `read_event` reads the line of an event by itself. What is written is read
 //! again.
 #![tactic(auto)]
@@ -22,7 +22,7 @@ mod writing;
 
 pub use event_counts::{MAX_EVENTS, read_event_count, write_event_count};
 pub use event_lines::write_event;
-pub use event_places::next_event;
+pub use event_places::{next_event, next_held_event};
 pub use events::read_event;
 pub use items::MAX_ITEMS;
 pub use laws::{

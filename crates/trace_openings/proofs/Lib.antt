@@ -8,5 +8,6 @@ pub mod OpeningIsRows
 pub mod OpeningLaws
 pub mod OpeningLemmas
 pub mod OpeningTables
+pub mod OpeningTakes
 pub mod OpeningText
 pub mod OpeningWordsBack

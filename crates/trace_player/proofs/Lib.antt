@@ -4,6 +4,7 @@ pub mod EventsPlayed
 pub mod EventsRead
 pub mod ExportedRuns
 pub mod Faults
+pub mod Held
 pub mod Outputs
 mod TraceAgain
 pub mod TraceBack

@@ -1,4 +1,5 @@
-ghost use Rattle.std.specs.Prelude.{◌<◌, length, IfErr, IfOk, IsErrOf};
+ghost use Rattle.std.specs.Prelude.{◌+◌, ◌-◌, ◌<◌, ◌≤◌, ◌^◌, drop, length, IfErr, IfOk, IsErrOf};
+ghost use Rattle.trace_words.specs.Places.{place_at, place_of};
 ghost use Rattle.byte_reading.specs.Outcome.{Fails};
 ghost use Rattle.relay_core.specs.Opening.{IsFitOpening};
 ghost use Rattle.trace_words.specs.declared.fault.TraceFault.TheVariants as trace_fault;
@@ -11,7 +12,7 @@ use relay_core::Opening;
 use std::alloc::Global;
 use trace_lines::read_event_count;
 use trace_openings::read_opening;
-use trace_words::{TraceFault, TraceLines, Version};
+use trace_words::{HeldLines, TraceFault, TraceLines, Version};
 
 /// What a trace prints, and how many events it has.
 #[derive(Debug, Drop)]
@@ -26,7 +27,7 @@ fn play_behind(
     version: Version,
     count: u32,
     opening: &Opening,
-    lines: &mut TraceLines,
+    lines: &mut HeldLines,
 ) -> Result<Output, TraceFault>
     requires { IsFitOpening opening.now }
     ensures ok { IfOk result (λ output. PlaysTrace (trace_behind version count opening.now lines.old) output.lines.items output.count) }
@@ -43,16 +44,46 @@ fn play_behind(
     Ok(output)
 }
 
-/// Plays the trace that lines tell.
-#[tactic(auto, unfolding(crate::specs::Traces::trace_from))]
-fn play_lines(alloc: Global, lines: &mut TraceLines) -> Result<Output, TraceFault>
-    ensures ok { IfOk result (λ output. PlaysTrace (trace_from lines.old) output.lines.items output.count) }
-    ensures err { IfErr result (λ fault. Fails trace_fault.Memory fault (trace_from lines.old)) }
+/// Plays the events that stand at the end of a text, in so many bytes. What was read of the text is let go on the way.
+fn play_held(
+    alloc: Global,
+    version: Version,
+    count: u32,
+    opening: &Opening,
+    text: Vec<u8>,
+    number: u64,
+    left: usize,
+) -> Result<Output, TraceFault>
+    requires fit { IsFitOpening opening.now }
+    requires within { left ≤ length text.items }
+    requires counted { number + length text.items < 2 ^ 64 }
+    ensures ok { IfOk result (λ output. PlaysTrace (trace_behind version count opening.now (place_at number (drop (length text.items - left) text.items))) output.lines.items output.count) }
+    ensures err { IfErr result (λ fault. Fails trace_fault.Memory fault (trace_behind version count opening.now (place_at number (drop (length text.items - left) text.items)))) }
 {
-    let (version, opening) = read_opening(alloc, lines)?;
-    let played = match read_event_count(lines) {
-        Ok(count) => play_behind(alloc, version, count, &opening, lines),
-        Err(fault) => Err(fault),
+    let taken = text.len() - left;
+    let mut lines = HeldLines::new(text, taken, number);
+    let played = play_behind(alloc, version, count, opening, &mut lines);
+    drop(lines);
+    played
+}
+
+/// Plays the trace that a text tells.
+#[tactic(auto, unfolding(crate::specs::Traces::trace_from))]
+fn play_lines(alloc: Global, text: Vec<u8>) -> Result<Output, TraceFault>
+    requires { length text.items ≤ most_bytes }
+    ensures ok { IfOk result (λ output. PlaysTrace (trace_from (place_of text.items)) output.lines.items output.count) }
+    ensures err { IfErr result (λ fault. Fails trace_fault.Memory fault (trace_from (place_of text.items))) }
+{
+    let mut lines = TraceLines::new(text.as_slice());
+    let (version, opening) = read_opening(alloc, &mut lines)?;
+    let counted = read_event_count(&mut lines);
+    let (number, left) = (lines.number(), lines.rest().len());
+    let played = match counted {
+        Ok(count) => play_held(alloc, version, count, &opening, text, number, left),
+        Err(fault) => {
+            drop(text);
+            Err(fault)
+        }
     };
     drop(opening);
     played
@@ -60,14 +91,14 @@ fn play_lines(alloc: Global, lines: &mut TraceLines) -> Result<Output, TraceFaul
 
 /// Plays the text of a trace, each event as soon as its line is read. Errors: `TooLong`, `Line` of the first line that is not as a trace has it there, `Memory`.
 #[tactic(auto, unfolding(crate::specs::Traces::trace_of), using(crate::proofs::Faults::told_too_long))]
-pub(crate) fn play_text(alloc: Global, text: &[u8]) -> Result<Output, TraceFault>
-    ensures ok { IfOk result (λ output. PlaysTrace (trace_of text.now) output.lines.items output.count) }
-    ensures err { IfErr result (λ fault. Fails trace_fault.Memory fault (trace_of text.now)) }
-    ensures long { IsErrOf result trace_fault.TooLong → most_bytes < length text.now }
+pub(crate) fn play_text(alloc: Global, text: Vec<u8>) -> Result<Output, TraceFault>
+    ensures ok { IfOk result (λ output. PlaysTrace (trace_of text.items) output.lines.items output.count) }
+    ensures err { IfErr result (λ fault. Fails trace_fault.Memory fault (trace_of text.items)) }
+    ensures long { IsErrOf result trace_fault.TooLong → most_bytes < length text.items }
 {
     if text.len() > MAX_BYTES {
+        drop(text);
         return Err(TraceFault::TooLong);
     }
-    let mut lines = TraceLines::new(text);
-    play_lines(alloc, &mut lines)
+    play_lines(alloc, text)
 }

@@ -13,9 +13,7 @@ fn play_input<R: Reader>(alloc: Global, reader: &mut R) -> Result<Output, PlayFa
     ensures { TakesTrace (R.remaining reader.old) (R.failures reader.old) result (R.remaining reader.new) (R.failures reader.new) }
 {
     let text = read_to_end_within(alloc, reader, MAX_BYTES)?;
-    let played = play_text(alloc, text.as_slice());
-    drop(text);
-    match played {
+    match play_text(alloc, text) {
         Ok(output) => Ok(output),
         Err(TraceFault::Line(number)) => Err(PlayFault::Line(number)),
         Err(TraceFault::Memory) => Err(PlayFault::Memory),

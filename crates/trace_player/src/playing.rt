@@ -14,9 +14,9 @@ ghost use Rattle.trace_player.specs.Traces.{events_at};
 
 use relay_core::{Event, Line, Opening, OpeningFault, RelayCore, line_after};
 use std::alloc::{AllocError, Global};
-use trace_lines::{next_event, write_line};
+use trace_lines::{next_held_event, write_line};
 use trace_text::end_line;
-use trace_words::{TraceFault, TraceLines, Version};
+use trace_words::{HeldLines, TraceFault, Version};
 
 /// A meter that stands as an opening says.
 pub(crate) fn opened_core(alloc: Global, opening: &Opening) -> Result<RelayCore, AllocError>
@@ -58,14 +58,14 @@ fn play_next(
     alloc: Global,
     version: Version,
     number: u64,
-    lines: &mut TraceLines,
+    lines: &mut HeldLines,
     core: &mut RelayCore,
     out: &mut Vec<u8>,
 ) -> Result<(), TraceFault>
     ensures ok { OnOk result (PlaysEvent version number lines.old lines.new core.old core.new out.old.items out.new.items) }
     ensures err { IfErr result (λ fault. Fails trace_fault.Memory fault (line_as (event_of version) lines.old)) }
 {
-    let event = next_event(alloc, version, lines)?;
+    let event = next_held_event(alloc, version, lines)?;
     let played = play_event(alloc, number, &event, core, out);
     drop(event);
     Ok(played?)
@@ -77,7 +77,7 @@ pub(crate) fn play_events(
     alloc: Global,
     version: Version,
     count: u32,
-    lines: &mut TraceLines,
+    lines: &mut HeldLines,
     core: &mut RelayCore,
 ) -> Result<Vec<u8>, TraceFault>
     ensures ok { IfOk result (λ out. PlaysEvents version count lines.old lines.new core.old out.items) }

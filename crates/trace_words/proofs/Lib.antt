@@ -1,5 +1,7 @@
 pub mod Blanks
+pub mod HeldLemmas
 pub mod LabelsBack
+pub mod LinesTaken
 pub mod PlaceLemmas
 pub mod PlacesBack
 pub mod Steps

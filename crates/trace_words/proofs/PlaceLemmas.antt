@@ -9,13 +9,13 @@ use Rattle.trace_words.specs.declared.fault.RowFault.TheVariants.{Wrong}
 use Rattle.trace_text.specs.Lines.{rows_of, rows_text, unended_of, lines_of}
 use Rattle.trace_text.specs.Words.{line_of, words_of}
 use Rattle.trace_text.proofs.LinesLemmas.{rows_text-cons, rows_text-nil, rows_text-rows_of, rows_of-taken, rows_of-none, lines_of-nil, unended_of-nil}
-use Rattle.trace_words.specs.Places.{Place, ReadsLines, passed, first_as, line_as, at_line, nothing_left, ended_at}
+use Rattle.trace_words.specs.Places.{Place, ReadsLines, passed, first_as, line_as, at_line, nothing_left, ended_at, place_at}
 use Rattle.trace_words.specs.Rows.{Row}
 use Rattle.trace_words.specs.declared.fault.TraceFault.{TraceFault}
 use Rattle.trace_words.specs.declared.fault.TraceFault.TheVariants.{Line, Memory}
 
 -- each line takes a byte or more
-rows_are_few : (rows : List Row) → length rows ≤ length (rows_text rows)
+pub rows_are_few : (rows : List Row) → length rows ≤ length (rows_text rows)
 rows_are_few [] = omega arith
 rows_are_few (row ∷ rows) =
     let h : rows_text (row ∷ rows) ≡ line_of row ++ 10 ∷ rows_text rows = rows_text-cons row rows in
@@ -43,12 +43,8 @@ number_goes_on number text line rest e room =
     let l : length (rows_of text) ≡ suc (length (rows_of rest)) = ap (λ (rows : List Row). length rows) (rows_of-taken text line rest e) in
     omega (arith, l, room)
 
--- the place of a text that is left
-abbrev pub at : ℕ → List ℕ → Place
-at number text = record { number = number; rows = rows_of text; unended = unended_of text }
-
 -- nothing is left of an empty text
-pub nothing_is_left : (place : Place) (number : ℕ) (text : List ℕ) → place ≡ at number text → text ≡ [] → ended_at {X = Unit {0}} place tt ≡ Ok tt
+pub nothing_is_left : (place : Place) (number : ℕ) (text : List ℕ) → place ≡ place_at number text → text ≡ [] → ended_at {X = Unit {0}} place tt ≡ Ok tt
 unfolding ended_at
 nothing_is_left place number text is e =
     ap (λ (p : Place). ended_at {X = Unit {0}} p tt) is
@@ -57,7 +53,7 @@ nothing_is_left place number text is e =
     ∙ ap (λ (bytes : List ℕ). nothing_left {X = Unit {0}} number [] bytes tt) unended_of-nil
 
 -- of another text something is
-pub something_is_left : (place : Place) (number : ℕ) (text : List ℕ) → place ≡ at number text → (text ≡ [] → ⊥) → ended_at {X = Unit {0}} place tt ≡ Err (Line number)
+pub something_is_left : (place : Place) (number : ℕ) (text : List ℕ) → place ≡ place_at number text → (text ≡ [] → ⊥) → ended_at {X = Unit {0}} place tt ≡ Err (Line number)
 unfolding ended_at
 something_is_left place number text is some = ap (λ (p : Place). ended_at {X = Unit {0}} p tt) is ∙ by_rows (rows_of text) (unended_of text) (rows_text-rows_of text)
   where

@@ -3,15 +3,17 @@
 --     ReadLines        what a reader of lines answers: a value and the place behind it, or a fault
 --     ReadsLines       what code that moves on through the lines answers, compared with a definition
 --     line_as          the next line, read as a value
---     IsRowReader      what code reads from the words of a line, compared with a definition
+--     IsRowReader, IsLineReader   what code reads from the words of a line, or from the line, compared with a definition
 --     at_line          the fault of a line, by its number
 --     ended_at         a value behind which nothing is left
---     place_of         the place at the start of a text
+--     place_at         the place at the start of a text whose first line has this number
+--     place_of         the same, where lines are counted from 1
 use Rattle.std.specs.Prelude.{◌≡◌, ℕ, suc, List, [], ◌∷◌, Result, Ok, Err}
-use Rattle.std.specs.Fn.{Once, FnOnceReturnsAtMut}
-use denote.Ref.{MutBor}
+use Rattle.std.specs.Fn.{Once, FnOnceReturnsAt, FnOnceReturnsAtMut}
+use denote.Ref.{Bor, MutBor}
 use Rattle.byte_reading.specs.Outcome.{Fails, Gives}
 use Rattle.trace_text.specs.Lines.{rows_of, unended_of}
+use Rattle.trace_text.specs.Words.{words_of}
 use Rattle.trace_words.specs.Rows.{Row}
 use Rattle.trace_words.specs.declared.fault.RowFault.{RowFault}
 use Rattle.trace_words.specs.declared.fault.RowFault.TheVariants as row_fault
@@ -51,6 +53,10 @@ line_as value_in place = first_as value_in place.number place.rows place.unended
 abbrev pub IsRowReader : {F X : Type 0} → Once F (MutBor Row × Unit {0}) (Result X RowFault × (MutBor Row × Unit {0})) → F → (Row → Result X RowFault) → Type 0
 IsRowReader {F} {X} calls row value_from = (words after : Row) (read : Result X RowFault) → FnOnceReturnsAtMut calls row words read after → Gives row_fault.Memory (λ x. x) read (value_from words)
 
+-- the same of a line, whose words the definition is about
+abbrev pub IsLineReader : {F X : Type 0} → Once F (Bor (List ℕ) × Unit {0}) (Result X RowFault) → F → (Row → Result X RowFault) → Type 0
+IsLineReader {F} {X} calls read value_from = (line : List ℕ) (given : Result X RowFault) → FnOnceReturnsAt calls read line given → Gives row_fault.Memory (λ x. x) given (value_from (words_of line))
+
 -- what the words of a line gave, a fault by the number of the line
 abbrev pub at_line : {X : Type 0} → ℕ → Result X RowFault → Result X TraceFault
 at_line number (Ok x) = Ok x
@@ -67,6 +73,10 @@ nothing_left number (row ∷ rows) unended x = Err (Line number)
 unfoldable pub ended_at : {X : Type 0} → Place → X → Result X TraceFault
 ended_at place x = nothing_left place.number place.rows place.unended x
 
+-- all of a text, whose first line has this number
+abbrev pub place_at : ℕ → List ℕ → Place
+place_at number text = record { number = number; rows = rows_of text; unended = unended_of text }
+
 -- all of a text: its lines are counted from 1
 abbrev pub place_of : List ℕ → Place
-place_of text = record { number = 1; rows = rows_of text; unended = unended_of text }
+place_of text = place_at 1 text

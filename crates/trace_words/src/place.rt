@@ -1,6 +1,6 @@
 ghost use Rattle.std.specs.Prelude.{◌≡◌, Result, Ok, IfOk};
 ghost use Rattle.std.specs.Fn.{FnOnceReturnsAtMut};
-ghost use Rattle.trace_words.specs.Places.{ReadsLines, IsRowReader, line_as, at_line, ended_at, place_of};
+ghost use Rattle.trace_words.specs.Places.{ReadsLines, IsRowReader, line_as, at_line, ended_at, place_at, place_of};
 ghost use Rattle.trace_words.specs.Rows.{Row};
 ghost use Rattle.trace_words.specs.declared.fault.RowFault.{RowFault};
 
@@ -40,10 +40,17 @@ impl<'a> TraceLines<'a> {
     }
 
     /// The number of the next line.
-    fn number(&self) -> u64
+    pub fn number(&self) -> u64
         ensures { result ≡ self.now.number }
     {
         self.number
+    }
+
+    /// The text of the lines that are left.
+    pub fn rest(&self) -> &'a [u8]
+        ensures { place_at self.now.number result.now ≡ self.now }
+    {
+        self.lines.rest()
     }
 
     /// The words of the next line. Errors: `Line` where no line is left, or the last is not ended.
@@ -87,7 +94,7 @@ impl<'a> TraceLines<'a> {
 }
 
 /// The fault of a line, by its number.
-fn at_line<X: Drop>(number: u64, read: Result<X, RowFault>) -> Result<X, TraceFault>
+pub(crate) fn at_line<X: Drop>(number: u64, read: Result<X, RowFault>) -> Result<X, TraceFault>
     ensures { result ≡ at_line number read }
 {
     match read {

@@ -1,0 +1,100 @@
+ghost use Rattle.std.specs.Prelude.{◌≡◌, ◌+◌, ◌<◌, ◌≤◌, ◌^◌, Result, drop, length};
+ghost use Rattle.trace_words.specs.Places.{IsLineReader, ReadsLines, line_as, ended_at, place_at};
+ghost use Rattle.trace_words.specs.Rows.{Row};
+ghost use Rattle.trace_words.specs.declared.fault.RowFault.{RowFault};
+
+use crate::fault::{RowFault, TraceFault};
+use crate::place::{TraceLines, at_line};
+use std::marker::Model;
+use trace_text::split_line;
+
+/// The lines of a trace that are still to be read, with their text, of which what was read is let go. Contracts see what they see of `TraceLines`.
+#[derive(Drop)]
+pub struct HeldLines {
+    text: Vec<u8>,
+    // How many bytes at the front of the text were read.
+    taken: usize,
+    number: u64,
+}
+
+impl Model for HeldLines {
+    ghost use Rattle.std.specs.Prelude.{◌+◌, ◌<◌, ◌≤◌, ◌^◌, drop, length};
+    ghost use Rattle.trace_text.specs.Lines.{rows_of};
+    ghost use Rattle.trace_words.specs.Places.{Place, place_at};
+
+    ghost Value = { Place };
+
+    ghost view = { λ l. place_at l.number (drop l.taken l.text.items) };
+
+    ghost invariant = { λ l. (l.taken ≤ length l.text.items) × (l.number + length (rows_of (drop l.taken l.text.items)) < 2 ^ 64) };
+}
+
+impl HeldLines {
+    /// The lines of a text behind its first bytes, so many, counted from this number.
+    #[tactic(auto, using(crate::proofs::PlaceLemmas::few_rows))]
+    pub fn new(text: Vec<u8>, taken: usize, number: u64) -> Self
+        requires within { taken ≤ length text.items }
+        requires counted { number + length text.items < 2 ^ 64 }
+        ensures { result ≡ place_at number (drop taken text.items) }
+    {
+        HeldLines {
+            text,
+            taken,
+            number,
+        }
+    }
+
+    /// Lets go of what was read, where that is half of the text.
+    fn let_go(&mut self)
+        ensures { self.new ≡ self.old }
+    {
+        if self.taken >= self.text.len() - self.taken {
+            remove_front(&mut self.text, self.taken);
+            self.taken = 0;
+        }
+    }
+
+    /// Reads the next line, a value by `value_in`. Errors: `Line` with its number where it is missing, not ended or `value_in` finds it wrong, and `Memory`.
+    pub fn read<X: Drop, F: FnOnce(&[u8]) -> Result<X, RowFault>>(
+        &mut self,
+        value_in: F,
+    ) -> Result<X, TraceFault>
+        requires { F.IsAlwaysCallable value_in }
+        ensures { (value_from : Row → Result X RowFault) → IsLineReader F.FnOnce value_in value_from → ReadsLines (λ x. x) result self.new (line_as value_from self.old) }
+    {
+        self.let_go();
+        let number = self.number;
+        match split_line(&self.text.as_slice()[self.taken..]) {
+            Some((line, rest)) => {
+                let left = rest.len();
+                let read = value_in(line);
+                self.taken = self.text.len() - left;
+                self.number += 1;
+                at_line(number, read)
+            }
+            None => Err(TraceFault::Line(number)),
+        }
+    }
+
+    /// Whether nothing is left. Errors: `Line` where a line is left, ended or not.
+    pub fn end(&self) -> Result<(), TraceFault>
+        ensures { result ≡ ended_at self.now tt }
+    {
+        if self.taken == self.text.len() {
+            Ok(())
+        } else {
+            Err(TraceFault::Line(self.number))
+        }
+    }
+}
+
+/// Takes bytes away from the front of a text, so many, and lets go of the memory that they had.
+fn remove_front(text: &mut Vec<u8>, count: usize)
+    requires { count ≤ length text.old.items }
+    ensures { text.new.items ≡ drop count text.old.items }
+{
+    let len = text.len();
+    text.as_mut_slice().copy_within(count..len, 0);
+    text.truncate(len - count);
+    text.shrink_to_fit();
+}
