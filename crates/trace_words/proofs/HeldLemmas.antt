@@ -1,8 +1,8 @@
 -- Lines that are left at the end of a text.
-use Rattle.std.proofs.Common.{◌≡◌, ℕ, suc, ◌+◌, ◌-◌, ◌≤◌, List, [], ◌∷◌, ◌++◌, length, drop, take, Result, Ok, Err, refl, sym, ap, ap₂, ◌∙◌, arith, length-append, length-drop, take_all, append_assoc, add-one}
+use Rattle.std.proofs.Common.{◌≡◌, ℕ, ◌+◌, ◌-◌, ◌≤◌, List, [], ◌∷◌, ◌++◌, length, drop, take, Result, Ok, Err, refl, sym, ap, ap₂, ◌∙◌, arith, length-append, length-drop, take_all, append_assoc, add-one}
 use Rattle.std.proofs.Math.Seq.{drop-append_seam}
 use Rattle.std.proofs.lemmas.List.{take-append-drop}
-use Rattle.byte_reading.specs.Outcome.{Fails, Gives}
+use Rattle.byte_reading.specs.Outcome.{Gives}
 use Rattle.trace_text.specs.Lines.{rows_of, rows_text, unended_of, lines_of}
 use Rattle.trace_text.specs.Words.{words_of}
 use Rattle.trace_text.proofs.LinesLemmas.{rows_text-append, rows_text-rows_of, rows_of-taken, rows_of-none}
@@ -12,8 +12,7 @@ use Rattle.trace_words.specs.Places.{Place, ReadsLines, first_as, line_as, at_li
 use Rattle.trace_words.specs.Rows.{Row}
 use Rattle.trace_words.specs.declared.fault.RowFault.{RowFault}
 use Rattle.trace_words.specs.declared.fault.RowFault.TheVariants as row_fault
-use Rattle.trace_words.specs.declared.fault.TraceFault.{TraceFault}
-use Rattle.trace_words.specs.declared.fault.TraceFault.TheVariants.{Line, Memory}
+use Rattle.trace_words.specs.declared.fault.TraceFault.TheVariants.{Line}
 
 -- the slice of what was not taken
 pub slice_is : (bytes text : List ℕ) (taken : ℕ) → bytes ≡ text → take (length bytes - taken) (drop taken bytes) ≡ drop taken text

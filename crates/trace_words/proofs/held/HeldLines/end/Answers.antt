@@ -1,4 +1,4 @@
-use Rattle.std.proofs.Common.{◌≡◌, ◌≤◌, length, drop, length-drop, sym, ap, arith, List, ℕ}
+use Rattle.std.proofs.Common.{◌≤◌, length, drop, length-drop, sym, ap, arith, List, ℕ}
 use Rattle.trace_words.proofs.Blanks.{behind_all}
 use Rattle.trace_words.proofs.PlaceLemmas.{nothing_is_left, something_is_left}
 use Rattle.trace_words.proofs.held.HeldLines.end.Goals as goal

@@ -1,9 +1,9 @@
-use Rattle.std.proofs.Common.{◌≡◌, ◌+◌, ◌<◌, ◌^◌, [], ◌∷◌, length, drop, List, ℕ, refl, sym, ap, subst, ◌∙◌, arith, inr}
+use Rattle.std.proofs.Common.{◌≡◌, ◌+◌, ◌<◌, ◌^◌, [], ◌∷◌, length, drop, List, refl, sym, ap, ◌∙◌, arith, inr}
 use Rattle.trace_text.specs.Lines.{lines_of, unended_of}
 use Rattle.trace_text.proofs.LinesLemmas.{rows_of-taken}
 use Rattle.trace_words.proofs.HeldLemmas.{slice_is, line_behind, held_read, none_held}
 use Rattle.trace_words.proofs.PlaceLemmas.{number_goes_on}
-use Rattle.trace_words.specs.Places.{Place, ReadsLines, line_as, place_at}
+use Rattle.trace_words.specs.Places.{line_as, place_at}
 use Rattle.trace_words.specs.Rows.{Row}
 use Rattle.trace_words.proofs.held.HeldLines.read.Goals as goal
 
