@@ -49,9 +49,8 @@ fn added(sum: u64, masks: Masks) -> u64 {
     sum.rotate_left(1) ^ a ^ b ^ c ^ d ^ e ^ f ^ g ^ h
 }
 
-fn timed(name: &str, rounds: u32, classify: fn(&[u32], u32) -> Masks) {
+fn timed(name: &str, rounds: u32, size: usize, classify: fn(&[u32], u32) -> Masks) {
     let values = samples();
-    let size = rounds.min(256) as usize;
     let start = Instant::now();
     let mut sum = 0;
     let mut lens = 0;
@@ -70,6 +69,7 @@ fn timed(name: &str, rounds: u32, classify: fn(&[u32], u32) -> Masks) {
 
 fn main() {
     let rounds: u32 = std::env::args().nth(1).and_then(|w| w.parse().ok()).unwrap_or(256);
-    timed("rust", rounds, classify);
-    timed("rust_by_words", rounds, classify_by_words);
+    let size: usize = std::env::args().nth(2).and_then(|w| w.parse().ok()).unwrap_or(256).min(256);
+    timed("rust", rounds, size, classify);
+    timed("rust_by_words", rounds, size, classify_by_words);
 }

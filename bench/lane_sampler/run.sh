@@ -1,16 +1,17 @@
 #!/bin/sh
-# Times `classify` and `classify_plain` over blocks of 256 samples in cache beside plain loops in Rust, at the
-# processor that the kit compiles for. Usage: bench/lane_sampler/run.sh [rounds]; needs rt and rustc.
+# Times `classify` and `classify_plain` over blocks of samples in cache beside plain loops in Rust, at the
+# processor that the kit compiles for. Usage: bench/lane_sampler/run.sh [rounds [samples a block, 256 at most]]; needs rt and rustc.
 set -eu
 here=$(cd "$(dirname "$0")" && pwd)
 rounds=${1:-20000}
+size=${2:-256}
 built=$(mktemp -d)
 trap 'rm -r "$built"' EXIT
 rustc -O -C target-cpu=x86-64-v2 -o "$built/plain" "$here/plain.rs"
 program=$("$here/../.program" lane_sampler lane_sampler_bench)
 for _ in 1 2 3 4 5 6 7; do
-    "$built/plain" "$rounds"
-    "$program" "$rounds"
+    "$built/plain" "$rounds" "$size"
+    "$program" "$rounds" "$size"
 done > "$built/runs"
 # The least of seven runs of each; equal check sums show that all made the same masks.
 awk '{ if (!($1 in ns) || $3 + 0 < ns[$1]) ns[$1] = $3 + 0; sums[$2] = 1 }

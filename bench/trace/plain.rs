@@ -1,5 +1,5 @@
 // A plain player of traces, for the comparison: the same reading, checking and printing, of a meter without scripts, schedules and an emergency profile, as
-// the benchmark's traces have it. Its arguments and its output are those of trace_player_bench.
+// the benchmark's traces have it. Its arguments and its output are those of trace_player_bench; with `text` behind the count it prints the trace alone.
 use std::fmt::Write;
 use std::time::Instant;
 
@@ -306,6 +306,10 @@ fn main() {
     let mut trace = format!("{OPENING}events {events}\n");
     for i in 0..events {
         trace.push_str(&line_at(i));
+    }
+    if std::env::args().nth(2).as_deref() == Some("text") {
+        print!("{trace}");
+        return;
     }
     let output = play(&trace).expect("a trace");
     let sum = output.bytes().fold(0u64, |sum, byte| sum.wrapping_mul(31).wrapping_add(u64::from(byte)));

@@ -1,7 +1,7 @@
 #!/bin/sh
 # Plays a trace in memory, a meter in mode 1 and 65,536 events of mixed kinds, by the proved crates and by a plain Rust program of the same work. It prints how
-# long that took, the ratio, and the most memory that the proved program held beside the length of the trace. Its argument is how many events (65,536 if there
-# is none, and at most); each program is run five times, and the fastest run counts.
+# long that took, the ratio, and how much more memory the program trace_player holds of this trace than of one with one event, beside the length of the trace. Its
+# argument is how many events (65,536 if there is none, and at most); each program is run five times, and the fastest run counts.
 set -e
 here=$(cd "$(dirname "$0")" && pwd)
 events=${1:-65536}
@@ -22,10 +22,17 @@ proved=$(fastest proved)
 plain=$(fastest plain)
 grep -h ' in, ' "$work/proved.txt" | head -1
 echo "proved $proved us, plain $plain us, ratio $(awk "BEGIN { printf \"%.2f\", $proved / $plain }")"
+player="$here/../../crates/trace_player_cli/out/trace_player_cli"
 # (a small parent: what a process held before it became the program counts too)
-if [ -x /usr/bin/time ]; then
-    /usr/bin/time -o "$work/held" -f "most memory held: %M KiB" "$program" "$events" > /dev/null
+held() {
+    "$work/plain" "$1" text > "$work/trace"
+    /usr/bin/time -o "$work/held" -f %M "$player" < "$work/trace" > /dev/null
     cat "$work/held"
+}
+if [ -x /usr/bin/time ] && [ -x "$player" ]; then
+    least=$(held 1)
+    most=$(held "$events")
+    echo "the player holds $((most - least)) KiB of a trace of $(($(wc -c < "$work/trace") / 1024)) KiB"
 else
-    echo "most memory held: not measured, there is no /usr/bin/time (Debian's package time)"
+    echo "what the player holds is not measured: it wants its proved executable (bin/build) and /usr/bin/time (Debian's package time)"
 fi

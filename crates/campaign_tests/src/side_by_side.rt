@@ -11,7 +11,7 @@ use std::sync::atomic::{AtomicBool, Ordering};
 use std::thread::Threads;
 
 /// The answer to the request: done.
-const ANSWER: [u8; 13] = [
+static ANSWER: [u8; 13] = [
     0x00, 0x01, 0x00, 0x01, 0x00, 0x01, 0x00, 0x05, 0xC7, 0x01, 0xC1, 0x00, 0x00,
 ];
 /// How often the other's flag is asked.

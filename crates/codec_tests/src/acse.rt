@@ -11,9 +11,9 @@ use std::alloc::{AllocError, Global};
 use std::process::Abort;
 use std::test::Fail;
 
-const LN_CONTEXT: [u8; 7] = [0x60, 0x85, 0x74, 0x05, 0x08, 0x01, 0x01];
+static LN_CONTEXT: [u8; 7] = [0x60, 0x85, 0x74, 0x05, 0x08, 0x01, 0x01];
 
-const LOW_LEVEL: [u8; 7] = [0x60, 0x85, 0x74, 0x05, 0x08, 0x02, 0x01];
+static LOW_LEVEL: [u8; 7] = [0x60, 0x85, 0x74, 0x05, 0x08, 0x02, 0x01];
 
 const PASSWORD: &[u8] = b"12345678";
 
@@ -168,7 +168,7 @@ fn check_verdicts(rt: &impl Abort, alloc: Global, rows: &[Judged]) {
     }
 }
 
-const OF_THE_PUBLIC_CLIENT: [Judged; 2] = [
+static OF_THE_PUBLIC_CLIENT: [Judged; 2] = [
     (16, PASSWORD, &PUBLIC_AARQ, &[], PUBLIC_ACCEPTED),
     (
         16,
@@ -188,7 +188,7 @@ fn the_public_client_needs_no_password(rt: HostRuntime) {
     check_verdicts(&rt, rt.alloc(), &OF_THE_PUBLIC_CLIENT);
 }
 
-const OF_THE_MANAGEMENT_CLIENT: [Judged; 5] = [
+static OF_THE_MANAGEMENT_CLIENT: [Judged; 5] = [
     (
         1,
         PASSWORD,
@@ -223,7 +223,7 @@ fn the_management_client_needs_its_password(rt: HostRuntime) {
 }
 
 // Another port, another context, a higher and the lowest level of security, and no InitiateRequest.
-const OTHER_OPENINGS: [Judged; 5] = [
+static OTHER_OPENINGS: [Judged; 5] = [
     (2, PASSWORD, &PUBLIC_AARQ, &[], Verdict::Rejected(1)),
     (
         16,
@@ -261,7 +261,7 @@ fn other_ports_contexts_and_mechanisms_are_rejected(rt: HostRuntime) {
 }
 
 // An older version, a PDU size that is too short, none, the shortest with GET alone, and no service that the meter offers.
-const PROPOSALS: [Judged; 5] = [
+static PROPOSALS: [Judged; 5] = [
     (
         16,
         PASSWORD,
@@ -321,7 +321,7 @@ const REORDERED_AARQ: [u8; 34] = [
 
 const EMPTY_CONTEXT: [u8; 10] = [0x60, 0x08, 0xA1, 0x02, 0x06, 0x00, 0xBE, 0x02, 0x04, 0x00];
 
-const IN_OTHER_ORDERS: [Judged; 3] = [
+static IN_OTHER_ORDERS: [Judged; 3] = [
     (16, PASSWORD, &REORDERED_AARQ, &[], PUBLIC_ACCEPTED),
     (1, PASSWORD, &REORDERED_AARQ, &[], Verdict::Rejected(14)),
     (16, PASSWORD, &EMPTY_CONTEXT, &[], Verdict::Rejected(2)),
@@ -333,7 +333,7 @@ fn fields_come_in_any_order(rt: HostRuntime) {
 }
 
 // Of the management client's AARQ ever more is wrong, and what is wrong comes ever sooner.
-const FIRST_FAULTS: [Judged; 9] = [
+static FIRST_FAULTS: [Judged; 9] = [
     (
         1,
         PASSWORD,
@@ -437,7 +437,7 @@ fn the_first_check_that_fails_decides(rt: HostRuntime) {
 }
 
 // A field twice, no context, a field of a lower tag, and a length that is one too many.
-const UNREADABLE_AARQS: [(&[u8], &[(usize, u8)]); 4] = [
+static UNREADABLE_AARQS: [(&[u8], &[(usize, u8)]); 4] = [
     (
         &[
             0x60, 0x0C, 0xA1, 0x02, 0x06, 0x00, 0xA1, 0x02, 0x06, 0x00, 0xBE, 0x02, 0x04, 0x00,
@@ -474,7 +474,7 @@ fn fields_come_once_each(rt: HostRuntime) {
 }
 
 // Bytes, and whether they are a request for a release. A length may have one or two bytes behind its first, and not none or three.
-const RELEASES: [(&[u8], bool); 13] = [
+static RELEASES: [(&[u8], bool); 13] = [
     (&[0x62, 0x00], true),
     (&RELEASE_REQUEST, true),
     (&[0x62, 0x03, 0x80, 0x01, 0x00], true),
@@ -584,7 +584,7 @@ const INITIATE_ERROR: Aare = Aare {
 // An AARE, and its bytes, as an example and what of it is changed.
 type WrittenAare = (Aare, &'static [u8], &'static [(usize, u8)]);
 
-const WRITTEN_AARES: [WrittenAare; 5] = [
+static WRITTEN_AARES: [WrittenAare; 5] = [
     (ACCEPTING, &ACCEPTING_AARE, &[]),
     (REFUSING, &REFUSING_AARE, &[]),
     (INITIATE_ERROR, &INITIATE_ERROR_AARE, &[]),
@@ -643,7 +643,7 @@ const REORDERED_AARE: [u8; 36] = [
     0x02, 0x01, 0x02, 0xFF,
 ];
 
-const READ_AARES: [ReadAare; 7] = [
+static READ_AARES: [ReadAare; 7] = [
     (&ACCEPTING_AARE, &[], Ok(ACCEPTING)),
     (&REFUSING_AARE, &[], Ok(REFUSING)),
     (&INITIATE_ERROR_AARE, &[], Ok(INITIATE_ERROR)),

@@ -6,7 +6,7 @@ use std::alloc::Global;
 use std::process::Abort;
 use xdlms_apdu::ApduFault;
 
-const REQUEST_FAULTS: [(&[u8], ApduFault); 11] = [
+static REQUEST_FAULTS: [(&[u8], ApduFault); 11] = [
     (&[], ApduFault::UnknownTag),
     (&[0x60, 0x01], ApduFault::UnknownTag),
     (&[0xC2], ApduFault::UnknownTag),
@@ -31,7 +31,7 @@ const REQUEST_FAULTS: [(&[u8], ApduFault); 11] = [
     ),
 ];
 
-const RESPONSE_FAULTS: [(&[u8], ApduFault); 12] = [
+static RESPONSE_FAULTS: [(&[u8], ApduFault); 12] = [
     (&[], ApduFault::UnknownTag),
     (&[0x61, 0x01], ApduFault::UnknownTag),
     (&GET, ApduFault::UnknownTag),
@@ -67,7 +67,7 @@ fn a_response_fault_says_how_far_the_bytes_are_known(rt: HostRuntime) {
 }
 
 // A length in a longer form and any byte for yes, and any selector with any parameters: other spellings of what is written in one way.
-const OTHER_SPELLINGS: [(&[u8], &[u8]); 2] = [
+static OTHER_SPELLINGS: [(&[u8], &[u8]); 2] = [
     (
         &[
             0xC1, 0x03, 0xC1, 0xFF, 0x00, 0x00, 0x00, 0x02, 0x82, 0x00, 0x02, 0x1B, 0x58,

@@ -6,7 +6,7 @@ use std::alloc::{AllocError, Global};
 use std::test::Fail;
 
 // One text of each tag, in the order of the tags.
-const TEXTS: [&[u8]; 20] = [
+static TEXTS: [&[u8]; 20] = [
     &[0x00],
     &[0x01, 0x02, 0x11, 0x01, 0x11, 0x02],
     &[0x02, 0x02, 0x00, 0x03, 0x01],
@@ -31,13 +31,13 @@ const TEXTS: [&[u8]; 20] = [
     &[0x1B, 0x0C, 0x1E, 0x00, 0x00],
 ];
 
-const DATE_TIME: [u8; 12] = [
+static DATE_TIME: [u8; 12] = [
     0x07, 0xEA, 0x0B, 0x16, 0x07, 0x0C, 0x1E, 0x00, 0x00, 0x80, 0x00, 0x00,
 ];
 
-const DATE: [u8; 5] = [0x07, 0xEA, 0x0B, 0x16, 0x07];
+static DATE: [u8; 5] = [0x07, 0xEA, 0x0B, 0x16, 0x07];
 
-const TIME: [u8; 4] = [0x0C, 0x1E, 0x00, 0x00];
+static TIME: [u8; 4] = [0x0C, 0x1E, 0x00, 0x00];
 
 // What the text at that place of the table spells.
 fn value_at(alloc: Global, place: usize) -> Result<Data, AllocError> {
@@ -94,7 +94,7 @@ fn is_written(alloc: Global, value: &Data, bytes: &[u8]) -> bool {
 }
 
 // Lengths and their shortest forms.
-const LENGTHS: [(usize, &[u8]); 8] = [
+static LENGTHS: [(usize, &[u8]); 8] = [
     (0, &[0x00]),
     (0x7F, &[0x7F]),
     (0x80, &[0x81, 0x80]),
@@ -219,7 +219,7 @@ fn each_part_of_a_text_is_truncated(rt: HostRuntime) {
 }
 
 // A text, and the one form in which its value is written.
-const OTHER_FORMS: [(&[u8], &[u8]); 3] = [
+static OTHER_FORMS: [(&[u8], &[u8]); 3] = [
     (
         &[0x09, 0x82, 0x00, 0x02, 0xAB, 0xCD],
         &[0x09, 0x02, 0xAB, 0xCD],
@@ -245,12 +245,12 @@ fn bytes_behind_a_value_are_left(rt: HostRuntime) -> Result<(), Fail> {
 }
 
 // Nine structures of one item, one within the other, around a null-data.
-const NINE_DEEP: [u8; 19] = [
+static NINE_DEEP: [u8; 19] = [
     0x02, 0x01, 0x02, 0x01, 0x02, 0x01, 0x02, 0x01, 0x02, 0x01, 0x02, 0x01, 0x02, 0x01, 0x02, 0x01,
     0x02, 0x01, 0x00,
 ];
 
-const FAULTS: [(&[u8], DataFault); 10] = [
+static FAULTS: [(&[u8], DataFault); 10] = [
     (&[0x09, 0x05, 0xAB], DataFault::Truncated),
     (&[], DataFault::Truncated),
     (&[0x0D, 0x00], DataFault::UnknownTag),
@@ -406,7 +406,7 @@ fn bits_fit(alloc: Global, bits: usize, byte: u8) -> Result<bool, AllocError> {
 }
 
 // The bits of a bit-string, its byte, and whether it fits.
-const BITS: [(usize, u8, bool); 5] = [
+static BITS: [(usize, u8, bool); 5] = [
     (5, 0xB8, true),
     (8, 0xFF, true),
     (9, 0xB8, false),

@@ -212,7 +212,7 @@ fn another_number_ends_the_sending(rt: HostRuntime) -> Result<(), Fail> {
     Ok(())
 }
 
-const THREE: [Joining<'static>; 4] = [
+static THREE: [Joining<'static>; 4] = [
     ((false, 1, &[0x06, 0x00, 0x00]), Ok(None)),
     ((false, 2, &[]), Ok(None)),
     (
@@ -257,7 +257,7 @@ fn another_number_ends_the_joining(rt: HostRuntime) -> Result<(), Fail> {
 const LONGEST: [u8; 8192] = [0xAB; 8192];
 
 /// A byte is added to 8,192.
-const LONGER: [Joining<'static>; 3] = [
+static LONGER: [Joining<'static>; 3] = [
     ((false, 1, &LONGEST), Ok(None)),
     ((true, 2, &[0xAB]), Err(BlockFault::TooLong)),
     ((true, 2, &[]), Err(BlockFault::NoTransfer)),

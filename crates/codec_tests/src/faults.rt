@@ -5,7 +5,7 @@ use std::process::ExitCode;
 use std::test::Fail;
 
 /// A fault, its word and its status.
-const FAULTS: [(Fault, &str, u8); 6] = [
+static FAULTS: [(Fault, &str, u8); 6] = [
     (Fault::Input, "input", 2),
     (Fault::Read, "read", 3),
     (Fault::Write, "write", 3),

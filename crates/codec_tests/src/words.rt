@@ -91,7 +91,7 @@ fn read_all(rt: &impl Abort, numbers: &[Number]) {
     }
 }
 
-const NUMBERS: [Number; 4] = [
+static NUMBERS: [Number; 4] = [
     (b"0", 0, Some(0)),
     (b"5", u64::MAX, Some(5)),
     (b"4294967295", 4_294_967_295, Some(4_294_967_295)),
@@ -103,7 +103,7 @@ fn numbers_are_read(rt: HostRuntime) {
     read_all(&rt, &NUMBERS);
 }
 
-const NO_NUMBERS: [Number; 9] = [
+static NO_NUMBERS: [Number; 9] = [
     (b"18446744073709551616", u64::MAX, None),
     (b"99999999999999999999999999", u64::MAX, None),
     (b"007", u64::MAX, None),
@@ -120,7 +120,7 @@ fn other_words_are_no_numbers(rt: HostRuntime) {
     read_all(&rt, &NO_NUMBERS);
 }
 
-const LIMITS: [Number; 3] = [
+static LIMITS: [Number; 3] = [
     (b"255", 255, Some(255)),
     (b"256", 255, None),
     (b"4294967296", 4_294_967_295, None),
@@ -139,7 +139,7 @@ fn bytes_are_read(rt: HostRuntime) -> Result<(), Fail> {
     Ok(())
 }
 
-const NO_BYTES: [(&[u8], &str); 5] = [
+static NO_BYTES: [(&[u8], &str); 5] = [
     (b"52454c", "lower case"),
     (b"524", "an odd number of digits"),
     (b"5G", "no digit"),
@@ -158,7 +158,7 @@ fn other_words_are_no_bytes(rt: HostRuntime) -> Result<(), Fail> {
 // A text, and its first line with what is behind it, or none.
 type Split = (&'static [u8], Option<(&'static [u8], &'static [u8])>);
 
-const SPLIT: [Split; 4] = [
+static SPLIT: [Split; 4] = [
     (b"state 1\nmode 0\n", Some((b"state 1", b"mode 0\n"))),
     (b"\n", Some((b"", b""))),
     (b"mode 0", None),
@@ -172,7 +172,7 @@ fn lines_are_split(rt: HostRuntime) {
     }
 }
 
-const LINES: [(&[u8], &[u8]); 3] = [
+static LINES: [(&[u8], &[u8]); 3] = [
     (b"state 1\nmode 0\n", b"|state 1|mode 0*"),
     (b"state 1\n\nmode", b"|state 1|*mode"),
     (b"", b"*"),
@@ -186,7 +186,7 @@ fn lines_are_read(rt: HostRuntime) -> Result<(), Fail> {
     Ok(())
 }
 
-const WORDS: [(&[u8], &[u8]); 4] = [
+static WORDS: [(&[u8], &[u8]); 4] = [
     (b"get 16 70", b"|get|16|70"),
     (b"button", b"|button"),
     (b"get  16 ", b"|get||16|"),

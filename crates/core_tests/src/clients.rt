@@ -28,7 +28,7 @@ const RECONNECT: &str = "000100010001000FC301C10046000060030AFF02010F00";
 const ACTION_DONE: &str = "0001000100010005C701C10000";
 
 /// What a client sends, what answers it, and how the meter stands then.
-const TALK: [(&str, &str, Standing); 5] = [
+static TALK: [(&str, &str, Standing); 5] = [
     (AARQ, AARE, (1, 0, true)),
     (SET_MODE_1, SET_DONE, (1, 1, true)),
     (DISCONNECT, ACTION_DONE, (0, 1, false)),

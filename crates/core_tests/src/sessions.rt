@@ -516,3 +516,104 @@ fn a_session_does_not_show_its_password(rt: HostRuntime) -> Result<(), Fail> {
     assert!(rt; is_shown == Ok(true));
     Ok(())
 }
+
+/// Gives a session the bytes that a text spells.
+fn feed_hex(alloc: Global, session: &mut Session, text: &str) -> Result<(), AllocError> {
+    let mut input = Octets::new(alloc);
+    let fed = match add_hex(alloc, &mut input, text) {
+        Ok(()) => session.feed(input.as_slice()),
+        Err(error) => Err(error),
+    };
+    drop(input);
+    fed
+}
+
+/// Associates the public client.
+fn associate(alloc: Global, core: &mut RelayCore, session: &mut Session) -> Result<(), AllocError> {
+    feed_hex(alloc, session, PUBLIC.0)?;
+    let mut sent = Octets::new(alloc);
+    let left = settle(alloc, core, session, &mut sent);
+    drop(sent);
+    let _left = left?;
+    Ok(())
+}
+
+/// The frame of the answer to a GET of one attribute at the front, by the short way. No bytes: none is there.
+fn answer_shortly(
+    alloc: Global,
+    core: &mut RelayCore,
+    session: &mut Session,
+) -> Result<Octets, AllocError> {
+    let Some((level, attr)) = session.next_get() else {
+        return Ok(Octets::new(alloc));
+    };
+    let event = Event::Get {
+        level,
+        attr,
+        selected: false,
+    };
+    let stepped = core.step(alloc, &event);
+    drop(event);
+    let reply = stepped?;
+    let frame = session.answer_get(alloc, &reply);
+    drop(reply);
+    frame
+}
+
+/// The same for a frame of the public client.
+fn answer_public(
+    alloc: Global,
+    core: &mut RelayCore,
+    session: &mut Session,
+    request: &str,
+) -> Result<Octets, AllocError> {
+    associate(alloc, core, session)?;
+    feed_hex(alloc, session, request)?;
+    answer_shortly(alloc, core, session)
+}
+
+/// Whether a frame of the public client has this answer from a new meter, by the short way.
+fn is_answered_shortly(alloc: Global, request: &str, answer: &str) -> Result<bool, AllocError> {
+    let mut session = new_session(alloc)?;
+    let answered = match new_core(alloc) {
+        Ok(mut core) => {
+            let answered = answer_public(alloc, &mut core, &mut session, request);
+            drop(core);
+            answered
+        }
+        Err(error) => Err(error),
+    };
+    drop(session);
+    let frame = answered?;
+    let mut expected = Octets::new(alloc);
+    let added = add_hex(alloc, &mut expected, answer);
+    let same = frame.as_slice() == expected.as_slice();
+    drop(expected);
+    drop(frame);
+    added?;
+    Ok(same)
+}
+
+/// The state of the switch; a name that no object has; a write, and another client's GET, which go the long way.
+static BY_THE_SHORT_WAY: [(&str, &str); 4] = [
+    (
+        "000100100001000DC001C10046000060030AFF0300",
+        "0001000100100006C401C1001601",
+    ),
+    (
+        "000100100001000DC001C10046000060030BFF0200",
+        "0001000100100005C401C10104",
+    ),
+    ("000100100001000FC101C10046000060030AFF04001602", ""),
+    ("000100010001000DC001C10046000060030AFF0300", ""),
+];
+
+#[test]
+fn a_get_of_one_attribute_takes_the_short_way(rt: HostRuntime) {
+    for (request, answer) in &BY_THE_SHORT_WAY {
+        assert!(rt;
+            matches!(is_answered_shortly(rt.alloc(), request, answer), Ok(true)),
+            "{request}"
+        );
+    }
+}
