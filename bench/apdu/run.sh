@@ -33,12 +33,12 @@ def total(program, words):
     return seconds, outputs
 
 best = {}
-for _ in range(5):
+for _ in range(15):
     for name, program, words in (("proved", proved, ["apdu"]), ("plain", plain, [])):
         seconds, outputs = total(program, words)
         best[name] = min(best.get(name, (seconds, outputs)), (seconds, outputs), key=lambda pair: pair[0])
 if best["proved"][1] != best["plain"][1]:
     sys.exit("the two programs answer differently")
 print(f"100,000 lines: proved {best['proved'][0]:.3f} s, plain {best['plain'][0]:.3f} s, "
-      f"ratio {best['proved'][0] / best['plain'][0]:.2f} (best of 5, three inputs each)")
+      f"ratio {best['proved'][0] / best['plain'][0]:.2f} (best of 15, three inputs each)")
 PY

@@ -2,7 +2,7 @@
 # Asks `meter_server serve` for the control state over the loopback interface, by one client and by eight, each of which waits for its answer, and likewise a
 # bare server in plain Rust (rustc -O) that gives the same bytes and does nothing else. It prints the requests a second of both and the ratio, and the same of
 # the time of a processor that the servers took, which other work on the machine disturbs less. Its arguments are how many requests a run has (40,000 if there
-# is none) and how often each is run (5); the best run counts. METER_SERVER names another executable than the proved one.
+# is none) and how often each is run (15); the best run counts. METER_SERVER names another executable than the proved one.
 set -eu
 here=$(cd "$(dirname "$0")" && pwd)
 top=$(cd "$here/../.." && pwd)
@@ -13,7 +13,7 @@ trap 'rm -rf "$work"' EXIT
 for program in echo load; do
     rustc --edition 2021 -O -o "$work/$program" "$here/$program.rs"
 done
-python3 - "$proved" "$work/echo" "$work/load" "${1:-40000}" "${2:-5}" <<'PY'
+python3 - "$proved" "$work/echo" "$work/load" "${1:-40000}" "${2:-15}" <<'PY'
 import os, re, subprocess, sys
 
 proved, echo, load, requests, rounds = sys.argv[1], sys.argv[2], sys.argv[3], int(sys.argv[4]), int(sys.argv[5])
