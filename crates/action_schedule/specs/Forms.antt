@@ -2,27 +2,14 @@
 use Rattle.std.specs.Prelude.{ℕ, List, [], ◌∷◌, Option, Some, None, length, ◌==◌, if◌then◌else◌}
 use Rattle.cosem_axdr.specs.declared.value.Data.{Data}
 use Rattle.cosem_axdr.specs.declared.value.Data.TheVariants.{OctetString, Date, Time}
-use Rattle.cosem_axdr.specs.Forms.{structure_of, octets_of, long_unsigned_of}
+use Rattle.cosem_axdr.specs.Forms.{structure_of, long_unsigned_of}
+use Rattle.cosem_names.specs.Forms.{◌>>=◌, name_of}
 use Rattle.cosem_names.specs.Table.{obis}
 use Rattle.cosem_names.specs.declared.name.Obis.{Obis}
-
-infixl 10 ◌>>=◌
--- the next part, where the first one is there
-abbrev pub ◌>>=◌ : {A B : Type 0} → Option A → (A → Option B) → Option B
-None >>= next = None
-(Some x) >>= next = next x
 
 -- the script table, whose scripts a schedule runs: 0.0.10.0.106.255 (IEC 62056-6-1, script table objects)
 abbrev pub script_table : Obis
 script_table = obis 0 0 10 0 106 255
-
--- a logical name: an octet-string of six bytes
-abbrev name_in : List ℕ → Option Obis
-name_in (a ∷ b ∷ c ∷ d ∷ e ∷ f ∷ []) = Some (record { 0 = a ∷ b ∷ c ∷ d ∷ e ∷ f ∷ [] })
-name_in _ = None
-
-abbrev pub name_of : Data → Option Obis
-name_of value = octets_of value >>= name_in
 
 -- a script: a structure of the script table's name and a selector
 abbrev script_parts_in : List Data → Option (Obis × ℕ)

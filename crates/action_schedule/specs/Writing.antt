@@ -1,23 +1,16 @@
 -- The attributes of a schedule as they are read (IEC 62056-6-2, class 22): times and dates are octet-strings.
 use Rattle.std.specs.Prelude.{◌≡◌, ℕ, List, [], ◌∷◌, map, Ok}
-use Rattle.cosem_axdr.specs.Tree.{trees_of}
-use Rattle.cosem_axdr.specs.View.{all_trees}
 use Rattle.cosem_axdr.specs.declared.value.Data.{Data}
-use Rattle.cosem_axdr.specs.declared.value.Data.TheVariants.{Array, Structure, OctetString, LongUnsigned, Enum}
+use Rattle.cosem_axdr.specs.declared.value.Data.TheVariants.{OctetString, LongUnsigned, Enum}
 use Rattle.cosem_datetime.specs.Fields.{time_bytes, date_bytes}
 use Rattle.cosem_datetime.specs.declared.entry.EntryPattern.{EntryPattern}
+use Rattle.cosem_names.specs.Forms.{array_with, structure_with}
 use Rattle.action_schedule.specs.Forms.{script_table}
 use Rattle.action_schedule.specs.Kinds.{number_of}
 use Rattle.action_schedule.specs.Reading.{selector_of, kind_of, entries_of}
 use Rattle.action_schedule.specs.Schedule.{Schedule}
 use Rattle.action_schedule.specs.declared.attribute.ScheduleAttribute.{ScheduleAttribute}
 use Rattle.action_schedule.specs.declared.attribute.ScheduleAttribute.TheVariants.{ExecutedScript, Kind, ExecutionTime}
-
-abbrev pub array_with : List Data → Data
-array_with items = Array (trees_of (all_trees items))
-
-abbrev pub structure_with : List Data → Data
-structure_with items = Structure (trees_of (all_trees items))
 
 unfoldable pub script_data : ℕ → Data
 script_data selector = structure_with (OctetString script_table.0 ∷ LongUnsigned selector ∷ [])

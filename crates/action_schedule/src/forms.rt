@@ -1,24 +1,14 @@
 ghost use Rattle.std.specs.Prelude.{◌≡◌, option_map};
-ghost use Rattle.action_schedule.specs.Forms.{name_of, script_parts_of, time_bytes_of, date_bytes_of, entry_parts_of};
+ghost use Rattle.action_schedule.specs.Forms.{script_parts_of, time_bytes_of, date_bytes_of, entry_parts_of};
 
 use cosem_axdr::Data;
-use cosem_names::Obis;
+use cosem_names::{Obis, name_in};
 
 /// The bytes of a time.
 const TIME_LEN: usize = 4;
 
 /// The bytes of a date.
 const DATE_LEN: usize = 5;
-
-/// The logical name in an octet-string of six bytes.
-fn name_in(value: &Data) -> Option<Obis>
-    ensures { result ≡ name_of value.now }
-{
-    let [a, b, c, d, e, f] = value.octets()? else {
-        return None;
-    };
-    Some(Obis([*a, *b, *c, *d, *e, *f]))
-}
 
 /// The script table's name and a selector in it: {script_logical_name, script_selector}.
 pub(crate) fn script_parts(value: &Data) -> Option<(Obis, u16)>

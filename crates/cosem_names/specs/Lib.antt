@@ -1,3 +1,4 @@
+pub mod Forms
 pub mod ObjectList
 pub mod Objects
 pub mod ResultCode

@@ -1,10 +1,8 @@
 -- The object_list of the association as a client of a level reads it: the table told as a Data (IEC 62056-6-2, Association LN).
 use Rattle.std.specs.Prelude.{ℕ, Bool, true, false, List, [], ◌∷◌, ◌==◌, filter, map}
 use Rattle.std.specs.Int.{w8, cast_signed}
-use Rattle.cosem_axdr.specs.Tree.{trees_of}
-use Rattle.cosem_axdr.specs.View.{all_trees}
 use Rattle.cosem_axdr.specs.declared.value.Data.{Data}
-use Rattle.cosem_axdr.specs.declared.value.Data.TheVariants.{Null, Array, Structure, Integer, Unsigned, LongUnsigned, Enum, OctetString}
+use Rattle.cosem_axdr.specs.declared.value.Data.TheVariants.{Null, Integer, Unsigned, LongUnsigned, Enum, OctetString}
 use Rattle.cosem_names.specs.declared.level.Level.{Level}
 use Rattle.cosem_names.specs.declared.name.ClassId.{ClassId}
 use Rattle.cosem_names.specs.declared.objects.Access.{Access}
@@ -12,15 +10,9 @@ use Rattle.cosem_names.specs.declared.objects.Access.TheVariants.{NoAccess, Read
 use Rattle.cosem_names.specs.declared.objects.Attribute.{Attribute}
 use Rattle.cosem_names.specs.declared.objects.Method.{Method}
 use Rattle.cosem_names.specs.declared.objects.Object.{Object}
+use Rattle.cosem_names.specs.Forms.{array_with, structure_with}
 use Rattle.cosem_names.specs.Objects.{access_by, execution_by}
 use Rattle.cosem_names.specs.Table as table
-
--- an array of Datas, and a structure
-abbrev pub array_with : List Data → Data
-array_with items = Array (trees_of (all_trees items))
-
-abbrev pub structure_with : List Data → Data
-structure_with items = Structure (trees_of (all_trees items))
 
 -- the number of an attribute's access mode
 abbrev pub access_number : Access → ℕ

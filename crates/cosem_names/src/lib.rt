@@ -7,6 +7,7 @@ mod access;
 mod laws;
 mod level;
 mod name;
+mod name_form;
 mod object_entries;
 mod objects;
 mod result_code;
@@ -17,6 +18,7 @@ pub use access::{attribute, find, may_execute, object, rights};
 pub use laws::tables_are_told;
 pub use level::{Level, Rights};
 pub use name::{AttrRef, ClassId, MethodRef, Obis};
+pub use name_form::name_in;
 pub use object_entries::object_list;
 pub use objects::{
     ATTRIBUTES, Access, Attribute, Instance, METHODS, Method, OBJECTS, Object, ScheduleNumber,

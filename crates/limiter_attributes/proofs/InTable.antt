@@ -3,9 +3,7 @@ use Rattle.std.proofs.Common.{refl}
 use Rattle.cosem_names.specs.Objects.{object_of, class_attribute_of, attribute_of, rights_of}
 use Rattle.cosem_names.specs.declared.objects.Which.{Which}
 use Rattle.cosem_names.specs.declared.objects.Which.TheVariants.{Import, Export}
-use Rattle.script_steps.specs.declared.step.Step.{Step}
-use Rattle.script_steps.specs.declared.step.Step.TheVariants.{WriteMode, WriteNormal, WriteEmergency, WriteMinOver, WriteMinUnder, WriteProfile, Disconnect, Reconnect}
-use Rattle.limiter_attributes.specs.Law.{IsInTable, IsNamed, IsMonitored}
+use Rattle.limiter_attributes.specs.Law.{IsInTable, IsMonitored}
 use Rattle.limiter_attributes.specs.declared.attribute.LimiterAttribute.{LimiterAttribute}
 use Rattle.limiter_attributes.specs.declared.attribute.LimiterAttribute.TheVariants.{MonitoredValue, ThresholdActive, ThresholdNormal, ThresholdEmergency, MinOverThresholdDuration, MinUnderThresholdDuration, EmergencyProfile, EmergencyProfileGroupIdList, EmergencyProfileActive, Actions}
 
@@ -32,22 +30,6 @@ attribute_in_table Export EmergencyProfile = record { public = refl; management 
 attribute_in_table Export EmergencyProfileGroupIdList = record { public = refl; management = refl }
 attribute_in_table Export EmergencyProfileActive = record { public = refl; management = refl }
 attribute_in_table Export Actions = record { public = refl; management = refl }
-
--- the steps of scripts name them
-pub step_named : (step : Step) → IsNamed step
-step_named (WriteMode mode) = tt
-step_named (WriteNormal Import watts) = refl
-step_named (WriteNormal Export watts) = refl
-step_named (WriteEmergency Import watts) = refl
-step_named (WriteEmergency Export watts) = refl
-step_named (WriteMinOver Import seconds) = refl
-step_named (WriteMinOver Export seconds) = refl
-step_named (WriteMinUnder Import seconds) = refl
-step_named (WriteMinUnder Export seconds) = refl
-step_named (WriteProfile Import profile) = refl
-step_named (WriteProfile Export profile) = refl
-step_named Disconnect = tt
-step_named Reconnect = tt
 
 -- the register that is monitored
 pub monitored_in_table : (which : Which) → IsMonitored which

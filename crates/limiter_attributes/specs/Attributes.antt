@@ -1,8 +1,18 @@
--- The attributes of a limiter past its logical name, by their numbers (IEC 62056-6-2, class 71).
+-- A limiter's logical name, and its attributes past that by their numbers (IEC 62056-6-2, class 71).
 use Rattle.std.specs.Prelude.{ℕ, Bool, true, false, List, [], ◌∷◌, ◌==◌, find, Option}
+use Rattle.cosem_names.specs.Table.{obis}
+use Rattle.cosem_names.specs.declared.name.Obis.{Obis}
+use Rattle.cosem_names.specs.declared.objects.Which.{Which}
+use Rattle.cosem_names.specs.declared.objects.Which.TheVariants.{Import, Export}
 use Rattle.limiter_attributes.specs.declared.attribute.LimiterAttribute.{LimiterAttribute}
 use Rattle.limiter_attributes.specs.declared.attribute.LimiterAttribute.TheVariants.{MonitoredValue, ThresholdActive, ThresholdNormal, ThresholdEmergency, MinOverThresholdDuration, MinUnderThresholdDuration, EmergencyProfile, EmergencyProfileGroupIdList, EmergencyProfileActive, Actions}
 
+-- the logical name of a limiter
+abbrev pub limiter_name : Which → Obis
+limiter_name Import = obis 0 0 17 0 0 255
+limiter_name Export = obis 0 1 17 0 0 255
+
+-- the number of an attribute
 abbrev pub number_of : LimiterAttribute → ℕ
 number_of MonitoredValue = 2
 number_of ThresholdActive = 3

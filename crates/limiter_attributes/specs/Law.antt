@@ -1,4 +1,4 @@
--- A limiter's attributes in the table of the meter's objects, and as the steps of scripts name them.
+-- A limiter's attributes in the table of the meter's objects.
 use Rattle.std.specs.Prelude.{◌≡◌, Bool, true, false, Some, option_map}
 use Rattle.cosem_names.specs.Objects.{object_of, rights_of}
 use Rattle.cosem_names.specs.Table.{class_id}
@@ -6,11 +6,7 @@ use Rattle.cosem_names.specs.declared.level.Level.TheVariants.{Public, Managemen
 use Rattle.cosem_names.specs.declared.name.AttrRef.{AttrRef}
 use Rattle.cosem_names.specs.declared.objects.Instance.TheVariants.{Register}
 use Rattle.cosem_names.specs.declared.objects.Which.{Which}
-use Rattle.script_steps.specs.Addresses.{limiter_name}
-use Rattle.script_steps.specs.Law.{attribute_at, named_by}
-use Rattle.script_steps.specs.declared.step.Step.{Step}
-use Rattle.script_steps.specs.declared.step.Step.TheVariants.{WriteMode, WriteNormal, WriteEmergency, WriteMinOver, WriteMinUnder, WriteProfile, Disconnect, Reconnect}
-use Rattle.limiter_attributes.specs.Attributes.{number_of}
+use Rattle.limiter_attributes.specs.Attributes.{limiter_name, number_of}
 use Rattle.limiter_attributes.specs.Writing.{register_name}
 use Rattle.limiter_attributes.specs.declared.attribute.LimiterAttribute.{LimiterAttribute}
 use Rattle.limiter_attributes.specs.declared.attribute.LimiterAttribute.TheVariants.{MonitoredValue, ThresholdActive, ThresholdNormal, ThresholdEmergency, MinOverThresholdDuration, MinUnderThresholdDuration, EmergencyProfile, EmergencyProfileGroupIdList, EmergencyProfileActive, Actions}
@@ -36,17 +32,6 @@ is_written Actions = true
 pub record IsInTable (which : Which) (attribute : LimiterAttribute) : Type 0 where
   pub public : rights_of Public (reference which attribute) ≡ record { read = false; write = false }
   pub management : rights_of Management (reference which attribute) ≡ record { read = true; write = is_written attribute }
-
--- a step of a script that writes a limiter names that limiter's attribute
-abbrev pub IsNamed : Step → Type 0
-IsNamed (WriteMode mode) = Unit {0}
-IsNamed (WriteNormal which watts) = attribute_at (named_by (WriteNormal which watts)) ≡ reference which ThresholdNormal
-IsNamed (WriteEmergency which watts) = attribute_at (named_by (WriteEmergency which watts)) ≡ reference which ThresholdEmergency
-IsNamed (WriteMinOver which seconds) = attribute_at (named_by (WriteMinOver which seconds)) ≡ reference which MinOverThresholdDuration
-IsNamed (WriteMinUnder which seconds) = attribute_at (named_by (WriteMinUnder which seconds)) ≡ reference which MinUnderThresholdDuration
-IsNamed (WriteProfile which profile) = attribute_at (named_by (WriteProfile which profile)) ≡ reference which EmergencyProfile
-IsNamed Disconnect = Unit {0}
-IsNamed Reconnect = Unit {0}
 
 -- what a limiter monitors is the register of its direction, by that object's name and class
 pub record IsMonitored (which : Which) : Type 0 where

@@ -1,13 +1,15 @@
 -- A Data as an attribute of a limiter (IEC 62056-6-2, class 71), or why it is refused. Another type anywhere is told before any value: that order is this meter's.
 use Rattle.std.specs.Prelude.{ℕ, Bool, ◌&&◌, nat_le, List, length, Option, Some, None, is_some, ok_or, Result, Ok}
 use Rattle.std.specs.List.{list_all, filter_map}
+use Rattle.std.specs.Result.{result_ok}
 use Rattle.std.specs.Str.{bytes_eq}
 use Rattle.byte_reading.specs.Outcome.{◌>>=◌, ◌>>◌, guard}
 use Rattle.cosem_axdr.specs.declared.value.Data.{Data}
-use Rattle.cosem_axdr.specs.Forms.{array_of, long_unsigned_of}
+use Rattle.cosem_axdr.specs.Forms.{array_of, double_long_unsigned_of, long_unsigned_of}
+use Rattle.cosem_datetime.specs.Reading.{date_time_of}
 use Rattle.limiter_core.specs.declared.settings.Actions.{Actions}
-use Rattle.script_steps.specs.Reading.{number_of, profile_of}
-use Rattle.limiter_attributes.specs.Forms.{script_table, scripts_of}
+use Rattle.limiter_core.specs.declared.settings.Profile.{Profile}
+use Rattle.limiter_attributes.specs.Forms.{profile_parts_of, script_table, scripts_of}
 use Rattle.limiter_attributes.specs.declared.attribute.LimiterAttribute.{LimiterAttribute}
 use Rattle.limiter_attributes.specs.declared.attribute.LimiterAttribute.TheVariants as attribute
 use Rattle.cosem_names.specs.declared.write_fault.WriteFault.{WriteFault}
@@ -15,6 +17,17 @@ use Rattle.cosem_names.specs.declared.write_fault.WriteFault.TheVariants.{Unmatc
 use Rattle.limiter_attributes.specs.declared.forms.NamedScript.{NamedScript}
 use Rattle.limiter_attributes.specs.declared.setting.Setting.{Setting}
 use Rattle.limiter_attributes.specs.declared.setting.Setting.TheVariants as setting
+
+-- a threshold in watts or a duration in seconds
+abbrev pub number_of : Data → Result ℕ WriteFault
+number_of value = ok_or (double_long_unsigned_of value) Unmatched
+
+-- an emergency profile, whose start is a date-time without a fault
+unfoldable pub profile_of : Data → Result Profile WriteFault
+profile_of value = do
+  parts ← ok_or (profile_parts_of value) Unmatched
+  start ← ok_or (result_ok (date_time_of parts.1)) Value
+  Ok (record { id = parts.0; start = start; duration = parts.2 })
 
 -- the script is one of the script table
 abbrev pub is_listed : NamedScript → Bool

@@ -2,14 +2,16 @@
 use Rattle.std.specs.Prelude.{ℕ, pos, List, [], ◌∷◌, map}
 use Rattle.cosem_axdr.specs.declared.value.Data.{Data}
 use Rattle.cosem_axdr.specs.declared.value.Data.TheVariants.{OctetString, Boolean, DoubleLongUnsigned, LongUnsigned, Integer}
+use Rattle.cosem_datetime.specs.Fields.{date_time_bytes}
+use Rattle.cosem_names.specs.Forms.{array_with, structure_with}
 use Rattle.cosem_names.specs.Table.{obis}
 use Rattle.cosem_names.specs.declared.name.Obis.{Obis}
 use Rattle.cosem_names.specs.declared.objects.Which.{Which}
 use Rattle.cosem_names.specs.declared.objects.Which.TheVariants.{Import, Export}
 use Rattle.limiter_core.specs.Settings.{is_active, active_threshold}
 use Rattle.limiter_core.specs.declared.settings.Actions.{Actions}
+use Rattle.limiter_core.specs.declared.settings.Profile.{Profile}
 use Rattle.limiter_core.specs.declared.settings.Settings.{Settings}
-use Rattle.script_steps.specs.Writing.{array_with, structure_with, profile_data}
 use Rattle.limiter_attributes.specs.Forms.{script_table}
 use Rattle.limiter_attributes.specs.declared.attribute.LimiterAttribute.{LimiterAttribute}
 use Rattle.limiter_attributes.specs.declared.attribute.LimiterAttribute.TheVariants as attribute
@@ -22,6 +24,11 @@ register_name Export = obis 1 0 2 7 0 255
 -- monitored_value: attribute 2 of that register, whose class is 3
 unfoldable pub monitored_data : Which → Data
 monitored_data which = structure_with (LongUnsigned 3 ∷ OctetString (register_name which).0 ∷ Integer (pos 2) ∷ [])
+
+-- emergency_profile: its start is an octet-string
+abbrev pub profile_data : Profile → Data
+profile_data profile =
+    structure_with (LongUnsigned profile.id ∷ OctetString (date_time_bytes profile.start) ∷ DoubleLongUnsigned profile.duration ∷ [])
 
 unfoldable pub groups_data : List ℕ → Data
 groups_data ids = array_with (map LongUnsigned ids)

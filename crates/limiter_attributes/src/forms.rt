@@ -1,9 +1,11 @@
-ghost use Rattle.std.specs.Prelude.{◌≡◌};
-ghost use Rattle.script_steps.specs.Forms.{name_of};
-ghost use Rattle.limiter_attributes.specs.Forms.{script_of, scripts_of};
+ghost use Rattle.std.specs.Prelude.{◌≡◌, option_map};
+ghost use Rattle.limiter_attributes.specs.Forms.{start_bytes_of, profile_parts_of, script_of, scripts_of};
 
 use cosem_axdr::Data;
-use cosem_names::Obis;
+use cosem_names::{Obis, name_in};
+
+/// The bytes of a date-time, in a Data of that type or in an octet-string.
+const DATE_TIME_LEN: usize = 12;
 
 /// A script, by the logical name of its table and its selector there.
 #[derive(Clone, Copy, Debug)]
@@ -12,14 +14,35 @@ pub(crate) struct NamedScript {
     pub(crate) selector: u16,
 }
 
-/// The logical name in an octet-string of six bytes.
-fn name_in(value: &Data) -> Option<Obis>
-    ensures { result ≡ name_of value.now }
+/// The bytes of a date-time.
+fn start_bytes(value: &Data) -> Option<&[u8]>
+    ensures { option_map (λ bytes. bytes.now) result ≡ start_bytes_of value.now }
 {
-    let [a, b, c, d, e, f] = value.octets()? else {
+    let bytes = match value {
+        Data::OctetString(octets) => octets.as_slice(),
+        Data::DateTime(bytes) => bytes.as_slice(),
+        _ => return None,
+    };
+    if bytes.len() == DATE_TIME_LEN {
+        Some(bytes)
+    } else {
+        None
+    }
+}
+
+/// The id, the bytes of the start and the duration of an emergency profile: {emergency_profile_id,
+/// emergency_activation_time, emergency_duration}.
+pub(crate) fn profile_parts(value: &Data) -> Option<(u16, &[u8], u32)>
+    ensures { option_map (λ parts. (parts.0, parts.1.now, parts.2)) result ≡ profile_parts_of value.now }
+{
+    let [id, start, duration] = value.structure()? else {
         return None;
     };
-    Some(Obis([*a, *b, *c, *d, *e, *f]))
+    Some((
+        id.long_unsigned()?,
+        start_bytes(start)?,
+        duration.double_long_unsigned()?,
+    ))
 }
 
 /// A script as an action names it: {script_logical_name, script_selector}.

@@ -1,12 +1,10 @@
 ghost use Rattle.cosem_names.specs.declared.objects.Which.{Which};
 ghost use Rattle.limiter_attributes.specs.declared.attribute.LimiterAttribute.{LimiterAttribute};
-ghost use Rattle.limiter_attributes.specs.Law.{IsInTable, IsNamed, IsMonitored};
-ghost use Rattle.script_steps.specs.declared.step.Step.{Step};
+ghost use Rattle.limiter_attributes.specs.Law.{IsInTable, IsMonitored};
 
-/// The attributes of both limiters stand in the table of the meter's objects, with the rights to them; the steps of
-/// scripts name those that they write; and what a limiter monitors is the register of its direction.
+/// The attributes of both limiters stand in the table of the meter's objects, with the rights to them; and what a
+/// limiter monitors is the register of its direction.
 pub fn limiters_are_in_the_table()
     ensures attributes { (which : Which) (attribute : LimiterAttribute) → IsInTable which attribute }
-    ensures steps { (step : Step) → IsNamed step }
     ensures monitored { (which : Which) → IsMonitored which }
 {}

@@ -17,6 +17,6 @@ pub use attribute::LimiterAttribute;
 pub use cosem_names::WriteFault as SettingFault;
 pub use groups::read_groups;
 pub use laws::limiters_are_in_the_table;
-pub use reading::read_setting;
+pub use reading::{read_number, read_profile, read_setting};
 pub use setting::Setting;
-pub use writing::read_attribute;
+pub use writing::{read_attribute, write_profile};

@@ -1,21 +1,39 @@
-ghost use Rattle.std.specs.Prelude.{◌≡◌, IsErrOf};
-ghost use Rattle.limiter_attributes.specs.Reading.{actions_of, setting_of};
-ghost use Rattle.script_steps.specs.Reading.{number_of};
+ghost use Rattle.std.specs.Prelude.{◌≡◌, IfOk, IsErrOf};
+ghost use Rattle.cosem_datetime.specs.Fields.{IsDateTimeFields};
+ghost use Rattle.limiter_attributes.specs.Reading.{number_of, profile_of, actions_of, setting_of};
 
 use crate::attribute::LimiterAttribute;
-use crate::forms::scripts_in;
+use crate::forms::{profile_parts, scripts_in};
 use crate::names::SCRIPT_TABLE_NAME;
 use crate::setting::Setting;
 use cosem_axdr::Data;
+use cosem_datetime::read_date_time;
 use cosem_names::WriteFault;
-use limiter_core::Actions;
-use script_steps::read_profile;
+use limiter_core::{Actions, Profile};
 
-/// A threshold in watts or a duration in seconds.
-fn read_number(value: &Data) -> Result<u32, WriteFault>
+/// Reads a threshold in watts or a duration in seconds as attributes 4 to 7 of a limiter are written (IEC 62056-6-2,
+/// class 71): a double-long-unsigned. It takes no memory.
+pub fn read_number(value: &Data) -> Result<u32, WriteFault>
     ensures { result ≡ number_of value.now }
 {
     value.double_long_unsigned().ok_or(WriteFault::Unmatched)
+}
+
+/// Reads an emergency profile as attribute 8 of a limiter is written (IEC 62056-6-2, class 71): a structure of
+/// long-unsigned id, octet-string or date-time start, and double-long-unsigned duration. It takes no memory.
+#[tactic(auto, unfolding(crate::specs::Reading::profile_of))]
+pub fn read_profile(value: &Data) -> Result<Profile, WriteFault>
+    ensures exact { result ≡ profile_of value.now }
+    ensures fit { IfOk result (λ profile. IsDateTimeFields profile.start) }
+    ensures no_memory { ¬ IsErrOf result WriteFault.Memory }
+{
+    let (id, start, duration) = profile_parts(value).ok_or(WriteFault::Unmatched)?;
+    let start = read_date_time(start).ok().ok_or(WriteFault::Value)?;
+    Ok(Profile {
+        id,
+        start,
+        duration,
+    })
 }
 
 /// The scripts of both actions.

@@ -2,11 +2,9 @@ ghost use Rattle.std.specs.Prelude.{◌≡◌, ◌≤◌, map, length, Ok, IsOk,
 ghost use Rattle.cosem_axdr.specs.declared.value.Data.TheVariants.{LongUnsigned};
 ghost use Rattle.limiter_attributes.specs.Attributes.{is_plain};
 ghost use Rattle.limiter_attributes.specs.declared.attribute.LimiterAttribute.TheVariants.{EmergencyProfileGroupIdList};
-ghost use Rattle.limiter_attributes.specs.Reading.{max_groups, groups_of, actions_of, setting_of};
+ghost use Rattle.limiter_attributes.specs.Reading.{max_groups, profile_of, groups_of, actions_of, setting_of};
 ghost use Rattle.limiter_attributes.specs.Settings.{setting_at};
-ghost use Rattle.limiter_attributes.specs.Writing.{register_name, monitored_data, groups_data, script_data, actions_data, data_at};
-ghost use Rattle.script_steps.specs.Reading.{profile_of};
-ghost use Rattle.script_steps.specs.Writing.{profile_data};
+ghost use Rattle.limiter_attributes.specs.Writing.{register_name, monitored_data, profile_data, groups_data, script_data, actions_data, data_at};
 
 use crate::attribute::LimiterAttribute;
 use crate::names::{
@@ -15,7 +13,6 @@ use crate::names::{
 use cosem_axdr::{Data, Items, Octets};
 use cosem_names::{Obis, Which};
 use limiter_core::{Actions, Limiter, Profile};
-use script_steps::write_profile;
 use std::alloc::{AllocError, Global};
 
 /// The register whose value a limiter monitors.
@@ -41,15 +38,19 @@ fn write_monitored(alloc: Global, which: Which) -> Result<Data, AllocError>
     ]?)))
 }
 
-/// An emergency profile.
-#[tactic(auto, using(script_steps::proofs::Again::profile_again))]
-fn write_emergency_profile(alloc: Global, profile: &Profile) -> Result<Data, AllocError>
+/// An emergency profile as attribute 8 of a limiter is read (IEC 62056-6-2, class 71). Its start is an octet-string.
+#[tactic(auto, using(crate::proofs::Again::profile_again))]
+pub fn write_profile(alloc: Global, profile: &Profile) -> Result<Data, AllocError>
     ensures value { IfOk result (λ value. value ≡ profile_data profile.now) }
+    // Read again, it gives the profile back.
     ensures again { IfOk result (λ value. profile_of value ≡ Ok profile.now) }
 {
-    // Its bytes tell that the fields of the start lie in their ranges.
-    let _ = profile.start.bytes();
-    write_profile(alloc, profile)
+    let start = Octets::from_slice(alloc, &profile.start.bytes())?;
+    Ok(Data::Structure(Items::from_vec(vec![in alloc;
+        Data::LongUnsigned(profile.id),
+        Data::OctetString(start),
+        Data::DoubleLongUnsigned(profile.duration),
+    ]?)))
 }
 
 /// Each number as a long-unsigned.
@@ -122,7 +123,7 @@ pub fn read_attribute(
         LimiterAttribute::MinUnderThresholdDuration => {
             Ok(Data::DoubleLongUnsigned(limiter.min_under_duration()))
         }
-        LimiterAttribute::EmergencyProfile => write_emergency_profile(alloc, &limiter.profile()),
+        LimiterAttribute::EmergencyProfile => write_profile(alloc, &limiter.profile()),
         LimiterAttribute::EmergencyProfileGroupIdList => write_groups(alloc, limiter.groups()),
         LimiterAttribute::EmergencyProfileActive => Ok(Data::Boolean(limiter.emergency_active())),
         LimiterAttribute::Actions => write_actions(alloc, limiter.actions()),

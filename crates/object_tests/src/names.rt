@@ -1,7 +1,8 @@
+use crate::texts::data;
 use cosem_axdr::{Octets, write};
 use cosem_names::{
     AttrRef, ClassId, Instance, Level, MethodRef, Obis, ResultCode, Rights, attribute, find,
-    may_execute, object, object_list, rights, tables_are_told,
+    may_execute, name_in, object, object_list, rights, tables_are_told,
 };
 use std::alloc::{AllocError, Global};
 use std::test::Fail;
@@ -177,6 +178,31 @@ fn results_have_their_numbers(rt: HostRuntime) {
     }
     for number in [5u8, 11, 14, 17, 249, 251, 255] {
         assert!(rt; ResultCode::of_code(number).is_none(), "{number}");
+    }
+}
+
+/// A Data, and the logical name in it: an octet-string of six bytes has one, and no other Data.
+static NAMED: [(&str, Option<Obis>); 6] = [
+    ("0906000060030AFF", Some(DISCONNECT_CONTROL_NAME)),
+    ("09060001110000FF", Some(EXPORT_LIMITER)),
+    ("0905000060030A", None),
+    ("0907000060030AFF00", None),
+    ("0A06000060030AFF", None),
+    ("00", None),
+];
+
+/// The logical name in the Data of a hexadecimal text; none where memory is wanting.
+fn name_of(alloc: Global, text: &str) -> Option<Option<Obis>> {
+    let value = data(alloc, text)?;
+    let name = name_in(&value);
+    drop(value);
+    Some(name)
+}
+
+#[test]
+fn a_logical_name_has_six_bytes(rt: HostRuntime) {
+    for (text, name) in &NAMED {
+        assert!(rt; name_of(rt.alloc(), text) == Some(*name), "{text}");
     }
 }
 

@@ -2,11 +2,9 @@
 use crate::texts::{data, is_text};
 use cosem_axdr::Data;
 use disconnect_control::ControlMode;
+use limiter_attributes::{read_profile, write_profile};
 use limiter_core::Profile;
-use script_steps::{
-    NULL_SCRIPT, ScriptFault, ScriptTable, Step, Which, read_profile, write_profile,
-    written_table_is_read,
-};
+use script_steps::{NULL_SCRIPT, ScriptFault, ScriptTable, Step, Which, written_table_is_read};
 use std::alloc::{AllocError, Global};
 use std::process::Abort;
 use std::test::Fail;

@@ -4,7 +4,7 @@ use Rattle.byte_reading.specs.Outcome.{◌>>=◌}
 use Rattle.byte_reading.proofs.OutcomeLemmas.{done}
 use Rattle.cosem_axdr.specs.Forms.{double_long_unsigned_of}
 use Rattle.cosem_axdr.specs.declared.value.Data.{Data}
-use Rattle.limiter_attributes.specs.Reading.{actions_of, setting_of}
+use Rattle.limiter_attributes.specs.Reading.{number_of, profile_of, actions_of, setting_of}
 use Rattle.limiter_attributes.specs.declared.attribute.LimiterAttribute.{LimiterAttribute}
 use Rattle.limiter_attributes.specs.declared.attribute.LimiterAttribute.TheVariants as attribute
 use Rattle.cosem_names.specs.declared.write_fault.WriteFault.{WriteFault}
@@ -14,7 +14,7 @@ use Rattle.limiter_attributes.specs.declared.setting.Setting.TheVariants as sett
 use Rattle.relay_core.specs.Agreeing.{IsSettingInRange, IsValue}
 use Rattle.script_steps.proofs.InRange.{table_in_range, read_some}
 use Rattle.script_steps.proofs.Within.{Within, number_within}
-use Rattle.script_steps.specs.Reading.{number_of, profile_of, table_of}
+use Rattle.script_steps.specs.Reading.{table_of}
 
 -- what is so of each value that a reading can have is so of the one that it has
 if_read : {A F : Type 0} (P : A → Type 0) (read : Result A F) → ((x : A) → read ≡ Ok x → P x) → IfOk read P

@@ -6,6 +6,7 @@ use Rattle.cosem_names.specs.declared.objects.Which.{Which}
 use Rattle.cosem_names.specs.declared.objects.Which.TheVariants.{Import, Export}
 use Rattle.disconnect_control.specs.Attributes.{mode_form}
 use Rattle.disconnect_control.specs.declared.state.ControlMode.TheVariants.{Mode0, Mode1, Mode2, Mode3, Mode4, Mode5, Mode6}
+use Rattle.limiter_attributes.proofs.Again.{profile_again}
 use Rattle.limiter_attributes.specs.Attributes.{attribute_numbered}
 use Rattle.limiter_attributes.specs.Reading.{setting_of}
 use Rattle.limiter_attributes.specs.declared.setting.Setting.TheVariants as setting
@@ -17,7 +18,6 @@ use Rattle.relay_core.specs.Scripts.{at_step}
 use Rattle.relay_core.specs.World.{World, Outcome}
 use Rattle.relay_core.specs.Writing.{at_setting_form, at_write, at_set}
 use Rattle.relay_core.specs.declared.scripts.Origin.TheVariants.{Remote}
-use Rattle.script_steps.proofs.Again.{profile_again}
 use Rattle.script_steps.specs.Table.{IsStep}
 use Rattle.cosem_names.specs.declared.write_fault.WriteFault.{WriteFault}
 use Rattle.script_steps.specs.declared.step.Step.{Step}

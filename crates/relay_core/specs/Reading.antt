@@ -11,7 +11,8 @@ use Rattle.cosem_names.specs.declared.result_code.ResultCode.TheVariants.{ReadWr
 use Rattle.cosem_names.specs.declared.service.AttributeSelection.{AttributeSelection}
 use Rattle.cosem_names.specs.declared.service.GetResult.{GetResult}
 use Rattle.cosem_names.specs.declared.service.GetResult.TheVariants.{Value, Code}
-use Rattle.cosem_names.specs.ObjectList.{structure_with, object_list_of}
+use Rattle.cosem_names.specs.Forms.{structure_with}
+use Rattle.cosem_names.specs.ObjectList.{object_list_of}
 use Rattle.cosem_names.specs.Objects.{rights_of}
 use Rattle.disconnect_control.specs.Attributes.{attribute_numbered as control_attribute, data_at as control_data}
 use Rattle.disconnect_control.specs.Control.{Control}

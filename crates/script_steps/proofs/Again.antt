@@ -1,27 +1,22 @@
 -- A table that is written is read again.
-use Rattle.std.proofs.Common.{◌≡◌, ℕ, ◌==◌, true, not, ◌&&◌, nat_le, List, map, length, Option, Some, None, ok_or, Result, Ok, Err, length-append, refl, ap, ap₂, ◌∙◌, arith}
+use Rattle.std.proofs.Common.{◌≡◌, ℕ, ◌==◌, true, not, ◌&&◌, nat_le, List, map, length, Some, ok_or, Result, Ok, Err, refl, ap, ap₂, ◌∙◌, arith}
 use Rattle.std.proofs.lemmas.List.{length-map}
 use Rattle.std.proofs.lemmas.Bool.Decides.{nat_tests}
-use Rattle.std.specs.Prelude.{ℤ, IfOk}
-use Rattle.std.specs.Result.{result_ok}
+use Rattle.std.specs.Prelude.{IfOk}
 use Rattle.byte_reading.specs.Outcome.{◌>>=◌, ◌>>◌, guard}
 use Rattle.byte_reading.proofs.OutcomeLemmas.{done}
 use Rattle.cosem_axdr.specs.declared.value.Data.{Data}
 use Rattle.cosem_axdr.proofs.OneTree.{list_of_trees}
-use Rattle.cosem_datetime.specs.Fields.{DateTimeFields, IsDateTimeFields, date_time_bytes, year_bytes, deviation_bytes}
-use Rattle.cosem_datetime.specs.Reading.{date_time_of}
-use Rattle.cosem_datetime.proofs.Spelled.{date_time_again}
 use Rattle.disconnect_control.proofs.ModeLemmas.{mode_found}
 use Rattle.disconnect_control.specs.Attributes.{mode_form}
-use Rattle.limiter_core.specs.declared.settings.Profile.{Profile}
+use Rattle.limiter_attributes.proofs.Again.{profile_again}
 use Rattle.script_steps.specs.Addresses.{action_at, address_of, action_of}
 use Rattle.script_steps.specs.Forms.{step_parts_of, script_parts_of, identifier_of}
 use Rattle.cosem_names.specs.WriteFault.{told, values}
-use Rattle.script_steps.specs.Reading.{max_scripts, max_steps, profile_of, step_with, step_of, script_of, judged_script, judged_scripts, are_distinct, table_of}
+use Rattle.script_steps.specs.Reading.{max_scripts, max_steps, step_with, step_of, script_of, judged_script, judged_scripts, are_distinct, table_of}
 use Rattle.script_steps.specs.Table.{IsStep, IsScript, IsTable}
-use Rattle.script_steps.specs.Writing.{profile_data, parameter_of, step_data, script_data, data_of}
+use Rattle.script_steps.specs.Writing.{parameter_of, step_data, script_data, data_of}
 use Rattle.script_steps.proofs.Listed.{action_again}
-use Rattle.script_steps.proofs.Profiles.{profile_parts_again}
 use Rattle.cosem_names.proofs.SeveralRead.{AreRead, all_again, told_again}
 use Rattle.script_steps.proofs.Tables.{same_distinct}
 use Rattle.script_steps.specs.declared.action.Address.{Address}
@@ -31,18 +26,6 @@ use Rattle.script_steps.specs.declared.step.Script.{Script}
 use Rattle.script_steps.specs.declared.step.Step.{Step}
 use Rattle.script_steps.specs.declared.step.Step.TheVariants as step
 use Rattle.cosem_names.specs.declared.objects.Which.TheVariants.{Import, Export}
-
--- a date-time has twelve bytes
-two_of_year : (year : Option ℕ) → length (year_bytes year) ≡ 2
-two_of_year None = refl
-two_of_year (Some y) = refl
-
-two_of_deviation : (deviation : Option ℤ) → length (deviation_bytes deviation) ≡ 2
-two_of_deviation None = refl
-two_of_deviation (Some d) = refl
-
-twelve_bytes : (p : DateTimeFields) → length (date_time_bytes p) ≡ 12
-twelve_bytes p = simp length-append (omega (arith, two_of_year p.date.year, two_of_deviation p.deviation))
 
 -- the parts of a step that is written
 parts_again : (s : Step) → step_parts_of (step_data s) ≡ Some (address_of (action_of s), parameter_of s)
@@ -60,17 +43,6 @@ parts_again (step.WriteProfile Import profile) = refl
 parts_again (step.WriteProfile Export profile) = refl
 parts_again step.Disconnect = refl
 parts_again step.Reconnect = refl
-
--- a profile of its parts
-abbrev with_parts : ℕ × List ℕ × ℕ → Result Profile WriteFault
-with_parts parts = ok_or (result_ok (date_time_of parts.1)) Value >>= λ start. done WriteFault (record { id = parts.0; start = start; duration = parts.2 })
-
--- a profile that is written
-pub profile_again : (profile : Profile) → IsDateTimeFields profile.start → profile_of (profile_data profile) ≡ Ok profile
-unfolding profile_of
-profile_again profile fits =
-    ap (λ o. ok_or o Unmatched >>= with_parts) (profile_parts_again profile.id profile.duration (date_time_bytes profile.start) (twelve_bytes profile.start))
-    ∙ ap (λ r. ok_or (result_ok r) Value >>= λ start. done WriteFault (record { id = profile.id; start = start; duration = profile.duration })) (date_time_again profile.start fits)
 
 -- the parameter of a step that is written
 parameter_again : (s : Step) → IsStep s → step_with (action_of s) (parameter_of s) ≡ Ok s

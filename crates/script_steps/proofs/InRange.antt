@@ -13,7 +13,8 @@ use Rattle.script_steps.proofs.Within.{Within, AllWithin, array_within, number_w
 use Rattle.disconnect_control.specs.Attributes.{mode_form}
 use Rattle.script_steps.specs.Addresses.{action_at}
 use Rattle.cosem_names.specs.WriteFault.{values}
-use Rattle.script_steps.specs.Reading.{number_of, profile_of, method_parameter_of, step_with, step_of, judged_script, script_of, judged_scripts, table_of}
+use Rattle.limiter_attributes.specs.Reading.{number_of, profile_of}
+use Rattle.script_steps.specs.Reading.{method_parameter_of, step_with, step_of, judged_script, script_of, judged_scripts, table_of}
 use Rattle.script_steps.specs.declared.action.Action.{Action}
 use Rattle.script_steps.specs.declared.action.Action.TheVariants as action
 use Rattle.cosem_names.specs.declared.write_fault.WriteFault.{WriteFault}

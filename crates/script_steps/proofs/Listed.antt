@@ -3,7 +3,7 @@ use Rattle.std.proofs.Common.{◌≡◌, Some, refl}
 use Rattle.cosem_names.specs.Objects.{object_of, class_attribute_of, class_method_of, attribute_of, method_of, rights_of, may_execute_of}
 use Rattle.cosem_names.specs.declared.objects.Which.TheVariants.{Import, Export}
 use Rattle.script_steps.specs.Addresses.{action_at, address_of, action_of}
-use Rattle.script_steps.specs.Law.{IsInTable, IsListed}
+use Rattle.script_steps.specs.Law.{IsInTable, IsListed, IsNamed}
 use Rattle.script_steps.specs.declared.action.Action.{Action}
 use Rattle.script_steps.specs.declared.action.Action.TheVariants.{Mode, Normal, Emergency, MinOver, MinUnder, Profile, Disconnect, Reconnect}
 use Rattle.script_steps.specs.declared.step.Step.{Step}
@@ -46,3 +46,19 @@ step_in_table (variant.WriteProfile Import profile) = record { named = refl; cla
 step_in_table (variant.WriteProfile Export profile) = record { named = refl; classed = refl; allowed = refl }
 step_in_table variant.Disconnect = record { named = refl; classed = refl; allowed = refl }
 step_in_table variant.Reconnect = record { named = refl; classed = refl; allowed = refl }
+
+-- of a limiter it is the attribute that the step writes
+pub step_named : (step : Step) → IsNamed step
+step_named (variant.WriteMode mode) = tt
+step_named (variant.WriteNormal Import watts) = refl
+step_named (variant.WriteNormal Export watts) = refl
+step_named (variant.WriteEmergency Import watts) = refl
+step_named (variant.WriteEmergency Export watts) = refl
+step_named (variant.WriteMinOver Import seconds) = refl
+step_named (variant.WriteMinOver Export seconds) = refl
+step_named (variant.WriteMinUnder Import seconds) = refl
+step_named (variant.WriteMinUnder Export seconds) = refl
+step_named (variant.WriteProfile Import profile) = refl
+step_named (variant.WriteProfile Export profile) = refl
+step_named variant.Disconnect = tt
+step_named variant.Reconnect = tt

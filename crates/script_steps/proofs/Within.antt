@@ -7,7 +7,8 @@ use Rattle.cosem_axdr.specs.View.{tree_of, list_of}
 use Rattle.cosem_axdr.specs.ViewLaws.{tree_of-data_of}
 use Rattle.cosem_axdr.specs.declared.value.Data.{Data}
 use Rattle.cosem_axdr.specs.declared.value.Data.TheVariants as variants
-use Rattle.script_steps.specs.Forms.{◌>>=◌, name_of, step_parts_in, step_parts_of, script_parts_in, script_parts_of}
+use Rattle.cosem_names.specs.Forms.{◌>>=◌, name_of}
+use Rattle.script_steps.specs.Forms.{step_parts_in, step_parts_of, script_parts_in, script_parts_of}
 use Rattle.script_steps.specs.declared.action.Address.{Address}
 
 -- a value whose numbers are of their types' ranges, and several

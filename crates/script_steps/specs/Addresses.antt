@@ -3,9 +3,9 @@ use Rattle.std.specs.Prelude.{ℤ, pos, ℕ, Bool, Option, List, [], ◌∷◌, 
 use Rattle.std.specs.Ordering.{int_eq}
 use Rattle.std.specs.Str.{bytes_eq}
 use Rattle.cosem_names.specs.Table.{class_id, obis}
-use Rattle.cosem_names.specs.declared.name.Obis.{Obis}
 use Rattle.cosem_names.specs.declared.objects.Which.{Which}
 use Rattle.cosem_names.specs.declared.objects.Which.TheVariants.{Import, Export}
+use Rattle.limiter_attributes.specs.Attributes.{limiter_name}
 use Rattle.script_steps.specs.declared.action.Action.{Action}
 use Rattle.script_steps.specs.declared.action.Action.TheVariants.{Mode, Normal, Emergency, MinOver, MinUnder, Profile, Disconnect, Reconnect}
 use Rattle.script_steps.specs.declared.action.Address.{Address}
@@ -26,11 +26,6 @@ attribute_of index = record { service = write_attribute; class = class_id 70; na
 -- an execution of a method of it
 abbrev pub method_of : ℤ → Address
 method_of index = record { service = execute_method; class = class_id 70; name = obis 0 0 96 3 10 255; index = index }
-
--- the logical name of a limiter
-abbrev pub limiter_name : Which → Obis
-limiter_name Import = obis 0 0 17 0 0 255
-limiter_name Export = obis 0 1 17 0 0 255
 
 -- a write of an attribute of a limiter (class 71)
 abbrev pub limiter_attribute_of : Which → ℤ → Address

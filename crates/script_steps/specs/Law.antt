@@ -1,4 +1,4 @@
--- What a step names stands in the table of the meter's objects, and the management client may do it.
+-- What a step names stands in the table of the meter's objects, and the management client may do it; of a limiter it is the attribute that the step writes.
 use Rattle.std.specs.Prelude.{◌≡◌, Bool, true, ◌==◌, ◌&&◌, ◌||◌, Some, option_map}
 use Rattle.std.specs.Int.{w8, cast_unsigned}
 use Rattle.cosem_names.specs.Objects.{object_of, rights_of, may_execute_of}
@@ -7,6 +7,8 @@ use Rattle.cosem_names.specs.declared.name.AttrRef.{AttrRef}
 use Rattle.cosem_names.specs.declared.name.MethodRef.{MethodRef}
 use Rattle.cosem_names.specs.declared.objects.Instance.{Instance}
 use Rattle.cosem_names.specs.declared.objects.Instance.TheVariants.{DisconnectControl, Limiter}
+use Rattle.limiter_attributes.specs.Law.{reference}
+use Rattle.limiter_attributes.specs.declared.attribute.LimiterAttribute.TheVariants.{ThresholdNormal, ThresholdEmergency, MinOverThresholdDuration, MinUnderThresholdDuration, EmergencyProfile}
 use Rattle.script_steps.specs.Addresses.{write_attribute, execute_method, address_of, action_at, action_of}
 use Rattle.script_steps.specs.declared.action.Address.{Address}
 use Rattle.script_steps.specs.declared.step.Step.{Step}
@@ -56,6 +58,17 @@ pub record IsInTable (step : Step) : Type 0 where
   pub named : option_map (λ row. row.instance) (object_of (named_by step).name) ≡ Some (instance_of step)
   pub classed : option_map (λ row. row.class) (object_of (named_by step).name) ≡ Some (named_by step).class
   pub allowed : is_allowed (named_by step) ≡ true
+
+-- a step that writes a limiter names that limiter's attribute
+abbrev pub IsNamed : Step → Type 0
+IsNamed (WriteMode mode) = Unit {0}
+IsNamed (WriteNormal which watts) = attribute_at (named_by (WriteNormal which watts)) ≡ reference which ThresholdNormal
+IsNamed (WriteEmergency which watts) = attribute_at (named_by (WriteEmergency which watts)) ≡ reference which ThresholdEmergency
+IsNamed (WriteMinOver which seconds) = attribute_at (named_by (WriteMinOver which seconds)) ≡ reference which MinOverThresholdDuration
+IsNamed (WriteMinUnder which seconds) = attribute_at (named_by (WriteMinUnder which seconds)) ≡ reference which MinUnderThresholdDuration
+IsNamed (WriteProfile which profile) = attribute_at (named_by (WriteProfile which profile)) ≡ reference which EmergencyProfile
+IsNamed Disconnect = Unit {0}
+IsNamed Reconnect = Unit {0}
 
 -- a step is listed: what it names is its action's, and no other action's
 abbrev pub IsListed : Step → Type 0

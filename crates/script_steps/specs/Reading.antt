@@ -2,16 +2,14 @@
 -- meter's.
 use Rattle.std.specs.Prelude.{ℕ, Bool, true, not, ◌&&◌, ◌==◌, nat_le, List, [], ◌∷◌, length, ok_or, Result, Ok, Err}
 use Rattle.std.specs.List.{list_any}
-use Rattle.std.specs.Result.{result_ok}
 use Rattle.byte_reading.specs.Outcome.{◌>>=◌, ◌>>◌, guard}
 use Rattle.cosem_axdr.specs.declared.value.Data.{Data}
 use Rattle.cosem_axdr.specs.declared.value.Data.TheVariants.{Null, Integer}
-use Rattle.cosem_axdr.specs.Forms.{array_of, double_long_unsigned_of}
-use Rattle.cosem_datetime.specs.Reading.{date_time_of}
+use Rattle.cosem_axdr.specs.Forms.{array_of}
 use Rattle.disconnect_control.specs.Attributes.{mode_form}
-use Rattle.limiter_core.specs.declared.settings.Profile.{Profile}
+use Rattle.limiter_attributes.specs.Reading.{number_of, profile_of}
 use Rattle.script_steps.specs.Addresses.{action_at}
-use Rattle.script_steps.specs.Forms.{step_parts_of, script_parts_of, profile_parts_of, identifier_of}
+use Rattle.script_steps.specs.Forms.{step_parts_of, script_parts_of, identifier_of}
 use Rattle.script_steps.specs.declared.action.Action.{Action}
 use Rattle.script_steps.specs.declared.action.Action.TheVariants as action
 use Rattle.cosem_names.specs.WriteFault.{told, values}
@@ -27,17 +25,6 @@ max_scripts = 16
 
 abbrev pub max_steps : ℕ
 max_steps = 8
-
--- a threshold in watts or a duration in seconds
-abbrev pub number_of : Data → Result ℕ WriteFault
-number_of value = ok_or (double_long_unsigned_of value) Unmatched
-
--- an emergency profile (IEC 62056-6-2, class 71, emergency_profile), whose start is a date-time without a fault
-unfoldable pub profile_of : Data → Result Profile WriteFault
-profile_of value = do
-  parts ← ok_or (profile_parts_of value) Unmatched
-  start ← ok_or (result_ok (date_time_of parts.1)) Value
-  Ok (record { id = parts.0; start = start; duration = parts.2 })
 
 -- the parameter of a method: null-data or an integer
 abbrev pub method_parameter_of : Data → Result (Unit {0}) WriteFault

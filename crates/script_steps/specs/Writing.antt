@@ -1,28 +1,15 @@
 -- A script table as it is read (IEC 62056-6-2, class 9, scripts): an array of scripts, each a structure of its identifier and an array of its steps.
 use Rattle.std.specs.Prelude.{pos, List, [], ◌∷◌, map}
-use Rattle.cosem_axdr.specs.Tree.{trees_of}
-use Rattle.cosem_axdr.specs.View.{all_trees}
 use Rattle.cosem_axdr.specs.declared.value.Data.{Data}
-use Rattle.cosem_axdr.specs.declared.value.Data.TheVariants.{Array, Structure, OctetString, DoubleLongUnsigned, LongUnsigned, Enum, Integer}
-use Rattle.cosem_datetime.specs.Fields.{date_time_bytes}
+use Rattle.cosem_axdr.specs.declared.value.Data.TheVariants.{OctetString, DoubleLongUnsigned, LongUnsigned, Enum, Integer}
+use Rattle.cosem_names.specs.Forms.{array_with, structure_with}
 use Rattle.disconnect_control.specs.Transitions.{mode_number}
-use Rattle.limiter_core.specs.declared.settings.Profile.{Profile}
+use Rattle.limiter_attributes.specs.Writing.{profile_data}
 use Rattle.script_steps.specs.Addresses.{address_of, action_of}
 use Rattle.script_steps.specs.declared.action.Address.{Address}
 use Rattle.script_steps.specs.declared.step.Script.{Script}
 use Rattle.script_steps.specs.declared.step.Step.{Step}
 use Rattle.script_steps.specs.declared.step.Step.TheVariants.{WriteMode, WriteNormal, WriteEmergency, WriteMinOver, WriteMinUnder, WriteProfile, Disconnect, Reconnect}
-
-abbrev pub array_with : List Data → Data
-array_with items = Array (trees_of (all_trees items))
-
-abbrev pub structure_with : List Data → Data
-structure_with items = Structure (trees_of (all_trees items))
-
--- an emergency profile (IEC 62056-6-2, class 71, emergency_profile): its start is an octet-string
-abbrev pub profile_data : Profile → Data
-profile_data profile =
-    structure_with (LongUnsigned profile.id ∷ OctetString (date_time_bytes profile.start) ∷ DoubleLongUnsigned profile.duration ∷ [])
 
 -- the parameter of a step: a method's is the integer 0
 abbrev pub parameter_of : Step → Data

@@ -1,5 +1,5 @@
 ghost use Rattle.std.specs.Prelude.{◌≡◌};
-ghost use Rattle.script_steps.specs.Addresses.{attribute_of, method_of, limiter_attribute_of, limiter_name, address_of, action_at, action_of};
+ghost use Rattle.script_steps.specs.Addresses.{attribute_of, method_of, limiter_attribute_of, address_of, action_at, action_of};
 
 use crate::names::{
     CONTROL_MODE, DISCONNECT_CONTROL, DISCONNECT_CONTROL_NAME, EMERGENCY_PROFILE, EXECUTE_METHOD,

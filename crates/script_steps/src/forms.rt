@@ -1,22 +1,9 @@
 ghost use Rattle.std.specs.Prelude.{◌≡◌, option_map};
-ghost use Rattle.script_steps.specs.Forms.{name_of, step_parts_of, script_parts_of, start_bytes_of, profile_parts_of, identifier_of};
+ghost use Rattle.script_steps.specs.Forms.{step_parts_of, script_parts_of, identifier_of};
 
 use crate::action::Address;
 use cosem_axdr::Data;
-use cosem_names::{ClassId, Obis};
-
-/// The bytes of a date-time, in a Data of that type or in an octet-string.
-const DATE_TIME_LEN: usize = 12;
-
-/// The logical name in an octet-string of six bytes.
-fn name_in(value: &Data) -> Option<Obis>
-    ensures { result ≡ name_of value.now }
-{
-    let [a, b, c, d, e, f] = value.octets()? else {
-        return None;
-    };
-    Some(Obis([*a, *b, *c, *d, *e, *f]))
-}
+use cosem_names::{ClassId, name_in};
 
 /// What a step names, and its parameter: {service_id, class_id, logical_name, index, parameter}.
 pub(crate) fn step_parts(value: &Data) -> Option<(Address, &Data)>
@@ -52,35 +39,4 @@ pub(crate) fn identifier_in(value: &Data) -> u16
         Some((identifier, _)) => identifier,
         None => 0,
     }
-}
-
-/// The bytes of a date-time.
-fn start_bytes(value: &Data) -> Option<&[u8]>
-    ensures { option_map (λ bytes. bytes.now) result ≡ start_bytes_of value.now }
-{
-    let bytes = match value {
-        Data::OctetString(octets) => octets.as_slice(),
-        Data::DateTime(bytes) => bytes.as_slice(),
-        _ => return None,
-    };
-    if bytes.len() == DATE_TIME_LEN {
-        Some(bytes)
-    } else {
-        None
-    }
-}
-
-/// The id, the bytes of the start and the duration of an emergency profile: {emergency_profile_id,
-/// emergency_activation_time, emergency_duration}.
-pub(crate) fn profile_parts(value: &Data) -> Option<(u16, &[u8], u32)>
-    ensures { option_map (λ parts. (parts.0, parts.1.now, parts.2)) result ≡ profile_parts_of value.now }
-{
-    let [id, start, duration] = value.structure()? else {
-        return None;
-    };
-    Some((
-        id.long_unsigned()?,
-        start_bytes(start)?,
-        duration.double_long_unsigned()?,
-    ))
 }

@@ -5,7 +5,7 @@ ghost use Rattle.cosem_axdr.specs.declared.value.Data.{Data};
 ghost use Rattle.script_steps.specs.Ranges.{AreScriptsInRange};
 ghost use Rattle.script_steps.specs.declared.step.Script.{Script};
 ghost use Rattle.script_steps.specs.declared.step.Step.{Step};
-ghost use Rattle.script_steps.specs.Law.{IsListed, IsInTable};
+ghost use Rattle.script_steps.specs.Law.{IsListed, IsInTable, IsNamed};
 ghost use Rattle.script_steps.specs.Reading.{table_of};
 ghost use Rattle.script_steps.specs.Table.{IsTable};
 ghost use Rattle.script_steps.specs.Writing.{data_of};
@@ -23,8 +23,9 @@ pub fn read_table_is_in_range()
 
 /// Each step is listed: it is found by what it names. And that stands in the table of the meter's objects: the switch,
 /// or the limiter of its direction, by that object's class and name, and there an attribute that the management client
-/// may write or a method that it may execute.
+/// may write or a method that it may execute: of a limiter, the attribute that the step writes.
 pub fn each_step_is_listed()
     ensures listed { (step : Step) → IsListed step }
     ensures in_table { (step : Step) → IsInTable step }
+    ensures named { (step : Step) → IsNamed step }
 {}

@@ -16,7 +16,5 @@ mod writing;
 
 pub use cosem_names::{Which, WriteFault as ScriptFault};
 pub use laws::{each_step_is_listed, read_table_is_in_range, written_table_is_read};
-pub use reading::read_profile;
 pub use step::{Script, Step};
 pub use table::{MAX_SCRIPTS, MAX_STEPS, NULL_SCRIPT, ScriptTable};
-pub use writing::write_profile;

@@ -1,47 +1,21 @@
 ghost use Rattle.std.specs.Prelude.{◌≡◌, ◌==◌, ◌<◌, ◌≤◌, length, IfOk, IfSome, IsErrOf, is_err};
 ghost use Rattle.std.specs.Result.{result_map_both, result_ok};
-ghost use Rattle.cosem_datetime.specs.Fields.{IsDateTimeFields};
 ghost use Rattle.std.specs.List.{All, list_any};
 ghost use Rattle.script_steps.specs.Forms.{identifier_of};
 ghost use Rattle.cosem_names.specs.WriteFault.{is_unmatched, told, values};
-ghost use Rattle.script_steps.specs.Reading.{max_steps, number_of, profile_of, method_parameter_of, step_with, step_of, judged_script, script_of, are_distinct, judged_scripts};
+ghost use Rattle.script_steps.specs.Reading.{max_steps, method_parameter_of, step_with, step_of, judged_script, script_of, are_distinct, judged_scripts};
 ghost use Rattle.script_steps.specs.Table.{IsStep, IsScript};
 
 use crate::action::Action;
-use crate::forms::{identifier_in, profile_parts, script_parts, step_parts};
+use crate::forms::{identifier_in, script_parts, step_parts};
 use crate::step::{Script, Step};
 use crate::table::{MAX_SCRIPTS, MAX_STEPS};
 use cosem_axdr::Data;
-use cosem_datetime::read_date_time;
 use cosem_names::WriteFault;
 use disconnect_control::read_mode;
-use limiter_core::Profile;
+use limiter_attributes::{read_number, read_profile};
 use listed::Listed;
 use std::alloc::{AllocError, Global};
-
-/// A threshold in watts or a duration in seconds.
-fn read_number(value: &Data) -> Result<u32, WriteFault>
-    ensures { result ≡ number_of value.now }
-{
-    value.double_long_unsigned().ok_or(WriteFault::Unmatched)
-}
-
-/// Reads an emergency profile as attribute 8 of a limiter is written (IEC 62056-6-2, class 71): a structure of
-/// long-unsigned id, octet-string or date-time start, and double-long-unsigned duration. It takes no memory.
-#[tactic(auto, unfolding(crate::specs::Reading::profile_of))]
-pub fn read_profile(value: &Data) -> Result<Profile, WriteFault>
-    ensures exact { result ≡ profile_of value.now }
-    ensures fit { IfOk result (λ profile. IsDateTimeFields profile.start) }
-    ensures no_memory { ¬ IsErrOf result WriteFault.Memory }
-{
-    let (id, start, duration) = profile_parts(value).ok_or(WriteFault::Unmatched)?;
-    let start = read_date_time(start).ok().ok_or(WriteFault::Value)?;
-    Ok(Profile {
-        id,
-        start,
-        duration,
-    })
-}
 
 /// The parameter of a method: null-data or an integer.
 fn read_method_parameter(value: &Data) -> Result<(), WriteFault>

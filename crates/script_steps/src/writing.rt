@@ -1,23 +1,12 @@
 ghost use Rattle.std.specs.Prelude.{◌≡◌, map, IfOk};
-ghost use Rattle.script_steps.specs.Writing.{profile_data, parameter_of, addressed, step_data, script_data, data_of, array_with};
+ghost use Rattle.cosem_names.specs.Forms.{array_with};
+ghost use Rattle.script_steps.specs.Writing.{parameter_of, addressed, step_data, script_data, data_of};
 
 use crate::action::Address;
 use crate::step::{Script, Step};
 use cosem_axdr::{Data, Items, Octets};
-use limiter_core::Profile;
+use limiter_attributes::write_profile;
 use std::alloc::{AllocError, Global};
-
-/// An emergency profile as attribute 8 of a limiter is read (IEC 62056-6-2, class 71). Its start is an octet-string.
-pub fn write_profile(alloc: Global, profile: &Profile) -> Result<Data, AllocError>
-    ensures { IfOk result (λ value. value ≡ profile_data profile.now) }
-{
-    let start = Octets::from_slice(alloc, &profile.start.bytes())?;
-    Ok(Data::Structure(Items::from_vec(vec![in alloc;
-        Data::LongUnsigned(profile.id),
-        Data::OctetString(start),
-        Data::DoubleLongUnsigned(profile.duration),
-    ]?)))
-}
 
 /// The parameter of a step. A method's is the integer 0.
 fn parameter(alloc: Global, step: &Step) -> Result<Data, AllocError>

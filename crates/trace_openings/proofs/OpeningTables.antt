@@ -17,13 +17,15 @@ use Rattle.cosem_axdr.specs.declared.value.Data.TheVariants.{OctetString, Double
 use Rattle.cosem_datetime.specs.declared.entry.EntryPattern.{EntryPattern}
 use Rattle.trace_openings.proofs.OpeningDates.{date_is_bytes, time_is_bytes, date_time_is_bytes}
 use Rattle.trace_words.proofs.TextBytes.{no_bytes, one_more_byte}
+use Rattle.cosem_names.specs.Forms.{structure_with}
 use Rattle.cosem_names.specs.declared.objects.Which.TheVariants.{Import, Export}
 use Rattle.disconnect_control.specs.Transitions.{mode_number}
 use Rattle.disconnect_control.specs.declared.state.ControlMode.{ControlMode}
 use Rattle.disconnect_control.specs.declared.state.ControlMode.TheVariants.{Mode0, Mode1, Mode2, Mode3, Mode4, Mode5, Mode6}
+use Rattle.limiter_attributes.specs.Writing.{profile_data}
 use Rattle.limiter_core.specs.declared.settings.Profile.{Profile}
 use Rattle.script_steps.specs.Table.{IsStep, IsScript, IsTable}
-use Rattle.script_steps.specs.Writing.{structure_with, profile_data, step_data, script_data, data_of}
+use Rattle.script_steps.specs.Writing.{step_data, script_data, data_of}
 use Rattle.script_steps.specs.declared.step.Script.{Script}
 use Rattle.script_steps.specs.declared.step.Step.{Step}
 use Rattle.script_steps.specs.declared.step.Step.TheVariants as step

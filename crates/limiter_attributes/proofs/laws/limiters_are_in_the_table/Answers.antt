@@ -1,5 +1,5 @@
-use Rattle.limiter_attributes.proofs.InTable.{attribute_in_table, step_named, monitored_in_table}
+use Rattle.limiter_attributes.proofs.InTable.{attribute_in_table, monitored_in_table}
 use Rattle.limiter_attributes.proofs.laws.limiters_are_in_the_table.Goals as goal
 
 pub returns : goal.returns
-returns c = record { attributes = attribute_in_table; steps = step_named; monitored = monitored_in_table }
+returns c = record { attributes = attribute_in_table; monitored = monitored_in_table }
