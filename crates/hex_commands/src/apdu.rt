@@ -61,11 +61,24 @@ fn requests_of(alloc: Global, text: &[u8]) -> Result<Requests, InputFault> {
     Ok(requests)
 }
 
+/// Writes bytes in hexadecimal, of capital digits, and a line end. Where the room is another than theirs it stays as it is.
+fn write_line(bytes: &[u8], room: &mut [u8]) {
+    let [digits @ .., _] = room else {
+        return;
+    };
+    if hex::encode_to_slice(bytes, digits).is_ok() {
+        digits.make_ascii_uppercase();
+    }
+}
+
 /// Adds bytes, a line in hexadecimal.
-fn add_line(alloc: Global, bytes: &[u8], lines: &mut String) -> Result<(), AllocError> {
-    let line = hex::encode_upper(alloc, bytes)?;
-    lines.push_str(line.as_str())?;
-    lines.push('\n')
+fn add_line(bytes: &[u8], lines: &mut Vec<u8>) -> Result<(), AllocError> {
+    let before = lines.len();
+    let after = before.saturating_add(bytes.len().saturating_mul(2));
+    lines.resize(after.saturating_add(1), b'\n')?;
+    let (_, added) = lines.as_mut_slice().split_at_mut(before);
+    write_line(bytes, added);
+    Ok(())
 }
 
 /// Adds a core's answer to a request, a line in hexadecimal.
@@ -73,10 +86,10 @@ fn add_answer(
     alloc: Global,
     core: &mut RelayCore,
     request: &[u8],
-    lines: &mut String,
+    lines: &mut Vec<u8>,
 ) -> Result<(), AllocError> {
     let answer = answer_apdu(core, alloc, request)?;
-    add_line(alloc, answer.as_slice(), lines)
+    add_line(answer.as_slice(), lines)
 }
 
 /// One core's answers to requests, a line each, in hexadecimal.
@@ -84,7 +97,7 @@ fn add_answers(
     alloc: Global,
     core: &mut RelayCore,
     requests: &Requests,
-    lines: &mut String,
+    lines: &mut Vec<u8>,
 ) -> Result<(), AllocError> {
     let mut left = requests.bytes.as_slice();
     for length in requests.lengths.as_slice() {
@@ -96,10 +109,10 @@ fn add_answers(
 }
 
 /// The answers of a new meter to requests, a line each, in hexadecimal.
-fn answers(alloc: Global, requests: &Requests) -> Result<String, AllocError> {
+fn answers(alloc: Global, requests: &Requests) -> Result<Vec<u8>, AllocError> {
     let device = Octets::from_slice(alloc, b"RELAY1")?;
     let mut core = RelayCore::new(alloc, &device)?;
-    let mut lines = String::new(alloc);
+    let mut lines = Vec::new(alloc);
     let added = add_answers(alloc, &mut core, requests, &mut lines);
     drop(core);
     added.map(|()| lines)
@@ -118,7 +131,7 @@ fn print_answers<R: Print + AllocGlobal>(rt: &R, requests: &Requests) -> Result<
     let Ok(lines) = answers(rt.alloc(), requests) else {
         return Err(Fault::Memory);
     };
-    match rt.write_all(lines.as_bytes()) {
+    match rt.write_all(lines.as_slice()) {
         Ok(()) => Ok(()),
         Err(_) => Err(Fault::Write),
     }
