@@ -6,6 +6,7 @@ use crate::input::all_bytes;
 use crate::telling::{InputFault, tell_fault};
 use cosem_axdr::Octets;
 use hex::FromHexError;
+use memchr::memchr_iter;
 use program_fault::Fault;
 use relay_core::RelayCore;
 use session_serving::answer_apdu;
@@ -46,18 +47,27 @@ impl Requests {
             Err(_) => Err(InputFault::Memory),
         }
     }
+
+    /// Adds the request of a line, the line with that number, where it has one.
+    fn add_line(&mut self, number: usize, line: Option<&[u8]>) -> Result<(), InputFault> {
+        match line {
+            Some(line) if !line.is_empty() => self.add(number, line),
+            _ => Ok(()),
+        }
+    }
 }
 
 /// The requests of a text, a line each; an empty line is none.
 fn requests_of(alloc: Global, text: &[u8]) -> Result<Requests, InputFault> {
     let mut requests = Requests::new(alloc);
     let mut number: usize = 0;
-    for line in text.split(|byte| *byte == b'\n') {
+    let mut begin: usize = 0;
+    for end in memchr_iter(b'\n', text) {
         number = number.saturating_add(1);
-        if !line.is_empty() {
-            requests.add(number, line)?;
-        }
+        requests.add_line(number, text.get(begin..end))?;
+        begin = end.saturating_add(1);
     }
+    requests.add_line(number.saturating_add(1), text.get(begin..))?;
     Ok(requests)
 }
 
