@@ -2,7 +2,7 @@
 # Asks `meter_server serve` for the control state over the loopback interface, by one client and by eight, each of which waits for its answer, and likewise a
 # bare server in plain Rust (rustc -O) that gives the same bytes and does nothing else. It prints the requests a second of both and the ratio, and the same of
 # the time of a processor that the servers took, which other work on the machine disturbs less. Its arguments are how many requests a run has (40,000 if there
-# is none) and how often each is run (15); the best run counts. METER_SERVER names another executable than the proved one.
+# is none) and how often each is run (15); of the times of both the middle ones count, since single runs are lucky or not. METER_SERVER names another executable than the proved one.
 set -eu
 here=$(cd "$(dirname "$0")" && pwd)
 top=$(cd "$here/../.." && pwd)
@@ -14,7 +14,7 @@ for program in echo load; do
     rustc --edition 2021 -O -o "$work/$program" "$here/$program.rs"
 done
 python3 - "$proved" "$work/echo" "$work/load" "${1:-40000}" "${2:-15}" <<'PY'
-import os, re, subprocess, sys
+import os, re, statistics, subprocess, sys
 
 proved, echo, load, requests, rounds = sys.argv[1], sys.argv[2], sys.argv[3], int(sys.argv[4]), int(sys.argv[5])
 OPTIONS = ["--listen", "127.0.0.1:0", "--password", "12345678", "--verbose"]
@@ -40,13 +40,15 @@ def run(name, clients):
         sys.exit("the %s server ended with status %d" % (name, server.returncode))
     return int(made.stdout) / 1e3 / (each * clients), (spent.ru_utime + spent.ru_stime) * 1e6 / (each * clients)
 
-print("clients  serve requests/s  bare server requests/s  ratio   serve us a request  bare server us a request  ratio   (of a processor; best of %d)" % rounds)
+print("clients  serve requests/s  bare server requests/s  ratio   serve us a request  bare server us a request  ratio   (of a processor; the middle of %d)" % rounds)
 for clients in (1, 8):
-    taken = {"serve": float("inf"), "bare": float("inf")}
-    worked = dict(taken)
+    taken, worked = {"serve": [], "bare": []}, {"serve": [], "bare": []}
     for _ in range(rounds):
         for name in taken:
-            taken[name], worked[name] = map(min, (taken[name], worked[name]), run(name, clients))
+            one, other = run(name, clients)
+            taken[name].append(one)
+            worked[name].append(other)
+    taken, worked = ({name: statistics.median(times) for name, times in all.items()} for all in (taken, worked))
     speeds = (1e6 / taken["serve"], 1e6 / taken["bare"], taken["bare"] / taken["serve"])
     costs = (worked["serve"], worked["bare"], worked["bare"] / worked["serve"])
     print("%7d  %16.0f  %22.0f  %5.2f   %18.1f  %24.1f  %5.2f" % (clients, *speeds, *costs))
