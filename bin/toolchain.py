@@ -1,6 +1,7 @@
 """The command rt as a module, for the scripts that use its parts as they are, what they ask of the libraries that it left, and how many checks may run at once.
 
-usage: toolchain.py     prints what RT_JOBS is to be for a run of many checks, or an empty line where rt is to decide
+usage: toolchain.py            prints what RT_JOBS is to be for a run of many checks, or an empty line where rt is to decide
+       toolchain.py stamp TOP  has `rt run` below TOP, a copy of the repository, take the libraries as proved that a run of the gate left there
 """
 import importlib.machinery
 import importlib.util
@@ -25,16 +26,29 @@ def command():
     return module
 
 
+def is_as_left(rt, crate):
+    """Whether the library of a crate is one that a run of the gate left, which has no stamp and is as new as its sources."""
+    rlib = f"{crate.folder}/out/rlib"
+    if not os.path.isdir(crate.rlib) or os.path.exists(f"{rlib}/stamp"):
+        return False
+    return all(os.path.getmtime(file) <= os.path.getmtime(crate.rlib) for file in rt.rtlib.files_of(crate.folder))
+
+
 def is_left_by_ci(rt, crates):
-    """Whether the libraries below are those that a run of the gate in a new clone left, which have no stamp and are as new as their sources."""
+    """Whether the libraries below are those that a run of the gate in a new clone left."""
     below = {it.name: it for crate in crates for it in crate.below()}.values()
-    for it in below:
-        rlib = f"{it.folder}/out/rlib"
-        if not os.path.isdir(it.rlib) or os.path.exists(f"{rlib}/stamp"):
-            return False
-        if any(os.path.getmtime(file) > os.path.getmtime(it.rlib) for file in rt.rtlib.files_of(it.folder)):
-            return False
-    return True
+    return all(is_as_left(rt, it) for it in below)
+
+
+def stamp(rt, top):
+    """Gives the libraries that a run of the gate left in a copy of the repository the stamp by which rt takes them as proved."""
+    os.chdir(top)
+    rt.rtlib.guarded()
+    rt.rtlib.Crate, rt.Crate.allowed = rt.Crate, rt.handles_of(top)
+    for it in rt.rtlib.crates_below(top):
+        if is_as_left(rt, it):
+            with open(f"{it.folder}/out/rlib/stamp", "w", encoding="utf-8") as file:
+                file.write(it.stamp())
 
 
 def lanes(rt):
@@ -45,4 +59,7 @@ def lanes(rt):
 
 
 if __name__ == "__main__":
-    print(lanes(command()) or "")
+    if sys.argv[1:2] == ["stamp"]:
+        stamp(command(), sys.argv[2])
+    else:
+        print(lanes(command()) or "")
