@@ -1,8 +1,8 @@
 #!/usr/bin/env bash
 # Runs campaigns of 1,000 jobs against a scripted meter of this machine by `head_end run` and by a plain program in Rust (rustc -O) that sends the same bytes,
 # with 1, 4 and 16 workers, in one run. It prints the jobs a second of both and the ratio; the same of the time of a processor that a job took, which other
-# work on the machine disturbs less; and the most memory that `head_end` held in a campaign of 16 workers. Its argument is how often each is run (15 if there
-# is none); the best run counts. HEAD_END names another executable than the proved one.
+# work on the machine disturbs less; and the most memory that `head_end` held in a campaign of 16 workers. Its argument is how often each is run (31 if there
+# is none); of the times of both the middle ones count, since single runs are lucky or not. HEAD_END names another executable than the proved one.
 set -eu
 here=$(cd "$(dirname "$0")" && pwd)
 top=$(cd "$here/../.." && pwd)
@@ -13,8 +13,8 @@ trap 'rm -rf "$work"' EXIT
 for program in plain peer; do
     rustc --edition 2021 -O -o "$work/$program" "$here/$program.rs"
 done
-python3 - "$proved" "$work/plain" "$work/peer" "${1:-15}" <<'PY'
-import fcntl, os, resource, subprocess, sys, time
+python3 - "$proved" "$work/plain" "$work/peer" "${1:-31}" <<'PY'
+import fcntl, os, resource, statistics, subprocess, sys, time
 
 proved, plain, peer, rounds = sys.argv[1], sys.argv[2], sys.argv[3], int(sys.argv[4])
 JOBS = 1000
@@ -53,14 +53,16 @@ def most_memory(words):
         sys.exit("the report of the campaign whose memory is looked at is another")
     return {key: int(status[key].split()[0]) for key in ("VmHWM", "RssAnon", "RssFile")}
 
-print("workers  head_end jobs/s  plain Rust jobs/s  ratio   head_end us a job  plain Rust us a job  ratio   (of a processor; best of %d)" % rounds)
+print("workers  head_end jobs/s  plain Rust jobs/s  ratio   head_end us a job  plain Rust us a job  ratio   (of a processor; the middle of %d)" % rounds)
 for workers in (1, 4, 16):
     both = {"proved": [proved, "run", "--workers", str(workers)], "plain": [plain, str(workers)]}
-    taken = dict.fromkeys(both, float("inf"))
-    worked = dict(taken)
+    taken, worked = {name: [] for name in both}, {name: [] for name in both}
     for _ in range(rounds):
         for name, words in both.items():
-            taken[name], worked[name] = map(min, (taken[name], worked[name]), seconds(words))
+            one, other = seconds(words)
+            taken[name].append(one)
+            worked[name].append(other)
+    taken, worked = ({name: statistics.median(times) for name, times in all.items()} for all in (taken, worked))
     speeds = (JOBS / taken["proved"], JOBS / taken["plain"], taken["plain"] / taken["proved"])
     costs = (worked["proved"] / JOBS * 1e6, worked["plain"] / JOBS * 1e6, worked["plain"] / worked["proved"])
     print("%7d  %15.0f  %17.0f  %5.2f   %17.1f  %19.1f  %5.2f" % (workers, *speeds, *costs))
