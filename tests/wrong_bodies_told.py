@@ -1,6 +1,6 @@
 #!/usr/bin/env python3
 """Tests bin/wrong_bodies: beside a wrong body that is refused it tells a right one, one that can't be read and one of a text that isn't there, and counts them; and an edit
-of a constant stands beside others only where nothing but functions' bodies names the constant; and what is left of the functions beside the edited ones, and of these all; and those of wrong/long/ are judged with --long alone."""
+of a constant stands beside others only where nothing but functions' bodies names the constant; and what is left of the functions beside the edited ones, and of these all; and those of wrong/long/ are judged with --long alone; and a round ends once its check has its lines."""
 import importlib.machinery
 import importlib.util
 import os
@@ -160,6 +160,19 @@ def long_ones_are_apart():
     return {"the edits of wrong/long/ are judged with --long alone": found == [["wrong/one.edit"], ["wrong/one.edit", "wrong/long/another.edit"]]}
 
 
+def rounds_end_at_their_lines():
+    """Whether a check is told to have its lines once its stages say so, and not before."""
+    has_lines = judge().has_lines
+    with tempfile.TemporaryDirectory() as folder:
+        file, told = f"{folder}/stages", []
+        told.append(has_lines(file))
+        for text in ("stage front-end 5.1 326932\nstage session 6.1 693368\n", "stage front-end 5.1 326932\nstage session 6.1 693368\nstage lines 0.01 665660\n"):
+            with open(file, "w", encoding="utf-8") as it:
+                it.write(text)
+            told.append(has_lines(file))
+    return {"a round ends once its check has its lines": told == [False, False, True]}
+
+
 def told_of_edits():
     """What bin/wrong_bodies tells of the crate with these edits: its status and its lines."""
     with tempfile.TemporaryDirectory() as folder:
@@ -183,6 +196,7 @@ def main():
     rows.update(bodies_are_left_out())
     rows.update(edited_functions_are_kept())
     rows.update(long_ones_are_apart())
+    rows.update(rounds_end_at_their_lines())
     for name, is_well in rows.items():
         print(f"wrong_bodies_told: {name}: {'as it must be' if is_well else 'NOT SO'}")
     failed = sum(not it for it in rows.values())

@@ -71,7 +71,7 @@ fn requests_of(alloc: Global, text: &[u8]) -> Result<Requests, InputFault> {
     Ok(requests)
 }
 
-/// Writes bytes in hexadecimal, of capital digits, and a line end. Where the room is another than theirs it stays as it is.
+/// Writes bytes in hexadecimal, of capital digits, in front of the last byte of their room, which is the line's end. A room of another length stays as it is.
 fn write_line(bytes: &[u8], room: &mut [u8]) {
     let [digits @ .., _] = room else {
         return;
