@@ -14,7 +14,7 @@ use Rattle.cosem_names.proofs.service.AttributeSelection.TheSendSync.{the_send a
 use Rattle.lane_sampler.proofs.samples.Block.TheSendSync.{the_send as block_send}
 use Rattle.relay_core.proofs.relay.RelayCore.TheSendSync.{the_field_send as core_field_send}
 use Rattle.relay_core.proofs.parts.Parts.TheSendSync.{the_field_send as parts_field_send}
-use Rattle.relay_core.specs.contracts.event.Event as event
+use Rattle.relay_events.specs.contracts.event.Event as event
 use Rattle.relay_recorder.specs.contracts.kept.Kept as kept_event
 use Rattle.relay_recorder.specs.contracts.kept.Kept.TheInside as event_inside
 use Rattle.relay_recorder.specs.contracts.recorder.Recorder as recorder

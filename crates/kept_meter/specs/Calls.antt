@@ -1,8 +1,8 @@
 -- The histories of calls that a recorder behind a lock stands for.
 use Rattle.std.specs.Prelude.{◌≡◌, List, map, IsTrue}
 use Rattle.turn_lock.specs.declared.turned.Entry.{Entry}
-use Rattle.relay_core.specs.declared.event.Event.{Event}
-use Rattle.relay_core.specs.declared.event.Reply.{Reply}
+use Rattle.relay_events.specs.declared.event.Event.{Event}
+use Rattle.relay_events.specs.declared.reply.Reply.{Reply}
 use Rattle.relay_core.specs.declared.opening.Opening.{Opening}
 use Rattle.relay_core.specs.Machine.{is_sure}
 use Rattle.relay_core.specs.Opening.{opened}

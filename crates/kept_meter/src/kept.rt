@@ -2,7 +2,8 @@ ghost use Rattle.std.specs.Prelude.{◌≡◌, []};
 ghost use Rattle.relay_core.specs.Opening.{opening_of};
 ghost use Rattle.kept_meter.specs.Calls.{HasCalls, IsLegal, IsSure, Stands};
 
-use relay_core::{Event, Opening, RelayCore, Reply};
+use relay_core::{Opening, RelayCore};
+use relay_events::{Event, Reply};
 use relay_recorder::Recorder;
 use std::alloc::{AllocError, Global};
 use std::marker::Model;
@@ -20,7 +21,7 @@ pub struct Kept {
 
 impl Model for Kept {
     ghost use Rattle.std.specs.Coded.{codes};
-    ghost use Rattle.relay_core.specs.contracts.event.Event as event_row;
+    ghost use Rattle.relay_events.specs.contracts.event.Event as event_row;
     ghost use Rattle.relay_core.specs.contracts.opening.Opening as opening_row;
     ghost use Rattle.relay_core.specs.contracts.relay.RelayCore as core_row;
     ghost use Rattle.relay_core.specs.Opening.{opening_of};

@@ -13,8 +13,8 @@ use Rattle.meter.specs.declared.events.Firings.{Firings}
 use Rattle.meter.specs.declared.outcome.Outcome.{Outcome}
 use Rattle.meter.specs.declared.outcome.Outcome.TheVariants as outcome
 use Rattle.meter_serving.specs.Ending.{TellsRun}
-use Rattle.relay_core.specs.declared.event.Event.TheVariants.{Button}
-use Rattle.relay_core.specs.declared.event.Reply.TheVariants.{Code}
+use Rattle.relay_events.specs.declared.event.Event.TheVariants.{Button}
+use Rattle.relay_events.specs.declared.reply.Reply.TheVariants.{Code}
 use Rattle.relay_core.specs.Stands.{StandsFor}
 use Rattle.relay_core.specs.World.{World}
 use Rattle.supply_meter.specs.Calls.{IsNew, Resumes, OpensBy, FeedsBy, FinishesBy, NextBy, ClosesBy, SamplesBy, TakesMoment}

@@ -3,7 +3,7 @@
 --     IsOwnLine     a line that begins with one
 --     Brings        the event that a line brings
 use Rattle.std.specs.Prelude.{◌≡◌, ◌⊎◌, ℕ, codes, List, ◌∷◌, Ok}
-use Rattle.relay_core.specs.declared.event.Event.{Event}
+use Rattle.relay_events.specs.declared.event.Event.{Event}
 use Rattle.trace_lines.specs.Events.{event_of}
 use Rattle.trace_words.specs.declared.version.Version.TheVariants.{Two}
 use Rattle.trace_text.specs.Words.{words_of}

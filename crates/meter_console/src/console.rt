@@ -4,7 +4,7 @@ use crate::lines::{MAX_LINE, NextLine, next_line};
 use crossbeam_channel::{Receiver, Sender, bounded};
 use lane_sampler::Block;
 use meter_workers::{BlockSource, ButtonSource, MomentSource};
-use relay_core::Event;
+use relay_events::Event;
 use std::alloc::{AllocError, Global};
 use std::io::BufRead;
 use std::sync::Wait;

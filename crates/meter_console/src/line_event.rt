@@ -1,9 +1,9 @@
 //! What a line of the console brings.
 ghost use Rattle.std.specs.Prelude.{◌≡◌, ◌↔◌, IfOk, IfSome, IfNone, OnErr, IsTrue};
-ghost use Rattle.relay_core.specs.declared.event.Event.{Event};
+ghost use Rattle.relay_events.specs.declared.event.Event.{Event};
 ghost use Rattle.meter_console.specs.Console.{IsOwnWord, IsOwnLine, Brings};
 
-use relay_core::Event;
+use relay_events::Event;
 use std::alloc::{AllocError, Global};
 use trace_lines::read_event;
 use trace_text::Words;

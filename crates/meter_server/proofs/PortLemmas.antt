@@ -7,10 +7,11 @@ use Rattle.meter_server.specs.Ports.{MeterPort, PortSteps, entries, Enters}
 use Rattle.session_serving.specs.Served.{Served, Did}
 use Rattle.session_serving.specs.declared.fault.ServeFault.{ServeFault}
 use Rattle.session_serving.specs.declared.fault.ServeFault.TheVariants as fault
-use Rattle.relay_core.specs.declared.event.Event.{Event}
-use Rattle.relay_core.specs.declared.event.Reply.{Reply}
+use Rattle.relay_events.specs.declared.event.Event.{Event}
+use Rattle.relay_events.specs.declared.reply.Reply.{Reply}
 use Rattle.relay_core.specs.declared.opening.Opening.{Opening}
-use Rattle.relay_core.specs.Machine.{at_event, Fits}
+use Rattle.relay_core.specs.Machine.{at_event}
+use Rattle.relay_events.specs.Kinds.{Fits}
 use Rattle.relay_core.specs.Opening.{opened}
 use Rattle.relay_core.specs.World.{World}
 use Rattle.relay_core.proofs.Replies.{reply_fits}

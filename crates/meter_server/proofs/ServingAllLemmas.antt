@@ -3,9 +3,9 @@ use Rattle.std.proofs.Common.{◌≡◌, ℕ, ◌+◌, ◌<◌, ◌≤◌, List,
 use Rattle.std.proofs.lemmas.Bool.{cases_eq}
 use Rattle.std.specs.Prelude.{⊤, IfErr, OnOk, replicate, Result, Ok, Err}
 use Rattle.lane_sampler.specs.Samples.{Samples}
-use Rattle.relay_core.specs.declared.event.Event.{Event}
-use Rattle.relay_core.specs.declared.event.Event.TheVariants as event
-use Rattle.relay_core.specs.declared.event.Reply.{Reply}
+use Rattle.relay_events.specs.declared.event.Event.{Event}
+use Rattle.relay_events.specs.declared.event.Event.TheVariants as event
+use Rattle.relay_events.specs.declared.reply.Reply.{Reply}
 use Rattle.turn_lock.specs.declared.turned.Entry.{Entry}
 use Rattle.call_fault.specs.declared.fault.CallFault.{CallFault}
 use Rattle.call_fault.specs.declared.fault.CallFault.TheVariants as call

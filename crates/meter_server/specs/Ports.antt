@@ -1,8 +1,8 @@
 -- A port to a meter that others share, as a meter.
 use Rattle.std.specs.Prelude.{◌≡◌, ℕ, List, [], ◌∷◌, ◌++◌, Result, Ok, Err}
 use Rattle.kept_meter.specs.Calls.{IsLegal, IsSure}
-use Rattle.relay_core.specs.declared.event.Event.{Event}
-use Rattle.relay_core.specs.declared.event.Reply.{Reply}
+use Rattle.relay_events.specs.declared.event.Event.{Event}
+use Rattle.relay_events.specs.declared.reply.Reply.{Reply}
 use Rattle.relay_core.specs.declared.opening.Opening.{Opening}
 use Rattle.turn_lock.specs.Calls.{Called, Watches, IsCause}
 use Rattle.turn_lock.specs.History.{entry, calls_by}

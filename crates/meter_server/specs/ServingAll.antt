@@ -10,9 +10,9 @@ use Rattle.session_serving.specs.declared.fault.ServeFault.{ServeFault}
 use Rattle.session_serving.specs.declared.fault.ServeFault.TheVariants as fault
 use Rattle.meter_server.specs.declared.serving_all.Served.{Served}
 use Rattle.meter_workers.specs.Handed.{MeterPort, unread}
-use Rattle.relay_core.specs.declared.event.Event.{Event}
-use Rattle.relay_core.specs.declared.event.Event.TheVariants as event
-use Rattle.relay_core.specs.declared.event.Reply.{Reply}
+use Rattle.relay_events.specs.declared.event.Event.{Event}
+use Rattle.relay_events.specs.declared.event.Event.TheVariants as event
+use Rattle.relay_events.specs.declared.reply.Reply.{Reply}
 use Rattle.session_threads.specs.Ports.{child}
 use Rattle.session_threads.specs.Workers.{ComesBack}
 use Rattle.call_fault.specs.declared.fault.CallFault.{CallFault}

@@ -4,15 +4,15 @@ ghost use Rattle.acse_ber.specs.Password.{IsPassword};
 ghost use Rattle.session_serving.specs.Meters.{Replied};
 ghost use Rattle.meter_server.specs.Ports.{MeterPort, PortSteps, Enters};
 ghost use Rattle.session_serving.specs.Served.{Served};
-ghost use Rattle.relay_core.specs.declared.event.Event.{Event};
-ghost use Rattle.relay_core.specs.declared.event.Reply.{Reply};
+ghost use Rattle.relay_events.specs.declared.event.Event.{Event};
+ghost use Rattle.relay_events.specs.declared.reply.Reply.{Reply};
 ghost use Rattle.turn_lock.specs.Shown.{IsSame};
 
 use byte_streams::{Reader, Writer};
 use call_fault::CallFault;
 use cosem_axdr::Octets;
 use kept_meter::Kept;
-use relay_core::{Event, Reply};
+use relay_events::{Event, Reply};
 use session_core::SessionEnd;
 use session_serving::{Meter, ServeFault, serve_session};
 use std::alloc::Global;
@@ -29,8 +29,8 @@ struct Wired<'a, W: Wait> {
 impl<'a, W: Wait> Model for Wired<'a, W> {
     ghost use Rattle.std.specs.Coded.{codes};
     ghost use Rattle.meter_server.specs.Ports.{MeterPort};
-    ghost use Rattle.relay_core.specs.contracts.event.Event as event_row;
-    ghost use Rattle.relay_core.specs.contracts.event.Reply as reply_row;
+    ghost use Rattle.relay_events.specs.contracts.event.Event as event_row;
+    ghost use Rattle.relay_events.specs.contracts.reply.Reply as reply_row;
     ghost use Rattle.relay_core.specs.contracts.opening.Opening as opening_row;
 
     ghost Value = { MeterPort };

@@ -6,7 +6,7 @@ use Rattle.relay_core.specs.Machine.{at_event}
 use Rattle.relay_core.specs.Runs.{world_after}
 use Rattle.relay_core.specs.Stands.{StandsFor}
 use Rattle.relay_core.specs.World.{World}
-use Rattle.relay_core.specs.declared.event.Event.{Event}
+use Rattle.relay_events.specs.declared.event.Event.{Event}
 use Rattle.relay_core.specs.declared.relay.RelayCore.{RelayCore}
 
 -- the core took these events

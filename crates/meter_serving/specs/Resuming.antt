@@ -3,7 +3,7 @@ use Rattle.std.specs.Prelude.{◌≡◌, List}
 use Rattle.relay_core.specs.Opening.{opened, opening_of}
 use Rattle.relay_core.specs.Runs.{world_after}
 use Rattle.relay_core.specs.World.{World}
-use Rattle.relay_core.specs.declared.event.Event.{Event}
+use Rattle.relay_events.specs.declared.event.Event.{Event}
 use Rattle.relay_recorder.specs.Histories.{Told, StandsForHistory, events_of, replies_from}
 use Rattle.relay_recorder.specs.Recording.{Recording}
 use Rattle.relay_recorder.specs.Replaying.{AreEvents}

@@ -7,7 +7,8 @@ ghost use Rattle.relay_core.specs.Runs.{world_after};
 ghost use Rattle.relay_core.specs.Stands.{StandsFor};
 ghost use Rattle.relay_core.specs.World.{World};
 
-use relay_core::{Event, LimiterOpening, Opening, OpeningFault, RelayCore};
+use relay_core::{LimiterOpening, Opening, OpeningFault, RelayCore};
+use relay_events::Event;
 use relay_recorder::{Recorder, Trace, events_are_in_range};
 use std::alloc::{AllocError, Global};
 

@@ -2,8 +2,8 @@
 use Rattle.std.proofs.Common.{◌≡◌, inl, inr, ℕ, ◌+◌, ◌%◌, not, List, [], ◌∷◌, ◌++◌, Option, Some, None, IfSome, map, append_assoc, append-nil, ap, refl, sym, subst, arith, ◌∙◌}
 use Rattle.std.proofs.lemmas.List.Elements.{filter-append}
 use Rattle.lane_sampler.specs.Samples.{Samples}
-use Rattle.relay_core.specs.declared.event.Event.{Event}
-use Rattle.relay_core.specs.declared.event.Event.TheVariants as event
+use Rattle.relay_events.specs.declared.event.Event.{Event}
+use Rattle.relay_events.specs.declared.event.Event.TheVariants as event
 use Rattle.meter_workers.specs.Blocks.{IsAhead, AreOfBlocks, Hands, GoesAhead, BringsBlock}
 use Rattle.meter_workers.specs.Handed.{is_read, unread}
 use Rattle.meter_workers.specs.Sources.{Gives}

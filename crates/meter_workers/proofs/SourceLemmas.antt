@@ -1,7 +1,7 @@
 -- What is left of a source's list, and what was handed in of it.
 use Rattle.std.proofs.Common.{◌≡◌, ℕ, zero, suc, true, false, List, [], ◌∷◌, ◌++◌, Option, Some, None, IfSome, map, replicate, append_assoc, append-nil, ap, refl, sym, ◌∙◌}
-use Rattle.relay_core.specs.declared.event.Event.{Event}
-use Rattle.relay_core.specs.declared.event.Event.TheVariants.{Button}
+use Rattle.relay_events.specs.declared.event.Event.{Event}
+use Rattle.relay_events.specs.declared.event.Event.TheVariants.{Button}
 use Rattle.meter_workers.specs.Sources.{Gives, Presses}
 
 -- of the list told at first and the one told now: what was handed in at first, and all of the former, is what is handed in now, and all of

@@ -1,8 +1,8 @@
 -- The events that blocks bring: each block, and the reads of the thresholds that they are scanned with.
 use Rattle.std.specs.Prelude.{◌≡◌, ◌⊎◌, ℕ, ◌+◌, ◌%◌, List, [], ◌∷◌, ◌++◌, Option, IfSome}
 use Rattle.lane_sampler.specs.Samples.{Samples}
-use Rattle.relay_core.specs.declared.event.Event.{Event}
-use Rattle.relay_core.specs.declared.event.Event.TheVariants as event
+use Rattle.relay_events.specs.declared.event.Event.{Event}
+use Rattle.relay_events.specs.declared.event.Event.TheVariants as event
 use Rattle.meter_workers.specs.Handed.{MeterPort, handed}
 use Rattle.meter_workers.specs.Thresholds.{threshold_read}
 

@@ -2,8 +2,8 @@
 use Rattle.std.specs.Prelude.{ℕ, false, List, [], ◌∷◌}
 use Rattle.cosem_names.specs.declared.level.Level.TheVariants.{Management}
 use Rattle.cosem_names.specs.declared.service.AttributeSelection.{AttributeSelection}
-use Rattle.relay_core.specs.declared.event.Event.{Event}
-use Rattle.relay_core.specs.declared.event.Event.TheVariants.{GetList}
+use Rattle.relay_events.specs.declared.event.Event.{Event}
+use Rattle.relay_events.specs.declared.event.Event.TheVariants.{GetList}
 
 -- threshold_active of the limiter of this logical name (IEC 62056-6-2, class 71, attribute 3)
 abbrev pub active_threshold : List ℕ → AttributeSelection

@@ -10,7 +10,7 @@ use crate::thresholds::{Thresholds, read_thresholds};
 use call_fault::CallFault;
 use kept_meter::Kept;
 use lane_sampler::Block;
-use relay_core::Event;
+use relay_events::Event;
 use std::alloc::Global;
 use std::sync::Wait;
 use turn_lock::Port;

@@ -7,7 +7,7 @@ ghost use Rattle.meter_workers.specs.Handed.{StopsFor, handed};
 
 use call_fault::CallFault;
 use kept_meter::Kept;
-use relay_core::{Event, Reply};
+use relay_events::{Event, Reply};
 use std::alloc::Global;
 use std::sync::Wait;
 use turn_lock::Port;

@@ -7,7 +7,7 @@ use crate::handing::hand_in;
 use crate::sources::MomentSource;
 use call_fault::CallFault;
 use kept_meter::Kept;
-use relay_core::Event;
+use relay_events::Event;
 use std::alloc::Global;
 use std::sync::Wait;
 use turn_lock::Port;

@@ -11,7 +11,7 @@ use cosem_axdr::Data;
 use cosem_names::{AttrRef, AttributeSelection, ClassId, GetResult, Level, Obis};
 use kept_meter::Kept;
 use listed::Listed;
-use relay_core::{Event, Reply};
+use relay_events::{Event, Reply};
 use std::alloc::{AllocError, Global};
 use std::sync::Wait;
 use turn_lock::Port;

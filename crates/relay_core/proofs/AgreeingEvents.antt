@@ -34,9 +34,9 @@ use Rattle.limiter_attributes.specs.declared.setting.Setting.{Setting}
 use Rattle.limiter_attributes.specs.Attributes.{attribute_numbered}
 use Rattle.limiter_attributes.specs.Reading.{groups_of}
 use Rattle.limiter_core.specs.Rows.{Row}
-use Rattle.relay_core.specs.declared.event.Event.{Event}
-use Rattle.relay_core.specs.declared.event.Event.TheVariants as event
-use Rattle.relay_core.specs.declared.event.Reply.TheVariants as reply
+use Rattle.relay_events.specs.declared.event.Event.{Event}
+use Rattle.relay_events.specs.declared.event.Event.TheVariants as event
+use Rattle.relay_events.specs.declared.reply.Reply.TheVariants as reply
 use Rattle.relay_core.specs.declared.scripts.Origin.TheVariants.{Remote}
 use Rattle.relay_core.specs.Access.{target_of}
 use Rattle.relay_core.specs.Acting.{switch_trigger, at_pulled, at_found, at_selected, at_execution, at_method, execute_at, at_execute, at_button}

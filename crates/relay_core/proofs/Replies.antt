@@ -2,11 +2,12 @@
 use Rattle.std.proofs.Common.{ℕ, Bool, true, false, nat_lt, ◌==◌, if◌then◌else◌, List, Option, Some, None}
 use Rattle.cosem_names.specs.declared.service.GetResult.{GetResult}
 use Rattle.cosem_names.specs.declared.service.GetResult.TheVariants as result
-use Rattle.relay_core.specs.declared.event.Event.{Event}
-use Rattle.relay_core.specs.declared.event.Event.TheVariants.{Get, GetList, Set, Execute, Button, Samples, Moment}
+use Rattle.relay_events.specs.declared.event.Event.{Event}
+use Rattle.relay_events.specs.declared.event.Event.TheVariants.{Get, GetList, Set, Execute, Button, Samples, Moment}
 use Rattle.relay_core.specs.declared.sampling.Firings.{Firings}
 use Rattle.relay_core.specs.Clock.{moment_after, at_moment}
-use Rattle.relay_core.specs.Machine.{reply_of, at_event, IsValueOrCode, IsOfSamples, IsOfClock, Fits}
+use Rattle.relay_core.specs.Machine.{reply_of, at_event}
+use Rattle.relay_events.specs.Kinds.{IsValueOrCode, IsOfSamples, IsOfClock, Fits}
 use Rattle.relay_core.specs.Reading.{get_result}
 use Rattle.relay_core.specs.Sampling.{measurements, no_firings, after_samples, sampled, at_samples}
 use Rattle.relay_core.specs.World.{World, Stepped}

@@ -2,11 +2,11 @@ use Rattle.std.proofs.Common.{◌≡◌, ℕ, Bool, true, false, IsTrue, inr, ar
 use Rattle.std.proofs.lemmas.List.{take_more}
 use Rattle.std.proofs.lemmas.Option.{slice_get_read}
 use Rattle.disconnect_control.specs.declared.state.ControlState.{ControlState}
-use Rattle.relay_core.specs.declared.event.Reply.{Reply}
+use Rattle.relay_events.specs.declared.reply.Reply.{Reply}
 use Rattle.disconnect_control.specs.declared.state.ControlState.TheVariants.{Connected}
 use Rattle.disconnect_control.specs.Transitions.{is_state}
-use Rattle.relay_core.specs.declared.event.Event.{Event}
-use Rattle.relay_core.specs.declared.event.Line.{Line}
+use Rattle.relay_events.specs.declared.event.Event.{Event}
+use Rattle.relay_events.specs.declared.reply.Line.{Line}
 use Rattle.relay_core.specs.declared.relay.RelayCore.{RelayCore}
 use Rattle.relay_core.specs.Machine.{at_event, is_sure}
 use Rattle.relay_core.specs.Runs.{line_of, line_at, world_after, lines_of, Runs, StopsEarly}

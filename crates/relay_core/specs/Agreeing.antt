@@ -8,8 +8,8 @@ use Rattle.limiter_attributes.specs.Reading.{setting_of}
 use Rattle.limiter_core.specs.declared.settings.Settings.{Settings}
 use Rattle.limiter_core.specs.Counting.{count_of}
 use Rattle.limiter_core.specs.Rows.{Row, OverThreshold, UnderThreshold}
-use Rattle.relay_core.specs.declared.event.Event.{Event}
-use Rattle.relay_core.specs.declared.event.Event.TheVariants.{Set}
+use Rattle.relay_events.specs.declared.event.Event.{Event}
+use Rattle.relay_events.specs.declared.event.Event.TheVariants.{Set}
 use Rattle.relay_core.specs.World.{World, Stepped}
 use Rattle.script_steps.specs.Ranges.{AreScriptsInRange}
 use Rattle.script_steps.specs.Reading.{table_of}

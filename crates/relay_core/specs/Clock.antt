@@ -4,7 +4,7 @@ use Rattle.std.specs.Prelude.{ℕ, List, [], ◌∷◌, Option, Some, None, ◌=
 use Rattle.std.specs.List.{count_by}
 use Rattle.action_schedule.specs.Fitting.{is_due}
 use Rattle.action_schedule.specs.Schedule.{Schedule}
-use Rattle.relay_core.specs.declared.event.Reply.TheVariants.{Ran, Stale}
+use Rattle.relay_events.specs.declared.reply.Reply.TheVariants.{Ran, Stale}
 use Rattle.relay_core.specs.declared.scripts.Origin.TheVariants.{Remote}
 use Rattle.relay_core.specs.Limiters.{with_moment}
 use Rattle.relay_core.specs.Schedules.{all_schedules}

@@ -14,8 +14,8 @@ use Rattle.cosem_names.specs.declared.write_fault.WriteFault.{WriteFault}
 use Rattle.cosem_names.specs.Objects.{rights_of}
 use Rattle.limiter_attributes.specs.Reading.{groups_of}
 use Rattle.limiter_attributes.specs.Settings.{limiter_with_groups}
-use Rattle.relay_core.specs.declared.event.Event.{Event}
-use Rattle.relay_core.specs.declared.event.Event.TheVariants.{Set}
+use Rattle.relay_events.specs.declared.event.Event.{Event}
+use Rattle.relay_events.specs.declared.event.Event.TheVariants.{Set}
 use Rattle.relay_core.specs.declared.parts.Parts.{Parts}
 use Rattle.relay_core.specs.declared.parts.Parts.TheVariants as part
 use Rattle.relay_core.specs.declared.parts.WrittenList.{WrittenList}

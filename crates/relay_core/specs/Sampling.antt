@@ -9,8 +9,8 @@ use Rattle.limiter_core.specs.declared.kinds.Fire.TheVariants.{Quiet, Over, Unde
 use Rattle.limiter_core.specs.declared.settings.Actions.{Actions}
 use Rattle.limiter_core.specs.Rows.{fire_of}
 use Rattle.limiter_core.specs.Settings.{row_of}
-use Rattle.relay_core.specs.declared.event.Reply.{Reply}
-use Rattle.relay_core.specs.declared.event.Reply.TheVariants.{Sampled, SampledBoth}
+use Rattle.relay_events.specs.declared.reply.Reply.{Reply}
+use Rattle.relay_events.specs.declared.reply.Reply.TheVariants.{Sampled, SampledBoth}
 use Rattle.relay_core.specs.declared.sampling.Firings.{Firings}
 use Rattle.relay_core.specs.declared.scripts.Origin.TheVariants.{Local}
 use Rattle.relay_core.specs.Limiters.{metered_of, with_metered}

@@ -7,7 +7,7 @@ use Rattle.action_schedule.specs.Schedule.{new_schedule}
 use Rattle.limiter_core.specs.declared.settings.Settings.{Settings}
 use Rattle.limiter_core.specs.Rows.{Row}
 use Rattle.limiter_core.specs.Settings.{new_settings}
-use Rattle.relay_core.specs.declared.event.Reply.{Reply}
+use Rattle.relay_events.specs.declared.reply.Reply.{Reply}
 use Rattle.relay_core.specs.declared.schedules.Schedules.{Schedules}
 use Rattle.script_steps.specs.declared.step.Script.{Script}
 

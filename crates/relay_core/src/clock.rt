@@ -3,12 +3,12 @@ ghost use Rattle.std.specs.List.{count_by};
 ghost use Rattle.action_schedule.specs.Fitting.{is_due};
 ghost use Rattle.relay_core.specs.Clock.{after_schedule, after_schedules, at_moment};
 ghost use Rattle.relay_core.specs.Limiters.{with_moment};
-ghost use Rattle.relay_core.specs.Machine.{IsOfClock};
+ghost use Rattle.relay_events.specs.Kinds.{IsOfClock};
 ghost use Rattle.relay_core.specs.Schedules.{schedule_of, all_schedules};
 ghost use Rattle.relay_core.specs.Stands.{StandsFor};
 ghost use Rattle.relay_core.specs.World.{World};
 
-use crate::event::Reply;
+use relay_events::Reply;
 use crate::relay::RelayCore;
 use crate::scripts::Origin;
 use cosem_names::ScheduleNumber;

@@ -1,10 +1,11 @@
 ghost use Rattle.std.specs.Prelude.{◌≡◌};
-ghost use Rattle.relay_core.specs.declared.event.Event.{Event};
+ghost use Rattle.relay_events.specs.declared.event.Event.{Event};
 ghost use Rattle.cosem_axdr.specs.Spelling.{IsWithin};
 ghost use Rattle.cosem_axdr.specs.View.{tree_of};
 ghost use Rattle.cosem_axdr.specs.declared.value.Data.{Data};
 ghost use Rattle.relay_core.specs.Agreeing.{Agree, IsWorld, IsEvent, IsValue, GoAlike};
-ghost use Rattle.relay_core.specs.Machine.{at_event, Fits};
+ghost use Rattle.relay_core.specs.Machine.{at_event};
+ghost use Rattle.relay_events.specs.Kinds.{Fits};
 ghost use Rattle.relay_core.specs.Requests.{at_request};
 ghost use Rattle.relay_core.specs.Scripts.{at_step};
 ghost use Rattle.relay_core.specs.World.{World};

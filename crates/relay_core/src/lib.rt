@@ -7,7 +7,6 @@
 mod access;
 mod acting;
 mod clock;
-mod event;
 mod laws;
 mod opening;
 mod parts;
@@ -20,10 +19,10 @@ mod scripts;
 mod stretches;
 mod writing;
 
-pub use event::{Event, Events, Line, Lines, Reply};
 pub use laws::{replies_fit, steps_are_requests, values_are_in_range, worlds_agree};
 pub use opening::{LimiterOpening, MAX_DEVICE_NAME, Opening, OpeningFault};
 pub use parts::Parts;
 pub use relay::RelayCore;
+pub use relay_events::{Event, Events, Line, Lines, Reply};
 pub use running::{RunStop, line_after, run};
 pub use schedules::Schedules;

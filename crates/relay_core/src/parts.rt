@@ -7,7 +7,7 @@ ghost use Rattle.relay_core.specs.Moving.{scripts_part, entries_part, groups_par
 ghost use Rattle.script_steps.specs.Reading.{table_of};
 
 use crate::access::target;
-use crate::event::Event;
+use relay_events::Event;
 use crate::relay::RelayCore;
 use action_schedule::ActionSchedule;
 use cosem_axdr::Data;

@@ -1,11 +1,12 @@
 ghost use Rattle.std.specs.Prelude.{◌≡◌, IfOk, IfErr, IsOk, IsTrue, OnOk, OnErr};
 ghost use Rattle.relay_core.specs.World.{World};
 ghost use Rattle.relay_core.specs.Stands.{StandsFor};
-ghost use Rattle.relay_core.specs.Machine.{at_event, is_sure, is_read, Fits};
+ghost use Rattle.relay_core.specs.Machine.{at_event, is_sure};
+ghost use Rattle.relay_events.specs.Kinds.{is_read, Fits};
 ghost use Rattle.relay_core.specs.Moving.{parts_of};
 ghost use Rattle.relay_core.specs.Runs.{line_at, Runs, StopsEarly};
 
-use crate::event::{Event, Events, Line, Lines, Reply};
+use relay_events::{Event, Events, Line, Lines, Reply};
 use crate::parts::Parts;
 use crate::relay::RelayCore;
 use cosem_names::GetResult;

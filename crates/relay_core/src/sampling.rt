@@ -1,12 +1,12 @@
 ghost use Rattle.std.specs.Prelude.{◌≡◌, ℕ, ◌+◌, ◌≤◌, length, IfSome};
 ghost use Rattle.lane_sampler.specs.Scans.{IsRightScan};
-ghost use Rattle.relay_core.specs.Machine.{IsOfSamples};
+ghost use Rattle.relay_events.specs.Kinds.{IsOfSamples};
 ghost use Rattle.relay_core.specs.Sampling.{no_firings, counted, fire_at, after_fire, after_sample, imports, pairs, at_samples};
 ghost use Rattle.relay_core.specs.Stands.{StandsFor};
 ghost use Rattle.relay_core.specs.Taking.{Takes, AreAtMost};
 ghost use Rattle.relay_core.specs.World.{World};
 
-use crate::event::Reply;
+use relay_events::Reply;
 use crate::relay::RelayCore;
 use crate::scripts::Origin;
 use crate::stretches::scan_at;

@@ -6,9 +6,9 @@ use Rattle.circular_buffer.specs.Buffer.{keep_last}
 use Rattle.disconnect_control.specs.Control.{Control}
 use Rattle.disconnect_control.specs.Transitions.{is_state}
 use Rattle.disconnect_control.specs.declared.state.ControlState.TheVariants.{Connected}
-use Rattle.relay_core.specs.declared.event.Event.{Event}
-use Rattle.relay_core.specs.declared.event.Line.{Line}
-use Rattle.relay_core.specs.declared.event.Reply.{Reply}
+use Rattle.relay_events.specs.declared.event.Event.{Event}
+use Rattle.relay_events.specs.declared.reply.Line.{Line}
+use Rattle.relay_events.specs.declared.reply.Reply.{Reply}
 use Rattle.relay_core.specs.Agreeing.{Agree, IsWorld, GoAlike}
 use Rattle.relay_core.specs.Machine.{at_event}
 use Rattle.relay_core.specs.Runs.{line_of, lines_of, world_after}

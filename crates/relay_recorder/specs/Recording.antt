@@ -1,7 +1,7 @@
 -- A recorder as its callers see it.
 use Rattle.std.specs.Prelude.{◌≡◌, ℕ, ◌-◌, ◌≤◌, List, [], length, take}
 use Rattle.circular_buffer.specs.Buffer.{Buffer}
-use Rattle.relay_core.specs.declared.event.Event.{Event}
+use Rattle.relay_events.specs.declared.event.Event.{Event}
 use Rattle.relay_core.specs.declared.relay.RelayCore.{RelayCore}
 
 -- the core that stands now, the core that stood before the kept events, the kept events with the oldest first, and how many

@@ -1,7 +1,7 @@
 -- What a recorder's export plays.
 use Rattle.std.specs.Prelude.{◌≡◌, ◌-◌, List, [], ◌∷◌, length, drop}
 use Rattle.relay_core.specs.Agreeing.{IsEvent}
-use Rattle.relay_core.specs.declared.event.Event.{Event}
+use Rattle.relay_events.specs.declared.event.Event.{Event}
 use Rattle.relay_core.specs.Runs.{lines_of}
 use Rattle.relay_core.specs.World.{World}
 use Rattle.relay_recorder.specs.Histories.{Told, StandsForHistory, events_of, replies_of, replies_from}

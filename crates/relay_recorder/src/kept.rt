@@ -7,7 +7,8 @@ ghost use Rattle.relay_core.specs.World.{World};
 ghost use Rattle.relay_recorder.specs.Recording.{all_but_last};
 
 use circular_buffer::HeapCircularBuffer;
-use relay_core::{Event, Parts, RelayCore};
+use relay_core::{Parts, RelayCore};
+use relay_events::Event;
 use std::marker::Model;
 
 /// An event, and the owned values that its write moves in: they were read when it came, so that a core can take it later
@@ -20,8 +21,8 @@ pub(crate) struct Kept {
 
 impl Model for Kept {
     ghost use Rattle.std.specs.Prelude.{◌≡◌};
-    ghost use Rattle.relay_core.specs.contracts.event.Event as event_row;
-    ghost use Rattle.relay_core.specs.declared.event.Event.{Event};
+    ghost use Rattle.relay_events.specs.contracts.event.Event as event_row;
+    ghost use Rattle.relay_events.specs.declared.event.Event.{Event};
     ghost use Rattle.relay_core.specs.Moving.{parts_of};
 
     ghost Value = { Event };

@@ -7,7 +7,8 @@ ghost use Rattle.relay_core.specs.Agreeing.{IsEvent};
 ghost use Rattle.relay_recorder.specs.Replaying.{AreEvents};
 
 use cosem_axdr::Data;
-use relay_core::{Event, values_are_in_range};
+use relay_core::values_are_in_range;
+use relay_events::Event;
 
 /// The durations that events set are numbers of 32 bits.
 pub fn events_are_in_range(events: &[Event])

@@ -1,6 +1,7 @@
 ghost use Rattle.std.specs.Prelude.{◌≡◌, ◌<◌, ◌≤◌, [], ◌∷◌, ◌++◌, length, slice_get, IfOk, IsOk, IsTrue, OnOk, OnErr, Some};
 ghost use Rattle.circular_buffer.specs.Buffer.{keep_last};
-ghost use Rattle.relay_core.specs.Machine.{is_sure, Fits};
+ghost use Rattle.relay_core.specs.Machine.{is_sure};
+ghost use Rattle.relay_events.specs.Kinds.{Fits};
 ghost use Rattle.relay_core.specs.Agreeing.{Agree};
 ghost use Rattle.relay_core.specs.Opening.{opened, opening_of, IsFitOpening};
 ghost use Rattle.relay_core.specs.Stands.{StandsFor};
@@ -13,7 +14,8 @@ use crate::ranges::events_are_in_range;
 use crate::trace::Trace;
 use circular_buffer::HeapCircularBuffer;
 use cosem_axdr::Octets;
-use relay_core::{Event, Events, RelayCore, Reply};
+use relay_core::RelayCore;
+use relay_events::{Event, Events, Reply};
 use std::alloc::{AllocError, Global};
 use std::marker::Model;
 
@@ -27,7 +29,7 @@ pub struct Recorder {
 
 impl Model for Recorder {
     ghost use Rattle.std.specs.Coded.{codes};
-    ghost use Rattle.relay_core.specs.contracts.event.Event as event_row;
+    ghost use Rattle.relay_events.specs.contracts.event.Event as event_row;
     ghost use Rattle.relay_core.specs.contracts.relay.RelayCore as core_row;
     ghost use Rattle.relay_recorder.specs.Histories.{HasHistory};
     ghost use Rattle.relay_recorder.specs.Recording.{Recording, IsRecording, recording};

@@ -1,4 +1,5 @@
-use relay_core::{Events, Opening};
+use relay_core::Opening;
+use relay_events::Events;
 
 /// A run written down: the core before its first event, and the events in order.
 #[derive(Debug, Drop)]

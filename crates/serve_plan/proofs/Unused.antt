@@ -1,7 +1,7 @@
 -- A recorder that no event has come to.
 use Rattle.std.proofs.Common.{◌≡◌, List, [], length, ap}
 use Rattle.std.proofs.lemmas.List.{nil_from_length}
-use Rattle.relay_core.specs.declared.event.Event.{Event}
+use Rattle.relay_events.specs.declared.event.Event.{Event}
 
 -- none are counted, so there are none
 pub unused : (events : List Event) → length events ≡ 0 → events ≡ []

@@ -4,9 +4,9 @@ use Rattle.std.specs.Int.{w16, from_be_bytes}
 use Rattle.std.proofs.lemmas.Bool.{eq-eqb}
 use Rattle.std.proofs.lemmas.Slice.Eq.{text_from_reads}
 use Rattle.cosem_names.specs.declared.name.AttrRef.{AttrRef}
-use Rattle.relay_core.specs.declared.event.Event.{Event}
-use Rattle.relay_core.specs.declared.event.Event.TheVariants as event
-use Rattle.relay_core.specs.declared.event.Reply.{Reply}
+use Rattle.relay_events.specs.declared.event.Event.{Event}
+use Rattle.relay_events.specs.declared.event.Event.TheVariants as event
+use Rattle.relay_events.specs.declared.reply.Reply.{Reply}
 use Rattle.session_core.proofs.Tasks.{hears_any, takes_any, gives_any}
 use Rattle.session_core.specs.Calls.{IsSingleGet, call_by, call_of, is_negotiated, request_form}
 use Rattle.session_core.specs.Outgoing.{outgoing_by}

@@ -4,8 +4,8 @@ use Rattle.std.proofs.Common.{◌≡◌, ℕ, ◌+◌, ◌*◌, ◌==◌, ◌&&�
 use Rattle.std.specs.Prelude.{if◌then◌else◌, option_and_then, option_to_list, filter, find}
 use Rattle.std.specs.List.{list_any}
 use Rattle.std.proofs.lemmas.Bool.{le-leb, leb-true}
-use Rattle.relay_core.specs.declared.event.Event.{Event}
-use Rattle.relay_core.specs.declared.event.Reply.{Reply}
+use Rattle.relay_events.specs.declared.event.Event.{Event}
+use Rattle.relay_events.specs.declared.reply.Reply.{Reply}
 use Rattle.session_core.specs.Answers.{answer_text, due_text}
 use Rattle.session_core.specs.Association.{opened_by}
 use Rattle.session_core.specs.Backwards.{since, unreleased, link_of, heard, is_no_later_form, goes_on, in_order, joined_so_far, blocks_so_far, First, first_of, incoming_by, incoming_among, incoming_of, Past, Heard, frames_past, heard_past, is_no_next, names_in_order, begun_by_role, outgoing_after_nexts, outgoing_among, outgoing_of, Asks, Answers, to_server}

@@ -2,8 +2,8 @@
 use Rattle.std.proofs.Common.{◌≡◌, ◌<◌, true, None, length, set, refl, ap, lit≤}
 use Rattle.cosem_names.specs.ResultCode.{code_of}
 use Rattle.cosem_names.specs.declared.result_code.ResultCode.{ResultCode}
-use Rattle.relay_core.specs.declared.event.Reply.{Reply}
-use Rattle.relay_core.specs.declared.event.Reply.TheVariants.{Value, Values, Code, Sampled, SampledBoth, Ran, Stale}
+use Rattle.relay_events.specs.declared.reply.Reply.{Reply}
+use Rattle.relay_events.specs.declared.reply.Reply.TheVariants.{Value, Values, Code, Sampled, SampledBoth, Ran, Stale}
 use Rattle.session_core.specs.Answers.{answer_text}
 use Rattle.session_core.specs.Outgoing.{is_valueless, long_answer, reply_code, code_response, code_place, response_by, reply_response}
 use Rattle.session_core.specs.declared.answer.Answer.TheVariants.{Service}

@@ -4,8 +4,8 @@ use Rattle.std.specs.Prelude.{if◌then◌else◌, option_to_list, IsTrue}
 use Rattle.std.proofs.lemmas.Bool.{ltb-false}
 use Rattle.std.proofs.lemmas.List.{append_assoc, append-nil, length-drop}
 use Rattle.acse_ber.specs.Reading.{aarq_of}
-use Rattle.relay_core.specs.declared.event.Event.{Event}
-use Rattle.relay_core.specs.declared.event.Reply.{Reply}
+use Rattle.relay_events.specs.declared.event.Event.{Event}
+use Rattle.relay_events.specs.declared.reply.Reply.{Reply}
 use Rattle.session_core.proofs.Meet.{same_from, same_events, same_texts}
 use Rattle.session_core.specs.Answers.{answer_text, due_text}
 use Rattle.session_core.specs.Backwards.{to_server, end_by, end_of}

@@ -7,8 +7,8 @@
 --     end_of         how the session ends
 use Rattle.std.specs.Prelude.{ℕ, ◌+◌, ◌==◌, ◌&&◌, nat_lt, not, Bool, true, false, if◌then◌else◌, cond, Option, Some, None, option_and_then, List, [], ◌∷◌, ◌++◌, length, map, filter, find}
 use Rattle.std.specs.List.{list_any}
-use Rattle.relay_core.specs.declared.event.Event.{Event}
-use Rattle.relay_core.specs.declared.event.Reply.{Reply}
+use Rattle.relay_events.specs.declared.event.Event.{Event}
+use Rattle.relay_events.specs.declared.reply.Reply.{Reply}
 use Rattle.session_core.specs.Association.{opened_by}
 use Rattle.session_core.specs.Outcome.{turn_event}
 use Rattle.session_core.specs.Outgoing.{sent, begun_by}

@@ -10,8 +10,8 @@ use Rattle.cosem_axdr.specs.declared.value.Data.{Data}
 use Rattle.cosem_names.specs.declared.level.Level.{Level}
 use Rattle.cosem_names.specs.declared.result_code.ResultCode.{ResultCode}
 use Rattle.cosem_names.specs.declared.result_code.ResultCode.TheVariants.{NoLongGetInProgress, NoLongSetInProgress, DataBlockNumberInvalid, OtherReason}
-use Rattle.relay_core.specs.declared.event.Event.{Event}
-use Rattle.relay_core.specs.declared.event.Event.TheVariants as event
+use Rattle.relay_events.specs.declared.event.Event.{Event}
+use Rattle.relay_events.specs.declared.event.Event.TheVariants as event
 use Rattle.session_core.specs.Outcome.{Outcome, asks, says}
 use Rattle.session_core.specs.declared.answer.Answer.TheVariants.{Service}
 use Rattle.session_core.specs.declared.asked.ReplyForm.{ReplyForm}

@@ -1,6 +1,6 @@
 -- A session is one, whether it is looked up in the frames before or run by what is kept.
 use Rattle.std.specs.Prelude.{◌≡◌, ℕ, List}
-use Rattle.relay_core.specs.declared.event.Reply.{Reply}
+use Rattle.relay_events.specs.declared.reply.Reply.{Reply}
 use Rattle.session_core.specs.Backwards.{Asks, Answers, to_server}
 use Rattle.session_core.specs.Running.{asks_on, answers_on, known_in, new_state}
 use Rattle.wrapper_frame.specs.Messages.{frames_of}

@@ -1,6 +1,6 @@
 -- What comes of a frame: an event for the meter, whose reply is answered, or an answer.
 use Rattle.std.specs.Prelude.{ℕ, Option, Some, None}
-use Rattle.relay_core.specs.declared.event.Event.{Event}
+use Rattle.relay_events.specs.declared.event.Event.{Event}
 use Rattle.session_core.specs.declared.answer.Answer.{Answer}
 use Rattle.session_core.specs.declared.asked.Asked.{Asked}
 use Rattle.xdlms_apdu.specs.declared.invoke_id.InvokeId.{InvokeId}

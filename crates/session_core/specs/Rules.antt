@@ -10,8 +10,8 @@ use Rattle.acse_ber.specs.Verdict.{verdict_of}
 use Rattle.acse_ber.specs.declared.fault.AcseFault.{AcseFault}
 use Rattle.acse_ber.specs.declared.aarq.Aarq.{Aarq}
 use Rattle.cosem_names.specs.declared.name.AttrRef.{AttrRef}
-use Rattle.relay_core.specs.declared.event.Event.TheVariants as event
-use Rattle.relay_core.specs.declared.event.Reply.{Reply}
+use Rattle.relay_events.specs.declared.event.Event.TheVariants as event
+use Rattle.relay_events.specs.declared.reply.Reply.{Reply}
 use Rattle.session_core.specs.Answers.{answer_text, due_text}
 use Rattle.session_core.specs.Association.{aare_by, opened_by}
 use Rattle.session_core.specs.Calls.{is_opening, is_call, call_of}

@@ -1,7 +1,7 @@
 -- The same session, run by what it keeps from one frame to the next.
 use Rattle.std.specs.Prelude.{ℕ, Option, None, List}
-use Rattle.relay_core.specs.declared.event.Event.{Event}
-use Rattle.relay_core.specs.declared.event.Reply.{Reply}
+use Rattle.relay_events.specs.declared.event.Event.{Event}
+use Rattle.relay_events.specs.declared.reply.Reply.{Reply}
 use Rattle.session_core.specs.Outcome.{turn_event}
 use Rattle.session_core.specs.Rules.{turn_of, link_after, incoming_after, outcome_at, state_after}
 use Rattle.session_core.specs.Walks.{asks_along, answers_along}

@@ -2,8 +2,8 @@
 --     asks_along       the events of frames
 --     answers_along    the texts of their answers, for the replies to the events
 use Rattle.std.specs.Prelude.{ℕ, Option, Some, None, option_to_list, List, [], ◌∷◌, ◌++◌}
-use Rattle.relay_core.specs.declared.event.Event.{Event}
-use Rattle.relay_core.specs.declared.event.Reply.{Reply}
+use Rattle.relay_events.specs.declared.event.Event.{Event}
+use Rattle.relay_events.specs.declared.reply.Reply.{Reply}
 use Rattle.session_core.specs.Answers.{answer_text, due_text}
 use Rattle.session_core.specs.Outcome.{Outcome, asks, says}
 use Rattle.session_core.specs.Rules.{reply_text}

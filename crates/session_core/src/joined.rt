@@ -10,7 +10,7 @@ use crate::link::Link;
 use crate::step::Step;
 use cosem_axdr::{Data, DataFault, Octets, read};
 use cosem_names::ResultCode;
-use relay_core::Event;
+use relay_events::Event;
 use std::alloc::{AllocError, Global};
 use xdlms_apdu::InvokeId;
 

@@ -1,6 +1,6 @@
 use crate::end::SessionEnd;
 use cosem_axdr::Octets;
-use relay_core::Event;
+use relay_events::Event;
 
 /// What a session wants of its caller.
 #[derive(Debug, Drop)]

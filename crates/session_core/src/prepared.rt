@@ -8,7 +8,7 @@ use crate::asked::{Asked, ReplyForm};
 use crate::replying::{Answered, answer_code, reply_code};
 use cosem_axdr::Octets;
 use cosem_names::ResultCode;
-use relay_core::Reply;
+use relay_events::Reply;
 use std::alloc::{AllocError, Global};
 use std::marker::Model;
 

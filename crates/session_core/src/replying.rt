@@ -15,7 +15,7 @@ use crate::link::Link;
 use crate::outgoing::{Outgoing, block_given};
 use cosem_axdr::{Data, Octets};
 use cosem_names::{GetResult, ResultCode};
-use relay_core::Reply;
+use relay_events::Reply;
 use std::alloc::{AllocError, Global};
 use xdlms_apdu::{InvokeId, Response};
 use xdlms_blocks::{BlockFault, GetBlocks};

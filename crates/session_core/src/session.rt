@@ -14,7 +14,7 @@ use crate::step::Step;
 use crate::task::Task;
 use cosem_axdr::Octets;
 use cosem_names::{AttrRef, Level};
-use relay_core::Reply;
+use relay_events::Reply;
 use std::alloc::{AllocError, Global};
 use std::fmt::{self, Debug, Formatter};
 use std::mem::replace;

@@ -19,7 +19,7 @@ use crate::step::Step;
 use acse_ber::{AcseFault, judge, read_aarq};
 use cosem_axdr::Data;
 use cosem_names::{AttrRef, AttributeSelection, Level};
-use relay_core::Event;
+use relay_events::Event;
 use std::alloc::{AllocError, Global};
 use xdlms_apdu::{Block, Exception, InvokeId, Request};
 use xdlms_blocks::JoinBlocks;

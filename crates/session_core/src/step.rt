@@ -2,7 +2,7 @@ use crate::asked::Asked;
 use crate::due::Due;
 use crate::incoming::Added;
 use crate::joined::Joined;
-use relay_core::Event;
+use relay_events::Event;
 
 /// What comes of a frame.
 #[derive(Drop)]

@@ -21,7 +21,7 @@ use crate::step::Step;
 use acse_ber::OFFERED_CONFORMANCE;
 use cosem_axdr::Octets;
 use cosem_names::Level;
-use relay_core::{Event, Reply};
+use relay_events::{Event, Reply};
 use std::alloc::{AllocError, Global};
 use xdlms_apdu::Exception;
 

@@ -11,8 +11,8 @@ use Rattle.session_serving.specs.declared.fault.HexFault.{HexFault}
 use Rattle.session_serving.specs.declared.fault.HexFault.TheVariants as hex_fault
 use Rattle.session_serving.specs.declared.fault.ServeFault.{ServeFault}
 use Rattle.session_serving.specs.declared.fault.ServeFault.TheVariants as fault
-use Rattle.relay_core.specs.declared.event.Event.{Event}
-use Rattle.relay_core.specs.declared.event.Reply.{Reply}
+use Rattle.relay_events.specs.declared.event.Event.{Event}
+use Rattle.relay_events.specs.declared.reply.Reply.{Reply}
 use Rattle.relay_core.specs.declared.relay.RelayCore.{RelayCore}
 use Rattle.relay_core.specs.Machine.{at_event}
 use Rattle.relay_core.specs.Stands.{StandsFor}

@@ -10,8 +10,8 @@ use Rattle.session_serving.specs.Settling.{fault_of, FailsToWrite, Reached, Sett
 use Rattle.session_serving.specs.declared.fault.ServeFault.{ServeFault}
 use Rattle.session_serving.specs.declared.fault.ServeFault.TheVariants as fault
 use Rattle.session_serving.proofs.Replies.{replied_more, replied_on, refused_on}
-use Rattle.relay_core.specs.declared.event.Event.{Event}
-use Rattle.relay_core.specs.declared.event.Reply.{Reply}
+use Rattle.relay_events.specs.declared.event.Event.{Event}
+use Rattle.relay_events.specs.declared.reply.Reply.{Reply}
 use Rattle.session_core.specs.Backwards.{Asks, Answers, end_of}
 use Rattle.session_core.specs.Progress.{Owes, Feeds, Finishes, Steps, Takes, AnswersBy, IsQuiet, IsAwaiting, IsOver}
 use Rattle.session_core.specs.Remaining.{still_asks, still_sends, still_ends, is_asking, ended, is_finished, end_in, awaits}

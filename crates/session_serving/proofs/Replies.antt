@@ -1,8 +1,8 @@
 -- Events that a meter answers, one after the other.
 use Rattle.std.proofs.Common.{List, [], ◌∷◌, ◌++◌, Result, Ok, refl, sym, ap, ◌∙◌, subst, append_assoc}
 use Rattle.session_serving.specs.Meters.{Replied, Refused}
-use Rattle.relay_core.specs.declared.event.Event.{Event}
-use Rattle.relay_core.specs.declared.event.Reply.{Reply}
+use Rattle.relay_events.specs.declared.event.Event.{Event}
+use Rattle.relay_events.specs.declared.reply.Reply.{Reply}
 use Rattle.call_fault.specs.declared.fault.CallFault.{CallFault}
 
 module _ {M : Type 0} (steps : M → Event → Result Reply CallFault → M → Type 0) where

@@ -6,8 +6,8 @@ use Rattle.cosem_axdr.proofs.value.Items.TheLaws.TheKnot.{send-Data, send-Items}
 use Rattle.cosem_names.proofs.service.AttributeSelection.TheSendSync.{the_send as selection_send}
 use Rattle.lane_sampler.proofs.samples.Block.TheSendSync.{the_send as block_send}
 use Rattle.cosem_names.specs.contracts.service.GetResult as get_result
-use Rattle.relay_core.specs.contracts.event.Event as event
-use Rattle.relay_core.specs.contracts.event.Reply as reply
+use Rattle.relay_events.specs.contracts.event.Event as event
+use Rattle.relay_events.specs.contracts.reply.Reply as reply
 
 pub event_send : IsSend event.the_row
 event_send = search (sendable, crosses, send-Data, send-Items, octets_send, selection_send, block_send) depth 40 fits 100000

@@ -7,8 +7,8 @@ use Rattle.session_serving.specs.Served.{DoesAll, Stops, EndsBefore, as_bytes, m
 use Rattle.session_serving.specs.Settling.{IsSettled, Reached, Settled, Stands}
 use Rattle.session_serving.specs.declared.fault.ServeFault.{ServeFault}
 use Rattle.session_serving.specs.declared.fault.ServeFault.TheVariants as fault
-use Rattle.relay_core.specs.declared.event.Event.{Event}
-use Rattle.relay_core.specs.declared.event.Reply.{Reply}
+use Rattle.relay_events.specs.declared.event.Event.{Event}
+use Rattle.relay_events.specs.declared.reply.Reply.{Reply}
 use Rattle.session_core.specs.Backwards.{Asks, Answers, end_of}
 use Rattle.session_core.specs.Progress.{Owes}
 use Rattle.session_core.specs.Remaining.{still_asks, still_sends, still_ends, is_asking}

@@ -1,10 +1,10 @@
 -- The replies to events that don't only read.
 use Rattle.std.proofs.Common.{◌≡◌, ℕ, List, true, false, refl, ap, sym, ◌∙◌}
-use Rattle.relay_core.specs.Machine.{Fits, IsCode, IsOfSamples, IsOfClock, is_read}
-use Rattle.relay_core.specs.declared.event.Event.{Event}
-use Rattle.relay_core.specs.declared.event.Event.TheVariants.{Get, GetList, Set, Execute, Button, Samples, Moment}
-use Rattle.relay_core.specs.declared.event.Reply.{Reply}
-use Rattle.relay_core.specs.declared.event.Reply.TheVariants.{Value, Values, Code, Sampled, SampledBoth, Ran, Stale}
+use Rattle.relay_events.specs.Kinds.{Fits, IsCode, IsOfSamples, IsOfClock, is_read}
+use Rattle.relay_events.specs.declared.event.Event.{Event}
+use Rattle.relay_events.specs.declared.event.Event.TheVariants.{Get, GetList, Set, Execute, Button, Samples, Moment}
+use Rattle.relay_events.specs.declared.reply.Reply.{Reply}
+use Rattle.relay_events.specs.declared.reply.Reply.TheVariants.{Value, Values, Code, Sampled, SampledBoth, Ran, Stale}
 use Rattle.session_core.specs.Answers.{answer_text}
 use Rattle.session_core.specs.Outgoing.{is_valueless, reply_code, code_response, form_of, reply_response}
 use Rattle.session_core.specs.declared.answer.Answer.TheVariants.{Service}

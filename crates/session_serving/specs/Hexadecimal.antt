@@ -14,8 +14,8 @@ use Rattle.session_serving.specs.Meters.{CoreSteps}
 use Rattle.session_serving.specs.Served.{DoesAll, StopsShort}
 use Rattle.session_serving.specs.declared.fault.HexFault.{HexFault}
 use Rattle.session_serving.specs.declared.fault.HexFault.TheVariants as fault
-use Rattle.relay_core.specs.declared.event.Event.{Event}
-use Rattle.relay_core.specs.declared.event.Reply.{Reply}
+use Rattle.relay_events.specs.declared.event.Event.{Event}
+use Rattle.relay_events.specs.declared.reply.Reply.{Reply}
 use Rattle.relay_core.specs.declared.relay.RelayCore.{RelayCore}
 use Rattle.relay_core.specs.Runs.{lines_of}
 use Rattle.relay_core.specs.Stands.{StandsFor}

@@ -3,8 +3,8 @@
 --     Refused     events of which the last was refused
 --     CoreSteps   how the core takes an event
 use Rattle.std.specs.Prelude.{◌≡◌, false, List, [], ◌∷◌, ◌++◌, Result, Ok, Err}
-use Rattle.relay_core.specs.declared.event.Event.{Event}
-use Rattle.relay_core.specs.declared.event.Reply.{Reply}
+use Rattle.relay_events.specs.declared.event.Event.{Event}
+use Rattle.relay_events.specs.declared.reply.Reply.{Reply}
 use Rattle.relay_core.specs.declared.relay.RelayCore.{RelayCore}
 use Rattle.relay_core.specs.Machine.{at_event, is_sure}
 use Rattle.relay_core.specs.Stands.{StandsFor}

@@ -9,8 +9,8 @@ use Rattle.std.specs.Io.KnownBytes.{Appends, Consumes}
 use Rattle.session_serving.specs.Meters.{Replied}
 use Rattle.session_serving.specs.declared.fault.ServeFault.{ServeFault}
 use Rattle.session_serving.specs.declared.fault.ServeFault.TheVariants as fault
-use Rattle.relay_core.specs.declared.event.Event.{Event}
-use Rattle.relay_core.specs.declared.event.Reply.{Reply}
+use Rattle.relay_events.specs.declared.event.Event.{Event}
+use Rattle.relay_events.specs.declared.reply.Reply.{Reply}
 use Rattle.session_core.specs.Progress.{IsOver}
 use Rattle.session_core.specs.Remaining.{still_asks, still_sends, still_ends, is_asking, is_finished}
 use Rattle.session_core.specs.declared.end.SessionEnd.{SessionEnd}

@@ -1,11 +1,13 @@
 ghost use Rattle.std.specs.Prelude.{◌≡◌, false, IfOk, IsTrue, OnOk, OnErr};
-ghost use Rattle.relay_core.specs.Machine.{at_event, is_read};
+ghost use Rattle.relay_core.specs.Machine.{at_event};
+ghost use Rattle.relay_events.specs.Kinds.{is_read};
 ghost use Rattle.relay_core.specs.World.{World};
 ghost use Rattle.relay_core.specs.Stands.{StandsFor};
 ghost use Rattle.session_serving.specs.Answering.{answered, replied};
 
 use cosem_axdr::Octets;
-use relay_core::{Event, RelayCore};
+use relay_core::RelayCore;
+use relay_events::Event;
 use session_core::{Asked, PreparedAnswer, Unframed, answer_unframed, ask_unframed};
 use std::alloc::{AllocError, Global};
 

@@ -1,12 +1,13 @@
 ghost use Rattle.std.specs.Prelude.{Result, IfOk};
 ghost use Rattle.session_serving.specs.Meters.{CoreSteps};
-ghost use Rattle.relay_core.specs.Machine.{Fits};
-ghost use Rattle.relay_core.specs.declared.event.Event.{Event};
-ghost use Rattle.relay_core.specs.declared.event.Reply.{Reply};
+ghost use Rattle.relay_events.specs.Kinds.{Fits};
+ghost use Rattle.relay_events.specs.declared.event.Event.{Event};
+ghost use Rattle.relay_events.specs.declared.reply.Reply.{Reply};
 ghost use Rattle.call_fault.specs.declared.fault.CallFault.{CallFault};
 
 use call_fault::CallFault;
-use relay_core::{Event, RelayCore, Reply};
+use relay_core::RelayCore;
+use relay_events::{Event, Reply};
 use std::alloc::Global;
 
 /// What takes the events of a session: the meter's core, or a port to one that is shared.

@@ -10,7 +10,7 @@ use crate::form::{AsBytes, Form};
 use crate::meter::Meter;
 use byte_streams::{Reader, Writer};
 use cosem_axdr::Octets;
-use relay_core::Event;
+use relay_events::Event;
 use session_core::{Next, Session, SessionEnd};
 use std::alloc::Global;
 

@@ -1,8 +1,8 @@
 -- A session and its meter, some steps on.
 use Rattle.std.proofs.Common.{◌≡◌, ℕ, List, [], ◌∷◌, ◌++◌, ◌+◌, ◌<◌, arith, refl, sym, ◌∙◌, ap, subst, append_assoc, append-nil}
 use Rattle.std.specs.Prelude.{map}
-use Rattle.relay_core.specs.declared.event.Event.{Event}
-use Rattle.relay_core.specs.declared.event.Reply.{Reply}
+use Rattle.relay_events.specs.declared.event.Event.{Event}
+use Rattle.relay_events.specs.declared.reply.Reply.{Reply}
 use Rattle.relay_recorder.specs.Histories.{Told, StandsForHistory, Continues, events_of, replies_of}
 use Rattle.relay_recorder.specs.Recording.{Recording}
 use Rattle.session_core.specs.Remaining.{load}

@@ -6,9 +6,9 @@
 use Rattle.std.specs.Prelude.{◌≡◌, ◌≢◌, ◌≤◌, ◌<◌, ℕ, None, List, [], length, Result, Ok, Err, IfSome}
 use Rattle.lane_sampler.specs.Samples.{Samples, AreEven, most_values}
 use Rattle.meter_serving.specs.Resuming.{world_of, GoesOn}
-use Rattle.relay_core.specs.declared.event.Event.TheVariants as event
-use Rattle.relay_core.specs.declared.event.Reply.{Reply}
-use Rattle.relay_core.specs.declared.event.Reply.TheVariants.{Sampled, SampledBoth, Ran, Stale}
+use Rattle.relay_events.specs.declared.event.Event.TheVariants as event
+use Rattle.relay_events.specs.declared.reply.Reply.{Reply}
+use Rattle.relay_events.specs.declared.reply.Reply.TheVariants.{Sampled, SampledBoth, Ran, Stale}
 use Rattle.relay_core.specs.Stands.{StandsFor}
 use Rattle.relay_core.specs.World.{new_world}
 use Rattle.relay_recorder.specs.Histories.{StandsForHistory}

@@ -3,8 +3,8 @@
 --     asks_ahead, sends_ahead, ends_ahead      what is still to come of it, for every way that its input goes on and for every list of replies
 --     IsDialogue                               the session awaits a reply exactly where an event or its reply is under way
 use Rattle.std.specs.Prelude.{◌≡◌, ℕ, Bool, true, false, List, ◌∷◌}
-use Rattle.relay_core.specs.declared.event.Event.{Event}
-use Rattle.relay_core.specs.declared.event.Reply.{Reply}
+use Rattle.relay_events.specs.declared.event.Event.{Event}
+use Rattle.relay_events.specs.declared.reply.Reply.{Reply}
 use Rattle.session_core.specs.Remaining.{still_asks, still_sends, still_ends, is_asking}
 use Rattle.session_core.specs.declared.end.SessionEnd.{SessionEnd}
 use Rattle.session_core.specs.declared.session.Session.{Session}

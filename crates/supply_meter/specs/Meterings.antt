@@ -5,8 +5,8 @@
 --     Takes           an event that the meter took
 use Rattle.std.specs.Prelude.{◌≡◌, ◌≢◌, ℕ, Option, Some, None, List, length, slice_index_or}
 use Rattle.acse_ber.specs.Password.{IsPassword}
-use Rattle.relay_core.specs.declared.event.Event.{Event}
-use Rattle.relay_core.specs.declared.event.Reply.{Reply}
+use Rattle.relay_events.specs.declared.event.Event.{Event}
+use Rattle.relay_events.specs.declared.reply.Reply.{Reply}
 use Rattle.relay_recorder.specs.Histories.{Continues}
 use Rattle.relay_recorder.specs.Recording.{Recording}
 use Rattle.supply_meter.specs.Dialogues.{Dialogue}

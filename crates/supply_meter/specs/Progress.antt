@@ -8,7 +8,7 @@
 --     Gives        what `next` did
 use Rattle.std.specs.Prelude.{◌≡◌, ◌<◌, ◌++◌, ℕ, List, [], ◌∷◌, length, drop, Result, Ok, Err}
 use Rattle.relay_core.specs.World.{World}
-use Rattle.relay_core.specs.declared.event.Reply.{Reply}
+use Rattle.relay_events.specs.declared.reply.Reply.{Reply}
 use Rattle.relay_recorder.specs.Histories.{Told, StandsForHistory, events_of, replies_of}
 use Rattle.relay_recorder.specs.Recording.{Recording}
 use Rattle.session_core.specs.Backwards.{Asks, Answers, end_of}

@@ -4,8 +4,8 @@
 --     weight                         how much work is left in what is kept
 --     Leaves                         what stands where nothing more is done
 use Rattle.std.specs.Prelude.{◌≡◌, ◌+◌, ◌<◌, ◌++◌, ℕ, List, [], length, drop, Option, Some, None, Result, Ok, Err}
-use Rattle.relay_core.specs.declared.event.Event.{Event}
-use Rattle.relay_core.specs.declared.event.Reply.{Reply}
+use Rattle.relay_events.specs.declared.event.Event.{Event}
+use Rattle.relay_events.specs.declared.reply.Reply.{Reply}
 use Rattle.relay_recorder.specs.Recording.{Recording}
 use Rattle.session_core.specs.Remaining.{load}
 use Rattle.supply_meter.specs.Dialogues.{Dialogue, asks_ahead, sends_ahead, ends_ahead}

@@ -1,5 +1,5 @@
 use cosem_axdr::Octets;
-use relay_core::{Event, Reply};
+use relay_events::{Event, Reply};
 
 /// What stands between a session and the meter, or between a session and its client.
 #[derive(Drop)]

@@ -14,8 +14,8 @@ use Rattle.cosem_names.specs.declared.name.AttrRef.{AttrRef}
 use Rattle.cosem_names.specs.declared.name.MethodRef.{MethodRef}
 use Rattle.cosem_names.specs.declared.name.Obis.{Obis}
 use Rattle.cosem_names.specs.declared.service.AttributeSelection.{AttributeSelection}
-use Rattle.relay_core.specs.declared.event.Event.{Event}
-use Rattle.relay_core.specs.declared.event.Event.TheVariants.{Get, GetList, Set, Execute, Button, Samples, Moment}
+use Rattle.relay_events.specs.declared.event.Event.{Event}
+use Rattle.relay_events.specs.declared.event.Event.TheVariants.{Get, GetList, Set, Execute, Button, Samples, Moment}
 use Rattle.trace_lines.specs.Events.{get_from, get_list_from, set_from, execute_from, samples_from, pairs_from, moment_from, event_from, event_of, events_from}
 use Rattle.trace_words.specs.Reading.{number_in}
 use Rattle.trace_lines.specs.Reading.{level_in, name_in, parameter_in, attribute_from, method_at, selection_from, value_from, pair_from}

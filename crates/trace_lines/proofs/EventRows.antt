@@ -6,8 +6,8 @@ use Rattle.cosem_axdr.specs.declared.value.Data.{Data}
 use Rattle.cosem_names.specs.declared.level.Level.{Level}
 use Rattle.cosem_names.specs.declared.level.Level.TheVariants.{Public, Management}
 use Rattle.cosem_names.specs.declared.service.AttributeSelection.{AttributeSelection}
-use Rattle.relay_core.specs.declared.event.Event.{Event}
-use Rattle.relay_core.specs.declared.event.Event.TheVariants.{Get, GetList, Set, Execute, Button, Samples, Moment}
+use Rattle.relay_events.specs.declared.event.Event.{Event}
+use Rattle.relay_events.specs.declared.event.Event.TheVariants.{Get, GetList, Set, Execute, Button, Samples, Moment}
 use Rattle.trace_text.specs.Lines.{is_row}
 use Rattle.trace_text.specs.Words.{is_word, words_of, line_of}
 use Rattle.trace_text.proofs.HexadecimalLemmas.{hex_is_word}

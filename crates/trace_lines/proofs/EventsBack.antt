@@ -12,8 +12,8 @@ use Rattle.cosem_names.specs.declared.name.AttrRef.{AttrRef}
 use Rattle.cosem_names.specs.declared.name.MethodRef.{MethodRef}
 use Rattle.cosem_names.specs.declared.name.Obis.{Obis}
 use Rattle.cosem_names.specs.declared.service.AttributeSelection.{AttributeSelection}
-use Rattle.relay_core.specs.declared.event.Event.{Event}
-use Rattle.relay_core.specs.declared.event.Event.TheVariants.{GetList, Set, Execute, Button, Samples, Moment}
+use Rattle.relay_events.specs.declared.event.Event.{Event}
+use Rattle.relay_events.specs.declared.event.Event.TheVariants.{GetList, Set, Execute, Button, Samples, Moment}
 use Rattle.lane_sampler.specs.Samples.{values_alone, pairs_of}
 use Rattle.trace_text.proofs.WordsLemmas.{line_of-words_of}
 use Rattle.trace_text.specs.Words.{words_of, line_of}

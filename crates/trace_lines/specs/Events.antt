@@ -5,8 +5,8 @@
 use Rattle.std.specs.Prelude.{◌==◌, map, length, Result, Ok, Err, ℕ, codes}
 use Rattle.byte_reading.specs.Outcome.{◌>>=◌, ◌>>◌, guard}
 use Rattle.lane_sampler.specs.Samples.{values_alone, pairs_of}
-use Rattle.relay_core.specs.declared.event.Event.{Event}
-use Rattle.relay_core.specs.declared.event.Event.TheVariants.{Get, GetList, Set, Execute, Button, Samples, Moment}
+use Rattle.relay_events.specs.declared.event.Event.{Event}
+use Rattle.relay_events.specs.declared.event.Event.TheVariants.{Get, GetList, Set, Execute, Button, Samples, Moment}
 use Rattle.trace_words.specs.Reading.{number_in, data_in, next_as, last_as}
 use Rattle.trace_lines.specs.Reading.{level_in, parameter_in, method_at, selection_from, selection_at, value_from, pair_from}
 use Rattle.trace_words.specs.Rows.{Row, ended, word_at, all_at}

@@ -4,9 +4,9 @@ use Rattle.cosem_names.specs.ResultCode.{code_of}
 use Rattle.cosem_names.specs.declared.service.GetResult.{GetResult}
 use Rattle.cosem_names.specs.declared.service.GetResult.TheVariants as result
 use Rattle.disconnect_control.specs.Transitions.{state_number}
-use Rattle.relay_core.specs.declared.event.Line.{Line}
-use Rattle.relay_core.specs.declared.event.Reply.{Reply}
-use Rattle.relay_core.specs.declared.event.Reply.TheVariants.{Value, Values, Code, Sampled, SampledBoth, Ran, Stale}
+use Rattle.relay_events.specs.declared.reply.Line.{Line}
+use Rattle.relay_events.specs.declared.reply.Reply.{Reply}
+use Rattle.relay_events.specs.declared.reply.Reply.TheVariants.{Value, Values, Code, Sampled, SampledBoth, Ran, Stale}
 use Rattle.trace_words.specs.Rows.{Row}
 use Rattle.trace_words.specs.Writing.{data_word, blanked, all_words}
 

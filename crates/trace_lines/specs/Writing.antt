@@ -9,8 +9,8 @@ use Rattle.cosem_names.specs.declared.level.Level.TheVariants.{Public, Managemen
 use Rattle.cosem_names.specs.declared.name.AttrRef.{AttrRef}
 use Rattle.cosem_names.specs.declared.name.MethodRef.{MethodRef}
 use Rattle.cosem_names.specs.declared.service.AttributeSelection.{AttributeSelection}
-use Rattle.relay_core.specs.declared.event.Event.{Event}
-use Rattle.relay_core.specs.declared.event.Event.TheVariants.{Get, GetList, Set, Execute, Button, Samples, Moment}
+use Rattle.relay_events.specs.declared.event.Event.{Event}
+use Rattle.relay_events.specs.declared.event.Event.TheVariants.{Get, GetList, Set, Execute, Button, Samples, Moment}
 use Rattle.trace_words.specs.Rows.{Word, Row}
 use Rattle.trace_lines.specs.Verbs.{verb_word}
 use Rattle.trace_lines.specs.declared.verb.Verb.{Verb}

@@ -9,7 +9,7 @@ use crate::writing::{
 };
 use cosem_names::{AttrRef, Level};
 use lane_sampler::Block;
-use relay_core::Event;
+use relay_events::Event;
 use std::alloc::{AllocError, Global};
 use trace_text::add_number;
 use trace_words::{add_data, add_flag};

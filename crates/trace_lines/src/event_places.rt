@@ -2,7 +2,7 @@ ghost use Rattle.trace_lines.specs.Events.{event_of};
 ghost use Rattle.trace_words.specs.Places.{ReadsLines, line_as};
 
 use crate::events::{event, read_event};
-use relay_core::Event;
+use relay_events::Event;
 use std::alloc::Global;
 use trace_words::{HeldLines, TraceFault, TraceLines, Version};
 

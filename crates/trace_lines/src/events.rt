@@ -15,7 +15,7 @@ use cosem_axdr::Data;
 use cosem_names::Level;
 use lane_sampler::{Block, BlockMade};
 use listed::Listed;
-use relay_core::Event;
+use relay_events::Event;
 use std::alloc::{AllocError, Global};
 use trace_text::Words;
 use trace_words::{RowFault, Version, data_in, ended, last_word, next_word, number_in};

@@ -2,7 +2,7 @@
 ghost use Rattle.std.specs.Prelude.{◌≡◌, ℕ, ◌≤◌, suc, List, ◌∷◌, codes, IsTrue, Ok};
 ghost use Rattle.trace_text.specs.Lines.{is_row};
 ghost use Rattle.trace_text.specs.Words.{words_of, line_of};
-ghost use Rattle.relay_core.specs.declared.event.Event.{Event};
+ghost use Rattle.relay_events.specs.declared.event.Event.{Event};
 ghost use Rattle.trace_lines.specs.Events.{event_of, events_from};
 ghost use Rattle.trace_words.specs.Labels.{number_row};
 ghost use Rattle.trace_words.specs.Places.{line_as};

@@ -7,7 +7,7 @@ ghost use Rattle.trace_words.specs.Writing.{data_word, blanked, all_words};
 use cosem_axdr::Data;
 use cosem_names::{GetResult, ResultCode};
 use disconnect_control::ControlState;
-use relay_core::{Line, Reply};
+use relay_events::{Line, Reply};
 use std::alloc::{AllocError, Global};
 use trace_text::{add_number, add_word, write_number};
 use trace_words::add_data;

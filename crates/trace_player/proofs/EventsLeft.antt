@@ -1,7 +1,7 @@
 -- Lines of events, written one after the other.
 use Rattle.std.proofs.Common.{◌≡◌, ℕ, suc, ◌+◌, ◌<◌, ◌≤◌, List, [], ◌∷◌, ◌++◌, length, map, drop, get_or, refl, sym, ap, ◌∙◌, append_assoc, append-nil, add-one, drop-cons, codes}
 use Rattle.std.proofs.lemmas.List.{drop_all}
-use Rattle.relay_core.specs.declared.event.Event.{Event}
+use Rattle.relay_events.specs.declared.event.Event.{Event}
 use Rattle.relay_recorder.specs.declared.trace.Trace.{Trace}
 use Rattle.trace_words.specs.Labels.{number_row}
 use Rattle.trace_openings.specs.OpeningRows.{opening_rows}

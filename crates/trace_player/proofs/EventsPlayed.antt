@@ -5,8 +5,8 @@ use Rattle.relay_core.specs.Machine.{at_event}
 use Rattle.relay_core.specs.Runs.{line_at, lines_of, world_after}
 use Rattle.relay_core.specs.Stands.{StandsFor}
 use Rattle.relay_core.specs.World.{World}
-use Rattle.relay_core.specs.declared.event.Event.{Event}
-use Rattle.relay_core.specs.declared.event.Line.{Line}
+use Rattle.relay_events.specs.declared.event.Event.{Event}
+use Rattle.relay_events.specs.declared.reply.Line.{Line}
 use Rattle.relay_core.specs.declared.relay.RelayCore.{RelayCore}
 use Rattle.relay_core.proofs.RunLemmas.{world_after-append, lines_of-append}
 use Rattle.trace_words.specs.Places.{Place}

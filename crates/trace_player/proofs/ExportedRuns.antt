@@ -1,6 +1,6 @@
 -- What runs again prints again.
 use Rattle.std.proofs.Common.{◌≡◌, List, ap, ◌∙◌}
-use Rattle.relay_core.specs.declared.event.Event.{Event}
+use Rattle.relay_events.specs.declared.event.Event.{Event}
 use Rattle.relay_core.specs.Opening.{opened}
 use Rattle.relay_core.specs.Runs.{lines_of}
 use Rattle.relay_recorder.specs.Recording.{Recording}

@@ -1,7 +1,7 @@
 -- The text of version 2 that a trace is read from is the one that is written for it, but for the Datas in the lines of its opening.
 use Rattle.std.proofs.Common.{◌≡◌, ℕ, zero, suc, nat_lt, List, [], ◌∷◌, ◌++◌, length, map, Ok, refl, sym, ap, ap₂, subst, ◌∙◌, arith, append-nil, codes}
 use Rattle.byte_reading.proofs.OutcomeLemmas.{ok_is, bind_ok, refused_ok}
-use Rattle.relay_core.specs.declared.event.Event.{Event}
+use Rattle.relay_events.specs.declared.event.Event.{Event}
 use Rattle.relay_core.specs.declared.opening.Opening.{Opening}
 use Rattle.relay_recorder.specs.declared.trace.Trace.{Trace}
 use Rattle.trace_lines.proofs.EventsBack.{event_back, events_back}

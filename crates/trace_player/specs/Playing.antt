@@ -10,8 +10,8 @@ use Rattle.relay_core.specs.Opening.{opened}
 use Rattle.relay_core.specs.Runs.{line_at, lines_of}
 use Rattle.relay_core.specs.Stands.{StandsFor}
 use Rattle.relay_core.specs.World.{World}
-use Rattle.relay_core.specs.declared.event.Event.{Event}
-use Rattle.relay_core.specs.declared.event.Line.{Line}
+use Rattle.relay_events.specs.declared.event.Event.{Event}
+use Rattle.relay_events.specs.declared.reply.Line.{Line}
 use Rattle.relay_core.specs.declared.relay.RelayCore.{RelayCore}
 use Rattle.relay_recorder.specs.declared.trace.Trace.{Trace}
 use Rattle.trace_lines.specs.Events.{event_of}

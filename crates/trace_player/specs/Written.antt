@@ -1,6 +1,6 @@
 -- The traces whose text is read again.
 use Rattle.std.specs.Prelude.{◌≤◌, List, [], ◌∷◌, length}
-use Rattle.relay_core.specs.declared.event.Event.{Event}
+use Rattle.relay_events.specs.declared.event.Event.{Event}
 use Rattle.relay_recorder.specs.declared.trace.Trace.{Trace}
 use Rattle.trace_lines.specs.Events.{max_events}
 use Rattle.trace_openings.specs.OpeningTraced.{IsWritable}

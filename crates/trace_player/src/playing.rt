@@ -12,7 +12,8 @@ ghost use Rattle.trace_words.specs.declared.fault.TraceFault.TheVariants as trac
 ghost use Rattle.trace_player.specs.Playing.{PlaysEvent, PlaysEvents};
 ghost use Rattle.trace_player.specs.Traces.{events_at};
 
-use relay_core::{Event, Line, Opening, OpeningFault, RelayCore, line_after};
+use relay_core::{Opening, OpeningFault, RelayCore, line_after};
+use relay_events::{Event, Line};
 use std::alloc::{AllocError, Global};
 use trace_lines::{next_held_event, write_line};
 use trace_text::end_line;

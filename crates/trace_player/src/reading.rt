@@ -5,7 +5,7 @@ ghost use Rattle.trace_words.specs.Places.{ReadsLines, ended_at};
 ghost use Rattle.trace_words.specs.declared.fault.TraceFault.TheVariants as trace_fault;
 ghost use Rattle.trace_player.specs.Traces.{most_bytes, events_at, trace_from, trace_of};
 
-use relay_core::Events;
+use relay_events::Events;
 use relay_recorder::Trace;
 use std::alloc::Global;
 use trace_lines::{next_event, read_event_count};

@@ -5,7 +5,7 @@ ghost use Rattle.trace_text.specs.Lines.{rows_text};
 ghost use Rattle.trace_text.specs.Words.{line_of};
 
 use cosem_axdr::Octets;
-use relay_core::Event;
+use relay_events::Event;
 use relay_recorder::Trace;
 use std::alloc::{AllocError, Global};
 use trace_lines::{write_event, write_event_count};

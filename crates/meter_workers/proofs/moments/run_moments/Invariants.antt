@@ -1,4 +1,4 @@
-use Rattle.relay_core.specs.declared.event.Event.TheVariants.{Moment}
+use Rattle.relay_events.specs.declared.event.Event.TheVariants.{Moment}
 use Rattle.turn_lock.specs.Shown.{IsSame}
 use Rattle.meter_workers.specs.Handed.{handed}
 use Rattle.meter_workers.proofs.SourceLemmas.{Leaves}

@@ -1,5 +1,5 @@
 use Rattle.std.proofs.Common.{◌≡◌, ◌<◌, ◌+◌, take, List, length, get_or, arith, subst, sym, ◌∙◌, ap}
-use Rattle.relay_core.specs.declared.event.Line.{Line}
+use Rattle.relay_events.specs.declared.reply.Line.{Line}
 use Rattle.relay_core.specs.Runs.{Runs}
 use Rattle.relay_core.proofs.RunLemmas.{ran_further, stops_at}
 use Rattle.relay_core.proofs.running.run.Goals as goal

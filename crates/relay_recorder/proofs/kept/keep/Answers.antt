@@ -1,5 +1,5 @@
 use Rattle.std.proofs.Common.{List, None, Some, sym, subst}
-use Rattle.relay_core.specs.declared.event.Event.{Event}
+use Rattle.relay_events.specs.declared.event.Event.{Event}
 use Rattle.relay_core.specs.Runs.{world_after}
 use Rattle.relay_core.specs.Stands.{StandsFor}
 use Rattle.relay_recorder.proofs.Pushed.{pushed_out}

@@ -1,5 +1,5 @@
 use Rattle.std.proofs.Common.{◌≡◌, false, refl, [], ◌∙◌}
-use Rattle.relay_core.specs.declared.event.Event.TheVariants as event
+use Rattle.relay_events.specs.declared.event.Event.TheVariants as event
 use Rattle.session_serving.proofs.serving.settle.Goals as goal
 use Rattle.session_serving.proofs.Reaching.{reached_none, reached_sent, reached_asked, reached_answered, starved_by, refused_by, unanswered, unsent_by, settled_over}
 

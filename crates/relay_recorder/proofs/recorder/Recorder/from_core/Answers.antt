@@ -1,7 +1,7 @@
 use Rattle.std.proofs.Common.{ap, rules}
 use Rattle.std.proofs.lemmas.Grind.{common_steps}
 use Rattle.circular_buffer.specs.Buffer.{Buffer}
-use Rattle.relay_core.specs.declared.event.Event.{Event}
+use Rattle.relay_events.specs.declared.event.Event.{Event}
 use Rattle.relay_core.specs.Opening.{opened, opening_of}
 use Rattle.relay_recorder.proofs.HistoryLemmas.{begins}
 use Rattle.relay_recorder.proofs.recorder.Recorder.from_core.Goals as goal

@@ -1,9 +1,8 @@
 ghost use Rattle.std.specs.Prelude.{◌≡◌, IfOk};
-ghost use Rattle.relay_core.specs.Machine.{is_read};
+ghost use Rattle.relay_events.specs.Kinds.{is_read};
 
 use cosem_axdr::Data;
-use cosem_names::{AttrRef, AttributeSelection, GetResult, Level, MethodRef, ResultCode};
-use disconnect_control::ControlState;
+use cosem_names::{AttrRef, AttributeSelection, Level, MethodRef};
 use lane_sampler::Block;
 use listed::Listed;
 use std::alloc::{AllocError, Global};
@@ -44,49 +43,8 @@ pub enum Event {
     Moment(u32),
 }
 
-/// What the core answers to an event.
-#[derive(Debug, Drop)]
-pub enum Reply {
-    /// To a Get: the value of the attribute.
-    Value(Data),
-    /// To a GetList: a result for each item, in order.
-    Values(Listed<GetResult>),
-    /// To a Set, an Execute or a Button: its result. To a Get: why the attribute isn't read.
-    Code(ResultCode),
-    /// To Samples of the imported power alone: how often each side of its limiter has fired.
-    Sampled {
-        over: u16,
-        under: u16,
-    },
-    /// To Samples of both: how often each side of each limiter has fired.
-    SampledBoth {
-        over: u16,
-        under: u16,
-        export_over: u16,
-        export_under: u16,
-    },
-    /// To a Moment: how many schedules were due.
-    Ran(u8),
-    /// To a Moment before the last one, which changes nothing: the last one.
-    Stale {
-        last: u32,
-    },
-}
-
-/// A line of a run: the reply to an event, and the switch after it.
-#[derive(Debug, Drop)]
-pub struct Line {
-    pub reply: Reply,
-    pub state: ControlState,
-    /// Whether the supply is on.
-    pub output: bool,
-}
-
 /// Events in order.
 pub type Events = Listed<Event>;
-
-/// Lines in order.
-pub type Lines = Listed<Line>;
 
 /// A copy of a parameter, if there is one.
 fn copied_parameter(alloc: Global, parameter: &Option<Data>) -> Result<Option<Data>, AllocError>
