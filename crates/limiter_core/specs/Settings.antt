@@ -1,6 +1,6 @@
 -- The rules of a limiter's settings (IEC 62056-6-2, class 71): the active threshold, the emergency profile and the needs. That the end of the profile's time is
 -- left out, and that a second has ten samples, is this meter's.
-use Rattle.std.specs.Prelude.{ℕ, ◌+◌, ◌*◌, max, Bool, false, ◌&&◌, nat_lt, nat_le, ◌==◌, if◌then◌else◌, Option, Some, None, List, []}
+use Rattle.std.specs.Prelude.{ℕ, ◌+◌, ◌*◌, max, Bool, false, ◌&&◌, nat_lt, nat_le, ◌==◌, if◌then◌else◌, Option, Some, List, []}
 use Rattle.std.specs.List.{list_any}
 use Rattle.cosem_datetime.specs.Fields.{unspecified}
 use Rattle.cosem_datetime.specs.Moment.{moment_of}
@@ -19,19 +19,33 @@ abbrev pub is_among : ℕ → List ℕ → Bool
 is_among id ids = list_any (λ i. i == id) ids
 
 -- the emergency profile is active: its group is among the limiter's, and a moment has come that lies in its time
-unfoldable pub is_active : Settings → Bool
-is_active s = is_among s.profile.id s.groups && is_within s.moment (moment_of s.profile.start) s.profile.duration
+unfoldable pub is_active : Settings → Option ℕ → Bool
+is_active s moment = is_among s.profile.id s.groups && is_within moment (moment_of s.profile.start) s.profile.duration
 
-unfoldable pub active_threshold : Settings → ℕ
-active_threshold s = if is_active s then s.emergency_threshold else s.normal_threshold
+unfoldable pub active_threshold : Settings → Option ℕ → ℕ
+active_threshold s moment = if is_active s moment then s.emergency_threshold else s.normal_threshold
 
 -- the samples that a duration in seconds needs, at ten a second
 abbrev pub need_of : ℕ → ℕ
 need_of duration = max 1 (10 * duration)
 
--- a sample under these settings
-abbrev pub row_of : Settings → ℕ → Row
-row_of s value = Sample value (active_threshold s) (need_of s.min_over_duration) (need_of s.min_under_duration)
+-- what a sample is judged by: the active threshold, and how many samples a run must have
+pub record InForce : Type 0 where
+  pub threshold : ℕ
+  pub need_over : ℕ
+  pub need_under : ℕ
+
+-- what is in force by these settings at a moment
+abbrev pub in_force : Settings → Option ℕ → InForce
+in_force s moment = record {
+  threshold = active_threshold s moment;
+  need_over = need_of s.min_over_duration;
+  need_under = need_of s.min_under_duration;
+}
+
+-- a sample, and what is in force at it
+abbrev pub row_of : InForce → ℕ → Row
+row_of force value = Sample value force.threshold force.need_over force.need_under
 
 -- on which side of the threshold a value lies
 abbrev pub kind_of : ℕ → ℕ → Kind
@@ -47,5 +61,4 @@ new_settings = record {
   profile = record { id = 0; start = unspecified; duration = 0 };
   groups = [];
   actions = record { over = 0; under = 0 };
-  moment = None;
 }

@@ -1,5 +1,5 @@
 -- A limiter as its callers see it, and the rows that it stands for.
-use Rattle.std.specs.Prelude.{◌≡◌, ℕ, ◌-◌, ◌<◌, ◌≤◌, ◌^◌, Bool, true, false, not, ◌&&◌, ◌||◌, ◌==◌, nat_lt, if◌then◌else◌, List, [], ◌∷◌, length}
+use Rattle.std.specs.Prelude.{◌≡◌, ℕ, ◌-◌, ◌<◌, ◌≤◌, ◌^◌, Bool, true, false, not, ◌&&◌, ◌||◌, ◌==◌, nat_lt, if◌then◌else◌, List, [], ◌∷◌, length, Option}
 use Rattle.limiter_core.specs.declared.kinds.Fire.{Fire}
 use Rattle.limiter_core.specs.declared.kinds.Fire.TheVariants.{Quiet}
 use Rattle.limiter_core.specs.declared.kinds.Kind.{Kind}
@@ -8,14 +8,19 @@ use Rattle.limiter_core.specs.declared.count.Count.{Count}
 use Rattle.limiter_core.specs.declared.settings.Settings.{Settings}
 use Rattle.limiter_core.specs.Counting.{cap, count_of, no_run, before, skipped}
 use Rattle.limiter_core.specs.Rows.{Row, OverThreshold, UnderThreshold, fire_of, fire_past}
-use Rattle.limiter_core.specs.Settings.{row_of, need_of, kind_of, active_threshold}
+use Rattle.limiter_core.specs.Settings.{InForce, in_force, row_of, need_of, kind_of}
 
--- the settings, the last sample and the two counts
+-- the settings, the moment of the clock that has come last, the last sample and the two counts
 pub record State : Type 0 where
   pub settings : Settings
+  pub moment : Option ℕ
   pub last : ℕ
   pub over : Count
   pub under : Count
+
+-- what is in force in a limiter
+abbrev pub force_of : State → InForce
+force_of state = in_force state.settings state.moment
 
 -- the counts are those of the rows
 pub record Keeps (state : State) (rows : List Row) : Type 0 where
@@ -54,21 +59,20 @@ pub record IsLimiter (state : State) : Type 0 where
   pub groups : length state.settings.groups ≤ 32
 
 -- the rows after more samples, the first of the values being the oldest
-abbrev pub rows_after : Settings → List ℕ → List Row → List Row
-rows_after settings [] rows = rows
-rows_after settings (value ∷ values) rows = rows_after settings values (row_of settings value ∷ rows)
+abbrev pub rows_after : InForce → List ℕ → List Row → List Row
+rows_after force [] rows = rows
+rows_after force (value ∷ values) rows = rows_after force values (row_of force value ∷ rows)
 
 -- none of the samples fires
-abbrev pub IsQuiet : Settings → List ℕ → List Row → Type 0
-IsQuiet settings [] rows = Unit {0}
-IsQuiet settings (value ∷ values) rows =
-    (fire_of (row_of settings value ∷ rows) ≡ Quiet) × IsQuiet settings values (row_of settings value ∷ rows)
+abbrev pub IsQuiet : InForce → List ℕ → List Row → Type 0
+IsQuiet force [] rows = Unit {0}
+IsQuiet force (value ∷ values) rows =
+    (fire_of (row_of force value ∷ rows) ≡ Quiet) × IsQuiet force values (row_of force value ∷ rows)
 
--- every value lies on that side of the active threshold
-abbrev pub AreOfKind : Kind → Settings → List ℕ → Type 0
-AreOfKind kind settings [] = Unit {0}
-AreOfKind kind settings (value ∷ values) =
-    (kind_of (active_threshold settings) value ≡ kind) × AreOfKind kind settings values
+-- every value lies on that side of the threshold
+abbrev pub AreOfKind : Kind → ℕ → List ℕ → Type 0
+AreOfKind kind threshold [] = Unit {0}
+AreOfKind kind threshold (value ∷ values) = (kind_of threshold value ≡ kind) × AreOfKind kind threshold values
 
 -- how many samples of a kind fire nothing, or the greatest u64 where none ever would
 abbrev pub quiet_count : Kind → State → ℕ
@@ -84,8 +88,6 @@ fire_on Equal = Quiet
 
 -- the limiter after n samples of a kind that fire nothing
 abbrev pub jumped : Kind → ℕ → ℕ → State → State
-jumped Over n last state =
-    record { settings = state.settings; last = last; over = skipped n state.over; under = no_run }
-jumped Under n last state =
-    record { settings = state.settings; last = last; over = no_run; under = skipped n state.under }
-jumped Equal n last state = record { settings = state.settings; last = last; over = no_run; under = no_run }
+jumped Over n last state = record state { last = last; over = skipped n state.over; under = no_run }
+jumped Under n last state = record state { last = last; over = no_run; under = skipped n state.under }
+jumped Equal n last state = record state { last = last; over = no_run; under = no_run }

@@ -1,10 +1,10 @@
-ghost use Rattle.std.specs.Prelude.{◌≡◌, ℕ, ◌+◌, ◌-◌, ◌<◌, ◌≤◌, ◌^◌, nat_lt, if◌then◌else◌, List, [], ◌∷◌, length, OnOk, OnErr, IfOk, IsSome, IfSome, ◌↔◌};
+ghost use Rattle.std.specs.Prelude.{◌≡◌, ℕ, ◌+◌, ◌-◌, ◌<◌, ◌≤◌, ◌^◌, nat_lt, if◌then◌else◌, List, [], ◌∷◌, length, Some, None, OnOk, OnErr, IfOk, IsSome, IfSome, ◌↔◌};
 ghost use Rattle.limiter_core.specs.declared.kinds.Fire.TheVariants.{Quiet};
 ghost use Rattle.limiter_core.specs.Counting.{no_run};
 ghost use Rattle.limiter_core.specs.Opening.{opened_rows};
 ghost use Rattle.limiter_core.specs.Rows.{Row, Entry, fire_of};
 ghost use Rattle.limiter_core.specs.Settings.{is_active, active_threshold, row_of, kind_of, new_settings};
-ghost use Rattle.limiter_core.specs.State.{Keeps, rows_after, IsQuiet, AreOfKind, fire_on, quiet_count, jumped, IsLimiter, IsFit};
+ghost use Rattle.limiter_core.specs.State.{force_of, Keeps, rows_after, IsQuiet, AreOfKind, fire_on, quiet_count, jumped, IsLimiter, IsFit};
 
 use crate::count::{Count, are_fit};
 use crate::kinds::{Fire, Kind};
@@ -14,11 +14,13 @@ use std::alloc::{AllocError, Global};
 use std::marker::Model;
 use std::mem;
 
-/// A limiter (IEC 62056-6-2, class 71): its settings, the last sample, and for each side of the threshold a run and
+/// A limiter (IEC 62056-6-2, class 71): its settings, the last moment of the clock, the last sample, and for each side of the threshold a run and
 /// whether that has fired.
 #[derive(Debug, Drop)]
 pub struct Limiter {
     settings: Settings,
+    /// Seconds since 1 January 2000, or None before the first moment.
+    moment: Option<u32>,
     last: u32,
     over: Count,
     under: Count,
@@ -29,20 +31,29 @@ impl Model for Limiter {
 
     ghost Value = { State };
 
-    ghost view = { λ l. record { settings = l.settings; last = l.last; over = l.over; under = l.under } };
+    ghost view = { λ l. record { settings = l.settings; moment = l.moment; last = l.last; over = l.over; under = l.under } };
 
-    ghost invariant = { λ l. IsLimiter (record { settings = l.settings; last = l.last; over = l.over; under = l.under }) };
+    ghost invariant = { λ l. IsLimiter (record { settings = l.settings; moment = l.moment; last = l.last; over = l.over; under = l.under }) };
 }
 
 impl Limiter {
     /// A new limiter, with no samples. It takes no memory.
     #[tactic(auto, using(crate::proofs::Firing::count_of_none))]
     pub fn new(alloc: Global) -> Limiter
-        ensures state { result ≡ record { settings = new_settings; last = 0; over = no_run; under = no_run } }
+        ensures state { result ≡ record { settings = new_settings; moment = None; last = 0; over = no_run; under = no_run } }
         ensures rows { Keeps result [] }
     {
+        Limiter::of(Settings::new(alloc), None)
+    }
+
+    /// A limiter of these settings and at this moment of the clock, with no samples. It takes no memory.
+    pub fn of(settings: Settings, moment: Option<u32>) -> Limiter
+        requires { length settings.groups ≤ MAX_GROUPS }
+        ensures { result ≡ record { settings = settings; moment = moment; last = 0; over = no_run; under = no_run } }
+    {
         Limiter {
-            settings: Settings::new(alloc),
+            settings,
+            moment,
             last: 0,
             over: Count::none(),
             under: Count::none(),
@@ -52,12 +63,13 @@ impl Limiter {
     /// Takes a sample, in watts.
     #[tactic(auto, using(crate::proofs::Firing::fire_counted, crate::proofs::Firing::counted))]
     pub fn sample(&mut self, value: u32) -> Fire
-        ensures rows { (rows : List Row) → Keeps self.old rows → Keeps self.new (row_of self.old.settings value ∷ rows) }
-        ensures fire { (rows : List Row) → Keeps self.old rows → result ≡ fire_of (row_of self.old.settings value ∷ rows) }
+        ensures rows { (rows : List Row) → Keeps self.old rows → Keeps self.new (row_of (force_of self.old) value ∷ rows) }
+        ensures fire { (rows : List Row) → Keeps self.old rows → result ≡ fire_of (row_of (force_of self.old) value ∷ rows) }
         ensures settings { self.new.settings ≡ self.old.settings }
+        ensures moment { self.new.moment ≡ self.old.moment }
         ensures last { self.new.last ≡ value }
     {
-        let threshold = self.settings.active_threshold();
+        let threshold = self.settings.active_threshold(self.moment);
         let need_over = samples_of(self.settings.min_over_duration);
         let need_under = samples_of(self.settings.min_under_duration);
         self.last = value;
@@ -77,6 +89,7 @@ impl Limiter {
     pub fn closed(&mut self)
         ensures rows { (rows : List Row) → Keeps self.old rows → Keeps self.new (Entry ∷ rows) }
         ensures settings { self.new.settings ≡ self.old.settings }
+        ensures moment { self.new.moment ≡ self.old.moment }
         ensures last { self.new.last ≡ self.old.last }
     {
         let ended = Count::none();
@@ -105,14 +118,14 @@ impl Limiter {
     #[tactic(auto, using(crate::proofs::Skipping::quiet_up_to, crate::proofs::Skipping::quiet_for_ever, crate::proofs::Skipping::fires_next))]
     pub fn before_fire(&self, kind: Kind) -> u64
         ensures count { result ≡ quiet_count kind self.now }
-        ensures quiet { (rows : List Row) (values : List ℕ) → Keeps self.now rows → AreOfKind kind self.now.settings values
-            → length values ≤ result → IsQuiet self.now.settings values rows }
+        ensures quiet { (rows : List Row) (values : List ℕ) → Keeps self.now rows → AreOfKind kind (force_of self.now).threshold values
+            → length values ≤ result → IsQuiet (force_of self.now) values rows }
         ensures next { (rows : List Row) (values : List ℕ) (value : ℕ) → Keeps self.now rows
-            → AreOfKind kind self.now.settings values → kind_of (active_threshold self.now.settings) value ≡ kind
+            → AreOfKind kind (force_of self.now).threshold values → kind_of (force_of self.now).threshold value ≡ kind
             → length values ≡ result → result < 2 ^ 64 - 1
-            → fire_of (row_of self.now.settings value ∷ rows_after self.now.settings values rows) ≡ fire_on kind }
-        ensures never { (rows : List Row) (values : List ℕ) → Keeps self.now rows → AreOfKind kind self.now.settings values
-            → result ≡ 2 ^ 64 - 1 → IsQuiet self.now.settings values rows }
+            → fire_of (row_of (force_of self.now) value ∷ rows_after (force_of self.now) values rows) ≡ fire_on kind }
+        ensures never { (rows : List Row) (values : List ℕ) → Keeps self.now rows → AreOfKind kind (force_of self.now).threshold values
+            → result ≡ 2 ^ 64 - 1 → IsQuiet (force_of self.now) values rows }
     {
         self.quiet_samples(kind)
     }
@@ -122,7 +135,7 @@ impl Limiter {
     fn jump(&mut self, kind: Kind, n: u64, last: u32)
         requires some { 0 < n }
         requires quiet { n ≤ quiet_count kind self.old }
-        requires last { kind_of (active_threshold self.old.settings) last ≡ kind }
+        requires last { kind_of (force_of self.old).threshold last ≡ kind }
         ensures state { self.new ≡ jumped kind n last self.old }
         ensures limiter { IsLimiter self.old }
     {
@@ -148,12 +161,13 @@ impl Limiter {
     #[tactic(auto, using(crate::proofs::Skipping::quiet_up_to))]
     pub fn skip_run(&mut self, kind: Kind, n: u64, last: u32)
         requires quiet { n ≤ quiet_count kind self.old }
-        requires last { 0 < n → kind_of (active_threshold self.old.settings) last ≡ kind }
-        ensures rows { (rows : List Row) (values : List ℕ) → Keeps self.old rows → AreOfKind kind self.old.settings values
-            → length values ≡ n → Keeps self.new (rows_after self.old.settings values rows) }
-        ensures quiet { (rows : List Row) (values : List ℕ) → Keeps self.old rows → AreOfKind kind self.old.settings values
-            → length values ≡ n → IsQuiet self.old.settings values rows }
+        requires last { 0 < n → kind_of (force_of self.old).threshold last ≡ kind }
+        ensures rows { (rows : List Row) (values : List ℕ) → Keeps self.old rows → AreOfKind kind (force_of self.old).threshold values
+            → length values ≡ n → Keeps self.new (rows_after (force_of self.old) values rows) }
+        ensures quiet { (rows : List Row) (values : List ℕ) → Keeps self.old rows → AreOfKind kind (force_of self.old).threshold values
+            → length values ≡ n → IsQuiet (force_of self.old) values rows }
         ensures settings { self.new.settings ≡ self.old.settings }
+        ensures moment { self.new.moment ≡ self.old.moment }
         ensures last { self.new.last ≡ (if nat_lt 0 n then last else self.old.last) }
     {
         if n > 0 {
@@ -163,23 +177,38 @@ impl Limiter {
 
     /// A moment of the clock has come, in seconds since 1 January 2000.
     pub fn at(&mut self, moment: u32)
-        ensures { self.new ≡ record self.old { settings = record self.old.settings { moment = Some moment } } }
+        ensures { self.new ≡ record self.old { moment = Some moment } }
     {
-        self.settings.moment = Some(moment);
+        self.moment = Some(moment);
+    }
+
+    /// The moment of the clock that has come last, in seconds since 1 January 2000, or None before the first.
+    pub fn moment(&self) -> Option<u32>
+        ensures { result ≡ self.now.moment }
+    {
+        self.moment
+    }
+
+    /// What is set.
+    pub fn settings(&self) -> &Settings
+        ensures settings { result.now ≡ self.now.settings }
+        ensures few { length result.now.groups ≤ MAX_GROUPS }
+    {
+        &self.settings
     }
 
     /// The active threshold (attribute 3), in watts.
     pub fn threshold(&self) -> u32
-        ensures { result ≡ active_threshold self.now.settings }
+        ensures { result ≡ active_threshold self.now.settings self.now.moment }
     {
-        self.settings.active_threshold()
+        self.settings.active_threshold(self.moment)
     }
 
     /// Whether the emergency profile is active (attribute 10).
     pub fn emergency_active(&self) -> bool
-        ensures { result ≡ is_active self.now.settings }
+        ensures { result ≡ is_active self.now.settings self.now.moment }
     {
-        self.settings.is_active()
+        self.settings.is_active(self.moment)
     }
 
     /// The last sample, in watts; 0 before the first.
@@ -306,6 +335,7 @@ impl Limiter {
     {
         Ok(Limiter {
             settings: self.settings.try_clone(alloc)?,
+            moment: self.moment,
             last: self.last,
             over: self.over,
             under: self.under,

@@ -31,7 +31,7 @@ pub struct Actions {
     pub under: u16,
 }
 
-/// What is set of a limiter: its attributes that are written, and the moment that has come last.
+/// What is set of a limiter: its attributes that are written.
 #[derive(Debug, Drop)]
 pub struct Settings {
     /// `threshold_normal` (attribute 4), in watts.
@@ -48,8 +48,6 @@ pub struct Settings {
     pub groups: Listed<u16>,
     /// `actions` (attribute 11).
     pub actions: Actions,
-    /// The last moment of the clock, in seconds since 1 January 2000, or None before the first.
-    pub moment: Option<u32>,
 }
 
 /// Whether the moment lies from `start` to `start + duration`, that end left out.
@@ -88,12 +86,11 @@ impl Settings {
             },
             groups: Listed::new(alloc),
             actions: Actions { over: 0, under: 0 },
-            moment: None,
         }
     }
 
     /// Equal settings in memory of their own.
-    pub(crate) fn try_clone(&self, alloc: Global) -> Result<Settings, AllocError>
+    pub fn try_clone(&self, alloc: Global) -> Result<Settings, AllocError>
         ensures { IfOk result (λ settings. settings ≡ self.now) }
     {
         let groups = Vec::from_slice(alloc, self.groups.as_slice())?;
@@ -105,26 +102,25 @@ impl Settings {
             profile: self.profile,
             groups: Listed::from_vec(groups),
             actions: self.actions,
-            moment: self.moment,
         })
     }
 
-    /// Whether the emergency profile is active.
+    /// Whether the emergency profile is active at a moment of the clock, in seconds since 1 January 2000.
     #[tactic(auto, unfolding(crate::specs::Settings::is_active))]
-    pub(crate) fn is_active(&self) -> bool
-        ensures { result ≡ is_active self.now }
+    pub(crate) fn is_active(&self, moment: Option<u32>) -> bool
+        ensures { result ≡ is_active self.now moment }
     {
         let among = self.groups.as_slice().contains(&self.profile.id);
         let start = moment_of(&self.profile.start);
-        among && is_in_time(self.moment, start, self.profile.duration)
+        among && is_in_time(moment, start, self.profile.duration)
     }
 
-    /// The threshold that is active.
+    /// The threshold that is active at a moment.
     #[tactic(auto, unfolding(crate::specs::Settings::active_threshold))]
-    pub(crate) fn active_threshold(&self) -> u32
-        ensures { result ≡ active_threshold self.now }
+    pub(crate) fn active_threshold(&self, moment: Option<u32>) -> u32
+        ensures { result ≡ active_threshold self.now moment }
     {
-        if self.is_active() {
+        if self.is_active(moment) {
             self.emergency_threshold
         } else {
             self.normal_threshold
