@@ -33,4 +33,4 @@ setting_at attribute.Actions settings = Some (Actions settings.actions)
 
 -- a new limiter with these group ids
 abbrev pub limiter_with_groups : List ℕ → State
-limiter_with_groups ids = record { settings = record new_settings { groups = ids }; last = 0; over = no_run; under = no_run }
+limiter_with_groups ids = record { settings = record new_settings { groups = ids }; moment = None; last = 0; over = no_run; under = no_run }

@@ -1,5 +1,5 @@
 -- The attributes of a limiter as they are read (IEC 62056-6-2, class 71).
-use Rattle.std.specs.Prelude.{ℕ, pos, List, [], ◌∷◌, map}
+use Rattle.std.specs.Prelude.{ℕ, pos, List, [], ◌∷◌, map, Option}
 use Rattle.cosem_axdr.specs.declared.value.Data.{Data}
 use Rattle.cosem_axdr.specs.declared.value.Data.TheVariants.{OctetString, Boolean, DoubleLongUnsigned, LongUnsigned, Integer}
 use Rattle.cosem_datetime.specs.Fields.{date_time_bytes}
@@ -40,15 +40,15 @@ script_data selector = structure_with (OctetString script_table.0 ∷ LongUnsign
 unfoldable pub actions_data : Actions → Data
 actions_data actions = structure_with (script_data actions.over ∷ script_data actions.under ∷ [])
 
--- an attribute of a limiter with these settings
-unfoldable pub data_at : Which → LimiterAttribute → Settings → Data
-data_at which attribute.MonitoredValue settings = monitored_data which
-data_at which attribute.ThresholdActive settings = DoubleLongUnsigned (active_threshold settings)
-data_at which attribute.ThresholdNormal settings = DoubleLongUnsigned settings.normal_threshold
-data_at which attribute.ThresholdEmergency settings = DoubleLongUnsigned settings.emergency_threshold
-data_at which attribute.MinOverThresholdDuration settings = DoubleLongUnsigned settings.min_over_duration
-data_at which attribute.MinUnderThresholdDuration settings = DoubleLongUnsigned settings.min_under_duration
-data_at which attribute.EmergencyProfile settings = profile_data settings.profile
-data_at which attribute.EmergencyProfileGroupIdList settings = groups_data settings.groups
-data_at which attribute.EmergencyProfileActive settings = Boolean (is_active settings)
-data_at which attribute.Actions settings = actions_data settings.actions
+-- an attribute of a limiter with these settings at a moment of the clock
+unfoldable pub data_at : Which → LimiterAttribute → Settings → Option ℕ → Data
+data_at which attribute.MonitoredValue settings moment = monitored_data which
+data_at which attribute.ThresholdActive settings moment = DoubleLongUnsigned (active_threshold settings moment)
+data_at which attribute.ThresholdNormal settings moment = DoubleLongUnsigned settings.normal_threshold
+data_at which attribute.ThresholdEmergency settings moment = DoubleLongUnsigned settings.emergency_threshold
+data_at which attribute.MinOverThresholdDuration settings moment = DoubleLongUnsigned settings.min_over_duration
+data_at which attribute.MinUnderThresholdDuration settings moment = DoubleLongUnsigned settings.min_under_duration
+data_at which attribute.EmergencyProfile settings moment = profile_data settings.profile
+data_at which attribute.EmergencyProfileGroupIdList settings moment = groups_data settings.groups
+data_at which attribute.EmergencyProfileActive settings moment = Boolean (is_active settings moment)
+data_at which attribute.Actions settings moment = actions_data settings.actions

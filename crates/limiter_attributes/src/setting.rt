@@ -21,7 +21,7 @@ pub enum Setting {
 }
 
 impl Setting {
-    /// Sets it of a limiter, whose other settings, last sample and runs stay.
+    /// Sets it of a limiter, whose other settings, clock, last sample and runs stay.
     pub fn apply(self, limiter: &mut Limiter)
         ensures { limiter.new ≡ record limiter.old { settings = with_setting self limiter.old.settings } }
     {

@@ -102,7 +102,7 @@ pub fn read_attribute(
     limiter: &Limiter,
     attribute: LimiterAttribute,
 ) -> Result<Data, AllocError>
-    ensures value { IfOk result (λ value. value ≡ data_at which attribute limiter.now.settings) }
+    ensures value { IfOk result (λ value. value ≡ data_at which attribute limiter.now.settings limiter.now.moment) }
     // Written again, it sets what the limiter has.
     ensures again { IfOk result (λ value. setting_of attribute value ≡ Ok (setting_at attribute limiter.now.settings)) }
     ensures groups_again { attribute ≡ EmergencyProfileGroupIdList → IfOk result (λ value. groups_of value ≡ Ok limiter.now.settings.groups) }
