@@ -14,7 +14,7 @@ use Rattle.limiter_core.specs.declared.settings.Actions.{Actions}
 use Rattle.limiter_core.specs.declared.settings.Settings.{Settings}
 use Rattle.limiter_core.specs.Counting.{cap, count_of, taken, fires_at}
 use Rattle.limiter_core.specs.Rows.{Row, Entry, OverThreshold, UnderThreshold, is_past, need, fire_of}
-use Rattle.limiter_core.specs.Settings.{row_of, need_of}
+use Rattle.limiter_core.specs.Settings.{in_force, row_of, need_of}
 use Rattle.limiter_core.proofs.Firing.{counted as row_counted, fire_counted, count_of_entry}
 use Rattle.relay_core.specs.declared.scripts.Origin.{Origin}
 use Rattle.relay_core.specs.declared.scripts.Origin.TheVariants.{Local}
@@ -187,10 +187,10 @@ need_counted : (seconds : ℕ) → seconds < 4294967296 → need_of seconds ≤ 
 need_counted seconds small = grind (arith, small)
 
 -- one sample more
-rows_alike : (settings : Settings) (value : ℕ) (xs ys : List Row) → AreInRange settings → AreCountedAlike xs ys
-    → AreCountedAlike (row_of settings value ∷ xs) (row_of settings value ∷ ys)
-rows_alike settings value xs ys range alike =
-    let row = row_of settings value in
+rows_alike : (settings : Settings) (now : Option ℕ) (value : ℕ) (xs ys : List Row) → AreInRange settings → AreCountedAlike xs ys
+    → AreCountedAlike (row_of (in_force settings now) value ∷ xs) (row_of (in_force settings now) value ∷ ys)
+rows_alike settings now value xs ys range alike =
+    let row = row_of (in_force settings now) value in
     record {
       over = row_counted OverThreshold row xs (λ _. need_counted settings.min_over_duration range.over)
           ∙ ap (taken (is_past OverThreshold row) (need OverThreshold row)) alike.over
@@ -200,10 +200,10 @@ rows_alike settings value xs ys range alike =
           ∙ sym (row_counted UnderThreshold row ys (λ _. need_counted settings.min_under_duration range.under));
     }
 
-fires_alike : (settings : Settings) (value : ℕ) (xs ys : List Row) → AreInRange settings → AreCountedAlike xs ys
-    → fire_of (row_of settings value ∷ xs) ≡ fire_of (row_of settings value ∷ ys)
-fires_alike settings value xs ys range alike =
-    let row = row_of settings value in
+fires_alike : (settings : Settings) (now : Option ℕ) (value : ℕ) (xs ys : List Row) → AreInRange settings → AreCountedAlike xs ys
+    → fire_of (row_of (in_force settings now) value ∷ xs) ≡ fire_of (row_of (in_force settings now) value ∷ ys)
+fires_alike settings now value xs ys range alike =
+    let row = row_of (in_force settings now) value in
     let fire : Count → Count → Fire = λ over under.
     if fires_at (is_past OverThreshold row) (need OverThreshold row) over then Over
     else if fires_at (is_past UnderThreshold row) (need UnderThreshold row) under then Under else Quiet in
@@ -244,31 +244,31 @@ sample_of_alike : (which : Which) (value : ℕ) (v : World) (rows others : List 
 unfolding fire_at after_sample
 sample_of_alike Import value v rows others range i e =
     let settings = v.import.settings in
-    let taken_in : World = record v { import = with_sample value v.import } in
-    let fires = fires_alike settings value v.import.rows rows range.import i in
+    let taken_in : World = record v { import = with_sample v.moment value v.import } in
+    let fires = fires_alike settings v.moment value v.import.rows rows range.import i in
     let taken_range : IsWorld taken_in = record { import = range.import; export = range.export; scripts = range.scripts } in
-    let agree : Agree taken_in (record (with_rows rows others v) { import = with_sample value (with_rows rows others v).import }) = record {
+    let agree : Agree taken_in (record (with_rows rows others v) { import = with_sample v.moment value (with_rows rows others v).import }) = record {
       same = refl;
-      import = rows_alike settings value v.import.rows rows range.import i;
+      import = rows_alike settings v.moment value v.import.rows rows range.import i;
       export = e;
     } in
-    let after = fire_alike (fire_of (row_of settings value ∷ v.import.rows)) settings.actions taken_in _ taken_range agree in
-    let P : Fire → Type 0 = λ fire. AreAlike (after_fire (fire_of (row_of settings value ∷ v.import.rows)) settings.actions taken_in)
-    (after_fire fire settings.actions (record (with_rows rows others v) { import = with_sample value (with_rows rows others v).import })) in
+    let after = fire_alike (fire_of (row_of (in_force settings v.moment) value ∷ v.import.rows)) settings.actions taken_in _ taken_range agree in
+    let P : Fire → Type 0 = λ fire. AreAlike (after_fire (fire_of (row_of (in_force settings v.moment) value ∷ v.import.rows)) settings.actions taken_in)
+    (after_fire fire settings.actions (record (with_rows rows others v) { import = with_sample v.moment value (with_rows rows others v).import })) in
     record { fire = fires; after = subst P fires after }
 sample_of_alike Export value v rows others range i e =
     let settings = v.export.settings in
-    let taken_in : World = record v { export = with_sample value v.export } in
-    let fires = fires_alike settings value v.export.rows others range.export e in
+    let taken_in : World = record v { export = with_sample v.moment value v.export } in
+    let fires = fires_alike settings v.moment value v.export.rows others range.export e in
     let taken_range : IsWorld taken_in = record { import = range.import; export = range.export; scripts = range.scripts } in
-    let agree : Agree taken_in (record (with_rows rows others v) { export = with_sample value (with_rows rows others v).export }) = record {
+    let agree : Agree taken_in (record (with_rows rows others v) { export = with_sample v.moment value (with_rows rows others v).export }) = record {
       same = refl;
       import = i;
-      export = rows_alike settings value v.export.rows others range.export e;
+      export = rows_alike settings v.moment value v.export.rows others range.export e;
     } in
-    let after = fire_alike (fire_of (row_of settings value ∷ v.export.rows)) settings.actions taken_in _ taken_range agree in
-    let P : Fire → Type 0 = λ fire. AreAlike (after_fire (fire_of (row_of settings value ∷ v.export.rows)) settings.actions taken_in)
-    (after_fire fire settings.actions (record (with_rows rows others v) { export = with_sample value (with_rows rows others v).export })) in
+    let after = fire_alike (fire_of (row_of (in_force settings v.moment) value ∷ v.export.rows)) settings.actions taken_in _ taken_range agree in
+    let P : Fire → Type 0 = λ fire. AreAlike (after_fire (fire_of (row_of (in_force settings v.moment) value ∷ v.export.rows)) settings.actions taken_in)
+    (after_fire fire settings.actions (record (with_rows rows others v) { export = with_sample v.moment value (with_rows rows others v).export })) in
     record { fire = fires; after = subst P fires after }
 
 -- what samples do

@@ -42,8 +42,7 @@ use Rattle.relay_core.specs.Access.{target_of}
 use Rattle.relay_core.specs.Acting.{switch_trigger, at_pulled, at_found, at_selected, at_execution, at_method, execute_at, at_execute, at_button}
 use Rattle.relay_core.specs.Agreeing.{with_rows, Agree, IsSettingInRange, IsWorld, IsValue, IsEvent, GoAlike}
 use Rattle.script_steps.specs.Ranges.{AreStepsInRange, AreScriptsInRange}
-use Rattle.relay_core.specs.Clock.{after_schedule, after_schedules, ran, moment_after, at_moment}
-use Rattle.relay_core.specs.Limiters.{with_moment}
+use Rattle.relay_core.specs.Clock.{with_moment, after_schedule, after_schedules, ran, moment_after, at_moment}
 use Rattle.relay_core.specs.declared.parts.WrittenList.{WrittenList}
 use Rattle.relay_core.specs.declared.parts.WrittenList.TheVariants as written
 use Rattle.relay_core.specs.Moving.{list_numbered, scripts_part, entries_part, groups_part, list_read}
@@ -274,16 +273,10 @@ schedules_alike last now (schedule ∷ schedules) v w range agree =
     schedules_alike last now schedules (after_schedule last now schedule v) (after_schedule last now schedule w) one.range one.world
 
 clock_alike : (now : ℕ) (v w : World) → IsWorld v → Agree v w → AreAlike (with_moment now v) (with_moment now w)
-unfolding with_moment
-clock_alike now v w range agree = of_rows (λ w. AreAlike (with_moment now v) (with_moment now w)) v w agree
-    (λ rows others i e. record {
-      world = record { same = refl; import = i; export = e };
-      range = record {
-        import = record { over = range.import.over; under = range.import.under };
-        export = record { over = range.export.over; under = range.export.under };
-        scripts = range.scripts;
-      };
-    })
+clock_alike now v w range agree = record {
+  world = record { same = ap (with_moment now) agree.same; import = agree.import; export = agree.export };
+  range = record { import = range.import; export = range.export; scripts = range.scripts };
+}
 
 ran_alike : (last now : ℕ) (v w : World) → IsWorld v → Agree v w → GoAlike (ran last now v) (ran last now w)
 ran_alike last now v w range agree = of_rows (λ w. GoAlike (ran last now v) (ran last now w)) v w agree

@@ -18,29 +18,23 @@ use Rattle.script_steps.specs.declared.step.Step.TheVariants as step
 use Rattle.script_steps.specs.Table.{IsStep, IsScript, IsTable}
 
 -- a limiter that was written down, with the rows of one that it stood for
-metered_back : (limiter : State) (m : Metered) (moment : Option ℕ) → MeteredStands limiter m → m.settings.moment ≡ moment
-    → m ≡ record (opened_limiter (limiter_opening_of limiter) moment) { rows = m.rows }
-metered_back limiter m moment stands clock =
-    let at : Settings → Option ℕ → ℕ → Metered = λ s now last. record { settings = record s { moment = now }; last = last; rows = m.rows } in
-    ap (λ (now : Option ℕ). at m.settings now m.last) clock
-    ∙ ap (λ (s : Settings). at s moment m.last) (sym stands.settings)
-    ∙ ap (λ (last : ℕ). at limiter.settings moment last) (sym stands.last)
+metered_back : (limiter : State) (now : Option ℕ) (m : Metered) → MeteredStands limiter now m
+    → m ≡ record (opened_limiter (limiter_opening_of limiter)) { rows = m.rows }
+metered_back limiter now m stands =
+    let with : Settings → ℕ → Metered = λ settings last. record { settings = settings; last = last; rows = m.rows } in
+    ap (λ (settings : Settings). with settings m.last) (sym stands.settings) ∙ ap (with limiter.settings) (sym stands.last)
 
 -- the samples of an opening are counted as those were that it stands for
-counted_back : (limiter : State) (m : Metered) → IsFit limiter.last limiter.over limiter.under → MeteredStands limiter m
+counted_back : (limiter : State) (now : Option ℕ) (m : Metered) → IsFit limiter.last limiter.over limiter.under → MeteredStands limiter now m
     → AreCountedAlike (opened_rows limiter.last limiter.over limiter.under) m.rows
-counted_back limiter m fit stands =
+counted_back limiter now m fit stands =
     let keeps = rows_opened limiter fit in
     record { over = sym keeps.over ∙ stands.rows.over; under = sym keeps.under ∙ stands.rows.under }
 
--- a limiter stands for the one that its opening tells of, with its clock at the moment that it has
-back_stands : (limiter : State) (moment : Option ℕ) → IsFit limiter.last limiter.over limiter.under → limiter.settings.moment ≡ moment
-    → MeteredStands limiter (opened_limiter (limiter_opening_of limiter) moment)
-back_stands limiter moment fit clock = record {
-  settings = ap (λ (now : Option ℕ). record limiter.settings { moment = now }) clock;
-  last = refl;
-  rows = rows_opened limiter fit;
-}
+-- a limiter stands for the one that its opening tells of, at the moment that its clock has
+back_stands : (limiter : State) (now : Option ℕ) → IsFit limiter.last limiter.over limiter.under → limiter.moment ≡ now
+    → MeteredStands limiter now (opened_limiter (limiter_opening_of limiter))
+back_stands limiter now fit clock = record { settings = refl; moment = clock; last = refl; rows = rows_opened limiter fit }
 
 -- a core stands for the world that its opening tells of
 pub opening_stands : (core : RelayCore) → IsFit core.import.last core.import.over core.import.under
@@ -48,13 +42,10 @@ pub opening_stands : (core : RelayCore) → IsFit core.import.last core.import.o
 opening_stands core import_fit export_fit = record {
   device = refl;
   control = refl;
-  moment = refl;
-  import = back_stands core.import core.moment import_fit core.import_clock;
-  export = back_stands core.export core.moment export_fit core.export_clock;
+  import = back_stands core.import core.import.moment import_fit refl;
+  export = back_stands core.export core.import.moment export_fit core.one_clock;
   scripts = refl;
   schedules = refl;
-  import_clock = refl;
-  export_clock = refl;
 }
 
 -- the world that a core's opening tells of agrees with every world that the core stands for
@@ -63,21 +54,20 @@ pub opening_agrees : (core : RelayCore) (w : World) → IsFit core.import.last c
 opening_agrees core w import_fit export_fit stands =
     let make : List ℕ → Control → Option ℕ → Metered → Metered → List Script → Schedules → World = λ device control moment import export scripts schedules.
     record { device = device; control = control; moment = moment; import = import; export = export; scripts = scripts; schedules = schedules } in
-    let import_back = metered_back core.import w.import core.moment stands.import (stands.import_clock ∙ sym stands.moment) in
-    let export_back = metered_back core.export w.export core.moment stands.export (stands.export_clock ∙ sym stands.moment) in
-    let import : Metered = record (opened_limiter (limiter_opening_of core.import) core.moment) { rows = w.import.rows } in
-    let export : Metered = record (opened_limiter (limiter_opening_of core.export) core.moment) { rows = w.export.rows } in
+    let now = core.import.moment in
+    let import : Metered = record (opened_limiter (limiter_opening_of core.import)) { rows = w.import.rows } in
+    let export : Metered = record (opened_limiter (limiter_opening_of core.export)) { rows = w.export.rows } in
     record {
       same =
           ap (λ (x : List ℕ). make x w.control w.moment w.import w.export w.scripts w.schedules) (sym stands.device)
           ∙ ap (λ (x : Control). make core.device x w.moment w.import w.export w.scripts w.schedules) (sym stands.control)
-          ∙ ap (λ (x : Option ℕ). make core.device core.control x w.import w.export w.scripts w.schedules) (sym stands.moment)
-          ∙ ap (λ (x : Metered). make core.device core.control core.moment x w.export w.scripts w.schedules) import_back
-          ∙ ap (λ (x : Metered). make core.device core.control core.moment import x w.scripts w.schedules) export_back
-          ∙ ap (λ (x : List Script). make core.device core.control core.moment import export x w.schedules) (sym stands.scripts)
-          ∙ ap (λ (x : Schedules). make core.device core.control core.moment import export core.scripts x) (sym stands.schedules);
-      import = counted_back core.import w.import import_fit stands.import;
-      export = counted_back core.export w.export export_fit stands.export;
+          ∙ ap (λ (x : Option ℕ). make core.device core.control x w.import w.export w.scripts w.schedules) (sym stands.import.moment)
+          ∙ ap (λ (x : Metered). make core.device core.control now x w.export w.scripts w.schedules) (metered_back core.import w.moment w.import stands.import)
+          ∙ ap (λ (x : Metered). make core.device core.control now import x w.scripts w.schedules) (metered_back core.export w.moment w.export stands.export)
+          ∙ ap (λ (x : List Script). make core.device core.control now import export x w.schedules) (sym stands.scripts)
+          ∙ ap (λ (x : Schedules). make core.device core.control now import export core.scripts x) (sym stands.schedules);
+      import = counted_back core.import w.moment w.import import_fit stands.import;
+      export = counted_back core.export w.moment w.export export_fit stands.export;
     }
 
 -- the durations in the steps of every table are numbers of 32 bits

@@ -1,4 +1,4 @@
-use Rattle.std.proofs.Common.{true, false, ◌≡◌, ℕ, zero, suc, Bool, IsTrue, ◌+◌, ◌-◌, ◌<◌, ◌≤◌, nat_lt, if◌then◌else◌, List, [], ◌∷◌, ◌++◌, length, take, drop, get_or, arith, refl, ap, sym, ◌∙◌, subst}
+use Rattle.std.proofs.Common.{true, false, ◌≡◌, ℕ, zero, suc, Bool, IsTrue, ◌+◌, ◌-◌, ◌<◌, ◌≤◌, nat_lt, if◌then◌else◌, List, [], ◌∷◌, ◌++◌, Option, length, take, drop, get_or, arith, refl, ap, sym, ◌∙◌, subst}
 use Rattle.std.specs.List.{All}
 use Rattle.std.proofs.Math.Seq.{take-add, drop-cons}
 use Rattle.std.proofs.lemmas.List.{length-drop, get_or-drop}
@@ -9,10 +9,9 @@ use Rattle.limiter_core.specs.declared.kinds.Fire.{Fire}
 use Rattle.limiter_core.specs.declared.kinds.Fire.TheVariants.{Quiet}
 use Rattle.limiter_core.specs.declared.kinds.Kind.{Kind}
 use Rattle.limiter_core.specs.declared.kinds.Kind.TheVariants.{Over, Under, Equal}
-use Rattle.limiter_core.specs.declared.settings.Settings.{Settings}
 use Rattle.limiter_core.specs.Rows.{Row}
-use Rattle.limiter_core.specs.Settings.{active_threshold, kind_of}
-use Rattle.limiter_core.specs.State.{State, AreOfKind, IsQuiet, Keeps, rows_after}
+use Rattle.limiter_core.specs.Settings.{InForce, in_force, kind_of}
+use Rattle.limiter_core.specs.State.{State, force_of, AreOfKind, IsQuiet, Keeps, rows_after}
 use Rattle.relay_core.specs.declared.relay.RelayCore.{RelayCore}
 use Rattle.relay_core.specs.declared.sampling.Firings.{Firings}
 use Rattle.relay_core.specs.Limiters.{metered_of, with_metered}
@@ -35,39 +34,34 @@ take_fewer (suc n) (suc m) [] fewer = refl
 take_fewer (suc n) (suc m) (x ∷ xs) fewer = ap (λ rest. x ∷ rest) (take_fewer n m xs (omega (arith, fewer)))
 
 -- values over the threshold, and values under it
-pub over_are_of_kind : (settings : Settings) (threshold : ℕ) (xs : List ℕ) → active_threshold settings ≡ threshold
-    → All (λ v. IsTrue (nat_lt threshold v)) xs → AreOfKind Over settings xs
-over_are_of_kind settings threshold [] is all = tt
-over_are_of_kind settings threshold (x ∷ xs) is all =
+pub over_are_of_kind : (threshold : ℕ) (xs : List ℕ) → All (λ v. IsTrue (nat_lt threshold v)) xs → AreOfKind Over threshold xs
+over_are_of_kind threshold [] all = tt
+over_are_of_kind threshold (x ∷ xs) all =
     let P : ℕ → Type 0 = λ v. IsTrue (nat_lt threshold v) in
     let kind : Bool → Kind = λ b. if b then Over else if nat_lt x threshold then Under else Equal in
-    let here : kind_of threshold x ≡ Over = ap kind (All-head P x xs all) in
-    (subst (λ t. kind_of t x ≡ Over) (sym is) here, over_are_of_kind settings threshold xs is (All-tail P x xs all))
+    (ap kind (All-head P x xs all), over_are_of_kind threshold xs (All-tail P x xs all))
 
-pub under_are_of_kind : (settings : Settings) (threshold : ℕ) (xs : List ℕ) → active_threshold settings ≡ threshold
-    → All (λ v. IsTrue (nat_lt v threshold)) xs → AreOfKind Under settings xs
-under_are_of_kind settings threshold [] is all = tt
-under_are_of_kind settings threshold (x ∷ xs) is all =
+pub under_are_of_kind : (threshold : ℕ) (xs : List ℕ) → All (λ v. IsTrue (nat_lt v threshold)) xs → AreOfKind Under threshold xs
+under_are_of_kind threshold [] all = tt
+under_are_of_kind threshold (x ∷ xs) all =
     let P : ℕ → Type 0 = λ v. IsTrue (nat_lt v threshold) in
     let below = All-head P x xs all in
     let here : kind_of threshold x ≡ Under = grind (arith, below) in
-    (subst (λ t. kind_of t x ≡ Under) (sym is) here, under_are_of_kind settings threshold xs is (All-tail P x xs all))
+    (here, under_are_of_kind threshold xs (All-tail P x xs all))
 
 -- values that equal it
-equal_list : (settings : Settings) (xs : List ℕ) (n : ℕ) → n ≤ length xs
-    → ((k : ℕ) → k < n → get_or xs k 0 ≡ active_threshold settings) → AreOfKind Equal settings (take n xs)
-equal_list settings xs zero within are = tt
-equal_list settings [] (suc n) within are = absurd (omega (arith, within))
-equal_list settings (x ∷ xs) (suc n) within are =
-    let here : x ≡ active_threshold settings = are 0 (omega arith) in
-    let kind : kind_of (active_threshold settings) x ≡ Equal = grind (arith, here) in
-    (kind, equal_list settings xs n (omega (arith, within)) (λ k below. are (suc k) (omega (arith, below))))
+equal_list : (threshold : ℕ) (xs : List ℕ) (n : ℕ) → n ≤ length xs → ((k : ℕ) → k < n → get_or xs k 0 ≡ threshold) → AreOfKind Equal threshold (take n xs)
+equal_list threshold xs zero within are = tt
+equal_list threshold [] (suc n) within are = absurd (omega (arith, within))
+equal_list threshold (x ∷ xs) (suc n) within are =
+    let here : x ≡ threshold = are 0 (omega arith) in
+    let kind : kind_of threshold x ≡ Equal = grind (arith, here) in
+    (kind, equal_list threshold xs n (omega (arith, within)) (λ k below. are (suc k) (omega (arith, below))))
 
-pub equal_are_of_kind : (settings : Settings) (threshold : ℕ) (values : List ℕ) (at n : ℕ) → active_threshold settings ≡ threshold
-    → at + n ≤ length values → ((k : ℕ) → k < n → get_or values (at + k) 0 ≡ threshold) → AreOfKind Equal settings (take n (drop at values))
-equal_are_of_kind settings threshold values at n is within are =
-    equal_list settings (drop at values) n (omega (arith, within, length-drop at values))
-    (λ k below. get_or-drop at values k 0 ∙ are k below ∙ sym is)
+pub equal_are_of_kind : (threshold : ℕ) (values : List ℕ) (at n : ℕ) → at + n ≤ length values
+    → ((k : ℕ) → k < n → get_or values (at + k) 0 ≡ threshold) → AreOfKind Equal threshold (take n (drop at values))
+equal_are_of_kind threshold values at n within are =
+    equal_list threshold (drop at values) n (omega (arith, within, length-drop at values)) (λ k below. get_or-drop at values k 0 ∙ are k below)
 
 -- the first does not pass where none does
 none_passes : (test : ℕ → Bool) (x : ℕ) (xs : List ℕ) → prefix_len test (x ∷ xs) ≤ 0 → test x ≡ false
@@ -90,46 +84,51 @@ neither_is_equal values at threshold below over under =
     grind (arith, not_over, not_under)
 
 -- each of them is of the kind
-pub kind_at : (kind : Kind) (settings : Settings) (xs : List ℕ) (i d : ℕ) → i < length xs → AreOfKind kind settings xs
-    → kind_of (active_threshold settings) (get_or xs i d) ≡ kind
-kind_at kind settings [] i d below are = absurd (omega (arith, below))
-kind_at kind settings (x ∷ xs) zero d below are = are.0
-kind_at kind settings (x ∷ xs) (suc i) d below are = kind_at kind settings xs i d (omega (arith, below)) are.1
+pub kind_at : (kind : Kind) (threshold : ℕ) (xs : List ℕ) (i d : ℕ) → i < length xs → AreOfKind kind threshold xs
+    → kind_of threshold (get_or xs i d) ≡ kind
+kind_at kind threshold [] i d below are = absurd (omega (arith, below))
+kind_at kind threshold (x ∷ xs) zero d below are = are.0
+kind_at kind threshold (x ∷ xs) (suc i) d below are = kind_at kind threshold xs i d (omega (arith, below)) are.1
 
--- a limiter with more samples
-abbrev pub metered_after : List ℕ → Metered → Metered
-metered_after [] m = m
-metered_after (value ∷ values) m = metered_after values (with_sample value m)
+-- a limiter with more samples, all at one moment
+abbrev pub metered_after : Option ℕ → List ℕ → Metered → Metered
+metered_after now [] m = m
+metered_after now (value ∷ values) m = metered_after now values (with_sample now value m)
 
-pub metered_after-settings : (values : List ℕ) (m : Metered) → (metered_after values m).settings ≡ m.settings
-metered_after-settings [] m = refl
-metered_after-settings (value ∷ values) m = metered_after-settings values (with_sample value m)
+metered_after-settings : (now : Option ℕ) (values : List ℕ) (m : Metered) → (metered_after now values m).settings ≡ m.settings
+metered_after-settings now [] m = refl
+metered_after-settings now (value ∷ values) m = metered_after-settings now values (with_sample now value m)
 
-pub metered_after-rows : (values : List ℕ) (m : Metered) → (metered_after values m).rows ≡ rows_after m.settings values m.rows
-metered_after-rows [] m = refl
-metered_after-rows (value ∷ values) m = metered_after-rows values (with_sample value m)
+metered_after-rows : (now : Option ℕ) (values : List ℕ) (m : Metered) → (metered_after now values m).rows ≡ rows_after (in_force m.settings now) values m.rows
+metered_after-rows now [] m = refl
+metered_after-rows now (value ∷ values) m = metered_after-rows now values (with_sample now value m)
 
-pub metered_after-last : (values : List ℕ) (i d : ℕ) (m : Metered) → i + 1 ≡ length values → (metered_after values m).last ≡ get_or values i d
-metered_after-last [] i d m is = absurd (omega (arith, is))
-metered_after-last (x ∷ []) zero d m is = refl
-metered_after-last (x ∷ []) (suc i) d m is = absurd (omega (arith, is))
-metered_after-last (x ∷ y ∷ values) zero d m is = absurd (omega (arith, is))
-metered_after-last (x ∷ y ∷ values) (suc i) d m is = metered_after-last (y ∷ values) i d (with_sample x m) (omega (arith, is))
+metered_after-last : (now : Option ℕ) (values : List ℕ) (i d : ℕ) (m : Metered) → i + 1 ≡ length values → (metered_after now values m).last ≡ get_or values i d
+metered_after-last now [] i d m is = absurd (omega (arith, is))
+metered_after-last now (x ∷ []) zero d m is = refl
+metered_after-last now (x ∷ []) (suc i) d m is = absurd (omega (arith, is))
+metered_after-last now (x ∷ y ∷ values) zero d m is = absurd (omega (arith, is))
+metered_after-last now (x ∷ y ∷ values) (suc i) d m is = metered_after-last now (y ∷ values) i d (with_sample now x m) (omega (arith, is))
 
 -- the last sample of some
 pub last_of_some : (n last before now : ℕ) → 0 < n → now ≡ (if nat_lt 0 n then last else before) → now ≡ last
 last_of_some n last before now some is = grind (arith, some, is)
 
+-- what is in force in a limiter is in force in the one that it stands for
+same_force : (limiter : State) (now : Option ℕ) (m : Metered) → MeteredStands limiter now m → force_of limiter ≡ in_force m.settings now
+same_force limiter now m stands = cc (stands.settings, stands.moment)
+
 -- a limiter that took samples as one
-pub metered_stands : (old new : State) (m : Metered) (values : List ℕ) → MeteredStands old m
-    → new.settings ≡ old.settings → 0 < length values → new.last ≡ get_or values (length values - 1) 0
-    → Keeps new (rows_after old.settings values m.rows) → MeteredStands new (metered_after values m)
-metered_stands old new m values stands settings some last keeps = record {
-  settings = settings ∙ stands.settings ∙ sym (metered_after-settings values m);
-  last = last ∙ sym (metered_after-last values (length values - 1) 0 m (omega (arith, some)));
+pub metered_stands : (old new : State) (now : Option ℕ) (m : Metered) (values : List ℕ) → MeteredStands old now m
+    → new.settings ≡ old.settings → new.moment ≡ old.moment → 0 < length values → new.last ≡ get_or values (length values - 1) 0
+    → Keeps new (rows_after (force_of old) values m.rows) → MeteredStands new now (metered_after now values m)
+metered_stands old new now m values stands settings moment some last keeps = record {
+  settings = settings ∙ stands.settings ∙ sym (metered_after-settings now values m);
+  moment = moment ∙ stands.moment;
+  last = last ∙ sym (metered_after-last now values (length values - 1) 0 m (omega (arith, some)));
   rows =
-      let P : Settings → Type 0 = λ s. Keeps new (rows_after s values m.rows) in
-      subst (Keeps new) (sym (metered_after-rows values m)) (subst P stands.settings keeps);
+      let P : InForce → Type 0 = λ force. Keeps new (rows_after force values m.rows) in
+      subst (Keeps new) (sym (metered_after-rows now values m)) (subst P (same_force old now m stands) keeps);
 }
 
 -- more samples, and then more
@@ -217,67 +216,64 @@ at_most_more n m firings more most = record {
 
 -- a sample that brings nothing
 pub measured-quiet : (x : Measurement) (w : World) (firings : Firings) → fire_at x w ≡ Quiet
-    → measured x (amid w firings) ≡ amid (with_metered x.which (with_sample x.value (metered_of x.which w)) w) firings
+    → measured x (amid w firings) ≡ amid (with_metered x.which (with_sample w.moment x.value (metered_of x.which w)) w) firings
 unfolding measured after_sample after_fire counted
 measured-quiet x w firings quiet =
     let go : Fire → Metering = λ fire. record {
-      world = after_fire fire (metered_of x.which w).settings.actions (with_metered x.which (with_sample x.value (metered_of x.which w)) w);
+      world = after_fire fire (metered_of x.which w).settings.actions (with_metered x.which (with_sample w.moment x.value (metered_of x.which w)) w);
       firings = counted x.which fire firings;
     } in
     ap go quiet
 
 -- import values that bring nothing
-pub quiet_values : (values : List ℕ) (w : World) (firings : Firings) → IsQuiet w.import.settings values w.import.rows
-    → after_samples (imports values) (amid w firings) ≡ amid (record w { import = metered_after values w.import }) firings
+pub quiet_values : (values : List ℕ) (w : World) (firings : Firings) → IsQuiet (in_force w.import.settings w.moment) values w.import.rows
+    → after_samples (imports values) (amid w firings) ≡ amid (record w { import = metered_after w.moment values w.import }) firings
 unfolding after_samples fire_at
 quiet_values [] w firings quiet = refl
 quiet_values (value ∷ values) w firings quiet =
     ap (after_samples (imports values)) (measured-quiet (record { which = Import; value = value }) w firings quiet.0)
-    ∙ quiet_values values (record w { import = with_sample value w.import }) firings quiet.1
+    ∙ quiet_values values (record w { import = with_sample w.moment value w.import }) firings quiet.1
 
 -- pairs of which neither value brings anything
 pub quiet_pairs : (values others : List ℕ) (w : World) (firings : Firings) → length values ≡ length others
-    → IsQuiet w.import.settings values w.import.rows → IsQuiet w.export.settings others w.export.rows
+    → IsQuiet (in_force w.import.settings w.moment) values w.import.rows → IsQuiet (in_force w.export.settings w.moment) others w.export.rows
     → after_samples (pairs values others) (amid w firings)
-    ≡ amid (record w { import = metered_after values w.import; export = metered_after others w.export }) firings
+    ≡ amid (record w { import = metered_after w.moment values w.import; export = metered_after w.moment others w.export }) firings
 unfolding after_samples fire_at
 quiet_pairs [] [] w firings even quiet other_quiet = refl
 quiet_pairs [] (other ∷ others) w firings even quiet other_quiet = absurd (omega (arith, even))
 quiet_pairs (value ∷ values) [] w firings even quiet other_quiet = absurd (omega (arith, even))
 quiet_pairs (value ∷ values) (other ∷ others) w firings even quiet other_quiet =
-    let between : World = record w { import = with_sample value w.import } in
+    let between : World = record w { import = with_sample w.moment value w.import } in
     ap (λ (m : Metering). after_samples (pairs values others) (measured (record { which = Export; value = other }) m))
     (measured-quiet (record { which = Import; value = value }) w firings quiet.0)
     ∙ ap (after_samples (pairs values others)) (measured-quiet (record { which = Export; value = other }) between firings other_quiet.0)
-    ∙ quiet_pairs values others (record between { export = with_sample other w.export }) firings (omega (arith, even)) quiet.1 other_quiet.1
+    ∙ quiet_pairs values others (record between { export = with_sample w.moment other w.export }) firings (omega (arith, even)) quiet.1 other_quiet.1
 
 -- a core that took import values which bring nothing
 pub skipped_values : (old : RelayCore) (limiter : State) (values : List ℕ) (named : IsDeviceName old.device)
-    (import_clock : limiter.settings.moment ≡ old.moment) (export_clock : old.export.settings.moment ≡ old.moment) → 0 < length values
-    → limiter.settings ≡ old.import.settings → limiter.last ≡ get_or values (length values - 1) 0
-    → ((rows : List Row) → Keeps old.import rows → Keeps limiter (rows_after old.import.settings values rows))
-    → ((rows : List Row) → Keeps old.import rows → IsQuiet old.import.settings values rows)
-    → (firings : Firings) → Takes old (record old { import = limiter; named = named; import_clock = import_clock; export_clock = export_clock }) firings firings (imports values)
-skipped_values old limiter values named import_clock export_clock some settings last keeps quiet firings =
-    let new : RelayCore = record old { import = limiter; named = named; import_clock = import_clock; export_clock = export_clock } in
+    (clock : old.export.moment ≡ limiter.moment) → 0 < length values
+    → limiter.settings ≡ old.import.settings → limiter.moment ≡ old.import.moment → limiter.last ≡ get_or values (length values - 1) 0
+    → ((rows : List Row) → Keeps old.import rows → Keeps limiter (rows_after (force_of old.import) values rows))
+    → ((rows : List Row) → Keeps old.import rows → IsQuiet (force_of old.import) values rows)
+    → (firings : Firings) → Takes old (record old { import = limiter; named = named; one_clock = clock }) firings firings (imports values)
+skipped_values old limiter values named clock some settings moment last keeps quiet firings =
+    let new : RelayCore = record old { import = limiter; named = named; one_clock = clock } in
     let after : (w : World) → StandsFor old w
-    → after_samples (imports values) (amid w firings) ≡ amid (record w { import = metered_after values w.import }) firings =
+    → after_samples (imports values) (amid w firings) ≡ amid (record w { import = metered_after w.moment values w.import }) firings =
     λ w stands.
-    let P : Settings → Type 0 = λ s. IsQuiet s values w.import.rows in
-    quiet_values values w firings (subst P stands.import.settings (quiet w.import.rows stands.import.rows)) in
+    let P : InForce → Type 0 = λ force. IsQuiet force values w.import.rows in
+    quiet_values values w firings (subst P (same_force old.import w.moment w.import stands.import) (quiet w.import.rows stands.import.rows)) in
     record {
       world = λ w stands.
-          let import = metered_stands old.import limiter w.import values stands.import settings some last (keeps w.import.rows stands.import.rows) in
-          let stands_after : StandsFor new (record w { import = metered_after values w.import }) = record {
+          let import = metered_stands old.import limiter w.moment w.import values stands.import settings moment some last (keeps w.import.rows stands.import.rows) in
+          let stands_after : StandsFor new (record w { import = metered_after w.moment values w.import }) = record {
             device = stands.device;
             control = stands.control;
-            moment = stands.moment;
             import = import;
             export = stands.export;
             scripts = stands.scripts;
             schedules = stands.schedules;
-            import_clock = ap (λ (s : Settings). s.moment) (metered_after-settings values w.import) ∙ stands.import_clock;
-            export_clock = stands.export_clock;
           } in
           subst (λ (m : Metering). StandsFor new m.world) (sym (after w stands)) stands_after;
       firings = λ w stands. ap (λ (m : Metering). m.firings) (sym (after w stands));
@@ -285,39 +281,35 @@ skipped_values old limiter values named import_clock export_clock some settings 
 
 -- a core that took pairs which bring nothing
 pub skipped_pairs : (old : RelayCore) (import export : State) (values others : List ℕ) (named : IsDeviceName old.device)
-    (import_clock : import.settings.moment ≡ old.moment) (export_clock : export.settings.moment ≡ old.moment)
-    → 0 < length values → length others ≡ length values
-    → import.settings ≡ old.import.settings → import.last ≡ get_or values (length values - 1) 0
-    → export.settings ≡ old.export.settings → export.last ≡ get_or others (length others - 1) 0
-    → ((rows : List Row) → Keeps old.import rows → Keeps import (rows_after old.import.settings values rows))
-    → ((rows : List Row) → Keeps old.export rows → Keeps export (rows_after old.export.settings others rows))
-    → ((rows : List Row) → Keeps old.import rows → IsQuiet old.import.settings values rows)
-    → ((rows : List Row) → Keeps old.export rows → IsQuiet old.export.settings others rows)
-    → (firings : Firings) → Takes old (record old { import = import; export = export; named = named; import_clock = import_clock; export_clock = export_clock }) firings firings (pairs values others)
-skipped_pairs old import export values others named import_clock export_clock some even settings last other_settings other_last keeps other_keeps quiet other_quiet firings =
-    let new : RelayCore = record old { import = import; export = export; named = named; import_clock = import_clock; export_clock = export_clock } in
+    (clock : export.moment ≡ import.moment) → 0 < length values → length others ≡ length values
+    → import.settings ≡ old.import.settings → import.moment ≡ old.import.moment → import.last ≡ get_or values (length values - 1) 0
+    → export.settings ≡ old.export.settings → export.moment ≡ old.export.moment → export.last ≡ get_or others (length others - 1) 0
+    → ((rows : List Row) → Keeps old.import rows → Keeps import (rows_after (force_of old.import) values rows))
+    → ((rows : List Row) → Keeps old.export rows → Keeps export (rows_after (force_of old.export) others rows))
+    → ((rows : List Row) → Keeps old.import rows → IsQuiet (force_of old.import) values rows)
+    → ((rows : List Row) → Keeps old.export rows → IsQuiet (force_of old.export) others rows)
+    → (firings : Firings) → Takes old (record old { import = import; export = export; named = named; one_clock = clock }) firings firings (pairs values others)
+skipped_pairs old import export values others named clock some even settings moment last other_settings other_moment other_last keeps other_keeps quiet other_quiet firings =
+    let new : RelayCore = record old { import = import; export = export; named = named; one_clock = clock } in
     let after : (w : World) → StandsFor old w
     → after_samples (pairs values others) (amid w firings)
-    ≡ amid (record w { import = metered_after values w.import; export = metered_after others w.export }) firings =
+    ≡ amid (record w { import = metered_after w.moment values w.import; export = metered_after w.moment others w.export }) firings =
     λ w stands.
-    let P : Settings → Type 0 = λ s. IsQuiet s values w.import.rows in
-    let Q : Settings → Type 0 = λ s. IsQuiet s others w.export.rows in
-    quiet_pairs values others w firings (sym even) (subst P stands.import.settings (quiet w.import.rows stands.import.rows))
-    (subst Q stands.export.settings (other_quiet w.export.rows stands.export.rows)) in
+    let P : InForce → Type 0 = λ force. IsQuiet force values w.import.rows in
+    let Q : InForce → Type 0 = λ force. IsQuiet force others w.export.rows in
+    quiet_pairs values others w firings (sym even) (subst P (same_force old.import w.moment w.import stands.import) (quiet w.import.rows stands.import.rows))
+    (subst Q (same_force old.export w.moment w.export stands.export) (other_quiet w.export.rows stands.export.rows)) in
     record {
       world = λ w stands.
           let stands_after : StandsFor new
-          (record w { import = metered_after values w.import; export = metered_after others w.export }) = record {
+          (record w { import = metered_after w.moment values w.import; export = metered_after w.moment others w.export }) = record {
             device = stands.device;
             control = stands.control;
-            moment = stands.moment;
-            import = metered_stands old.import import w.import values stands.import settings some last (keeps w.import.rows stands.import.rows);
-            export = metered_stands old.export export w.export others stands.export other_settings (omega (arith, some, even)) other_last
+            import = metered_stands old.import import w.moment w.import values stands.import settings moment some last (keeps w.import.rows stands.import.rows);
+            export = metered_stands old.export export w.moment w.export others stands.export other_settings other_moment (omega (arith, some, even)) other_last
                 (other_keeps w.export.rows stands.export.rows);
             scripts = stands.scripts;
             schedules = stands.schedules;
-            import_clock = ap (λ (s : Settings). s.moment) (metered_after-settings values w.import) ∙ stands.import_clock;
-            export_clock = ap (λ (s : Settings). s.moment) (metered_after-settings others w.export) ∙ stands.export_clock;
           } in
           subst (λ (m : Metering). StandsFor new m.world) (sym (after w stands)) stands_after;
       firings = λ w stands. ap (λ (m : Metering). m.firings) (sym (after w stands));

@@ -1,24 +1,11 @@
 use Rattle.std.proofs.Common.{◌≡◌, Result, Ok, Err, refl}
 use Rattle.cosem_names.specs.declared.result_code.ResultCode.{ResultCode}
-use Rattle.limiter_attributes.specs.declared.setting.Setting.{Setting}
-use Rattle.limiter_attributes.specs.declared.setting.Setting.TheVariants as setting
-use Rattle.limiter_attributes.specs.Settings.{with_setting}
-use Rattle.limiter_core.specs.declared.settings.Settings.{Settings}
 use Rattle.relay_core.specs.declared.parts.Parts.{Parts}
 use Rattle.relay_core.specs.declared.parts.WrittenList.{WrittenList}
 use Rattle.relay_core.specs.declared.parts.WrittenList.TheVariants as written
 use Rattle.relay_core.specs.Moving.{moved, or_plain}
 use Rattle.relay_core.specs.World.{World}
 use Rattle.relay_core.specs.Writing.{at_list}
-
--- a setting leaves the clock
-pub with_setting_clock : (setting : Setting) (settings : Settings) → (with_setting setting settings).moment ≡ settings.moment
-with_setting_clock (setting.NormalThreshold watts) settings = refl
-with_setting_clock (setting.EmergencyThreshold watts) settings = refl
-with_setting_clock (setting.MinOverDuration seconds) settings = refl
-with_setting_clock (setting.MinUnderDuration seconds) settings = refl
-with_setting_clock (setting.Profile profile) settings = refl
-with_setting_clock (setting.Actions actions) settings = refl
 
 -- what was read apart of a list moves in what a write of it does
 pub moved_list : (list : WrittenList) (read : Result Parts ResultCode) (w : World) → moved list (or_plain read) w ≡ (at_list list read w).world

@@ -6,11 +6,14 @@ use Rattle.action_schedule.specs.Fitting.{is_due}
 use Rattle.action_schedule.specs.Schedule.{Schedule}
 use Rattle.relay_events.specs.declared.reply.Reply.TheVariants.{Ran, Stale}
 use Rattle.relay_core.specs.declared.scripts.Origin.TheVariants.{Remote}
-use Rattle.relay_core.specs.Limiters.{with_moment}
 use Rattle.relay_core.specs.Schedules.{all_schedules}
 use Rattle.relay_core.specs.Scripts.{at_script}
 use Rattle.relay_core.specs.World.{World, Stepped}
 use Rattle.script_steps.specs.Table.{running_steps}
+
+-- the world at a moment
+abbrev pub with_moment : ℕ → World → World
+with_moment now w = record w { moment = Some now }
 
 -- a schedule that is due runs its script (IEC 62056-6-2, class 22, executed_script) once, whatever the result
 unfoldable pub after_schedule : ℕ → ℕ → Schedule → World → World

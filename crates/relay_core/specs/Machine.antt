@@ -4,7 +4,7 @@ use Rattle.cosem_names.specs.declared.service.GetResult.TheVariants as result
 use Rattle.relay_events.specs.declared.event.Event.{Event}
 use Rattle.relay_events.specs.declared.event.Event.TheVariants.{Get, GetList, Set, Execute, Button, Samples, Moment}
 use Rattle.relay_events.specs.declared.reply.Reply.{Reply}
-use Rattle.relay_events.specs.declared.reply.Reply.TheVariants.{Value, Values, Code, Sampled, SampledBoth, Ran, Stale}
+use Rattle.relay_events.specs.declared.reply.Reply.TheVariants.{Value, Values, Code}
 use Rattle.relay_core.specs.Acting.{at_execute, at_button}
 use Rattle.relay_core.specs.Clock.{at_moment}
 use Rattle.relay_core.specs.Memory.{reads_plainly, writes_plainly}

@@ -1,5 +1,5 @@
 -- A core written down, and the world that an opening tells of.
-use Rattle.std.specs.Prelude.{◌≡◌, ℕ, ◌≤◌, [], length, Option}
+use Rattle.std.specs.Prelude.{◌≡◌, ◌≤◌, length}
 use Rattle.disconnect_control.specs.declared.state.ControlState.TheVariants.{Connected}
 use Rattle.disconnect_control.specs.declared.state.ControlMode.TheVariants.{Mode0}
 use Rattle.limiter_core.specs.Opening.{opened_rows}
@@ -11,18 +11,7 @@ use Rattle.relay_core.specs.World.{World, Metered}
 
 -- a limiter written down
 abbrev pub limiter_opening_of : State → LimiterOpening
-limiter_opening_of limiter = record {
-  value = limiter.last;
-  normal_threshold = limiter.settings.normal_threshold;
-  emergency_threshold = limiter.settings.emergency_threshold;
-  min_over_duration = limiter.settings.min_over_duration;
-  min_under_duration = limiter.settings.min_under_duration;
-  profile = limiter.settings.profile;
-  groups = limiter.settings.groups;
-  actions = limiter.settings.actions;
-  over = limiter.over;
-  under = limiter.under;
-}
+limiter_opening_of limiter = record { settings = limiter.settings; value = limiter.last; over = limiter.over; under = limiter.under }
 
 -- a core written down
 abbrev pub opening_of : RelayCore → Opening
@@ -30,39 +19,16 @@ opening_of core = record {
   device = core.device;
   state = core.control.state;
   mode = core.control.mode;
-  moment = core.moment;
+  moment = core.import.moment;
   import = limiter_opening_of core.import;
   export = limiter_opening_of core.export;
   scripts = core.scripts;
   schedules = core.schedules;
 }
 
--- the limiter that an opening tells of, with its clock at a moment: in place of the samples that its runs counted it has as
--- many samples of its last value
-abbrev pub opened_limiter : LimiterOpening → Option ℕ → Metered
-opened_limiter o now = record {
-  settings = record {
-    normal_threshold = o.normal_threshold;
-    emergency_threshold = o.emergency_threshold;
-    min_over_duration = o.min_over_duration;
-    min_under_duration = o.min_under_duration;
-    profile = o.profile;
-    groups = o.groups;
-    actions = o.actions;
-    moment = now;
-  };
-  last = o.value;
-  rows = opened_rows o.value o.over o.under;
-}
-
--- the same as its callers see it, but for its group ids
-abbrev pub bare_limiter : LimiterOpening → Option ℕ → State
-bare_limiter o now = record {
-  settings = record (opened_limiter o now).settings { groups = [] };
-  last = o.value;
-  over = o.over;
-  under = o.under;
-}
+-- the limiter that an opening tells of: in place of the samples that its runs counted it has as many samples of its last value
+abbrev pub opened_limiter : LimiterOpening → Metered
+opened_limiter o = record { settings = o.settings; last = o.value; rows = opened_rows o.value o.over o.under }
 
 -- the world that an opening tells of
 abbrev pub opened : Opening → World
@@ -70,8 +36,8 @@ opened o = record {
   device = o.device;
   control = record { state = o.state; mode = o.mode };
   moment = o.moment;
-  import = opened_limiter o.import o.moment;
-  export = opened_limiter o.export o.moment;
+  import = opened_limiter o.import;
+  export = opened_limiter o.export;
   scripts = o.scripts;
   schedules = o.schedules;
 }
@@ -79,7 +45,7 @@ opened o = record {
 -- a limiter can be so: samples can give its runs, and it has 32 group ids at most
 pub record IsFitLimiterOpening (o : LimiterOpening) : Type 0 where
   pub runs : IsFit o.value o.over o.under
-  pub groups : length o.groups ≤ 32
+  pub groups : length o.settings.groups ≤ 32
 
 -- a core can be so: a device name of 1 to 16 bytes, mode 0 in Connected alone, and fit limiters
 pub record IsFitOpening (o : Opening) : Type 0 where

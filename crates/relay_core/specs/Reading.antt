@@ -45,9 +45,9 @@ register_value m number =
     else Code ReadWriteDenied
 
 -- the attributes of a limiter past its logical name (IEC 62056-6-2, class 71)
-abbrev pub limiter_value : Which → Settings → Option LimiterAttribute → GetResult
-limiter_value which settings None = Code ReadWriteDenied
-limiter_value which settings (Some attribute) = Value (data_at which attribute settings)
+abbrev pub limiter_value : Which → Settings → Option ℕ → Option LimiterAttribute → GetResult
+limiter_value which settings moment None = Code ReadWriteDenied
+limiter_value which settings moment (Some attribute) = Value (data_at which attribute settings moment)
 
 -- the attributes of an object past its logical name, as a client of this level reads them (IEC 62056-6-2, classes 1, 3, 9, 15, 22, 70 and 71)
 abbrev pub own_value_in : Level → Instance → ℕ → World → GetResult
@@ -57,7 +57,7 @@ own_value_in level (Register which) number w = register_value (metered_of which 
 own_value_in level ScriptTable number w = if number == 2 then Value (data_of w.scripts) else Code ReadWriteDenied
 own_value_in level (Schedule which) number w = schedule_value (schedule_of which w.schedules) (schedule_attribute number)
 own_value_in level DisconnectControl number w = control_value w.control (control_attribute number)
-own_value_in level (Limiter which) number w = limiter_value which (metered_of which w).settings (attribute_numbered number)
+own_value_in level (Limiter which) number w = limiter_value which (metered_of which w).settings w.moment (attribute_numbered number)
 
 -- the value of an attribute: attribute 1 is the logical name, in every class (IEC 62056-6-2)
 unfoldable pub value_in : Level → Instance → AttrRef → World → GetResult

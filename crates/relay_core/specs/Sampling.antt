@@ -8,7 +8,7 @@ use Rattle.limiter_core.specs.declared.kinds.Fire.{Fire}
 use Rattle.limiter_core.specs.declared.kinds.Fire.TheVariants.{Quiet, Over, Under}
 use Rattle.limiter_core.specs.declared.settings.Actions.{Actions}
 use Rattle.limiter_core.specs.Rows.{fire_of}
-use Rattle.limiter_core.specs.Settings.{row_of}
+use Rattle.limiter_core.specs.Settings.{in_force, row_of}
 use Rattle.relay_events.specs.declared.reply.Reply.{Reply}
 use Rattle.relay_events.specs.declared.reply.Reply.TheVariants.{Sampled, SampledBoth}
 use Rattle.relay_core.specs.declared.sampling.Firings.{Firings}
@@ -41,13 +41,13 @@ measurements_in values (Some others) = pairs values others
 abbrev pub measurements : Samples → List Measurement
 measurements samples = measurements_in samples.import samples.export
 
--- a limiter with one sample more
-abbrev pub with_sample : ℕ → Metered → Metered
-with_sample value m = record m { last = value; rows = row_of m.settings value ∷ m.rows }
+-- a limiter with one sample more, at a moment of the clock
+abbrev pub with_sample : Option ℕ → ℕ → Metered → Metered
+with_sample moment value m = record m { last = value; rows = row_of (in_force m.settings moment) value ∷ m.rows }
 
 -- what a sample brings
 unfoldable pub fire_at : Measurement → World → Fire
-fire_at x w = fire_of (with_sample x.value (metered_of x.which w)).rows
+fire_at x w = fire_of (with_sample w.moment x.value (metered_of x.which w)).rows
 
 -- a side that fires runs the script of its action (IEC 62056-6-2, class 71, actions), as the meter itself does
 unfoldable pub after_fire : Fire → Actions → World → World
@@ -58,7 +58,7 @@ after_fire Under actions w = (at_script Local (running_steps actions.under w.scr
 -- the world after a sample
 unfoldable pub after_sample : Measurement → World → World
 after_sample x w =
-    after_fire (fire_at x w) (metered_of x.which w).settings.actions (with_metered x.which (with_sample x.value (metered_of x.which w)) w)
+    after_fire (fire_at x w) (metered_of x.which w).settings.actions (with_metered x.which (with_sample w.moment x.value (metered_of x.which w)) w)
 
 -- no side has fired
 abbrev pub no_firings : Firings

@@ -1,26 +1,23 @@
 ghost use Rattle.std.specs.Prelude.{◌≡◌};
 ghost use Rattle.std.specs.List.{count_by};
 ghost use Rattle.action_schedule.specs.Fitting.{is_due};
-ghost use Rattle.relay_core.specs.Clock.{after_schedule, after_schedules, at_moment};
-ghost use Rattle.relay_core.specs.Limiters.{with_moment};
+ghost use Rattle.relay_core.specs.Clock.{with_moment, after_schedule, after_schedules, at_moment};
 ghost use Rattle.relay_events.specs.Kinds.{IsOfClock};
 ghost use Rattle.relay_core.specs.Schedules.{schedule_of, all_schedules};
 ghost use Rattle.relay_core.specs.Stands.{StandsFor};
 ghost use Rattle.relay_core.specs.World.{World};
 
-use relay_events::Reply;
 use crate::relay::RelayCore;
 use crate::scripts::Origin;
 use cosem_names::ScheduleNumber;
+use relay_events::Reply;
 
 impl RelayCore {
-    /// Sets the clock, and those of the limiters.
-    #[tactic(auto, unfolding(crate::specs::Limiters::with_moment))]
+    /// Sets the clock, in both limiters.
     fn set_clock(&mut self, now: u32)
         ensures world { (w : World) → StandsFor self.old w → StandsFor self.new (with_moment now w) }
         ensures schedules { self.new.schedules ≡ self.old.schedules }
     {
-        self.moment = Some(now);
         self.import.at(now);
         self.export.at(now);
     }
@@ -33,7 +30,7 @@ impl RelayCore {
         ensures reply { (w : World) → StandsFor self.old w → result ≡ (at_moment now w).reply }
         ensures fits { IsOfClock result }
     {
-        match self.moment {
+        match self.last_moment() {
             Some(last) if now < last => Reply::Stale { last },
             Some(last) if now == last => Reply::Ran(0),
             Some(last) => {

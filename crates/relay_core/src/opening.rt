@@ -1,8 +1,8 @@
-ghost use Rattle.std.specs.Prelude.{◌≡◌, ◌<◌, ◌≤◌, ◌↔◌, length, IfOk, IsErrOf, IfSome, IsSome};
-ghost use Rattle.limiter_core.specs.State.{Keeps, IsFit};
-ghost use Rattle.relay_core.specs.Agreeing.{Agree, IsWorld};
-ghost use Rattle.relay_core.specs.Opening.{limiter_opening_of, opening_of, bare_limiter, opened_limiter, opened, IsFitLimiterOpening, IsFitOpening};
-ghost use Rattle.relay_core.specs.Stands.{StandsFor};
+ghost use Rattle.std.specs.Prelude.{◌≡◌, ◌↔◌, IfOk, IsErrOf, IfSome, IsSome, IsTrue};
+ghost use Rattle.limiter_core.specs.State.{IsFit};
+ghost use Rattle.relay_core.specs.Agreeing.{Agree, AreInRange, IsWorld};
+ghost use Rattle.relay_core.specs.Opening.{limiter_opening_of, opening_of, opened_limiter, opened, IsFitLimiterOpening, IsFitOpening};
+ghost use Rattle.relay_core.specs.Stands.{StandsFor, MeteredStands};
 ghost use Rattle.relay_core.specs.World.{World};
 
 use crate::relay::RelayCore;
@@ -10,8 +10,7 @@ use crate::schedules::Schedules;
 use byte_reading::beside;
 use cosem_axdr::Octets;
 use disconnect_control::{ControlMode, ControlState, DisconnectControl};
-use limiter_core::{Actions, Count, Limiter, MAX_GROUPS, Profile};
-use listed::Listed;
+use limiter_core::{Count, Limiter, MAX_GROUPS, Settings, are_fit};
 use script_steps::ScriptTable;
 use std::alloc::{AllocError, AllocFailed, Global};
 use thiserror::Error;
@@ -22,22 +21,10 @@ pub const MAX_DEVICE_NAME: usize = 16;
 /// A limiter as an opening tells it: what is set, the last sample and both runs.
 #[derive(Debug, Drop)]
 pub struct LimiterOpening {
+    /// What is set.
+    pub settings: Settings,
     /// The last sample, in watts; 0 before the first.
     pub value: u32,
-    /// `threshold_normal`, in watts.
-    pub normal_threshold: u32,
-    /// `threshold_emergency`, in watts.
-    pub emergency_threshold: u32,
-    /// `min_over_threshold_duration`, in seconds.
-    pub min_over_duration: u32,
-    /// `min_under_threshold_duration`, in seconds.
-    pub min_under_duration: u32,
-    /// `emergency_profile`.
-    pub profile: Profile,
-    /// `emergency_profile_group_id_list`.
-    pub groups: Listed<u16>,
-    /// `actions`.
-    pub actions: Actions,
     /// The run of samples over the threshold, and whether it has fired.
     pub over: Count,
     /// The run of samples under the threshold, and whether it has fired.
@@ -98,44 +85,36 @@ impl LimiterOpening {
         ensures opening { IfOk result (λ opening. opening ≡ limiter_opening_of limiter.now) }
         ensures runs { IfOk result (λ _. IsFit limiter.now.last limiter.now.over limiter.now.under) }
         ensures fit { IfOk result IsFitLimiterOpening }
-        ensures range { IfOk result (λ opening. (opening.min_over_duration < 4294967296) × (opening.min_under_duration < 4294967296)) }
+        ensures range { IfOk result (λ opening. AreInRange opening.settings) }
     {
-        let groups = Vec::from_slice(alloc, limiter.groups())?;
+        let settings = limiter.settings().try_clone(alloc)?;
         Ok(LimiterOpening {
+            settings,
             value: limiter.value(),
-            normal_threshold: limiter.normal_threshold(),
-            emergency_threshold: limiter.emergency_threshold(),
-            min_over_duration: limiter.min_over_duration(),
-            min_under_duration: limiter.min_under_duration(),
-            profile: limiter.profile(),
-            groups: Listed::from_vec(groups),
-            actions: limiter.actions(),
             over: limiter.over_run(),
             under: limiter.under_run(),
         })
     }
 
-    /// The limiter that was written down, but for its group ids, with its clock at a moment. None where no limiter is so. It
-    /// takes no memory.
-    fn bare_limiter(&self, alloc: Global, moment: Option<u32>) -> Option<Limiter>
-        ensures fit { IsSome result ↔ IsFitLimiterOpening self.now }
-        ensures limiter { IfSome result (λ limiter. limiter ≡ bare_limiter self.now moment) }
-        ensures rows { IfSome result (λ limiter. Keeps limiter (opened_limiter self.now moment).rows) }
+    /// Whether a limiter can be so.
+    fn is_fit(&self) -> bool
+        ensures { IsTrue result ↔ IsFitLimiterOpening self.now }
     {
-        if self.groups.as_slice().len() > MAX_GROUPS {
-            return None;
-        }
-        let mut limiter = Limiter::new(alloc).with_runs(self.value, self.over, self.under)?;
-        limiter.set_normal_threshold(self.normal_threshold);
-        limiter.set_emergency_threshold(self.emergency_threshold);
-        limiter.set_min_over_duration(self.min_over_duration);
-        limiter.set_min_under_duration(self.min_under_duration);
-        limiter.set_profile(self.profile);
-        limiter.set_actions(self.actions);
-        if let Some(moment) = moment {
-            limiter.at(moment);
-        }
-        Some(limiter)
+        let few = self.settings.groups.as_slice().len() <= MAX_GROUPS;
+        few && are_fit(self.value, self.over, self.under)
+    }
+
+    /// The limiter that was written down, with its clock at a moment.
+    fn limiter(&self, alloc: Global, moment: Option<u32>) -> Result<Limiter, AllocError>
+        requires { IsFitLimiterOpening self.now }
+        ensures same { IfOk result (λ limiter. limiter_opening_of limiter ≡ self.now) }
+        ensures stands { IfOk result (λ limiter. MeteredStands limiter moment (opened_limiter self.now)) }
+    {
+        let limiter = Limiter::of(self.settings.try_clone(alloc)?, moment);
+        let Some(limiter) = limiter.with_runs(self.value, self.over, self.under) else {
+            unreachable!()
+        };
+        Ok(limiter)
     }
 }
 
@@ -157,7 +136,7 @@ impl RelayCore {
             device,
             state: self.control.state(),
             mode: self.control.mode(),
-            moment: self.moment,
+            moment: self.import.moment(),
             import,
             export,
             scripts,
@@ -193,16 +172,15 @@ impl RelayCore {
         ensures stands { IfOk result (λ core. StandsFor core (opened opening.now)) }
         ensures same { IfOk result (λ core. opening_of core ≡ opening.now) }
     {
-        let Some((control, import, export)) = opening.bare_parts(alloc) else {
+        let Some(control) = opening.fit_control() else {
             return Err(OpeningFault::Unfit);
         };
-        let limiters = opening.with_groups(alloc, import, export)?;
+        let limiters = opening.limiters(alloc)?;
         let copies = copied(alloc, &opening.device, &opening.scripts, &opening.schedules);
         let ((import, export), (device, scripts, schedules)) = beside(limiters, copies)?;
         Ok(RelayCore {
             device,
             control,
-            moment: opening.moment,
             import,
             export,
             scripts,
@@ -228,57 +206,30 @@ fn copied(
     Ok((device, scripts, schedules))
 }
 
-/// A limiter with these group ids. Where memory runs out it is let go.
-fn with_groups(alloc: Global, limiter: Limiter, groups: &[u16]) -> Result<Limiter, AllocError>
-    requires { length groups.now ≤ 32 }
-    ensures { IfOk result (λ filled. filled ≡ record limiter { settings = record limiter.settings { groups = groups.now } }) }
-{
-    let mut limiter = limiter;
-    match limiter.set_groups(alloc, groups) {
-        Ok(()) => Ok(limiter),
-        Err(error) => {
-            drop(limiter);
-            Err(error)
-        }
-    }
-}
-
 impl Opening {
-    /// Both limiters with their group ids.
-    fn with_groups(
-        &self,
-        alloc: Global,
-        import: Limiter,
-        export: Limiter,
-    ) -> Result<(Limiter, Limiter), AllocError>
-        requires { (length self.now.import.groups ≤ 32) × (length self.now.export.groups ≤ 32) }
-        ensures import { IfOk result (λ both. both.0 ≡ record import { settings = record import.settings { groups = self.now.import.groups } }) }
-        ensures export { IfOk result (λ both. both.1 ≡ record export { settings = record export.settings { groups = self.now.export.groups } }) }
-    {
-        let import = with_groups(alloc, import, self.import.groups.as_slice());
-        let (export, import) = beside(export, import)?;
-        beside(
-            import,
-            with_groups(alloc, export, self.export.groups.as_slice()),
-        )
-    }
-
-    /// The switch, and both limiters but for their group ids, or None where no core is so. It takes no memory.
-    fn bare_parts(&self, alloc: Global) -> Option<(DisconnectControl, Limiter, Limiter)>
+    /// The switch that was written down, or None where no core is as the opening tells.
+    fn fit_control(&self) -> Option<DisconnectControl>
         ensures fit { IsSome result ↔ IsFitOpening self.now }
-        ensures control { IfSome result (λ parts. parts.0 ≡ record { state = self.now.state; mode = self.now.mode }) }
-        ensures import { IfSome result (λ parts. parts.1 ≡ bare_limiter self.now.import self.now.moment) }
-        ensures import_rows { IfSome result (λ parts. Keeps parts.1 (opened_limiter self.now.import self.now.moment).rows) }
-        ensures export { IfSome result (λ parts. parts.2 ≡ bare_limiter self.now.export self.now.moment) }
-        ensures export_rows { IfSome result (λ parts. Keeps parts.2 (opened_limiter self.now.export self.now.moment).rows) }
-        ensures groups { IfSome result (λ _. (length self.now.import.groups ≤ 32) × (length self.now.export.groups ≤ 32)) }
+        ensures control { IfSome result (λ control. control ≡ record { state = self.now.state; mode = self.now.mode }) }
     {
         if self.device.is_empty() || self.device.len() > MAX_DEVICE_NAME {
             return None;
         }
-        let control = DisconnectControl::of(self.state, self.mode)?;
-        let import = self.import.bare_limiter(alloc, self.moment)?;
-        let export = self.export.bare_limiter(alloc, self.moment)?;
-        Some((control, import, export))
+        if !self.import.is_fit() || !self.export.is_fit() {
+            return None;
+        }
+        DisconnectControl::of(self.state, self.mode)
+    }
+
+    /// Both limiters, that of the import and that of the export.
+    fn limiters(&self, alloc: Global) -> Result<(Limiter, Limiter), AllocError>
+        requires { IsFitOpening self.now }
+        ensures import { IfOk result (λ both. limiter_opening_of both.0 ≡ self.now.import) }
+        ensures import_stands { IfOk result (λ both. MeteredStands both.0 self.now.moment (opened_limiter self.now.import)) }
+        ensures export { IfOk result (λ both. limiter_opening_of both.1 ≡ self.now.export) }
+        ensures export_stands { IfOk result (λ both. MeteredStands both.1 self.now.moment (opened_limiter self.now.export)) }
+    {
+        let import = self.import.limiter(alloc, self.moment)?;
+        beside(import, self.export.limiter(alloc, self.moment))
     }
 }

@@ -7,7 +7,6 @@ ghost use Rattle.relay_core.specs.Moving.{scripts_part, entries_part, groups_par
 ghost use Rattle.script_steps.specs.Reading.{table_of};
 
 use crate::access::target;
-use relay_events::Event;
 use crate::relay::RelayCore;
 use action_schedule::ActionSchedule;
 use cosem_axdr::Data;
@@ -16,6 +15,7 @@ use cosem_names::{
 };
 use limiter_attributes::read_groups;
 use limiter_core::Limiter;
+use relay_events::Event;
 use script_steps::ScriptTable;
 use std::alloc::{AllocError, Global};
 

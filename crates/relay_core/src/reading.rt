@@ -67,7 +67,7 @@ impl RelayCore {
         number: u8,
     ) -> Result<GetResult, AllocError>
         ensures value { IfOk result (λ r. (w : World) → StandsFor self.now w
-            → r ≡ limiter_value which (metered_of which w).settings (attribute_numbered number)) }
+            → r ≡ limiter_value which (metered_of which w).settings w.moment (attribute_numbered number)) }
         ensures plain { IsTrue (is_plain_attribute (attribute_numbered number)) → IsOk result }
     {
         let Some(attribute) = LimiterAttribute::of_number(number) else {

@@ -9,23 +9,20 @@ use limiter_core::Limiter;
 use script_steps::ScriptTable;
 use std::alloc::{AllocError, Global};
 
-/// The state of the meter: its name, its supply switch, the last moment of its clock, its limiters, its scripts and its
-/// schedules.
+/// The state of the meter: its name, its supply switch, its limiters, each with the last moment of the clock, its scripts
+/// and its schedules.
 #[derive(Debug, Drop)]
 pub struct RelayCore {
     pub(crate) device: Octets,
     pub(crate) control: DisconnectControl,
-    /// Seconds since 2000-01-01 00:00:00 of the meter's time.
-    pub(crate) moment: Option<u32>,
     pub(crate) import: Limiter,
     pub(crate) export: Limiter,
     pub(crate) scripts: ScriptTable,
     pub(crate) schedules: Schedules,
     /// The device name has 1 to 16 bytes.
     pub ghost named: { IsDeviceName device },
-    /// The clocks of the limiters are the meter's.
-    pub ghost import_clock: { import.settings.moment ≡ moment },
-    pub ghost export_clock: { export.settings.moment ≡ moment },
+    /// Both limiters have the meter's clock.
+    pub ghost one_clock: { export.moment ≡ import.moment },
 }
 
 impl RelayCore {
@@ -45,7 +42,6 @@ impl RelayCore {
         Ok(RelayCore {
             device: device.try_clone(alloc)?,
             control: DisconnectControl::new(),
-            moment: None,
             import: Limiter::new(alloc),
             export: Limiter::new(alloc),
             scripts: ScriptTable::new(alloc),
@@ -83,7 +79,6 @@ impl RelayCore {
         Ok(RelayCore {
             device,
             control: self.control,
-            moment: self.moment,
             import,
             export,
             scripts,
@@ -93,7 +88,7 @@ impl RelayCore {
 
     /// One of the limiters.
     pub(crate) fn limiter(&self, which: Which) -> &Limiter
-        ensures { (w : World) → StandsFor self.now w → MeteredStands result.now (metered_of which w) }
+        ensures { (w : World) → StandsFor self.now w → MeteredStands result.now w.moment (metered_of which w) }
     {
         match which {
             Which::Import => &self.import,
@@ -127,7 +122,7 @@ impl RelayCore {
     pub fn last_moment(&self) -> Option<u32>
         ensures { (w : World) → StandsFor self.now w → result ≡ w.moment }
     {
-        self.moment
+        self.import.moment()
     }
 
     /// The last sample of the imported power, in watts; 0 before the first.
@@ -146,14 +141,14 @@ impl RelayCore {
 
     /// The active threshold of the import limiter, in watts.
     pub fn threshold(&self) -> u32
-        ensures { (w : World) → StandsFor self.now w → result ≡ active_threshold w.import.settings }
+        ensures { (w : World) → StandsFor self.now w → result ≡ active_threshold w.import.settings w.moment }
     {
         self.import.threshold()
     }
 
     /// The active threshold of a limiter, in watts.
     pub fn threshold_of(&self, which: Which) -> u32
-        ensures { (w : World) → StandsFor self.now w → result ≡ active_threshold (metered_of which w).settings }
+        ensures { (w : World) → StandsFor self.now w → result ≡ active_threshold (metered_of which w).settings w.moment }
     {
         self.limiter(which).threshold()
     }

@@ -6,10 +6,10 @@ ghost use Rattle.relay_events.specs.Kinds.{is_read, Fits};
 ghost use Rattle.relay_core.specs.Moving.{parts_of};
 ghost use Rattle.relay_core.specs.Runs.{line_at, Runs, StopsEarly};
 
-use relay_events::{Event, Events, Line, Lines, Reply};
 use crate::parts::Parts;
 use crate::relay::RelayCore;
 use cosem_names::GetResult;
+use relay_events::{Event, Events, Line, Lines, Reply};
 use std::alloc::{AllocError, Global};
 
 impl RelayCore {

@@ -6,13 +6,13 @@ ghost use Rattle.relay_core.specs.Stands.{StandsFor};
 ghost use Rattle.relay_core.specs.Taking.{Takes, AreAtMost};
 ghost use Rattle.relay_core.specs.World.{World};
 
-use relay_events::Reply;
 use crate::relay::RelayCore;
 use crate::scripts::Origin;
 use crate::stretches::scan_at;
 use cosem_names::Which;
 use lane_sampler::{Block, Scan};
 use limiter_core::{Actions, Fire};
+use relay_events::Reply;
 
 /// How often each side of each limiter has fired in a block.
 #[derive(Clone, Copy, Debug)]

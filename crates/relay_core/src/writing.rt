@@ -29,7 +29,7 @@ impl RelayCore {
     }
 
     /// Sets a limiter.
-    #[tactic(auto, unfolding(crate::specs::Writing::at_setting), using(crate::proofs::WriteLemmas::with_setting_clock))]
+    #[tactic(auto, unfolding(crate::specs::Writing::at_setting))]
     pub(crate) fn set_limiter(&mut self, which: Which, setting: Setting) -> ResultCode
         ensures world { (w : World) → StandsFor self.old w → StandsFor self.new (at_setting which setting w).world }
         ensures code { (w : World) → StandsFor self.old w → result ≡ (at_setting which setting w).code }
