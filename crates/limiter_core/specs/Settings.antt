@@ -29,23 +29,23 @@ active_threshold s moment = if is_active s moment then s.emergency_threshold els
 abbrev pub need_of : ℕ → ℕ
 need_of duration = max 1 (10 * duration)
 
--- what a sample is judged by: the active threshold, and how many samples a run must have
-pub record InForce : Type 0 where
+-- what a sample is judged by: a threshold, and how many samples a run over it and a run under it must have
+pub record Limits : Type 0 where
   pub threshold : ℕ
   pub need_over : ℕ
   pub need_under : ℕ
 
--- what is in force by these settings at a moment
-abbrev pub in_force : Settings → Option ℕ → InForce
-in_force s moment = record {
+-- the limits by these settings at a moment of the clock
+abbrev pub limits_at : Settings → Option ℕ → Limits
+limits_at s moment = record {
   threshold = active_threshold s moment;
   need_over = need_of s.min_over_duration;
   need_under = need_of s.min_under_duration;
 }
 
--- a sample, and what is in force at it
-abbrev pub row_of : InForce → ℕ → Row
-row_of force value = Sample value force.threshold force.need_over force.need_under
+-- a sample, and the limits at it
+abbrev pub row_of : Limits → ℕ → Row
+row_of limits value = Sample value limits.threshold limits.need_over limits.need_under
 
 -- on which side of the threshold a value lies
 abbrev pub kind_of : ℕ → ℕ → Kind

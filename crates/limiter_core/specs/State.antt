@@ -8,7 +8,7 @@ use Rattle.limiter_core.specs.declared.count.Count.{Count}
 use Rattle.limiter_core.specs.declared.settings.Settings.{Settings}
 use Rattle.limiter_core.specs.Counting.{cap, count_of, no_run, before, skipped}
 use Rattle.limiter_core.specs.Rows.{Row, OverThreshold, UnderThreshold, fire_of, fire_past}
-use Rattle.limiter_core.specs.Settings.{InForce, in_force, row_of, need_of, kind_of}
+use Rattle.limiter_core.specs.Settings.{Limits, limits_at, row_of, need_of, kind_of}
 
 -- the settings, the moment of the clock that has come last, the last sample and the two counts
 pub record State : Type 0 where
@@ -18,9 +18,9 @@ pub record State : Type 0 where
   pub over : Count
   pub under : Count
 
--- what is in force in a limiter
-abbrev pub force_of : State → InForce
-force_of state = in_force state.settings state.moment
+-- a limiter's limits
+abbrev pub limits_of : State → Limits
+limits_of state = limits_at state.settings state.moment
 
 -- the counts are those of the rows
 pub record Keeps (state : State) (rows : List Row) : Type 0 where
@@ -58,16 +58,16 @@ pub record IsLimiter (state : State) : Type 0 where
   pub under_duration : state.settings.min_under_duration < 2 ^ 32
   pub groups : length state.settings.groups ≤ 32
 
--- the rows after more samples, the first of the values being the oldest
-abbrev pub rows_after : InForce → List ℕ → List Row → List Row
-rows_after force [] rows = rows
-rows_after force (value ∷ values) rows = rows_after force values (row_of force value ∷ rows)
+-- the rows after more samples under the same limits, the first of the values being the oldest
+abbrev pub rows_after : Limits → List ℕ → List Row → List Row
+rows_after limits [] rows = rows
+rows_after limits (value ∷ values) rows = rows_after limits values (row_of limits value ∷ rows)
 
 -- none of the samples fires
-abbrev pub IsQuiet : InForce → List ℕ → List Row → Type 0
-IsQuiet force [] rows = Unit {0}
-IsQuiet force (value ∷ values) rows =
-    (fire_of (row_of force value ∷ rows) ≡ Quiet) × IsQuiet force values (row_of force value ∷ rows)
+abbrev pub IsQuiet : Limits → List ℕ → List Row → Type 0
+IsQuiet limits [] rows = Unit {0}
+IsQuiet limits (value ∷ values) rows =
+    (fire_of (row_of limits value ∷ rows) ≡ Quiet) × IsQuiet limits values (row_of limits value ∷ rows)
 
 -- every value lies on that side of the threshold
 abbrev pub AreOfKind : Kind → ℕ → List ℕ → Type 0

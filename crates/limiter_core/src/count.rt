@@ -16,7 +16,7 @@ pub struct Count {
 
 impl Count {
     /// No sample past the threshold.
-    pub(crate) const fn none() -> Count
+    pub const fn none() -> Count
         ensures { result ≡ no_run }
     {
         Count {

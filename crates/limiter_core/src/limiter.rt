@@ -4,7 +4,7 @@ ghost use Rattle.limiter_core.specs.Counting.{no_run};
 ghost use Rattle.limiter_core.specs.Opening.{opened_rows};
 ghost use Rattle.limiter_core.specs.Rows.{Row, Entry, fire_of};
 ghost use Rattle.limiter_core.specs.Settings.{is_active, active_threshold, row_of, kind_of, new_settings};
-ghost use Rattle.limiter_core.specs.State.{force_of, Keeps, rows_after, IsQuiet, AreOfKind, fire_on, quiet_count, jumped, IsLimiter, IsFit};
+ghost use Rattle.limiter_core.specs.State.{limits_of, Keeps, rows_after, IsQuiet, AreOfKind, fire_on, quiet_count, jumped, IsLimiter, IsFit};
 
 use crate::count::{Count, are_fit};
 use crate::kinds::{Fire, Kind};
@@ -63,8 +63,8 @@ impl Limiter {
     /// Takes a sample, in watts.
     #[tactic(auto, using(crate::proofs::Firing::fire_counted, crate::proofs::Firing::counted))]
     pub fn sample(&mut self, value: u32) -> Fire
-        ensures rows { (rows : List Row) → Keeps self.old rows → Keeps self.new (row_of (force_of self.old) value ∷ rows) }
-        ensures fire { (rows : List Row) → Keeps self.old rows → result ≡ fire_of (row_of (force_of self.old) value ∷ rows) }
+        ensures rows { (rows : List Row) → Keeps self.old rows → Keeps self.new (row_of (limits_of self.old) value ∷ rows) }
+        ensures fire { (rows : List Row) → Keeps self.old rows → result ≡ fire_of (row_of (limits_of self.old) value ∷ rows) }
         ensures settings { self.new.settings ≡ self.old.settings }
         ensures moment { self.new.moment ≡ self.old.moment }
         ensures last { self.new.last ≡ value }
@@ -118,14 +118,14 @@ impl Limiter {
     #[tactic(auto, using(crate::proofs::Skipping::quiet_up_to, crate::proofs::Skipping::quiet_for_ever, crate::proofs::Skipping::fires_next))]
     pub fn before_fire(&self, kind: Kind) -> u64
         ensures count { result ≡ quiet_count kind self.now }
-        ensures quiet { (rows : List Row) (values : List ℕ) → Keeps self.now rows → AreOfKind kind (force_of self.now).threshold values
-            → length values ≤ result → IsQuiet (force_of self.now) values rows }
+        ensures quiet { (rows : List Row) (values : List ℕ) → Keeps self.now rows → AreOfKind kind (limits_of self.now).threshold values
+            → length values ≤ result → IsQuiet (limits_of self.now) values rows }
         ensures next { (rows : List Row) (values : List ℕ) (value : ℕ) → Keeps self.now rows
-            → AreOfKind kind (force_of self.now).threshold values → kind_of (force_of self.now).threshold value ≡ kind
+            → AreOfKind kind (limits_of self.now).threshold values → kind_of (limits_of self.now).threshold value ≡ kind
             → length values ≡ result → result < 2 ^ 64 - 1
-            → fire_of (row_of (force_of self.now) value ∷ rows_after (force_of self.now) values rows) ≡ fire_on kind }
-        ensures never { (rows : List Row) (values : List ℕ) → Keeps self.now rows → AreOfKind kind (force_of self.now).threshold values
-            → result ≡ 2 ^ 64 - 1 → IsQuiet (force_of self.now) values rows }
+            → fire_of (row_of (limits_of self.now) value ∷ rows_after (limits_of self.now) values rows) ≡ fire_on kind }
+        ensures never { (rows : List Row) (values : List ℕ) → Keeps self.now rows → AreOfKind kind (limits_of self.now).threshold values
+            → result ≡ 2 ^ 64 - 1 → IsQuiet (limits_of self.now) values rows }
     {
         self.quiet_samples(kind)
     }
@@ -135,7 +135,7 @@ impl Limiter {
     fn jump(&mut self, kind: Kind, n: u64, last: u32)
         requires some { 0 < n }
         requires quiet { n ≤ quiet_count kind self.old }
-        requires last { kind_of (force_of self.old).threshold last ≡ kind }
+        requires last { kind_of (limits_of self.old).threshold last ≡ kind }
         ensures state { self.new ≡ jumped kind n last self.old }
         ensures limiter { IsLimiter self.old }
     {
@@ -161,11 +161,11 @@ impl Limiter {
     #[tactic(auto, using(crate::proofs::Skipping::quiet_up_to))]
     pub fn skip_run(&mut self, kind: Kind, n: u64, last: u32)
         requires quiet { n ≤ quiet_count kind self.old }
-        requires last { 0 < n → kind_of (force_of self.old).threshold last ≡ kind }
-        ensures rows { (rows : List Row) (values : List ℕ) → Keeps self.old rows → AreOfKind kind (force_of self.old).threshold values
-            → length values ≡ n → Keeps self.new (rows_after (force_of self.old) values rows) }
-        ensures quiet { (rows : List Row) (values : List ℕ) → Keeps self.old rows → AreOfKind kind (force_of self.old).threshold values
-            → length values ≡ n → IsQuiet (force_of self.old) values rows }
+        requires last { 0 < n → kind_of (limits_of self.old).threshold last ≡ kind }
+        ensures rows { (rows : List Row) (values : List ℕ) → Keeps self.old rows → AreOfKind kind (limits_of self.old).threshold values
+            → length values ≡ n → Keeps self.new (rows_after (limits_of self.old) values rows) }
+        ensures quiet { (rows : List Row) (values : List ℕ) → Keeps self.old rows → AreOfKind kind (limits_of self.old).threshold values
+            → length values ≡ n → IsQuiet (limits_of self.old) values rows }
         ensures settings { self.new.settings ≡ self.old.settings }
         ensures moment { self.new.moment ≡ self.old.moment }
         ensures last { self.new.last ≡ (if nat_lt 0 n then last else self.old.last) }

@@ -71,7 +71,7 @@ pub(crate) fn samples_of(duration: u32) -> u64
 
 impl Settings {
     /// The settings of a new limiter: both thresholds at their greatest, all else zero, empty or unspecified.
-    pub(crate) fn new(alloc: Global) -> Settings
+    pub fn new(alloc: Global) -> Settings
         ensures { result ≡ new_settings }
     {
         Settings {

@@ -14,7 +14,7 @@ use Rattle.limiter_core.specs.declared.settings.Actions.{Actions}
 use Rattle.limiter_core.specs.declared.settings.Settings.{Settings}
 use Rattle.limiter_core.specs.Counting.{cap, count_of, taken, fires_at}
 use Rattle.limiter_core.specs.Rows.{Row, Entry, OverThreshold, UnderThreshold, is_past, need, fire_of}
-use Rattle.limiter_core.specs.Settings.{in_force, row_of, need_of}
+use Rattle.limiter_core.specs.Settings.{limits_at, row_of, need_of}
 use Rattle.limiter_core.proofs.Firing.{counted as row_counted, fire_counted, count_of_entry}
 use Rattle.relay_core.specs.declared.scripts.Origin.{Origin}
 use Rattle.relay_core.specs.declared.scripts.Origin.TheVariants.{Local}
@@ -188,9 +188,9 @@ need_counted seconds small = grind (arith, small)
 
 -- one sample more
 rows_alike : (settings : Settings) (now : Option ℕ) (value : ℕ) (xs ys : List Row) → AreInRange settings → AreCountedAlike xs ys
-    → AreCountedAlike (row_of (in_force settings now) value ∷ xs) (row_of (in_force settings now) value ∷ ys)
+    → AreCountedAlike (row_of (limits_at settings now) value ∷ xs) (row_of (limits_at settings now) value ∷ ys)
 rows_alike settings now value xs ys range alike =
-    let row = row_of (in_force settings now) value in
+    let row = row_of (limits_at settings now) value in
     record {
       over = row_counted OverThreshold row xs (λ _. need_counted settings.min_over_duration range.over)
           ∙ ap (taken (is_past OverThreshold row) (need OverThreshold row)) alike.over
@@ -201,9 +201,9 @@ rows_alike settings now value xs ys range alike =
     }
 
 fires_alike : (settings : Settings) (now : Option ℕ) (value : ℕ) (xs ys : List Row) → AreInRange settings → AreCountedAlike xs ys
-    → fire_of (row_of (in_force settings now) value ∷ xs) ≡ fire_of (row_of (in_force settings now) value ∷ ys)
+    → fire_of (row_of (limits_at settings now) value ∷ xs) ≡ fire_of (row_of (limits_at settings now) value ∷ ys)
 fires_alike settings now value xs ys range alike =
-    let row = row_of (in_force settings now) value in
+    let row = row_of (limits_at settings now) value in
     let fire : Count → Count → Fire = λ over under.
     if fires_at (is_past OverThreshold row) (need OverThreshold row) over then Over
     else if fires_at (is_past UnderThreshold row) (need UnderThreshold row) under then Under else Quiet in
@@ -252,8 +252,8 @@ sample_of_alike Import value v rows others range i e =
       import = rows_alike settings v.moment value v.import.rows rows range.import i;
       export = e;
     } in
-    let after = fire_alike (fire_of (row_of (in_force settings v.moment) value ∷ v.import.rows)) settings.actions taken_in _ taken_range agree in
-    let P : Fire → Type 0 = λ fire. AreAlike (after_fire (fire_of (row_of (in_force settings v.moment) value ∷ v.import.rows)) settings.actions taken_in)
+    let after = fire_alike (fire_of (row_of (limits_at settings v.moment) value ∷ v.import.rows)) settings.actions taken_in _ taken_range agree in
+    let P : Fire → Type 0 = λ fire. AreAlike (after_fire (fire_of (row_of (limits_at settings v.moment) value ∷ v.import.rows)) settings.actions taken_in)
     (after_fire fire settings.actions (record (with_rows rows others v) { import = with_sample v.moment value (with_rows rows others v).import })) in
     record { fire = fires; after = subst P fires after }
 sample_of_alike Export value v rows others range i e =
@@ -266,8 +266,8 @@ sample_of_alike Export value v rows others range i e =
       import = i;
       export = rows_alike settings v.moment value v.export.rows others range.export e;
     } in
-    let after = fire_alike (fire_of (row_of (in_force settings v.moment) value ∷ v.export.rows)) settings.actions taken_in _ taken_range agree in
-    let P : Fire → Type 0 = λ fire. AreAlike (after_fire (fire_of (row_of (in_force settings v.moment) value ∷ v.export.rows)) settings.actions taken_in)
+    let after = fire_alike (fire_of (row_of (limits_at settings v.moment) value ∷ v.export.rows)) settings.actions taken_in _ taken_range agree in
+    let P : Fire → Type 0 = λ fire. AreAlike (after_fire (fire_of (row_of (limits_at settings v.moment) value ∷ v.export.rows)) settings.actions taken_in)
     (after_fire fire settings.actions (record (with_rows rows others v) { export = with_sample v.moment value (with_rows rows others v).export })) in
     record { fire = fires; after = subst P fires after }
 

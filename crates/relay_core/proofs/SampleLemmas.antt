@@ -10,8 +10,8 @@ use Rattle.limiter_core.specs.declared.kinds.Fire.TheVariants.{Quiet}
 use Rattle.limiter_core.specs.declared.kinds.Kind.{Kind}
 use Rattle.limiter_core.specs.declared.kinds.Kind.TheVariants.{Over, Under, Equal}
 use Rattle.limiter_core.specs.Rows.{Row}
-use Rattle.limiter_core.specs.Settings.{InForce, in_force, kind_of}
-use Rattle.limiter_core.specs.State.{State, force_of, AreOfKind, IsQuiet, Keeps, rows_after}
+use Rattle.limiter_core.specs.Settings.{Limits, limits_at, kind_of}
+use Rattle.limiter_core.specs.State.{State, limits_of, AreOfKind, IsQuiet, Keeps, rows_after}
 use Rattle.relay_core.specs.declared.relay.RelayCore.{RelayCore}
 use Rattle.relay_core.specs.declared.sampling.Firings.{Firings}
 use Rattle.relay_core.specs.Limiters.{metered_of, with_metered}
@@ -99,7 +99,7 @@ metered_after-settings : (now : Option ℕ) (values : List ℕ) (m : Metered) �
 metered_after-settings now [] m = refl
 metered_after-settings now (value ∷ values) m = metered_after-settings now values (with_sample now value m)
 
-metered_after-rows : (now : Option ℕ) (values : List ℕ) (m : Metered) → (metered_after now values m).rows ≡ rows_after (in_force m.settings now) values m.rows
+metered_after-rows : (now : Option ℕ) (values : List ℕ) (m : Metered) → (metered_after now values m).rows ≡ rows_after (limits_at m.settings now) values m.rows
 metered_after-rows now [] m = refl
 metered_after-rows now (value ∷ values) m = metered_after-rows now values (with_sample now value m)
 
@@ -114,21 +114,21 @@ metered_after-last now (x ∷ y ∷ values) (suc i) d m is = metered_after-last 
 pub last_of_some : (n last before now : ℕ) → 0 < n → now ≡ (if nat_lt 0 n then last else before) → now ≡ last
 last_of_some n last before now some is = grind (arith, some, is)
 
--- what is in force in a limiter is in force in the one that it stands for
-same_force : (limiter : State) (now : Option ℕ) (m : Metered) → MeteredStands limiter now m → force_of limiter ≡ in_force m.settings now
-same_force limiter now m stands = cc (stands.settings, stands.moment)
+-- a limiter has the limits of the one that it stands for
+same_limits : (limiter : State) (now : Option ℕ) (m : Metered) → MeteredStands limiter now m → limits_of limiter ≡ limits_at m.settings now
+same_limits limiter now m stands = cc (stands.settings, stands.moment)
 
 -- a limiter that took samples as one
 pub metered_stands : (old new : State) (now : Option ℕ) (m : Metered) (values : List ℕ) → MeteredStands old now m
     → new.settings ≡ old.settings → new.moment ≡ old.moment → 0 < length values → new.last ≡ get_or values (length values - 1) 0
-    → Keeps new (rows_after (force_of old) values m.rows) → MeteredStands new now (metered_after now values m)
+    → Keeps new (rows_after (limits_of old) values m.rows) → MeteredStands new now (metered_after now values m)
 metered_stands old new now m values stands settings moment some last keeps = record {
   settings = settings ∙ stands.settings ∙ sym (metered_after-settings now values m);
   moment = moment ∙ stands.moment;
   last = last ∙ sym (metered_after-last now values (length values - 1) 0 m (omega (arith, some)));
   rows =
-      let P : InForce → Type 0 = λ force. Keeps new (rows_after force values m.rows) in
-      subst (Keeps new) (sym (metered_after-rows now values m)) (subst P (same_force old now m stands) keeps);
+      let P : Limits → Type 0 = λ limits. Keeps new (rows_after limits values m.rows) in
+      subst (Keeps new) (sym (metered_after-rows now values m)) (subst P (same_limits old now m stands) keeps);
 }
 
 -- more samples, and then more
@@ -226,7 +226,7 @@ measured-quiet x w firings quiet =
     ap go quiet
 
 -- import values that bring nothing
-pub quiet_values : (values : List ℕ) (w : World) (firings : Firings) → IsQuiet (in_force w.import.settings w.moment) values w.import.rows
+pub quiet_values : (values : List ℕ) (w : World) (firings : Firings) → IsQuiet (limits_at w.import.settings w.moment) values w.import.rows
     → after_samples (imports values) (amid w firings) ≡ amid (record w { import = metered_after w.moment values w.import }) firings
 unfolding after_samples fire_at
 quiet_values [] w firings quiet = refl
@@ -236,7 +236,7 @@ quiet_values (value ∷ values) w firings quiet =
 
 -- pairs of which neither value brings anything
 pub quiet_pairs : (values others : List ℕ) (w : World) (firings : Firings) → length values ≡ length others
-    → IsQuiet (in_force w.import.settings w.moment) values w.import.rows → IsQuiet (in_force w.export.settings w.moment) others w.export.rows
+    → IsQuiet (limits_at w.import.settings w.moment) values w.import.rows → IsQuiet (limits_at w.export.settings w.moment) others w.export.rows
     → after_samples (pairs values others) (amid w firings)
     ≡ amid (record w { import = metered_after w.moment values w.import; export = metered_after w.moment others w.export }) firings
 unfolding after_samples fire_at
@@ -254,16 +254,16 @@ quiet_pairs (value ∷ values) (other ∷ others) w firings even quiet other_qui
 pub skipped_values : (old : RelayCore) (limiter : State) (values : List ℕ) (named : IsDeviceName old.device)
     (clock : old.export.moment ≡ limiter.moment) → 0 < length values
     → limiter.settings ≡ old.import.settings → limiter.moment ≡ old.import.moment → limiter.last ≡ get_or values (length values - 1) 0
-    → ((rows : List Row) → Keeps old.import rows → Keeps limiter (rows_after (force_of old.import) values rows))
-    → ((rows : List Row) → Keeps old.import rows → IsQuiet (force_of old.import) values rows)
+    → ((rows : List Row) → Keeps old.import rows → Keeps limiter (rows_after (limits_of old.import) values rows))
+    → ((rows : List Row) → Keeps old.import rows → IsQuiet (limits_of old.import) values rows)
     → (firings : Firings) → Takes old (record old { import = limiter; named = named; one_clock = clock }) firings firings (imports values)
 skipped_values old limiter values named clock some settings moment last keeps quiet firings =
     let new : RelayCore = record old { import = limiter; named = named; one_clock = clock } in
     let after : (w : World) → StandsFor old w
     → after_samples (imports values) (amid w firings) ≡ amid (record w { import = metered_after w.moment values w.import }) firings =
     λ w stands.
-    let P : InForce → Type 0 = λ force. IsQuiet force values w.import.rows in
-    quiet_values values w firings (subst P (same_force old.import w.moment w.import stands.import) (quiet w.import.rows stands.import.rows)) in
+    let P : Limits → Type 0 = λ limits. IsQuiet limits values w.import.rows in
+    quiet_values values w firings (subst P (same_limits old.import w.moment w.import stands.import) (quiet w.import.rows stands.import.rows)) in
     record {
       world = λ w stands.
           let import = metered_stands old.import limiter w.moment w.import values stands.import settings moment some last (keeps w.import.rows stands.import.rows) in
@@ -284,10 +284,10 @@ pub skipped_pairs : (old : RelayCore) (import export : State) (values others : L
     (clock : export.moment ≡ import.moment) → 0 < length values → length others ≡ length values
     → import.settings ≡ old.import.settings → import.moment ≡ old.import.moment → import.last ≡ get_or values (length values - 1) 0
     → export.settings ≡ old.export.settings → export.moment ≡ old.export.moment → export.last ≡ get_or others (length others - 1) 0
-    → ((rows : List Row) → Keeps old.import rows → Keeps import (rows_after (force_of old.import) values rows))
-    → ((rows : List Row) → Keeps old.export rows → Keeps export (rows_after (force_of old.export) others rows))
-    → ((rows : List Row) → Keeps old.import rows → IsQuiet (force_of old.import) values rows)
-    → ((rows : List Row) → Keeps old.export rows → IsQuiet (force_of old.export) others rows)
+    → ((rows : List Row) → Keeps old.import rows → Keeps import (rows_after (limits_of old.import) values rows))
+    → ((rows : List Row) → Keeps old.export rows → Keeps export (rows_after (limits_of old.export) others rows))
+    → ((rows : List Row) → Keeps old.import rows → IsQuiet (limits_of old.import) values rows)
+    → ((rows : List Row) → Keeps old.export rows → IsQuiet (limits_of old.export) others rows)
     → (firings : Firings) → Takes old (record old { import = import; export = export; named = named; one_clock = clock }) firings firings (pairs values others)
 skipped_pairs old import export values others named clock some even settings moment last other_settings other_moment other_last keeps other_keeps quiet other_quiet firings =
     let new : RelayCore = record old { import = import; export = export; named = named; one_clock = clock } in
@@ -295,10 +295,10 @@ skipped_pairs old import export values others named clock some even settings mom
     → after_samples (pairs values others) (amid w firings)
     ≡ amid (record w { import = metered_after w.moment values w.import; export = metered_after w.moment others w.export }) firings =
     λ w stands.
-    let P : InForce → Type 0 = λ force. IsQuiet force values w.import.rows in
-    let Q : InForce → Type 0 = λ force. IsQuiet force others w.export.rows in
-    quiet_pairs values others w firings (sym even) (subst P (same_force old.import w.moment w.import stands.import) (quiet w.import.rows stands.import.rows))
-    (subst Q (same_force old.export w.moment w.export stands.export) (other_quiet w.export.rows stands.export.rows)) in
+    let P : Limits → Type 0 = λ limits. IsQuiet limits values w.import.rows in
+    let Q : Limits → Type 0 = λ limits. IsQuiet limits others w.export.rows in
+    quiet_pairs values others w firings (sym even) (subst P (same_limits old.import w.moment w.import stands.import) (quiet w.import.rows stands.import.rows))
+    (subst Q (same_limits old.export w.moment w.export stands.export) (other_quiet w.export.rows stands.export.rows)) in
     record {
       world = λ w stands.
           let stands_after : StandsFor new

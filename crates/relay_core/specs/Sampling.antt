@@ -8,7 +8,7 @@ use Rattle.limiter_core.specs.declared.kinds.Fire.{Fire}
 use Rattle.limiter_core.specs.declared.kinds.Fire.TheVariants.{Quiet, Over, Under}
 use Rattle.limiter_core.specs.declared.settings.Actions.{Actions}
 use Rattle.limiter_core.specs.Rows.{fire_of}
-use Rattle.limiter_core.specs.Settings.{in_force, row_of}
+use Rattle.limiter_core.specs.Settings.{limits_at, row_of}
 use Rattle.relay_events.specs.declared.reply.Reply.{Reply}
 use Rattle.relay_events.specs.declared.reply.Reply.TheVariants.{Sampled, SampledBoth}
 use Rattle.relay_core.specs.declared.sampling.Firings.{Firings}
@@ -43,7 +43,7 @@ measurements samples = measurements_in samples.import samples.export
 
 -- a limiter with one sample more, at a moment of the clock
 abbrev pub with_sample : Option ℕ → ℕ → Metered → Metered
-with_sample moment value m = record m { last = value; rows = row_of (in_force m.settings moment) value ∷ m.rows }
+with_sample moment value m = record m { last = value; rows = row_of (limits_at m.settings moment) value ∷ m.rows }
 
 -- what a sample brings
 unfoldable pub fire_at : Measurement → World → Fire

@@ -2,7 +2,7 @@
 
 ghost use Rattle.std.specs.Prelude.{◌≡◌, ℕ, ◌+◌, ◌*◌, ◌<◌, ◌≤◌, length, take, drop, slice_index_or, IfSome};
 ghost use Rattle.lane_sampler.specs.Scans.{IsRightScan};
-ghost use Rattle.limiter_core.specs.State.{force_of, AreOfKind, quiet_count};
+ghost use Rattle.limiter_core.specs.State.{limits_of, AreOfKind, quiet_count};
 ghost use Rattle.relay_core.specs.declared.sampling.Firings.{Firings};
 ghost use Rattle.relay_core.specs.Sampling.{imports, pairs};
 ghost use Rattle.relay_core.specs.Taking.{Takes, AreAtMost};
@@ -78,7 +78,7 @@ impl RelayCore {
     fn skip_values(&mut self, kind: Kind, values: &[u32])
         requires some { 0 < length values.now }
         requires quiet { length values.now ≤ quiet_count kind self.old.import }
-        requires kind { AreOfKind kind (force_of self.old.import).threshold values.now }
+        requires kind { AreOfKind kind (limits_of self.old.import).threshold values.now }
         ensures { (firings : Firings) → Takes self.old self.new firings firings (imports values.now) }
     {
         let last = values[values.len() - 1];
@@ -91,8 +91,8 @@ impl RelayCore {
         requires even { length others.now ≡ length values.now }
         requires quiet { length values.now ≤ quiet_count kind self.old.import }
         requires other_quiet { length values.now ≤ quiet_count other_kind self.old.export }
-        requires kind { AreOfKind kind (force_of self.old.import).threshold values.now }
-        requires other_kind { AreOfKind other_kind (force_of self.old.export).threshold others.now }
+        requires kind { AreOfKind kind (limits_of self.old.import).threshold values.now }
+        requires other_kind { AreOfKind other_kind (limits_of self.old.export).threshold others.now }
         ensures { (firings : Firings) → Takes self.old self.new firings firings (pairs values.now others.now) }
     {
         let count = values.len();
@@ -113,7 +113,7 @@ impl RelayCore {
         requires few { length values.now ≤ 256 }
         requires within { at < length values.now }
         requires right { IsRightScan values.now scan.now }
-        requires active { scan.now.threshold ≡ (force_of self.old.import).threshold }
+        requires active { scan.now.threshold ≡ (limits_of self.old.import).threshold }
         requires counted { AreAtMost at firings.old }
         ensures takes { Takes self.old self.new firings.old firings.new (imports (take result (drop at values.now))) }
         ensures some { 0 < result }
@@ -147,8 +147,8 @@ impl RelayCore {
         requires within { at < length values.now }
         requires right { IsRightScan values.now scan.now }
         requires other_right { IsRightScan others.now other_scan.now }
-        requires active { scan.now.threshold ≡ (force_of self.old.import).threshold }
-        requires other_active { other_scan.now.threshold ≡ (force_of self.old.export).threshold }
+        requires active { scan.now.threshold ≡ (limits_of self.old.import).threshold }
+        requires other_active { other_scan.now.threshold ≡ (limits_of self.old.export).threshold }
         requires counted { AreAtMost (2 * at) firings.old }
         ensures takes { Takes self.old self.new firings.old firings.new (pairs (take result (drop at values.now)) (take result (drop at others.now))) }
         ensures some { 0 < result }

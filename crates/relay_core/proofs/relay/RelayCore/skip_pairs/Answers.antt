@@ -1,15 +1,15 @@
 use Rattle.std.proofs.Common.{◌-◌, ℕ, length, get_or, arith, refl, sym, ap, ◌∙◌}
-use Rattle.limiter_core.specs.State.{force_of}
+use Rattle.limiter_core.specs.State.{limits_of}
 use Rattle.relay_core.proofs.SampleLemmas.{kind_at, skipped_pairs, last_of_some}
 use Rattle.relay_core.proofs.relay.RelayCore.skip_pairs.Goals as goal
 
 pub skip_run-requires-clause-last : goal.skip_run-requires-clause-last
 skip_run-requires-clause-last c = λ some.
-    kind_at c.args.kind (force_of c.args.self.now.import).threshold c.args.values.now (length c.args.values.now - 1) 0 (omega (arith, some)) c.requires.kind
+    kind_at c.args.kind (limits_of c.args.self.now.import).threshold c.args.values.now (length c.args.values.now - 1) 0 (omega (arith, some)) c.requires.kind
 
 pub skip_run-requires-2-clause-last : goal.skip_run-requires-2-clause-last
 skip_run-requires-2-clause-last c = λ some.
-    kind_at c.args.other_kind (force_of c.args.self.now.export).threshold c.args.others.now (length c.args.values.now - 1) 0
+    kind_at c.args.other_kind (limits_of c.args.self.now.export).threshold c.args.others.now (length c.args.values.now - 1) 0
     (omega (arith, some, c.requires.even)) c.requires.other_kind
 
 pub returns : goal.returns
