@@ -1,7 +1,7 @@
 //! A meter that goes on from an earlier run.
-ghost use Rattle.std.specs.Prelude.{◌≡◌, ◌<◌, ◌≤◌, [], IfOk, OnOk};
+ghost use Rattle.std.specs.Prelude.{◌≡◌, ◌≤◌, [], IfOk, OnOk};
 ghost use Rattle.meter_serving.specs.Resuming.{GoesOn, world_of};
-ghost use Rattle.relay_core.specs.Agreeing.{IsWorld};
+ghost use Rattle.relay_core.specs.Agreeing.{AreInRange, IsWorld};
 ghost use Rattle.relay_core.specs.Opening.{IsFitOpening, opened};
 ghost use Rattle.relay_core.specs.Runs.{world_after};
 ghost use Rattle.relay_core.specs.Stands.{StandsFor};
@@ -61,11 +61,10 @@ pub fn resumed_recorder(alloc: Global, trace: &Trace, capacity: u16) -> Result<R
 
 /// The durations of a limiter that is written down are numbers of 32 bits.
 fn limiter_has_range(opening: &LimiterOpening)
-    ensures over { opening.now.min_over_duration < 4294967296 }
-    ensures under { opening.now.min_under_duration < 4294967296 }
+    ensures { AreInRange opening.now.settings }
 {
-    let _over = opening.min_over_duration;
-    let _under = opening.min_under_duration;
+    let _over = opening.settings.min_over_duration;
+    let _under = opening.settings.min_under_duration;
 }
 
 /// The durations of a core that is written down are numbers of 32 bits, those in its scripts' steps too: a copy of these tells that.

@@ -1,4 +1,3 @@
-pub mod LimiterLines
 pub mod LimitersBack
 pub mod OpeningBack
 pub mod OpeningDates

@@ -56,14 +56,14 @@ moment_is_row (Some m) le = more (codes "now") (decimal m ∷ []) refl (more (de
 
 -- ---- a limiter
 
-profile_is_row : (which : Which) (o : LimiterOpening) → IsTracedLimiter o → is_row (profile_row which o.profile) ≡ true
+profile_is_row : (which : Which) (o : LimiterOpening) → IsTracedLimiter o → is_row (profile_row which o.settings.profile) ≡ true
 profile_is_row which o traced =
-    let id : o.profile.id ≤ 42949672950 = omega (arith, traced.profile_id) in
-    let duration : o.profile.duration ≤ 42949672950 = omega (arith, traced.profile_duration) in
-    let start = hex_is_word (date_time_bytes o.profile.start) (date_time_has_bytes o.profile.start) (date_time_is_bytes o.profile.start traced.profile_start) in
-    more (label which (codes "profile")) (decimal o.profile.id ∷ encode_upper (date_time_bytes o.profile.start) ∷ decimal o.profile.duration ∷ []) (label_is_word which (codes "profile") refl)
-    (more (decimal o.profile.id) (encode_upper (date_time_bytes o.profile.start) ∷ decimal o.profile.duration ∷ []) (number_is_word o.profile.id id)
-    (more (encode_upper (date_time_bytes o.profile.start)) (decimal o.profile.duration ∷ []) start (more (decimal o.profile.duration) [] (number_is_word o.profile.duration duration) refl)))
+    let id : o.settings.profile.id ≤ 42949672950 = omega (arith, traced.profile_id) in
+    let duration : o.settings.profile.duration ≤ 42949672950 = omega (arith, traced.profile_duration) in
+    let start = hex_is_word (date_time_bytes o.settings.profile.start) (date_time_has_bytes o.settings.profile.start) (date_time_is_bytes o.settings.profile.start traced.profile_start) in
+    more (label which (codes "profile")) (decimal o.settings.profile.id ∷ encode_upper (date_time_bytes o.settings.profile.start) ∷ decimal o.settings.profile.duration ∷ []) (label_is_word which (codes "profile") refl)
+    (more (decimal o.settings.profile.id) (encode_upper (date_time_bytes o.settings.profile.start) ∷ decimal o.settings.profile.duration ∷ []) (number_is_word o.settings.profile.id id)
+    (more (encode_upper (date_time_bytes o.settings.profile.start)) (decimal o.settings.profile.duration ∷ []) start (more (decimal o.settings.profile.duration) [] (number_is_word o.settings.profile.duration duration) refl)))
 
 ids_are_words : (ids : List ℕ) → AreIds ids → AreWords (all_words value_words ids)
 unfolding all_words
@@ -84,13 +84,13 @@ count_is_row name count is within =
 
 limiter_are_rows : (which : Which) (o : LimiterOpening) (rows : List Row) → IsFitLimiterOpening o → IsTracedLimiter o → AreRows rows → AreRows (limiter_rows which o ++ rows)
 limiter_are_rows which o rows fit traced are =
-    let normal = number_is_row (label which (codes "normal")) o.normal_threshold (label_is_word which (codes "normal") refl) (omega (arith, traced.normal_threshold)) in
-    let emergency = number_is_row (label which (codes "emergency")) o.emergency_threshold (label_is_word which (codes "emergency") refl) (omega (arith, traced.emergency_threshold)) in
-    let minover = number_is_row (label which (codes "minover")) o.min_over_duration (label_is_word which (codes "minover") refl) (omega (arith, traced.min_over_duration)) in
-    let minunder = number_is_row (label which (codes "minunder")) o.min_under_duration (label_is_word which (codes "minunder") refl) (omega (arith, traced.min_under_duration)) in
+    let normal = number_is_row (label which (codes "normal")) o.settings.normal_threshold (label_is_word which (codes "normal") refl) (omega (arith, traced.normal_threshold)) in
+    let emergency = number_is_row (label which (codes "emergency")) o.settings.emergency_threshold (label_is_word which (codes "emergency") refl) (omega (arith, traced.emergency_threshold)) in
+    let minover = number_is_row (label which (codes "minover")) o.settings.min_over_duration (label_is_word which (codes "minover") refl) (omega (arith, traced.min_over_duration)) in
+    let minunder = number_is_row (label which (codes "minunder")) o.settings.min_under_duration (label_is_word which (codes "minunder") refl) (omega (arith, traced.min_under_duration)) in
     let profile = profile_is_row which o traced in
-    let groups = groups_is_row which o.groups traced.groups in
-    let actions = two_numbers_are_row (label which (codes "actions")) o.actions.over o.actions.under (label_is_word which (codes "actions") refl)
+    let groups = groups_is_row which o.settings.groups traced.groups in
+    let actions = two_numbers_are_row (label which (codes "actions")) o.settings.actions.over o.settings.actions.under (label_is_word which (codes "actions") refl)
     (omega (arith, traced.over_selector)) (omega (arith, traced.under_selector)) in
     let over = count_is_row (label which (codes "over")) o.over (label_is_word which (codes "over") refl) fit.runs.over_fits.within in
     let under = count_is_row (label which (codes "under")) o.under (label_is_word which (codes "under") refl) fit.runs.under_fits.within in

@@ -12,7 +12,7 @@ use Rattle.script_steps.specs.Writing.{data_of}
 use Rattle.trace_openings.proofs.OpeningFieldLaws.{version_again, device_line_again, state_line_again, mode_line_again, moment_line_again, value_line_again, table_line_again, profile_again, groups_again, actions_again, FitRunsMean, over_again, under_again, schedule_again}
 use Rattle.trace_openings.specs.OpeningFields.{label, version_from, device_in, state_in, mode_in, moment_in, table_in, profile_from, groups_from, actions_from, over_from, under_from, schedule_from}
 use Rattle.trace_words.specs.Labels.{labelled, number_row}
-use Rattle.trace_openings.specs.OpeningReading.{limiter_from, export_from, schedules_from, opening_with, opening_in, opening_from}
+use Rattle.trace_openings.specs.OpeningReading.{settings_from, limiter_from, export_from, schedules_from, opening_with, opening_in, opening_from}
 use Rattle.trace_openings.specs.OpeningRows.{moment_word, count_row, profile_row, groups_row, value_row, limiter_rows, schedule_row, schedule_rows, opening_rows}
 use Rattle.trace_openings.specs.OpeningTraced.{IsTracedLimiter, IsTracedSchedule, IsWritable}
 use Rattle.trace_words.specs.Places.{line_as}
@@ -45,23 +45,23 @@ nine_on number = two_on (three_on (four_on number))
 
 limiter_again : FitRunsMean → (which : Which) (o : LimiterOpening) (number : ℕ) (rows : List Row) (unended : List ℕ) → IsFitLimiterOpening o → IsTracedLimiter o
     → limiter_from which o.value (place number (limiter_rows which o ++ rows) unended) ≡ Ok (o, place (nine_on number) rows unended)
-unfolding limiter_from
+unfolding limiter_from settings_from
 limiter_again mean which o number rows unended fit traced =
     let under_row = count_row (label which (codes "under")) o.under in
     let from_over : List Row = count_row (label which (codes "over")) o.over ∷ under_row ∷ rows in
-    let actions_row : Row = label which (codes "actions") ∷ decimal o.actions.over ∷ decimal o.actions.under ∷ [] in
-    let from_groups : List Row = groups_row which o.groups ∷ actions_row ∷ from_over in
-    let from_profile : List Row = profile_row which o.profile ∷ from_groups in
-    let from_min_under : List Row = number_row (label which (codes "minunder")) o.min_under_duration ∷ from_profile in
-    let from_min_over : List Row = number_row (label which (codes "minover")) o.min_over_duration ∷ from_min_under in
-    let normal = number_line_again which (codes "normal") o.normal_threshold number (number_row (label which (codes "emergency")) o.emergency_threshold ∷ from_min_over) unended traced.normal_threshold in
-    let emergency = number_line_again which (codes "emergency") o.emergency_threshold (suc number) from_min_over unended traced.emergency_threshold in
-    let min_over = number_line_again which (codes "minover") o.min_over_duration (two_on number) from_min_under unended traced.min_over_duration in
-    let min_under = number_line_again which (codes "minunder") o.min_under_duration (three_on number) from_profile unended traced.min_under_duration in
-    let profile = line_again (profile_from which) (profile_row which o.profile) o.profile (four_on number) from_groups unended
-    (profile_again which o.profile traced.profile_id traced.profile_start traced.profile_duration) in
-    let groups = line_again (groups_from which) (groups_row which o.groups) o.groups (suc (four_on number)) (actions_row ∷ from_over) unended (groups_again which o.groups fit.groups traced.groups) in
-    let actions = line_again (actions_from which) actions_row o.actions (two_on (four_on number)) from_over unended (actions_again which o.actions traced.over_selector traced.under_selector) in
+    let actions_row : Row = label which (codes "actions") ∷ decimal o.settings.actions.over ∷ decimal o.settings.actions.under ∷ [] in
+    let from_groups : List Row = groups_row which o.settings.groups ∷ actions_row ∷ from_over in
+    let from_profile : List Row = profile_row which o.settings.profile ∷ from_groups in
+    let from_min_under : List Row = number_row (label which (codes "minunder")) o.settings.min_under_duration ∷ from_profile in
+    let from_min_over : List Row = number_row (label which (codes "minover")) o.settings.min_over_duration ∷ from_min_under in
+    let normal = number_line_again which (codes "normal") o.settings.normal_threshold number (number_row (label which (codes "emergency")) o.settings.emergency_threshold ∷ from_min_over) unended traced.normal_threshold in
+    let emergency = number_line_again which (codes "emergency") o.settings.emergency_threshold (suc number) from_min_over unended traced.emergency_threshold in
+    let min_over = number_line_again which (codes "minover") o.settings.min_over_duration (two_on number) from_min_under unended traced.min_over_duration in
+    let min_under = number_line_again which (codes "minunder") o.settings.min_under_duration (three_on number) from_profile unended traced.min_under_duration in
+    let profile = line_again (profile_from which) (profile_row which o.settings.profile) o.settings.profile (four_on number) from_groups unended
+    (profile_again which o.settings.profile traced.profile_id traced.profile_start traced.profile_duration) in
+    let groups = line_again (groups_from which) (groups_row which o.settings.groups) o.settings.groups (suc (four_on number)) (actions_row ∷ from_over) unended (groups_again which o.settings.groups fit.groups traced.groups) in
+    let actions = line_again (actions_from which) actions_row o.settings.actions (two_on (four_on number)) from_over unended (actions_again which o.settings.actions traced.over_selector traced.under_selector) in
     let over = line_again (over_from which o.value) (count_row (label which (codes "over")) o.over) o.over (three_on (four_on number)) (under_row ∷ rows) unended (over_again mean which o.value o.over o.under fit.runs) in
     let under = line_again (under_from which o.value o.over) under_row o.under (suc (three_on (four_on number))) rows unended (under_again mean which o.value o.over o.under fit.runs) in
     rw (normal, emergency, min_over, min_under, profile, groups, actions, over, under) refl

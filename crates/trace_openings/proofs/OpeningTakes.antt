@@ -1,6 +1,5 @@
 -- The lines that an opening takes.
 use Rattle.std.proofs.Common.{◌≡◌, ℕ, ◌+◌, List, [], ◌∷◌, ◌++◌, Ok}
-use Rattle.byte_reading.specs.Outcome.{◌>>=◌}
 use Rattle.byte_reading.proofs.OutcomeLemmas.{bind_ok}
 use Rattle.cosem_names.specs.declared.objects.Which.{Which}
 use Rattle.cosem_names.specs.declared.objects.Which.TheVariants.{Import, Export}
@@ -12,14 +11,19 @@ use Rattle.trace_words.specs.Rows.{Row}
 use Rattle.trace_words.specs.declared.version.Version.{Version}
 use Rattle.trace_words.specs.declared.version.Version.TheVariants.{One, Two}
 use Rattle.trace_openings.specs.OpeningFields.{version_from}
-use Rattle.trace_openings.specs.OpeningReading.{limiter_from, export_from, schedules_from, opening_with, opening_in, opening_from}
+use Rattle.trace_openings.specs.OpeningReading.{settings_from, limiter_from, export_from, schedules_from, opening_with, opening_in, opening_from}
+
+settings_takes : (which : Which) (place : Place) → Takes 7 place (settings_from which place)
+unfolding settings_from
+settings_takes which place =
+    takes_then 1 6 _ _ _ (takes_line _ place) (λ normal. takes_then 1 5 _ _ _ (takes_line _ normal.1) (λ emergency. takes_then 1 4 _ _ _ (takes_line _ emergency.1) (λ min_over.
+    takes_then 1 3 _ _ _ (takes_line _ min_over.1) (λ min_under. takes_then 1 2 _ _ _ (takes_line _ min_under.1) (λ profile. takes_then 1 1 _ _ _ (takes_line _ profile.1) (λ groups.
+    takes_then 1 0 _ _ _ (takes_line _ groups.1) (λ actions. takes_none _ _)))))))
 
 limiter_takes : (which : Which) (last : ℕ) (place : Place) → Takes 9 place (limiter_from which last place)
 unfolding limiter_from
 limiter_takes which last place =
-    takes_then 1 8 _ _ _ (takes_line _ place) (λ normal. takes_then 1 7 _ _ _ (takes_line _ normal.1) (λ emergency. takes_then 1 6 _ _ _ (takes_line _ emergency.1) (λ min_over.
-    takes_then 1 5 _ _ _ (takes_line _ min_over.1) (λ min_under. takes_then 1 4 _ _ _ (takes_line _ min_under.1) (λ profile. takes_then 1 3 _ _ _ (takes_line _ profile.1) (λ groups.
-    takes_then 1 2 _ _ _ (takes_line _ groups.1) (λ actions. takes_then 1 1 _ _ _ (takes_line _ actions.1) (λ over. takes_then 1 0 _ _ _ (takes_line _ over.1) (λ under. takes_none _ _)))))))))
+    takes_then 7 2 _ _ _ (settings_takes which place) (λ settings. takes_then 1 1 _ _ _ (takes_line _ settings.1) (λ over. takes_then 1 0 _ _ _ (takes_line _ over.1) (λ under. takes_none _ _)))
 
 -- the lines of the export limiter, of which version 1 has none
 abbrev export_lines : Version → ℕ

@@ -1,7 +1,7 @@
 -- An opening, read from its lines.
---     limiter_from, export_from   the lines of a limiter
---     opening_from                all lines from the version to the last schedule
-use Rattle.std.specs.Prelude.{◌≡◌, ◌≤◌, ℕ, List, [], Option, Ok, codes, length}
+--     settings_from, limiter_from, export_from   the lines of a limiter
+--     opening_from                               all lines from the version to the last schedule
+use Rattle.std.specs.Prelude.{◌≡◌, ◌≤◌, ℕ, List, Option, Ok, codes, length}
 use Rattle.byte_reading.specs.Outcome.{◌>>=◌}
 use Rattle.cosem_names.specs.declared.objects.Which.{Which}
 use Rattle.cosem_names.specs.declared.objects.Which.TheVariants.{Import, Export}
@@ -11,6 +11,7 @@ use Rattle.disconnect_control.specs.declared.state.ControlMode.TheVariants.{Mode
 use Rattle.disconnect_control.specs.declared.state.ControlState.TheVariants.{Connected}
 use Rattle.limiter_core.specs.Counting.{no_run}
 use Rattle.limiter_core.specs.Settings.{new_settings}
+use Rattle.limiter_core.specs.declared.settings.Settings.{Settings}
 use Rattle.relay_core.specs.declared.opening.LimiterOpening.{LimiterOpening}
 use Rattle.relay_core.specs.declared.opening.Opening.{Opening}
 use Rattle.relay_core.specs.declared.schedules.Schedules.{Schedules}
@@ -27,9 +28,9 @@ use Rattle.trace_words.specs.declared.version.Version.TheVariants.{One, Two}
 abbrev pub value_line : Which → Place → ReadLines ℕ
 value_line which place = line_as (labelled (label which (codes "value")) value_in) place
 
--- its lines behind that
-unfoldable pub limiter_from : Which → ℕ → Place → ReadLines LimiterOpening
-limiter_from which last place = do
+-- the lines of what is set of it
+unfoldable pub settings_from : Which → Place → ReadLines Settings
+settings_from which place = do
   normal ← line_as (labelled (label which (codes "normal")) value_in) place
   emergency ← line_as (labelled (label which (codes "emergency")) value_in) normal.1
   min_over ← line_as (labelled (label which (codes "minover")) value_in) emergency.1
@@ -37,11 +38,8 @@ limiter_from which last place = do
   profile ← line_as (profile_from which) min_under.1
   groups ← line_as (groups_from which) profile.1
   actions ← line_as (actions_from which) groups.1
-  over ← line_as (over_from which last) actions.1
-  under ← line_as (under_from which last over.0) over.1
   Ok (
     record {
-      value = last;
       normal_threshold = normal.0;
       emergency_threshold = emergency.0;
       min_over_duration = min_over.0;
@@ -49,50 +47,21 @@ limiter_from which last place = do
       profile = profile.0;
       groups = groups.0;
       actions = actions.0;
-      over = over.0;
-      under = under.0;
     },
-    under.1,
+    actions.1,
   )
 
--- a limiter of this last sample, these thresholds and durations, its other parts from the lines behind these
-unfoldable pub limiter_with : Which → ℕ → ℕ → ℕ → ℕ → ℕ → Place → ReadLines LimiterOpening
-limiter_with which last normal emergency min_over min_under place = do
-  profile ← line_as (profile_from which) place
-  groups ← line_as (groups_from which) profile.1
-  actions ← line_as (actions_from which) groups.1
-  over ← line_as (over_from which last) actions.1
+-- all its lines behind that of its last sample
+unfoldable pub limiter_from : Which → ℕ → Place → ReadLines LimiterOpening
+limiter_from which last place = do
+  settings ← settings_from which place
+  over ← line_as (over_from which last) settings.1
   under ← line_as (under_from which last over.0) over.1
-  Ok (
-    record {
-      value = last;
-      normal_threshold = normal;
-      emergency_threshold = emergency;
-      min_over_duration = min_over;
-      min_under_duration = min_under;
-      profile = profile.0;
-      groups = groups.0;
-      actions = actions.0;
-      over = over.0;
-      under = under.0;
-    },
-    under.1,
-  )
+  Ok (record { settings = settings.0; value = last; over = over.0; under = under.0 }, under.1)
 
 -- a limiter that is new
 abbrev pub new_limiter : LimiterOpening
-new_limiter = record {
-  value = 0;
-  normal_threshold = new_settings.normal_threshold;
-  emergency_threshold = new_settings.emergency_threshold;
-  min_over_duration = new_settings.min_over_duration;
-  min_under_duration = new_settings.min_under_duration;
-  profile = new_settings.profile;
-  groups = [];
-  actions = new_settings.actions;
-  over = no_run;
-  under = no_run;
-}
+new_limiter = record { settings = new_settings; value = 0; over = no_run; under = no_run }
 
 -- the export limiter, which version 1 of the text doesn't tell
 unfoldable pub export_from : Version → Place → ReadLines LimiterOpening

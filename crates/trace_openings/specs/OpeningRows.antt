@@ -10,6 +10,7 @@ use Rattle.cosem_names.specs.declared.objects.Which.TheVariants.{Import, Export}
 use Rattle.disconnect_control.specs.Transitions.{state_number, mode_number}
 use Rattle.limiter_core.specs.declared.count.Count.{Count}
 use Rattle.limiter_core.specs.declared.settings.Profile.{Profile}
+use Rattle.limiter_core.specs.declared.settings.Settings.{Settings}
 use Rattle.relay_core.specs.declared.opening.LimiterOpening.{LimiterOpening}
 use Rattle.relay_core.specs.declared.opening.Opening.{Opening}
 use Rattle.relay_core.specs.declared.schedules.Schedules.{Schedules}
@@ -36,19 +37,22 @@ groups_row which groups = label which (codes "groups") ∷ all_words value_words
 abbrev pub value_row : Which → LimiterOpening → Row
 value_row which limiter = number_row (label which (codes "value")) limiter.value
 
--- its lines behind that
+-- the lines of what is set of it
+abbrev pub settings_rows : Which → Settings → List Row
+settings_rows which settings =
+    number_row (label which (codes "normal")) settings.normal_threshold
+    ∷ number_row (label which (codes "emergency")) settings.emergency_threshold
+    ∷ number_row (label which (codes "minover")) settings.min_over_duration
+    ∷ number_row (label which (codes "minunder")) settings.min_under_duration
+    ∷ profile_row which settings.profile
+    ∷ groups_row which settings.groups
+    ∷ (label which (codes "actions") ∷ decimal settings.actions.over ∷ decimal settings.actions.under ∷ [])
+    ∷ []
+
+-- all its lines behind that of its last sample
 abbrev pub limiter_rows : Which → LimiterOpening → List Row
 limiter_rows which limiter =
-    number_row (label which (codes "normal")) limiter.normal_threshold
-    ∷ number_row (label which (codes "emergency")) limiter.emergency_threshold
-    ∷ number_row (label which (codes "minover")) limiter.min_over_duration
-    ∷ number_row (label which (codes "minunder")) limiter.min_under_duration
-    ∷ profile_row which limiter.profile
-    ∷ groups_row which limiter.groups
-    ∷ (label which (codes "actions") ∷ decimal limiter.actions.over ∷ decimal limiter.actions.under ∷ [])
-    ∷ count_row (label which (codes "over")) limiter.over
-    ∷ count_row (label which (codes "under")) limiter.under
-    ∷ []
+    settings_rows which limiter.settings ++ count_row (label which (codes "over")) limiter.over ∷ count_row (label which (codes "under")) limiter.under ∷ []
 
 abbrev pub schedule_row : ℕ → Schedule → Row
 schedule_row number schedule =

@@ -25,16 +25,16 @@ AreIds (id ∷ ids) = (id ≤ 65535) × AreIds ids
 -- watts and seconds of 32 bits, ids and selectors of 16 bits, and a start with fields in their ranges
 pub record IsTracedLimiter (o : LimiterOpening) : Type 0 where
   pub value : o.value ≤ 4294967295
-  pub normal_threshold : o.normal_threshold ≤ 4294967295
-  pub emergency_threshold : o.emergency_threshold ≤ 4294967295
-  pub min_over_duration : o.min_over_duration ≤ 4294967295
-  pub min_under_duration : o.min_under_duration ≤ 4294967295
-  pub profile_id : o.profile.id ≤ 65535
-  pub profile_start : IsDateTimeFields o.profile.start
-  pub profile_duration : o.profile.duration ≤ 4294967295
-  pub groups : AreIds o.groups
-  pub over_selector : o.actions.over ≤ 65535
-  pub under_selector : o.actions.under ≤ 65535
+  pub normal_threshold : o.settings.normal_threshold ≤ 4294967295
+  pub emergency_threshold : o.settings.emergency_threshold ≤ 4294967295
+  pub min_over_duration : o.settings.min_over_duration ≤ 4294967295
+  pub min_under_duration : o.settings.min_under_duration ≤ 4294967295
+  pub profile_id : o.settings.profile.id ≤ 65535
+  pub profile_start : IsDateTimeFields o.settings.profile.start
+  pub profile_duration : o.settings.profile.duration ≤ 4294967295
+  pub groups : AreIds o.settings.groups
+  pub over_selector : o.settings.actions.over ≤ 65535
+  pub under_selector : o.settings.actions.under ≤ 65535
 
 -- a selector of 16 bits, and entries that a schedule can have
 pub record IsTracedSchedule (schedule : Schedule) : Type 0 where

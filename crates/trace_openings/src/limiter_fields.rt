@@ -146,11 +146,7 @@ pub(crate) fn over(which: Which, last: u32, words: &mut Words) -> Result<Count, 
     ensures { Gives Memory (λ over. over) result (over_from which last words.old) }
 {
     let over = count(which, b"over", words)?;
-    let none = Count {
-        run: 0,
-        fired: false,
-    };
-    if are_fit(last, over, none) {
+    if are_fit(last, over, Count::none()) {
         Ok(over)
     } else {
         Err(RowFault::Wrong)

@@ -4,11 +4,11 @@ ghost use Rattle.std.specs.Prelude.{◌≡◌, ◌++◌, ◌∷◌, [], OnOk, co
 ghost use Rattle.trace_text.specs.Lines.{rows_text};
 ghost use Rattle.trace_openings.specs.OpeningFields.{label};
 ghost use Rattle.trace_words.specs.Labels.{number_row};
-ghost use Rattle.trace_openings.specs.OpeningRows.{count_row, profile_row, groups_row, value_row, limiter_rows};
+ghost use Rattle.trace_openings.specs.OpeningRows.{count_row, profile_row, groups_row, value_row, settings_rows, limiter_rows};
 ghost use Rattle.trace_words.specs.Writing.{blanked, all_words, value_words};
 
 use cosem_names::Which;
-use limiter_core::{Actions, Count, Profile};
+use limiter_core::{Actions, Count, Profile, Settings};
 use listed::Listed;
 use relay_core::LimiterOpening;
 use std::alloc::{AllocError, Global};
@@ -106,7 +106,26 @@ pub(crate) fn write_last(
     write_value(out, which, b"value", limiter.value)
 }
 
-/// Writes a limiter's lines behind that.
+/// Writes the lines of what is set of a limiter.
+#[tactic(auto)]
+fn write_settings(
+    alloc: Global,
+    out: &mut Vec<u8>,
+    which: Which,
+    settings: &Settings,
+) -> Result<(), AllocError>
+    ensures { OnOk result (out.new.items ≡ out.old.items ++ rows_text (settings_rows which settings.now)) }
+{
+    write_value(out, which, b"normal", settings.normal_threshold)?;
+    write_value(out, which, b"emergency", settings.emergency_threshold)?;
+    write_value(out, which, b"minover", settings.min_over_duration)?;
+    write_value(out, which, b"minunder", settings.min_under_duration)?;
+    write_profile(alloc, out, which, &settings.profile)?;
+    write_groups(out, which, &settings.groups)?;
+    write_actions(out, which, &settings.actions)
+}
+
+/// Writes a limiter's lines behind that of its last sample.
 #[tactic(auto)]
 pub(crate) fn write_limiter(
     alloc: Global,
@@ -116,13 +135,7 @@ pub(crate) fn write_limiter(
 ) -> Result<(), AllocError>
     ensures { OnOk result (out.new.items ≡ out.old.items ++ rows_text (limiter_rows which limiter.now)) }
 {
-    write_value(out, which, b"normal", limiter.normal_threshold)?;
-    write_value(out, which, b"emergency", limiter.emergency_threshold)?;
-    write_value(out, which, b"minover", limiter.min_over_duration)?;
-    write_value(out, which, b"minunder", limiter.min_under_duration)?;
-    write_profile(alloc, out, which, &limiter.profile)?;
-    write_groups(out, which, &limiter.groups)?;
-    write_actions(out, which, &limiter.actions)?;
+    write_settings(alloc, out, which, &limiter.settings)?;
     write_count(out, which, b"over", &limiter.over)?;
     write_count(out, which, b"under", &limiter.under)
 }

@@ -4,7 +4,7 @@ use Rattle.std.proofs.lemmas.Bool.Decides.{nat_tests}
 use Rattle.byte_reading.specs.Outcome.{◌>>=◌}
 use Rattle.cosem_names.specs.declared.objects.Which.{Which}
 use Rattle.cosem_names.specs.declared.objects.Which.TheVariants.{Import, Export}
-use Rattle.trace_openings.specs.OpeningReading.{limiter_from, export_from, schedules_from, opening_with, opening_in, opening_from}
+use Rattle.trace_openings.specs.OpeningReading.{settings_from, limiter_from, export_from, schedules_from, opening_with, opening_in, opening_from}
 use Rattle.trace_words.specs.Places.{Place, place_of, line_as, passed, first_as, nothing_left, ended_at}
 use Rattle.trace_words.specs.Rows.{Row}
 use Rattle.trace_words.specs.declared.fault.RowFault.{RowFault}
@@ -59,12 +59,17 @@ unfolding ended_at
 ended_other place x e = left_other place.number place.rows place.unended x e
 
 -- the opening
+settings_other : (which : Which) (place : Place) → IsOther (settings_from which place)
+unfolding settings_from
+settings_other which place =
+    then_other _ _ (line_other _ place) (λ normal. then_other _ _ (line_other _ normal.1) (λ emergency. then_other _ _ (line_other _ emergency.1) (λ min_over.
+    then_other _ _ (line_other _ min_over.1) (λ min_under. then_other _ _ (line_other _ min_under.1) (λ profile. then_other _ _ (line_other _ profile.1) (λ groups.
+    then_other _ _ (line_other _ groups.1) (λ actions. value_other _)))))))
+
 limiter_other : (which : Which) (last : ℕ) (place : Place) → IsOther (limiter_from which last place)
 unfolding limiter_from
 limiter_other which last place =
-    then_other _ _ (line_other _ place) (λ normal. then_other _ _ (line_other _ normal.1) (λ emergency. then_other _ _ (line_other _ emergency.1) (λ min_over.
-    then_other _ _ (line_other _ min_over.1) (λ min_under. then_other _ _ (line_other _ min_under.1) (λ profile. then_other _ _ (line_other _ profile.1) (λ groups.
-    then_other _ _ (line_other _ groups.1) (λ actions. then_other _ _ (line_other _ actions.1) (λ over. then_other _ _ (line_other _ over.1) (λ under. value_other _)))))))))
+    then_other _ _ (settings_other which place) (λ settings. then_other _ _ (line_other _ settings.1) (λ over. then_other _ _ (line_other _ over.1) (λ under. value_other _)))
 
 export_other : (version : Version) (place : Place) → IsOther (export_from version place)
 unfolding export_from

@@ -249,10 +249,10 @@ fn hold(alloc: Global, text: &[u8], rows: &[Other]) -> Result<bool, AllocError> 
 // Whether a limiter has these thresholds and durations.
 fn has_limits(limiter: &LimiterOpening, limits: [u32; 4]) -> bool {
     [
-        limiter.normal_threshold,
-        limiter.emergency_threshold,
-        limiter.min_over_duration,
-        limiter.min_under_duration,
+        limiter.settings.normal_threshold,
+        limiter.settings.emergency_threshold,
+        limiter.settings.min_over_duration,
+        limiter.settings.min_under_duration,
     ] == limits
 }
 
@@ -268,9 +268,15 @@ fn has_emergency(
     groups: &[u16],
     actions: (u16, u16),
 ) -> bool {
-    (limiter.profile.id, limiter.profile.duration) == profile
-        && limiter.groups.as_slice() == groups
-        && (limiter.actions.over, limiter.actions.under) == actions
+    (
+        limiter.settings.profile.id,
+        limiter.settings.profile.duration,
+    ) == profile
+        && limiter.settings.groups.as_slice() == groups
+        && (
+            limiter.settings.actions.over,
+            limiter.settings.actions.under,
+        ) == actions
 }
 
 fn count(run: u64, fired: bool) -> Count {

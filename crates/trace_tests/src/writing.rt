@@ -112,14 +112,14 @@ fn are_lines_behind(alloc: Global, opening: &Opening, lines: &[u8]) -> Result<bo
 // Sets an import limiter that has fired over its threshold.
 fn set_import(alloc: Global, limiter: &mut LimiterOpening) -> Result<(), AllocError> {
     limiter.value = 5001;
-    limiter.normal_threshold = 5000;
-    limiter.emergency_threshold = 6000;
-    limiter.min_over_duration = 10;
-    limiter.min_under_duration = 20;
-    limiter.profile.id = 7;
-    limiter.profile.duration = 30;
-    limiter.groups = Listed::from_vec(Vec::from_slice(alloc, &[1, 65_535])?);
-    limiter.actions = Actions { over: 3, under: 4 };
+    limiter.settings.normal_threshold = 5000;
+    limiter.settings.emergency_threshold = 6000;
+    limiter.settings.min_over_duration = 10;
+    limiter.settings.min_under_duration = 20;
+    limiter.settings.profile.id = 7;
+    limiter.settings.profile.duration = 30;
+    limiter.settings.groups = Listed::from_vec(Vec::from_slice(alloc, &[1, 65_535])?);
+    limiter.settings.actions = Actions { over: 3, under: 4 };
     limiter.over = Count {
         run: 42_949_672_950,
         fired: true,
@@ -130,14 +130,14 @@ fn set_import(alloc: Global, limiter: &mut LimiterOpening) -> Result<(), AllocEr
 // Sets an export limiter with a run under its threshold.
 fn set_export(alloc: Global, limiter: &mut LimiterOpening) -> Result<(), AllocError> {
     limiter.value = 8000;
-    limiter.normal_threshold = 9000;
-    limiter.emergency_threshold = 9500;
-    limiter.min_over_duration = 40;
-    limiter.min_under_duration = 60;
-    limiter.profile.id = 8;
-    limiter.profile.duration = 70;
-    limiter.groups = Listed::from_vec(Vec::from_slice(alloc, &[2])?);
-    limiter.actions = Actions { over: 5, under: 6 };
+    limiter.settings.normal_threshold = 9000;
+    limiter.settings.emergency_threshold = 9500;
+    limiter.settings.min_over_duration = 40;
+    limiter.settings.min_under_duration = 60;
+    limiter.settings.profile.id = 8;
+    limiter.settings.profile.duration = 70;
+    limiter.settings.groups = Listed::from_vec(Vec::from_slice(alloc, &[2])?);
+    limiter.settings.actions = Actions { over: 5, under: 6 };
     limiter.under = Count {
         run: 12,
         fired: false,

@@ -33,7 +33,7 @@ fn pass(core: &mut RelayCore, alloc: Global) -> Result<(), AllocError> {
 
 fn is_set_limiter(limiter: &LimiterOpening, value: u32, threshold: u32) -> bool {
     limiter.value == value
-        && limiter.normal_threshold == threshold
+        && limiter.settings.normal_threshold == threshold
         && limiter.over
             == Count {
                 run: 3,
@@ -53,7 +53,7 @@ fn is_set(opening: &Opening) -> bool {
         && opening.moment == Some(50)
         && is_set_limiter(&opening.import, 5001, 5000)
         && is_set_limiter(&opening.export, 9001, 9000)
-        && opening.export.groups.as_slice() == [7].as_slice()
+        && opening.export.settings.groups.as_slice() == [7].as_slice()
 }
 
 fn tells(core: &RelayCore, alloc: Global) -> Result<bool, AllocError> {
