@@ -1,5 +1,5 @@
 -- An attribute that is written is read again.
-use Rattle.std.proofs.Common.{◌≡◌, ℕ, true, nat_le, List, map, length, Option, Some, None, ok_or, Result, Ok, Err, IfOk, length-append, refl, sym, ap, ap₂, subst, ◌∙◌, arith}
+use Rattle.std.proofs.Common.{◌≡◌, ℕ, true, nat_le, List, map, length, Some, ok_or, Result, Ok, Err, IfOk, refl, sym, ap, ap₂, subst, ◌∙◌, arith}
 use Rattle.std.proofs.lemmas.Bool.Decides.{nat_tests}
 use Rattle.std.proofs.lemmas.List.{length-map}
 use Rattle.std.specs.Result.{result_ok}
@@ -8,8 +8,9 @@ use Rattle.byte_reading.proofs.OutcomeLemmas.{done}
 use Rattle.cosem_axdr.specs.declared.value.Data.{Data}
 use Rattle.cosem_axdr.specs.declared.value.Data.TheVariants.{Enum}
 use Rattle.cosem_axdr.proofs.OneTree.{list_of_trees}
-use Rattle.cosem_datetime.specs.Fields.{DateFields, time_bytes, date_bytes, year_bytes}
+use Rattle.cosem_datetime.specs.Fields.{time_bytes, date_bytes}
 use Rattle.cosem_datetime.specs.Reading.{time_of, date_of}
+use Rattle.cosem_datetime.proofs.Lengths.{five_bytes}
 use Rattle.cosem_datetime.proofs.Spelled.{time_again, date_again}
 use Rattle.cosem_datetime.specs.declared.entry.EntryPattern.{EntryPattern}
 use Rattle.cosem_names.proofs.SeveralRead.{all_again, told_again}
@@ -18,7 +19,8 @@ use Rattle.action_schedule.specs.Kinds.{number_of, type_of_number}
 use Rattle.cosem_names.specs.WriteFault.{values}
 use Rattle.action_schedule.specs.Reading.{max_entries, selector_of, kind_of, entry_of, judged_entries, entries_of}
 use Rattle.action_schedule.specs.Schedule.{Schedule, IsEntry, AreEntries}
-use Rattle.action_schedule.specs.Writing.{script_data, entry_data, entries_data, ReadsBack}
+use Rattle.action_schedule.specs.Writing.{entry_data, entries_data, ReadsBack}
+use Rattle.cosem_names.specs.Scripts.{named, script_data}
 use Rattle.action_schedule.specs.declared.attribute.ScheduleAttribute.{ScheduleAttribute}
 use Rattle.cosem_names.specs.declared.write_fault.WriteFault.{WriteFault}
 use Rattle.cosem_names.specs.declared.write_fault.WriteFault.TheVariants.{Unmatched, Value}
@@ -26,7 +28,7 @@ use Rattle.action_schedule.specs.declared.kind.ScheduleType.{ScheduleType}
 use Rattle.action_schedule.specs.declared.kind.ScheduleType.TheVariants.{Type1, Type2, Type3, Type4, Type5}
 
 -- a script that is written
-selector_again : (selector : ℕ) → selector_of (script_data selector) ≡ Ok selector
+selector_again : (selector : ℕ) → selector_of (script_data (named selector)) ≡ Ok selector
 unfolding selector_of script_data
 selector_again selector = refl
 
@@ -37,14 +39,6 @@ type_again Type2 = refl
 type_again Type3 = refl
 type_again Type4 = refl
 type_again Type5 = refl
-
--- a date has five bytes
-two_of_year : (year : Option ℕ) → length (year_bytes year) ≡ 2
-two_of_year None = refl
-two_of_year (Some y) = refl
-
-five_bytes : (p : DateFields) → length (date_bytes p) ≡ 5
-five_bytes p = simp length-append (omega (arith, two_of_year p.year))
 
 -- an entry of its parts
 abbrev with_parts : List ℕ × List ℕ → Result EntryPattern WriteFault
@@ -76,7 +70,7 @@ entries_again entries fits =
     few = grind (arith, nat_tests, fits.few, length-map)
 
 -- what was written is read again, if memory sufficed
-pub selector_written : {E : Type 0} (result : Result Data E) (selector : ℕ) → IfOk result (λ value. value ≡ script_data selector) → IfOk result (λ value. selector_of value ≡ Ok selector)
+pub selector_written : {E : Type 0} (result : Result Data E) (selector : ℕ) → IfOk result (λ value. value ≡ script_data (named selector)) → IfOk result (λ value. selector_of value ≡ Ok selector)
 selector_written (Ok value) selector is = ap selector_of is ∙ selector_again selector
 selector_written (Err error) selector is = tt
 

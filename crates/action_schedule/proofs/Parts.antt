@@ -2,8 +2,8 @@
 use Rattle.std.proofs.Common.{◌≡◌, ℕ, List, [], ◌∷◌, length, Option, Some, ap₂, arith}
 use Rattle.std.proofs.lemmas.Bool.Decides.{nat_tests}
 use Rattle.cosem_axdr.specs.declared.value.Data.TheVariants.{OctetString}
-use Rattle.cosem_names.specs.Forms.{◌>>=◌, structure_with}
-use Rattle.action_schedule.specs.Forms.{so_many, entry_parts_of}
+use Rattle.cosem_names.specs.Forms.{◌>>=◌, so_many, structure_with}
+use Rattle.action_schedule.specs.Forms.{entry_parts_of}
 
 -- so many bytes as are wanted
 so_many_again : (n : ℕ) (bytes : List ℕ) → length bytes ≡ n → so_many n bytes ≡ Some bytes

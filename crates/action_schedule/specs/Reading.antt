@@ -1,14 +1,14 @@
 -- A Data as an attribute of a schedule (IEC 62056-6-2, class 22), or why it is refused. Another type anywhere is told before any value: that order is this meter's.
 use Rattle.std.specs.Prelude.{ℕ, nat_le, List, length, ok_or, Result, Ok}
 use Rattle.std.specs.Result.{result_ok}
-use Rattle.std.specs.Str.{bytes_eq}
 use Rattle.byte_reading.specs.Outcome.{◌>>=◌, ◌>>◌, guard}
 use Rattle.cosem_axdr.specs.declared.value.Data.{Data}
 use Rattle.cosem_axdr.specs.Forms.{array_of, enumerated_of}
 use Rattle.cosem_datetime.specs.Reading.{time_of, date_of}
 use Rattle.cosem_datetime.specs.declared.entry.EntryPattern.{EntryPattern}
-use Rattle.action_schedule.specs.Forms.{script_table, script_parts_of, entry_parts_of}
+use Rattle.action_schedule.specs.Forms.{entry_parts_of}
 use Rattle.action_schedule.specs.Kinds.{type_of_number}
+use Rattle.cosem_names.specs.Scripts.{script_of, is_of_the_table}
 use Rattle.cosem_names.specs.WriteFault.{told, values}
 use Rattle.cosem_names.specs.declared.write_fault.WriteFault.{WriteFault}
 use Rattle.cosem_names.specs.declared.write_fault.WriteFault.TheVariants.{Unmatched, Value}
@@ -17,9 +17,9 @@ use Rattle.action_schedule.specs.declared.kind.ScheduleType.{ScheduleType}
 -- executed_script: a selector in the script table
 unfoldable pub selector_of : Data → Result ℕ WriteFault
 selector_of value = do
-  parts ← ok_or (script_parts_of value) Unmatched
-  guard (bytes_eq parts.0.0 script_table.0) Value
-  Ok parts.1
+  script ← ok_or (script_of value) Unmatched
+  guard (is_of_the_table script) Value
+  Ok script.selector
 
 -- type: 1 to 5
 unfoldable pub kind_of : Data → Result ScheduleType WriteFault

@@ -1,19 +1,16 @@
 -- The attributes of a schedule as they are read (IEC 62056-6-2, class 22): times and dates are octet-strings.
 use Rattle.std.specs.Prelude.{◌≡◌, ℕ, List, [], ◌∷◌, map, Ok}
 use Rattle.cosem_axdr.specs.declared.value.Data.{Data}
-use Rattle.cosem_axdr.specs.declared.value.Data.TheVariants.{OctetString, LongUnsigned, Enum}
+use Rattle.cosem_axdr.specs.declared.value.Data.TheVariants.{OctetString, Enum}
 use Rattle.cosem_datetime.specs.Fields.{time_bytes, date_bytes}
 use Rattle.cosem_datetime.specs.declared.entry.EntryPattern.{EntryPattern}
 use Rattle.cosem_names.specs.Forms.{array_with, structure_with}
-use Rattle.action_schedule.specs.Forms.{script_table}
+use Rattle.cosem_names.specs.Scripts.{named, script_data}
 use Rattle.action_schedule.specs.Kinds.{number_of}
 use Rattle.action_schedule.specs.Reading.{selector_of, kind_of, entries_of}
 use Rattle.action_schedule.specs.Schedule.{Schedule}
 use Rattle.action_schedule.specs.declared.attribute.ScheduleAttribute.{ScheduleAttribute}
 use Rattle.action_schedule.specs.declared.attribute.ScheduleAttribute.TheVariants.{ExecutedScript, Kind, ExecutionTime}
-
-unfoldable pub script_data : ℕ → Data
-script_data selector = structure_with (OctetString script_table.0 ∷ LongUnsigned selector ∷ [])
 
 unfoldable pub entry_data : EntryPattern → Data
 entry_data entry = structure_with (OctetString (time_bytes entry.time) ∷ OctetString (date_bytes entry.date) ∷ [])
@@ -23,7 +20,7 @@ entries_data entries = array_with (map entry_data entries)
 
 -- an attribute
 abbrev pub data_at : ScheduleAttribute → Schedule → Data
-data_at ExecutedScript schedule = script_data schedule.selector
+data_at ExecutedScript schedule = script_data (named schedule.selector)
 data_at Kind schedule = Enum (number_of schedule.kind)
 data_at ExecutionTime schedule = entries_data schedule.entries
 

@@ -9,7 +9,6 @@ mod attribute;
 mod fitting;
 mod forms;
 mod kind;
-mod names;
 mod reading;
 mod schedule;
 mod writing;

@@ -1,16 +1,15 @@
-ghost use Rattle.std.specs.Prelude.{◌≡◌, ◌≤◌, length, IfOk, IsErrOf, is_err};
+ghost use Rattle.std.specs.Prelude.{◌≡◌, ◌≤◌, length, IfOk, IsErrOf};
 ghost use Rattle.std.specs.List.{All, list_any};
-ghost use Rattle.cosem_names.specs.WriteFault.{is_unmatched, told, values};
+ghost use Rattle.cosem_names.specs.WriteFault.{values};
 ghost use Rattle.action_schedule.specs.Reading.{selector_of, kind_of, entry_of, max_entries, judged_entries};
 ghost use Rattle.action_schedule.specs.Schedule.{IsEntry};
 
-use crate::forms::{entry_parts, script_parts};
+use crate::forms::entry_parts;
 use crate::kind::ScheduleType;
-use crate::names::SCRIPT_TABLE_NAME;
 use crate::schedule::MAX_ENTRIES;
 use cosem_axdr::Data;
 use cosem_datetime::{EntryPattern, read_date, read_time};
-use cosem_names::WriteFault;
+use cosem_names::{NamedScript, WriteFault, judge_each};
 use listed::Listed;
 use std::alloc::{AllocError, Global};
 
@@ -20,11 +19,11 @@ pub(crate) fn read_selector(value: &Data) -> Result<u16, WriteFault>
     ensures exact { result ≡ selector_of value.now }
     ensures no_memory { ¬ IsErrOf result WriteFault.Memory }
 {
-    let (name, selector) = script_parts(value).ok_or(WriteFault::Unmatched)?;
-    if name != SCRIPT_TABLE_NAME {
+    let script = NamedScript::from_data(value).ok_or(WriteFault::Unmatched)?;
+    if !script.is_of_the_table() {
         return Err(WriteFault::Value);
     }
-    Ok(selector)
+    Ok(script.selector)
 }
 
 /// The type of a schedule.
@@ -49,48 +48,18 @@ fn read_entry(value: &Data) -> Result<EntryPattern, WriteFault>
     Ok(EntryPattern { time, date })
 }
 
-/// Whether an entry is of another type.
-fn is_entry_unmatched(value: &Data) -> bool
-    ensures { result ≡ is_unmatched (entry_of value.now) }
-{
-    matches!(read_entry(value), Err(WriteFault::Unmatched))
-}
-
-/// Whether an entry has any fault.
-fn is_entry_faulty(value: &Data) -> bool
-    ensures { result ≡ is_err (entry_of value.now) }
-{
-    read_entry(value).is_err()
-}
-
-/// Whether one of the entries is of another type.
-fn has_unmatched_entry(items: &[Data]) -> bool
-    ensures { result ≡ list_any (λ item. is_unmatched (entry_of item)) items.now }
-{
-    items.iter().any(|item| is_entry_unmatched(item))
-}
-
-/// Whether one of the entries has any fault.
-fn has_faulty_entry(items: &[Data]) -> bool
-    ensures { result ≡ list_any (λ item. is_err (entry_of item)) items.now }
-{
-    items.iter().any(|item| is_entry_faulty(item))
-}
-
 /// The fault of entries: another type of one is told before any other.
-#[tactic(auto, unfolding(cosem_names::specs::WriteFault::told, crate::specs::Reading::judged_entries))]
+#[tactic(auto, unfolding(crate::specs::Reading::judged_entries))]
 pub(crate) fn judge_entries(items: &[Data]) -> Result<(), WriteFault>
     ensures exact { result ≡ judged_entries items.now }
     ensures no_memory { ¬ IsErrOf result WriteFault.Memory }
     ensures few { IfOk result (λ _. length items.now ≤ max_entries) }
 {
-    if has_unmatched_entry(items) {
-        Err(WriteFault::Unmatched)
-    } else if has_faulty_entry(items) || items.len() > MAX_ENTRIES {
-        Err(WriteFault::Value)
-    } else {
-        Ok(())
+    judge_each(items, |item| read_entry(item))?;
+    if items.len() > MAX_ENTRIES {
+        return Err(WriteFault::Value);
     }
+    Ok(())
 }
 
 /// The entries that have no fault.

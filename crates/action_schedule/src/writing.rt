@@ -1,21 +1,17 @@
 ghost use Rattle.std.specs.Prelude.{◌≡◌, IfOk};
-ghost use Rattle.action_schedule.specs.Writing.{script_data, entry_data, entries_data};
+ghost use Rattle.cosem_names.specs.Scripts.{script_data, named};
+ghost use Rattle.action_schedule.specs.Writing.{entry_data, entries_data};
 
-use crate::names::SCRIPT_TABLE_NAME;
 use cosem_axdr::{Data, Items, Octets};
 use cosem_datetime::EntryPattern;
+use cosem_names::NamedScript;
 use std::alloc::{AllocError, Global};
 
 /// A script of the script table.
-#[tactic(auto, unfolding(crate::specs::Writing::script_data))]
 pub(crate) fn write_script(alloc: Global, selector: u16) -> Result<Data, AllocError>
-    ensures { IfOk result (λ value. value ≡ script_data selector) }
+    ensures { IfOk result (λ value. value ≡ script_data (named selector)) }
 {
-    let name = Octets::from_slice(alloc, &SCRIPT_TABLE_NAME.0)?;
-    Ok(Data::Structure(Items::from_vec(vec![in alloc;
-        Data::OctetString(name),
-        Data::LongUnsigned(selector),
-    ]?)))
+    NamedScript::of_the_table(selector).to_data(alloc)
 }
 
 /// An entry.

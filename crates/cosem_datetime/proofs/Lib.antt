@@ -4,5 +4,6 @@ pub mod FirstFacts
 pub mod SomeFacts
 pub mod EntryFacts
 pub mod Spelled
+pub mod Lengths
 pub mod Faults
 pub mod MomentFacts

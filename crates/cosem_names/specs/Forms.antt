@@ -1,10 +1,10 @@
--- Forms that values of several classes share (IEC 62056-6-2): an array, a structure and a logical name.
-use Rattle.std.specs.Prelude.{ℕ, List, [], ◌∷◌, Option, Some, None}
+-- Forms that values of several classes share (IEC 62056-6-2): an array, a structure, a logical name, dates and times.
+use Rattle.std.specs.Prelude.{ℕ, List, [], ◌∷◌, Option, Some, None, length, ◌==◌, if◌then◌else◌}
 use Rattle.cosem_axdr.specs.Forms.{octets_of}
 use Rattle.cosem_axdr.specs.Tree.{trees_of}
 use Rattle.cosem_axdr.specs.View.{all_trees}
 use Rattle.cosem_axdr.specs.declared.value.Data.{Data}
-use Rattle.cosem_axdr.specs.declared.value.Data.TheVariants.{Array, Structure}
+use Rattle.cosem_axdr.specs.declared.value.Data.TheVariants.{Array, Structure, OctetString, DateTime, Date, Time}
 use Rattle.cosem_names.specs.declared.name.Obis.{Obis}
 
 -- an array of Datas, and a structure
@@ -27,3 +27,25 @@ name_in _ = None
 
 abbrev pub name_of : Data → Option Obis
 name_of value = octets_of value >>= name_in
+
+-- so many bytes
+abbrev pub so_many : ℕ → List ℕ → Option (List ℕ)
+so_many n bytes = if length bytes == n then Some bytes else None
+
+-- a date-time, or an octet-string of its twelve bytes
+abbrev pub date_time_bytes_of : Data → Option (List ℕ)
+date_time_bytes_of (OctetString bytes) = so_many 12 bytes
+date_time_bytes_of (DateTime bytes) = so_many 12 bytes
+date_time_bytes_of _ = None
+
+-- a date, or an octet-string of its five bytes
+abbrev pub date_bytes_of : Data → Option (List ℕ)
+date_bytes_of (OctetString bytes) = so_many 5 bytes
+date_bytes_of (Date bytes) = so_many 5 bytes
+date_bytes_of _ = None
+
+-- a time, or an octet-string of its four bytes
+abbrev pub time_bytes_of : Data → Option (List ℕ)
+time_bytes_of (OctetString bytes) = so_many 4 bytes
+time_bytes_of (Time bytes) = so_many 4 bytes
+time_bytes_of _ = None

@@ -4,26 +4,30 @@
 #![tactic(auto)]
 
 mod access;
+mod forms;
+mod judging;
 mod laws;
 mod level;
 mod name;
-mod name_form;
 mod object_entries;
 mod objects;
 mod result_code;
+mod scripts;
 mod service;
 mod write_fault;
 
 pub use access::{attribute, find, may_execute, object, rights};
+pub use forms::{date_bytes, date_time_bytes, name_in, time_bytes};
+pub use judging::judge_each;
 pub use laws::tables_are_told;
 pub use level::{Level, Rights};
 pub use name::{AttrRef, ClassId, MethodRef, Obis};
-pub use name_form::name_in;
 pub use object_entries::object_list;
 pub use objects::{
     ATTRIBUTES, Access, Attribute, Instance, METHODS, Method, OBJECTS, Object, ScheduleNumber,
     Which,
 };
 pub use result_code::ResultCode;
+pub use scripts::NamedScript;
 pub use service::{AttributeSelection, GetResult};
 pub use write_fault::WriteFault;

@@ -1,9 +1,8 @@
 -- An attribute that is read is what a write of it sets.
-use Rattle.std.proofs.Common.{◌≡◌, ℕ, ◌≤◌, true, nat_le, List, [], ◌∷◌, map, length, Option, Some, None, ok_or, Result, Ok, length-append, refl, ap, ap₂, ◌∙◌, arith}
+use Rattle.std.proofs.Common.{◌≡◌, ℕ, ◌≤◌, true, nat_le, List, [], ◌∷◌, map, length, ok_or, Result, Ok, refl, ap, ap₂, ◌∙◌, arith}
 use Rattle.std.proofs.lemmas.Bool.Decides.{nat_tests}
 use Rattle.std.proofs.lemmas.List.{length-map}
 use Rattle.std.specs.List.{filter_map}
-use Rattle.std.specs.Prelude.{ℤ}
 use Rattle.std.specs.Result.{result_ok}
 use Rattle.byte_reading.specs.Outcome.{◌>>=◌, ◌>>◌, guard}
 use Rattle.byte_reading.proofs.OutcomeLemmas.{done}
@@ -11,28 +10,18 @@ use Rattle.cosem_axdr.specs.Forms.{long_unsigned_of}
 use Rattle.cosem_axdr.specs.declared.value.Data.{Data}
 use Rattle.cosem_axdr.specs.declared.value.Data.TheVariants.{LongUnsigned}
 use Rattle.cosem_axdr.proofs.OneTree.{list_of_trees}
-use Rattle.cosem_datetime.specs.Fields.{DateTimeFields, IsDateTimeFields, date_time_bytes, year_bytes, deviation_bytes}
+use Rattle.cosem_datetime.specs.Fields.{IsDateTimeFields, date_time_bytes}
 use Rattle.cosem_datetime.specs.Reading.{date_time_of}
+use Rattle.cosem_datetime.proofs.Lengths.{twelve_bytes}
 use Rattle.cosem_datetime.proofs.Spelled.{date_time_again}
 use Rattle.cosem_names.specs.declared.write_fault.WriteFault.{WriteFault}
 use Rattle.cosem_names.specs.declared.write_fault.WriteFault.TheVariants.{Unmatched, Value}
+use Rattle.cosem_names.specs.Scripts.{script_data}
 use Rattle.limiter_core.specs.declared.settings.Actions.{Actions}
 use Rattle.limiter_core.specs.declared.settings.Profile.{Profile}
 use Rattle.limiter_attributes.specs.Reading.{profile_of, are_ids, max_groups, judged_groups, groups_of, actions_of}
 use Rattle.limiter_attributes.specs.Writing.{profile_data, groups_data, actions_data}
 use Rattle.limiter_attributes.proofs.Profiles.{profile_parts_again}
-
--- a date-time has twelve bytes
-two_of_year : (year : Option ℕ) → length (year_bytes year) ≡ 2
-two_of_year None = refl
-two_of_year (Some y) = refl
-
-two_of_deviation : (deviation : Option ℤ) → length (deviation_bytes deviation) ≡ 2
-two_of_deviation None = refl
-two_of_deviation (Some d) = refl
-
-twelve_bytes : (p : DateTimeFields) → length (date_time_bytes p) ≡ 12
-twelve_bytes p = simp length-append (omega (arith, two_of_year p.date.year, two_of_deviation p.deviation))
 
 -- a profile of its parts
 abbrev with_parts : ℕ × List ℕ × ℕ → Result Profile WriteFault
@@ -47,7 +36,7 @@ profile_again profile fits =
 
 -- actions that are written
 pub actions_again : (actions : Actions) → actions_of (actions_data actions) ≡ Ok actions
-unfolding actions_of actions_data
+unfolding actions_of actions_data script_data
 actions_again actions = refl
 
 -- each number that is written is a long-unsigned

@@ -1,11 +1,11 @@
 -- The parts of an emergency profile that is written.
 use Rattle.std.proofs.Common.{◌≡◌, ℕ, ◌==◌, cond, List, [], ◌∷◌, length, Option, Some, None, ap}
 use Rattle.cosem_axdr.specs.declared.value.Data.TheVariants.{OctetString, LongUnsigned, DoubleLongUnsigned}
-use Rattle.cosem_names.specs.Forms.{◌>>=◌, structure_with}
-use Rattle.limiter_attributes.specs.Forms.{start_bytes_of, profile_parts_of}
+use Rattle.cosem_names.specs.Forms.{◌>>=◌, date_time_bytes_of, structure_with}
+use Rattle.limiter_attributes.specs.Forms.{profile_parts_of}
 
 -- twelve bytes are those of a start
-start_again : (bytes : List ℕ) → length bytes ≡ 12 → start_bytes_of (OctetString bytes) ≡ Some bytes
+start_again : (bytes : List ℕ) → length bytes ≡ 12 → date_time_bytes_of (OctetString bytes) ≡ Some bytes
 start_again bytes twelve = ap (λ (n : ℕ). cond (n == 12) (Some bytes) None) twelve
 
 pub profile_parts_again : (id duration : ℕ) (bytes : List ℕ) → length bytes ≡ 12

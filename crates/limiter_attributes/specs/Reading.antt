@@ -2,19 +2,18 @@
 use Rattle.std.specs.Prelude.{ℕ, Bool, ◌&&◌, nat_le, List, length, Option, Some, None, is_some, ok_or, Result, Ok}
 use Rattle.std.specs.List.{list_all, filter_map}
 use Rattle.std.specs.Result.{result_ok}
-use Rattle.std.specs.Str.{bytes_eq}
 use Rattle.byte_reading.specs.Outcome.{◌>>=◌, ◌>>◌, guard}
 use Rattle.cosem_axdr.specs.declared.value.Data.{Data}
 use Rattle.cosem_axdr.specs.Forms.{array_of, double_long_unsigned_of, long_unsigned_of}
 use Rattle.cosem_datetime.specs.Reading.{date_time_of}
 use Rattle.limiter_core.specs.declared.settings.Actions.{Actions}
 use Rattle.limiter_core.specs.declared.settings.Profile.{Profile}
-use Rattle.limiter_attributes.specs.Forms.{profile_parts_of, script_table, scripts_of}
+use Rattle.limiter_attributes.specs.Forms.{profile_parts_of, scripts_of}
 use Rattle.limiter_attributes.specs.declared.attribute.LimiterAttribute.{LimiterAttribute}
 use Rattle.limiter_attributes.specs.declared.attribute.LimiterAttribute.TheVariants as attribute
 use Rattle.cosem_names.specs.declared.write_fault.WriteFault.{WriteFault}
 use Rattle.cosem_names.specs.declared.write_fault.WriteFault.TheVariants.{Unmatched, Value}
-use Rattle.limiter_attributes.specs.declared.forms.NamedScript.{NamedScript}
+use Rattle.cosem_names.specs.Scripts.{is_of_the_table}
 use Rattle.limiter_attributes.specs.declared.setting.Setting.{Setting}
 use Rattle.limiter_attributes.specs.declared.setting.Setting.TheVariants as setting
 
@@ -29,15 +28,11 @@ profile_of value = do
   start ← ok_or (result_ok (date_time_of parts.1)) Value
   Ok (record { id = parts.0; start = start; duration = parts.2 })
 
--- the script is one of the script table
-abbrev pub is_listed : NamedScript → Bool
-is_listed script = bytes_eq script.table.0 script_table.0
-
 -- actions: two selectors in the script table
 unfoldable pub actions_of : Data → Result Actions WriteFault
 actions_of value = do
   scripts ← ok_or (scripts_of value) Unmatched
-  guard (is_listed scripts.0 && is_listed scripts.1) Value
+  guard (is_of_the_table scripts.0 && is_of_the_table scripts.1) Value
   Ok (record { over = scripts.0.selector; under = scripts.1.selector })
 
 -- what a write of an attribute sets: nothing for those that aren't written, and for the group ids

@@ -4,6 +4,7 @@ use Rattle.cosem_axdr.specs.declared.value.Data.{Data}
 use Rattle.cosem_axdr.specs.declared.value.Data.TheVariants.{OctetString, Boolean, DoubleLongUnsigned, LongUnsigned, Integer}
 use Rattle.cosem_datetime.specs.Fields.{date_time_bytes}
 use Rattle.cosem_names.specs.Forms.{array_with, structure_with}
+use Rattle.cosem_names.specs.Scripts.{named, script_data}
 use Rattle.cosem_names.specs.Table.{obis}
 use Rattle.cosem_names.specs.declared.name.Obis.{Obis}
 use Rattle.cosem_names.specs.declared.objects.Which.{Which}
@@ -12,7 +13,6 @@ use Rattle.limiter_core.specs.Settings.{is_active, active_threshold}
 use Rattle.limiter_core.specs.declared.settings.Actions.{Actions}
 use Rattle.limiter_core.specs.declared.settings.Profile.{Profile}
 use Rattle.limiter_core.specs.declared.settings.Settings.{Settings}
-use Rattle.limiter_attributes.specs.Forms.{script_table}
 use Rattle.limiter_attributes.specs.declared.attribute.LimiterAttribute.{LimiterAttribute}
 use Rattle.limiter_attributes.specs.declared.attribute.LimiterAttribute.TheVariants as attribute
 
@@ -33,12 +33,8 @@ profile_data profile =
 unfoldable pub groups_data : List ℕ → Data
 groups_data ids = array_with (map LongUnsigned ids)
 
--- a script of the script table
-abbrev pub script_data : ℕ → Data
-script_data selector = structure_with (OctetString script_table.0 ∷ LongUnsigned selector ∷ [])
-
 unfoldable pub actions_data : Actions → Data
-actions_data actions = structure_with (script_data actions.over ∷ script_data actions.under ∷ [])
+actions_data actions = structure_with (script_data (named actions.over) ∷ script_data (named actions.under) ∷ [])
 
 -- an attribute of a limiter with these settings at a moment of the clock
 unfoldable pub data_at : Which → LimiterAttribute → Settings → Option ℕ → Data

@@ -4,7 +4,6 @@ ghost use Rattle.limiter_attributes.specs.Reading.{number_of, profile_of, action
 
 use crate::attribute::LimiterAttribute;
 use crate::forms::{profile_parts, scripts_in};
-use crate::names::SCRIPT_TABLE_NAME;
 use crate::setting::Setting;
 use cosem_axdr::Data;
 use cosem_datetime::read_date_time;
@@ -43,7 +42,7 @@ fn read_actions(value: &Data) -> Result<Actions, WriteFault>
     ensures no_memory { ¬ IsErrOf result WriteFault.Memory }
 {
     let (over, under) = scripts_in(value).ok_or(WriteFault::Unmatched)?;
-    if over.table != SCRIPT_TABLE_NAME || under.table != SCRIPT_TABLE_NAME {
+    if !over.is_of_the_table() || !under.is_of_the_table() {
         return Err(WriteFault::Value);
     }
     Ok(Actions {

@@ -4,14 +4,12 @@ ghost use Rattle.limiter_attributes.specs.Attributes.{is_plain};
 ghost use Rattle.limiter_attributes.specs.declared.attribute.LimiterAttribute.TheVariants.{EmergencyProfileGroupIdList};
 ghost use Rattle.limiter_attributes.specs.Reading.{max_groups, profile_of, groups_of, actions_of, setting_of};
 ghost use Rattle.limiter_attributes.specs.Settings.{setting_at};
-ghost use Rattle.limiter_attributes.specs.Writing.{register_name, monitored_data, profile_data, groups_data, script_data, actions_data, data_at};
+ghost use Rattle.limiter_attributes.specs.Writing.{register_name, monitored_data, profile_data, groups_data, actions_data, data_at};
 
 use crate::attribute::LimiterAttribute;
-use crate::names::{
-    EXPORT_REGISTER_NAME, IMPORT_REGISTER_NAME, REGISTER, REGISTER_VALUE, SCRIPT_TABLE_NAME,
-};
+use crate::names::{EXPORT_REGISTER_NAME, IMPORT_REGISTER_NAME, REGISTER, REGISTER_VALUE};
 use cosem_axdr::{Data, Items, Octets};
-use cosem_names::{Obis, Which};
+use cosem_names::{NamedScript, Obis, Which};
 use limiter_core::{Actions, Limiter, Profile};
 use std::alloc::{AllocError, Global};
 
@@ -71,25 +69,14 @@ fn write_groups(alloc: Global, ids: &[u16]) -> Result<Data, AllocError>
     Ok(Data::Array(Items::from_vec(items)))
 }
 
-/// A script of the script table.
-fn write_script(alloc: Global, selector: u16) -> Result<Data, AllocError>
-    ensures { IfOk result (λ value. value ≡ script_data selector) }
-{
-    let name = Octets::from_slice(alloc, &SCRIPT_TABLE_NAME.0)?;
-    Ok(Data::Structure(Items::from_vec(vec![in alloc;
-        Data::OctetString(name),
-        Data::LongUnsigned(selector),
-    ]?)))
-}
-
 /// The scripts of both actions.
 #[tactic(auto, unfolding(crate::specs::Writing::actions_data), using(crate::proofs::Again::actions_again))]
 fn write_actions(alloc: Global, actions: Actions) -> Result<Data, AllocError>
     ensures value { IfOk result (λ value. value ≡ actions_data actions) }
     ensures again { IfOk result (λ value. actions_of value ≡ Ok actions) }
 {
-    let over = write_script(alloc, actions.over)?;
-    let under = write_script(alloc, actions.under)?;
+    let over = NamedScript::of_the_table(actions.over).to_data(alloc)?;
+    let under = NamedScript::of_the_table(actions.under).to_data(alloc)?;
     Ok(Data::Structure(Items::from_vec(vec![in alloc; over, under]?)))
 }
 

@@ -1,8 +1,9 @@
-use crate::texts::data;
+use crate::texts::{data, is_text};
 use cosem_axdr::{Octets, write};
 use cosem_names::{
-    AttrRef, ClassId, Instance, Level, MethodRef, Obis, ResultCode, Rights, attribute, find,
-    may_execute, name_in, object, object_list, rights, tables_are_told,
+    AttrRef, ClassId, Instance, Level, MethodRef, NamedScript, Obis, ResultCode, Rights, attribute,
+    date_bytes, date_time_bytes, find, may_execute, name_in, object, object_list, rights,
+    tables_are_told, time_bytes,
 };
 use std::alloc::{AllocError, Global};
 use std::test::Fail;
@@ -203,6 +204,88 @@ fn name_of(alloc: Global, text: &str) -> Option<Option<Obis>> {
 fn a_logical_name_has_six_bytes(rt: HostRuntime) {
     for (text, name) in &NAMED {
         assert!(rt; name_of(rt.alloc(), text) == Some(*name), "{text}");
+    }
+}
+
+/// A Data, and the script in it: its table, its selector, and whether that is the meter's table. A structure of an octet-string of six bytes and a long-unsigned
+/// has one, and no other Data.
+static SCRIPTS: [(&str, Option<(Obis, u16, bool)>); 5] = [
+    (
+        "0202090600000A006AFF120007",
+        Some((SCRIPT_TABLE_NAME, 7, true)),
+    ),
+    (
+        "02020906000060030AFF12FFFF",
+        Some((DISCONNECT_CONTROL_NAME, 0xFFFF, false)),
+    ),
+    ("0202090600000A006AFF1107", None),
+    ("0202090500000A006A120007", None),
+    ("0102090600000A006AFF120007", None),
+];
+
+/// The script in the Data of a hexadecimal text; none where memory is wanting.
+fn script_of(alloc: Global, text: &str) -> Option<Option<(Obis, u16, bool)>> {
+    let value = data(alloc, text)?;
+    let script = NamedScript::from_data(&value);
+    drop(value);
+    Some(script.map(|it| (it.table, it.selector, it.is_of_the_table())))
+}
+
+#[test]
+fn a_script_is_named_by_its_table_and_its_selector(rt: HostRuntime) {
+    for (text, script) in &SCRIPTS {
+        assert!(rt; script_of(rt.alloc(), text) == Some(*script), "{text}");
+    }
+}
+
+/// Whether a script of the meter's table is written as this text.
+fn is_script_written(alloc: Global, selector: u16, text: &str) -> bool {
+    match NamedScript::of_the_table(selector).to_data(alloc) {
+        Ok(value) => {
+            let found = is_text(alloc, &value, text);
+            drop(value);
+            found
+        }
+        Err(_) => false,
+    }
+}
+
+#[test]
+fn a_script_is_written_as_a_structure(rt: HostRuntime) {
+    assert!(rt; is_script_written(rt.alloc(), 258, "0202090600000A006AFF120102"));
+}
+
+/// A Data, and how many bytes of a date-time, a date and a time stand in it.
+static DATES: [(&str, Option<usize>, Option<usize>, Option<usize>); 7] = [
+    ("090C07E80101010A0000FF800000", Some(12), None, None),
+    ("1907E80101010A0000FF800000", Some(12), None, None),
+    ("090507E8010101", None, Some(5), None),
+    ("1A07E8010101", None, Some(5), None),
+    ("09040A000000", None, None, Some(4)),
+    ("1B0A000000", None, None, Some(4)),
+    ("090607E801010100", None, None, None),
+];
+
+/// How many bytes stand in the Data of a hexadecimal text; none where memory is wanting.
+fn lengths_of(alloc: Global, text: &str) -> Option<[Option<usize>; 3]> {
+    let value = data(alloc, text)?;
+    let count = |bytes: Option<&[u8]>| bytes.map(|it| it.len());
+    let lengths = [
+        count(date_time_bytes(&value)),
+        count(date_bytes(&value)),
+        count(time_bytes(&value)),
+    ];
+    drop(value);
+    Some(lengths)
+}
+
+#[test]
+fn dates_and_times_stand_in_octet_strings_and_in_their_own_types(rt: HostRuntime) {
+    for (text, date_time, date, time) in &DATES {
+        assert!(rt;
+            lengths_of(rt.alloc(), text) == Some([*date_time, *date, *time]),
+            "{text}"
+        );
     }
 }
 

@@ -1,8 +1,8 @@
-ghost use Rattle.std.specs.Prelude.{◌≡◌, ◌==◌, ◌<◌, ◌≤◌, length, IfOk, IfSome, IsErrOf, is_err};
+ghost use Rattle.std.specs.Prelude.{◌≡◌, ◌==◌, ◌<◌, ◌≤◌, length, IfOk, IfSome, IsErrOf};
 ghost use Rattle.std.specs.Result.{result_map_both, result_ok};
 ghost use Rattle.std.specs.List.{All, list_any};
 ghost use Rattle.script_steps.specs.Forms.{identifier_of};
-ghost use Rattle.cosem_names.specs.WriteFault.{is_unmatched, told, values};
+ghost use Rattle.cosem_names.specs.WriteFault.{told, values};
 ghost use Rattle.script_steps.specs.Reading.{max_steps, method_parameter_of, step_with, step_of, judged_script, script_of, are_distinct, judged_scripts};
 ghost use Rattle.script_steps.specs.Table.{IsStep, IsScript};
 
@@ -11,7 +11,7 @@ use crate::forms::{identifier_in, script_parts, step_parts};
 use crate::step::{Script, Step};
 use crate::table::{MAX_SCRIPTS, MAX_STEPS};
 use cosem_axdr::Data;
-use cosem_names::WriteFault;
+use cosem_names::{WriteFault, judge_each};
 use disconnect_control::read_mode;
 use limiter_attributes::{read_number, read_profile};
 use listed::Listed;
@@ -62,49 +62,6 @@ fn read_step(value: &Data) -> Result<Step, WriteFault>
     step_with(action, parameter)
 }
 
-/// Whether a step is of another type.
-fn is_step_unmatched(value: &Data) -> bool
-    ensures { result ≡ is_unmatched (step_of value.now) }
-{
-    matches!(read_step(value), Err(WriteFault::Unmatched))
-}
-
-/// Whether a step has any fault.
-fn is_step_faulty(value: &Data) -> bool
-    ensures { result ≡ is_err (step_of value.now) }
-{
-    read_step(value).is_err()
-}
-
-/// Whether one of the steps is of another type.
-fn has_unmatched_step(items: &[Data]) -> bool
-    ensures { result ≡ list_any (λ item. is_unmatched (step_of item)) items.now }
-{
-    items.iter().any(|item| is_step_unmatched(item))
-}
-
-/// Whether one of the steps has any fault.
-fn has_faulty_step(items: &[Data]) -> bool
-    ensures { result ≡ list_any (λ item. is_err (step_of item)) items.now }
-{
-    items.iter().any(|item| is_step_faulty(item))
-}
-
-/// The fault of steps: another type of one is told before any other.
-#[tactic(auto, unfolding(cosem_names::specs::WriteFault::told))]
-fn judge_steps(items: &[Data]) -> Result<(), WriteFault>
-    ensures exact { result ≡ told step_of items.now }
-    ensures no_memory { ¬ IsErrOf result WriteFault.Memory }
-{
-    if has_unmatched_step(items) {
-        Err(WriteFault::Unmatched)
-    } else if has_faulty_step(items) {
-        Err(WriteFault::Value)
-    } else {
-        Ok(())
-    }
-}
-
 /// The identifier of a script, and its steps, once these are judged.
 #[tactic(auto, unfolding(crate::specs::Reading::judged_script))]
 fn judge_script(value: &Data) -> Result<(u16, &[Data]), WriteFault>
@@ -112,41 +69,20 @@ fn judge_script(value: &Data) -> Result<(u16, &[Data]), WriteFault>
     ensures fit { IfOk result (λ parts. (0 < parts.0) × (length parts.1.now ≤ max_steps)) }
 {
     let (identifier, steps) = script_parts(value).ok_or(WriteFault::Unmatched)?;
-    judge_steps(steps)?;
+    judge_each(steps, |step| read_step(step))?;
     if identifier == 0 || steps.len() > MAX_STEPS {
         return Err(WriteFault::Value);
     }
     Ok((identifier, steps))
 }
 
-/// Whether a script is of another type.
+/// The fault of a script.
 #[tactic(auto, unfolding(crate::specs::Reading::script_of))]
-fn is_script_unmatched(value: &Data) -> bool
-    ensures { result ≡ is_unmatched (script_of value.now) }
+fn script_fault(value: &Data) -> Result<(), WriteFault>
+    ensures { result ≡ result_map_both (λ script. tt) (λ fault. fault) (script_of value.now) }
 {
-    matches!(judge_script(value), Err(WriteFault::Unmatched))
-}
-
-/// Whether a script has any fault.
-#[tactic(auto, unfolding(crate::specs::Reading::script_of))]
-fn is_script_faulty(value: &Data) -> bool
-    ensures { result ≡ is_err (script_of value.now) }
-{
-    judge_script(value).is_err()
-}
-
-/// Whether one of the scripts is of another type.
-fn has_unmatched_script(items: &[Data]) -> bool
-    ensures { result ≡ list_any (λ item. is_unmatched (script_of item)) items.now }
-{
-    items.iter().any(|item| is_script_unmatched(item))
-}
-
-/// Whether one of the scripts has any fault.
-fn has_faulty_script(items: &[Data]) -> bool
-    ensures { result ≡ list_any (λ item. is_err (script_of item)) items.now }
-{
-    items.iter().any(|item| is_script_faulty(item))
+    judge_script(value)?;
+    Ok(())
 }
 
 /// Whether one of the scripts has this identifier.
@@ -168,19 +104,25 @@ fn are_distinct(items: &[Data]) -> bool
     true
 }
 
+/// The fault that is told of the scripts, each by itself.
+fn judge_each_script(items: &[Data]) -> Result<(), WriteFault>
+    ensures exact { result ≡ told script_of items.now }
+    ensures no_memory { ¬ IsErrOf result WriteFault.Memory }
+{
+    judge_each(items, |item| script_fault(item))
+}
+
 /// The fault of scripts: another type of one is told before any other.
-#[tactic(auto, unfolding(cosem_names::specs::WriteFault::told, crate::specs::Reading::judged_scripts))]
+#[tactic(auto, unfolding(crate::specs::Reading::judged_scripts))]
 pub(crate) fn judge_scripts(items: &[Data]) -> Result<(), WriteFault>
     ensures exact { result ≡ judged_scripts items.now }
     ensures no_memory { ¬ IsErrOf result WriteFault.Memory }
 {
-    if has_unmatched_script(items) {
-        Err(WriteFault::Unmatched)
-    } else if has_faulty_script(items) || items.len() > MAX_SCRIPTS || !are_distinct(items) {
-        Err(WriteFault::Value)
-    } else {
-        Ok(())
+    judge_each_script(items)?;
+    if items.len() > MAX_SCRIPTS || !are_distinct(items) {
+        return Err(WriteFault::Value);
     }
+    Ok(())
 }
 
 /// The steps that have no fault.

@@ -12,7 +12,8 @@ use Rattle.cosem_axdr.specs.Spelling.{length_text, string_text, texts, text, IsW
 use Rattle.cosem_axdr.specs.Tree.{Tree, Trees, count_of, nesting, nests, trees_of, array, structure, octet_string, double_long_unsigned, long_unsigned, integer, enumerated, tree, no_trees}
 use Rattle.cosem_axdr.specs.View.{tree_of, all_trees}
 use Rattle.cosem_axdr.specs.declared.value.Data.{Data}
-use Rattle.cosem_datetime.specs.Fields.{DateFields, DateTimeFields, IsDateTimeFields, date_bytes, time_bytes, date_time_bytes, year_bytes, deviation_bytes}
+use Rattle.cosem_datetime.proofs.Lengths.{five_bytes, twelve_bytes}
+use Rattle.cosem_datetime.specs.Fields.{IsDateTimeFields, date_bytes, time_bytes, date_time_bytes}
 use Rattle.cosem_axdr.specs.declared.value.Data.TheVariants.{OctetString, DoubleLongUnsigned, LongUnsigned, Enum, Integer}
 use Rattle.cosem_datetime.specs.declared.entry.EntryPattern.{EntryPattern}
 use Rattle.trace_openings.proofs.OpeningDates.{date_is_bytes, time_is_bytes, date_time_is_bytes}
@@ -54,20 +55,6 @@ short_length n less = let short : nat_lt n 0x80 ≡ true = grind (arith, nat_tes
 
 short_string : (bytes : List ℕ) → length bytes < 0x80 → length (string_text bytes) ≡ 1 + length bytes
 short_string bytes less = length-append (length_text (length bytes)) bytes ∙ ap (λ (n : ℕ). n + length bytes) (short_length (length bytes) less)
-
-two_of_year : (year : Option ℕ) → length (year_bytes year) ≡ 2
-two_of_year None = refl
-two_of_year (Some y) = refl
-
-two_of_deviation : (deviation : Option ℤ) → length (deviation_bytes deviation) ≡ 2
-two_of_deviation None = refl
-two_of_deviation (Some d) = refl
-
-five_bytes : (p : DateFields) → length (date_bytes p) ≡ 5
-five_bytes p = simp length-append (omega (arith, two_of_year p.year))
-
-twelve_bytes : (p : DateTimeFields) → length (date_time_bytes p) ≡ 12
-twelve_bytes p = simp length-append (omega (arith, two_of_year p.date.year, two_of_deviation p.deviation))
 
 -- ---- arrays and structures
 

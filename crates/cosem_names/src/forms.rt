@@ -1,0 +1,66 @@
+ghost use Rattle.std.specs.Prelude.{◌≡◌, ℕ, option_map};
+ghost use Rattle.cosem_names.specs.Forms.{so_many, name_of, date_time_bytes_of, date_bytes_of, time_bytes_of};
+
+use crate::name::Obis;
+use cosem_axdr::Data;
+
+/// The bytes of a date-time, of a date and of a time (IEC 62056-6-2, date and time formats).
+const DATE_TIME_LEN: usize = 12;
+
+const DATE_LEN: usize = 5;
+
+const TIME_LEN: usize = 4;
+
+/// The logical name in an octet-string of six bytes (IEC 62056-6-2, logical_name), or None where the Data is another.
+pub fn name_in(value: &Data) -> Option<Obis>
+    ensures { result ≡ name_of value.now }
+{
+    let [a, b, c, d, e, f] = value.octets()? else {
+        return None;
+    };
+    Some(Obis([*a, *b, *c, *d, *e, *f]))
+}
+
+/// Bytes, where they are so many.
+fn of_length(bytes: &[u8], length: usize) -> Option<&[u8]>
+    ensures { option_map (λ bytes. bytes.now) result ≡ so_many length bytes.now }
+{
+    if bytes.len() == length {
+        Some(bytes)
+    } else {
+        None
+    }
+}
+
+/// The twelve bytes of a date-time, in a Data of that type or in an octet-string (IEC 62056-6-2, date and time formats).
+pub fn date_time_bytes(value: &Data) -> Option<&[u8]>
+    ensures { option_map (λ bytes. bytes.now) result ≡ date_time_bytes_of value.now }
+{
+    match value {
+        Data::OctetString(octets) => of_length(octets.as_slice(), DATE_TIME_LEN),
+        Data::DateTime(bytes) => of_length(bytes.as_slice(), DATE_TIME_LEN),
+        _ => None,
+    }
+}
+
+/// The five bytes of a date, in a Data of that type or in an octet-string (IEC 62056-6-2, date and time formats).
+pub fn date_bytes(value: &Data) -> Option<&[u8]>
+    ensures { option_map (λ bytes. bytes.now) result ≡ date_bytes_of value.now }
+{
+    match value {
+        Data::OctetString(octets) => of_length(octets.as_slice(), DATE_LEN),
+        Data::Date(bytes) => of_length(bytes.as_slice(), DATE_LEN),
+        _ => None,
+    }
+}
+
+/// The four bytes of a time, in a Data of that type or in an octet-string (IEC 62056-6-2, date and time formats).
+pub fn time_bytes(value: &Data) -> Option<&[u8]>
+    ensures { option_map (λ bytes. bytes.now) result ≡ time_bytes_of value.now }
+{
+    match value {
+        Data::OctetString(octets) => of_length(octets.as_slice(), TIME_LEN),
+        Data::Time(bytes) => of_length(bytes.as_slice(), TIME_LEN),
+        _ => None,
+    }
+}

@@ -1,0 +1,40 @@
+ghost use Rattle.std.specs.Prelude.{◌≡◌, Result, IsErrOf};
+ghost use Rattle.cosem_names.specs.Judging.{IsReader};
+ghost use Rattle.cosem_names.specs.WriteFault.{is_unmatched, told};
+
+use crate::write_fault::WriteFault;
+use cosem_axdr::Data;
+
+/// Whether what was read is of another type.
+fn is_unmatched<X>(given: &Result<X, WriteFault>) -> bool
+    ensures { result ≡ is_unmatched given.now }
+{
+    matches!(given, Err(WriteFault::Unmatched))
+}
+
+/// The fault of several Datas by what is read of each: another type of one is told before any other fault. That order is this meter's.
+#[tactic(auto, unfolding(crate::specs::WriteFault::told))]
+pub fn judge_each<X: Drop, F: Fn(&Data) -> Result<X, WriteFault>>(
+    items: &[Data],
+    read: F,
+) -> Result<(), WriteFault>
+    requires { F.IsAlwaysCallable read }
+    ensures told { (of_item : Data → Result X WriteFault) → IsReader F.Fn read of_item → result ≡ told of_item items.now }
+    ensures no_memory { ¬ IsErrOf result WriteFault.Memory }
+{
+    let mut unmatched = false;
+    let mut faulty = false;
+    for item in items {
+        let given = read(item);
+        unmatched |= is_unmatched(&given);
+        faulty |= given.is_err();
+        drop(given);
+    }
+    if unmatched {
+        Err(WriteFault::Unmatched)
+    } else if faulty {
+        Err(WriteFault::Value)
+    } else {
+        Ok(())
+    }
+}

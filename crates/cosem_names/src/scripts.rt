@@ -1,0 +1,65 @@
+ghost use Rattle.std.specs.Prelude.{◌≡◌, Some, IfOk};
+ghost use Rattle.cosem_names.specs.Scripts.{script_data, script_of, is_of_the_table, named};
+
+use crate::forms::name_in;
+use crate::name::Obis;
+use cosem_axdr::{Data, Items, Octets};
+use std::alloc::{AllocError, Global};
+
+/// The script table (IEC 62056-6-1, script table objects).
+const SCRIPT_TABLE: Obis = Obis([0, 0, 10, 0, 106, 255]);
+
+/// A script as other objects name it (IEC 62056-6-2: executed_script of class 22, the actions of class 71): a script table's logical name, and a selector in that table.
+#[derive(Clone, Copy, Debug)]
+pub struct NamedScript {
+    /// `script_logical_name`.
+    pub table: Obis,
+    /// `script_selector`.
+    pub selector: u16,
+}
+
+impl NamedScript {
+    /// A script of the meter's script table.
+    pub fn of_the_table(selector: u16) -> NamedScript
+        ensures { result ≡ named selector }
+    {
+        NamedScript {
+            table: SCRIPT_TABLE,
+            selector,
+        }
+    }
+
+    /// The script in a structure of an octet-string of six bytes and a long-unsigned, or None where the Data is another.
+    pub fn from_data(value: &Data) -> Option<NamedScript>
+        ensures { result ≡ script_of value.now }
+    {
+        let [name, selector] = value.structure()? else {
+            return None;
+        };
+        Some(NamedScript {
+            table: name_in(name)?,
+            selector: selector.long_unsigned()?,
+        })
+    }
+
+    /// Whether it is one of the meter's script table.
+    pub fn is_of_the_table(&self) -> bool
+        ensures { result ≡ is_of_the_table self.now }
+    {
+        self.table == SCRIPT_TABLE
+    }
+
+    /// The structure that names it.
+    #[tactic(auto, unfolding(crate::specs::Scripts::script_data))]
+    pub fn to_data(&self, alloc: Global) -> Result<Data, AllocError>
+        ensures value { IfOk result (λ value. value ≡ script_data self.now) }
+        // Read again, it gives the script back.
+        ensures again { IfOk result (λ value. script_of value ≡ Some self.now) }
+    {
+        let name = Octets::from_slice(alloc, &self.table.0)?;
+        Ok(Data::Structure(Items::from_vec(vec![in alloc;
+            Data::OctetString(name),
+            Data::LongUnsigned(self.selector),
+        ]?)))
+    }
+}
