@@ -7,22 +7,10 @@ ghost use Rattle.relay_core.specs.Runs.{world_after};
 ghost use Rattle.relay_core.specs.Stands.{StandsFor};
 ghost use Rattle.relay_core.specs.World.{World};
 
-use relay_core::{LimiterOpening, Opening, OpeningFault, RelayCore};
+use relay_core::{LimiterOpening, Opening, RelayCore};
 use relay_events::Event;
 use relay_recorder::{Recorder, Trace, events_are_in_range};
 use std::alloc::{AllocError, Global};
-
-/// A core that stands as an opening says.
-fn opened_core(alloc: Global, opening: &Opening) -> Result<RelayCore, AllocError>
-    requires { IsFitOpening opening.now }
-    ensures { IfOk result (λ core. StandsFor core (opened opening.now)) }
-{
-    match RelayCore::from_opening(alloc, opening) {
-        Ok(core) => Ok(core),
-        Err(OpeningFault::Memory) => Err(AllocError),
-        Err(OpeningFault::Unfit) => unreachable!(),
-    }
-}
 
 /// Lets a core take events, one after the other.
 fn take_events(core: &mut RelayCore, alloc: Global, events: &[Event]) -> Result<(), AllocError>
@@ -49,7 +37,7 @@ pub fn resumed_recorder(alloc: Global, trace: &Trace, capacity: u16) -> Result<R
 {
     has_range(alloc, &trace.opening);
     events_are_in_range(trace.events.as_slice());
-    let mut core = opened_core(alloc, &trace.opening)?;
+    let mut core = RelayCore::of_fit_opening(alloc, &trace.opening)?;
     match take_events(&mut core, alloc, trace.events.as_slice()) {
         Ok(()) => Recorder::from_core(alloc, core, capacity),
         Err(error) => {

@@ -8,6 +8,7 @@ pub mod Memory
 pub mod Moving
 pub mod Opening
 pub mod Reading
+pub mod Registers
 pub mod Requests
 pub mod Runs
 pub mod Sampling

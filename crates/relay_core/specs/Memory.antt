@@ -1,37 +1,32 @@
 -- Which reads and writes take no memory, so that they are always answered.
 use Rattle.std.specs.Prelude.{ℕ, Bool, true, false, Result, Ok, Err, ◌==◌, ◌||◌, ◌&&◌, not, Option, Some, None}
 use Rattle.action_schedule.specs.Attributes.{attribute_numbered as schedule_attribute, is_plain as is_plain_schedule}
-use Rattle.action_schedule.specs.declared.attribute.ScheduleAttribute.{ScheduleAttribute}
 use Rattle.cosem_names.specs.declared.name.AttrRef.{AttrRef}
 use Rattle.cosem_names.specs.declared.level.Level.{Level}
 use Rattle.cosem_names.specs.declared.objects.Instance.{Instance}
 use Rattle.cosem_names.specs.declared.objects.Instance.TheVariants.{Association, DeviceName, Register, ScriptTable, Schedule, DisconnectControl, Limiter}
 use Rattle.cosem_names.specs.declared.result_code.ResultCode.{ResultCode}
 use Rattle.cosem_names.specs.Objects.{rights_of}
-use Rattle.limiter_attributes.specs.declared.attribute.LimiterAttribute.{LimiterAttribute}
-use Rattle.limiter_attributes.specs.Attributes.{attribute_numbered, is_plain as is_plain_limiter}
+use Rattle.limiter_attributes.specs.Attributes.{attribute_numbered as limiter_attribute, is_plain as is_plain_limiter}
 use Rattle.relay_core.specs.declared.parts.WrittenList.{WrittenList}
 use Rattle.relay_core.specs.Access.{target_of}
 use Rattle.relay_core.specs.Moving.{list_numbered}
+use Rattle.relay_core.specs.Registers.{attribute_numbered as register_attribute, is_plain as is_plain_register}
 
--- whether an attribute of a limiter or a schedule takes no memory to read
-abbrev pub is_plain_attribute : Option LimiterAttribute → Bool
-is_plain_attribute None = true
-is_plain_attribute (Some attribute) = is_plain_limiter attribute
-
-abbrev pub is_plain_schedule_attribute : Option ScheduleAttribute → Bool
-is_plain_schedule_attribute None = true
-is_plain_schedule_attribute (Some attribute) = is_plain_schedule attribute
+-- whether an attribute takes no memory to read: a number that the object doesn't have is refused
+abbrev pub is_plain_where : {A : Type 0} → (A → Bool) → Option A → Bool
+is_plain_where plain None = true
+is_plain_where plain (Some attribute) = plain attribute
 
 -- whether the value of an attribute is a boolean, an enum or a number, which takes no memory
 abbrev pub is_plain : Instance → ℕ → Bool
 is_plain Association number = not (number == 1 || number == 2)
 is_plain DeviceName number = not (number == 1 || number == 2)
-is_plain (Register which) number = not (number == 1 || number == 3)
+is_plain (Register which) number = not (number == 1) && is_plain_where is_plain_register (register_attribute number)
 is_plain ScriptTable number = not (number == 1 || number == 2)
-is_plain (Schedule which) number = not (number == 1) && is_plain_schedule_attribute (schedule_attribute number)
+is_plain (Schedule which) number = not (number == 1) && is_plain_where is_plain_schedule (schedule_attribute number)
 is_plain DisconnectControl number = not (number == 1)
-is_plain (Limiter which) number = not (number == 1) && is_plain_attribute (attribute_numbered number)
+is_plain (Limiter which) number = not (number == 1) && is_plain_where is_plain_limiter (limiter_attribute number)
 
 -- whether a read of an object that was reached takes no memory
 abbrev pub is_plain_at : Result Instance ResultCode → ℕ → Bool

@@ -6,14 +6,11 @@ use Rattle.cosem_names.specs.WriteFault.{fault_code}
 use Rattle.cosem_names.specs.declared.write_fault.WriteFault.{WriteFault}
 use Rattle.action_schedule.specs.Reading.{selector_of, kind_of}
 use Rattle.action_schedule.specs.Schedule.{Schedule, with_selector, with_kind}
-use Rattle.action_schedule.specs.Writing.{data_at}
 use Rattle.cosem_axdr.specs.declared.value.Data.{Data}
 use Rattle.cosem_names.specs.declared.objects.ScheduleNumber.{ScheduleNumber}
 use Rattle.cosem_names.specs.declared.objects.ScheduleNumber.TheVariants.{First, Second, Third, Fourth}
 use Rattle.cosem_names.specs.declared.result_code.ResultCode.{ResultCode}
 use Rattle.cosem_names.specs.declared.result_code.ResultCode.TheVariants.{Success, ReadWriteDenied}
-use Rattle.cosem_names.specs.declared.service.GetResult.{GetResult}
-use Rattle.cosem_names.specs.declared.service.GetResult.TheVariants.{Value, Code}
 use Rattle.relay_core.specs.declared.schedules.Schedules.{Schedules}
 
 -- one of the schedules
@@ -33,11 +30,6 @@ with_schedule Fourth schedule s = record s { fourth = schedule }
 -- the schedules in the order in which they run
 abbrev pub all_schedules : Schedules → List Schedule
 all_schedules s = s.first ∷ s.second ∷ s.third ∷ s.fourth ∷ []
-
--- the attributes of a schedule past its logical name
-abbrev pub schedule_value : Schedule → Option ScheduleAttribute → GetResult
-schedule_value schedule None = Code ReadWriteDenied
-schedule_value schedule (Some attribute) = Value (data_at attribute schedule)
 
 -- the result of a write
 abbrev pub write_code : {A : Type 0} → Result A WriteFault → ResultCode

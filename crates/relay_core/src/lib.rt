@@ -11,6 +11,7 @@ mod laws;
 mod opening;
 mod parts;
 mod reading;
+mod registers;
 mod relay;
 mod running;
 mod sampling;

@@ -187,6 +187,18 @@ impl RelayCore {
             schedules,
         })
     }
+
+    /// The core that a fit opening tells of, for a caller that knows that it is fit.
+    pub fn of_fit_opening(alloc: Global, opening: &Opening) -> Result<RelayCore, AllocError>
+        requires { IsFitOpening opening.now }
+        ensures { IfOk result (λ core. StandsFor core (opened opening.now)) }
+    {
+        match RelayCore::from_opening(alloc, opening) {
+            Ok(core) => Ok(core),
+            Err(OpeningFault::Memory) => Err(AllocError),
+            Err(OpeningFault::Unfit) => unreachable!(),
+        }
+    }
 }
 
 /// Equals of what a core has of lists.

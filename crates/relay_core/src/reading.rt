@@ -1,16 +1,19 @@
 ghost use Rattle.std.specs.Prelude.{◌≡◌, ◌≢◌, IfOk, IsOk, IsTrue};
 ghost use Rattle.relay_core.specs.World.{World};
 ghost use Rattle.relay_core.specs.Stands.{StandsFor};
-ghost use Rattle.disconnect_control.specs.Attributes.{attribute_numbered as control_attribute};
-ghost use Rattle.limiter_attributes.specs.Attributes.{attribute_numbered};
+ghost use Rattle.disconnect_control.specs.Attributes.{attribute_numbered as control_attribute, data_at as control_data};
+ghost use Rattle.limiter_attributes.specs.Attributes.{attribute_numbered as limiter_attribute, is_plain as is_plain_limiter};
+ghost use Rattle.limiter_attributes.specs.Writing.{data_at as limiter_data};
 ghost use Rattle.relay_core.specs.Limiters.{metered_of};
-ghost use Rattle.relay_core.specs.Memory.{is_plain_attribute, is_plain, reads_plainly};
-ghost use Rattle.relay_core.specs.Reading.{control_value, register_value, limiter_value, scaler_unit, own_value_in, value_in, get_result, get_results};
+ghost use Rattle.relay_core.specs.Memory.{is_plain_where, is_plain, reads_plainly};
+ghost use Rattle.relay_core.specs.Reading.{shown, own_value_in, value_in, get_result, get_results};
+ghost use Rattle.relay_core.specs.Registers.{attribute_numbered as register_attribute, data_at as register_data, is_plain as is_plain_register};
 
 use crate::access::target;
+use crate::registers::{RegisterAttribute, read_register};
 use crate::relay::RelayCore;
 use crate::schedules::read_schedule;
-use cosem_axdr::{Data, Items, Octets};
+use cosem_axdr::{Data, Octets};
 use cosem_names::{
     AttrRef, AttributeSelection, GetResult, Instance, Level, ResultCode, Which, object_list, rights,
 };
@@ -19,21 +22,10 @@ use limiter_attributes::{LimiterAttribute, read_attribute};
 use listed::Listed;
 use std::alloc::{AllocError, Global};
 
-/// The unit W (IEC 62056-6-2, table of units).
-const WATT: u8 = 27;
-
-/// The exponent of ten, and the unit, of what a register holds: watts (IEC 62056-6-2, class 3, scaler_unit).
-fn scaler_unit(alloc: Global) -> Result<Data, AllocError>
-    ensures { IfOk result (λ value. value ≡ scaler_unit) }
-{
-    let parts = vec![in alloc; Data::Integer(0), Data::Enum(WATT)]?;
-    Ok(Data::Structure(Items::from_vec(parts)))
-}
-
 impl RelayCore {
     /// An attribute of the switch past its logical name.
     fn control_value(&self, number: u8) -> GetResult
-        ensures { (w : World) → StandsFor self.now w → result ≡ control_value w.control (control_attribute number) }
+        ensures { (w : World) → StandsFor self.now w → result ≡ shown (λ attribute. control_data attribute w.control) (control_attribute number) }
     {
         match ControlAttribute::of_number(number) {
             Some(attribute) => GetResult::Value(self.control.to_data(attribute)),
@@ -48,14 +40,14 @@ impl RelayCore {
         which: Which,
         number: u8,
     ) -> Result<GetResult, AllocError>
-        ensures value { IfOk result (λ r. (w : World) → StandsFor self.now w → r ≡ register_value (metered_of which w) number) }
-        ensures plain { number ≢ 3 → IsOk result }
+        ensures value { IfOk result (λ r. (w : World) → StandsFor self.now w
+            → r ≡ shown (λ attribute. register_data attribute (metered_of which w).last) (register_attribute number)) }
+        ensures plain { IsTrue (is_plain_where is_plain_register (register_attribute number)) → IsOk result }
     {
-        let data = match number {
-            2 => Data::DoubleLongUnsigned(self.limiter(which).value()),
-            3 => scaler_unit(alloc)?,
-            _ => return Ok(GetResult::Code(ResultCode::ReadWriteDenied)),
+        let Some(attribute) = RegisterAttribute::of_number(number) else {
+            return Ok(GetResult::Code(ResultCode::ReadWriteDenied));
         };
+        let data = read_register(alloc, attribute, self.limiter(which).value())?;
         Ok(GetResult::Value(data))
     }
 
@@ -67,8 +59,8 @@ impl RelayCore {
         number: u8,
     ) -> Result<GetResult, AllocError>
         ensures value { IfOk result (λ r. (w : World) → StandsFor self.now w
-            → r ≡ limiter_value which (metered_of which w).settings w.moment (attribute_numbered number)) }
-        ensures plain { IsTrue (is_plain_attribute (attribute_numbered number)) → IsOk result }
+            → r ≡ shown (λ attribute. limiter_data which attribute (metered_of which w).settings w.moment) (limiter_attribute number)) }
+        ensures plain { IsTrue (is_plain_where is_plain_limiter (limiter_attribute number)) → IsOk result }
     {
         let Some(attribute) = LimiterAttribute::of_number(number) else {
             return Ok(GetResult::Code(ResultCode::ReadWriteDenied));

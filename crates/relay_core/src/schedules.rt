@@ -1,9 +1,11 @@
 ghost use Rattle.std.specs.Prelude.{◌≡◌, IfOk, IsOk, IsTrue};
-ghost use Rattle.action_schedule.specs.Attributes.{attribute_numbered};
+ghost use Rattle.action_schedule.specs.Attributes.{attribute_numbered, is_plain};
 ghost use Rattle.action_schedule.specs.Reading.{selector_of, kind_of};
 ghost use Rattle.action_schedule.specs.Schedule.{with_selector, with_kind};
-ghost use Rattle.relay_core.specs.Memory.{is_plain_schedule_attribute};
-ghost use Rattle.relay_core.specs.Schedules.{schedule_of, schedule_value, schedule_written, schedule_code, write_code};
+ghost use Rattle.action_schedule.specs.Writing.{data_at};
+ghost use Rattle.relay_core.specs.Memory.{is_plain_where};
+ghost use Rattle.relay_core.specs.Reading.{shown};
+ghost use Rattle.relay_core.specs.Schedules.{schedule_of, schedule_written, schedule_code, write_code};
 ghost use Rattle.relay_core.specs.Stands.{StandsFor};
 ghost use Rattle.relay_core.specs.World.{World, new_schedules};
 ghost use Rattle.relay_core.specs.Writing.{at_schedule};
@@ -88,8 +90,8 @@ pub(crate) fn read_schedule(
     schedule: &ActionSchedule,
     number: u8,
 ) -> Result<GetResult, AllocError>
-    ensures value { IfOk result (λ r. r ≡ schedule_value schedule.now (attribute_numbered number)) }
-    ensures plain { IsTrue (is_plain_schedule_attribute (attribute_numbered number)) → IsOk result }
+    ensures value { IfOk result (λ r. r ≡ shown (λ attribute. data_at attribute schedule.now) (attribute_numbered number)) }
+    ensures plain { IsTrue (is_plain_where is_plain (attribute_numbered number)) → IsOk result }
 {
     let Some(attribute) = ScheduleAttribute::of_number(number) else {
         return Ok(GetResult::Code(ResultCode::ReadWriteDenied));

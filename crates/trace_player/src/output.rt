@@ -6,9 +6,9 @@ ghost use Rattle.trace_words.specs.declared.fault.TraceFault.TheVariants as trac
 ghost use Rattle.trace_player.specs.Playing.{PlaysTrace};
 ghost use Rattle.trace_player.specs.Traces.{most_bytes, trace_behind, trace_from, trace_of};
 
-use crate::playing::{opened_core, play_events};
+use crate::playing::play_events;
 use crate::reading::MAX_BYTES;
-use relay_core::Opening;
+use relay_core::{Opening, RelayCore};
 use std::alloc::Global;
 use trace_lines::read_event_count;
 use trace_openings::read_opening;
@@ -33,7 +33,7 @@ fn play_behind(
     ensures ok { IfOk result (λ output. PlaysTrace (trace_behind version count opening.now lines.old) output.lines.items output.count) }
     ensures err { IfErr result (λ fault. Fails trace_fault.Memory fault (trace_behind version count opening.now lines.old)) }
 {
-    let mut core = opened_core(alloc, opening)?;
+    let mut core = RelayCore::of_fit_opening(alloc, opening)?;
     let played = play_events(alloc, version, count, lines, &mut core);
     drop(core);
     let output = Output {

@@ -1,7 +1,6 @@
 ghost use Rattle.std.specs.Prelude.{◌≡◌, ◌++◌, ◌∷◌, [], IfErr, IfOk, OnOk};
 ghost use Rattle.byte_reading.specs.Outcome.{Fails};
 ghost use Rattle.relay_core.specs.Machine.{at_event};
-ghost use Rattle.relay_core.specs.Opening.{IsFitOpening, opened};
 ghost use Rattle.relay_core.specs.Runs.{line_at};
 ghost use Rattle.relay_core.specs.Stands.{StandsFor};
 ghost use Rattle.relay_core.specs.World.{World};
@@ -12,24 +11,12 @@ ghost use Rattle.trace_words.specs.declared.fault.TraceFault.TheVariants as trac
 ghost use Rattle.trace_player.specs.Playing.{PlaysEvent, PlaysEvents};
 ghost use Rattle.trace_player.specs.Traces.{events_at};
 
-use relay_core::{Opening, OpeningFault, RelayCore, line_after};
+use relay_core::{RelayCore, line_after};
 use relay_events::{Event, Line};
 use std::alloc::{AllocError, Global};
 use trace_lines::{next_held_event, write_line};
 use trace_text::end_line;
 use trace_words::{HeldLines, TraceFault, Version};
-
-/// A meter that stands as an opening says.
-pub(crate) fn opened_core(alloc: Global, opening: &Opening) -> Result<RelayCore, AllocError>
-    requires { IsFitOpening opening.now }
-    ensures { IfOk result (λ core. StandsFor core (opened opening.now)) }
-{
-    match RelayCore::from_opening(alloc, opening) {
-        Ok(core) => Ok(core),
-        Err(OpeningFault::Memory) => Err(AllocError),
-        Err(OpeningFault::Unfit) => unreachable!(),
-    }
-}
 
 /// Writes a line, and the byte that ends it.
 fn add_line(alloc: Global, out: &mut Vec<u8>, number: u64, line: &Line) -> Result<(), AllocError>

@@ -1,0 +1,48 @@
+ghost use Rattle.std.specs.Prelude.{◌≡◌, IfOk, IsOk, IsTrue};
+ghost use Rattle.relay_core.specs.Registers.{attribute_numbered, data_at, is_plain};
+
+use cosem_axdr::{Data, Items};
+use std::alloc::{AllocError, Global};
+
+/// The unit W (IEC 62056-6-2, table of units).
+const WATT: u8 = 27;
+
+/// The attributes of a register past its logical name, each with its number (IEC 62056-6-2, class 3).
+#[derive(Clone, Copy)]
+pub(crate) enum RegisterAttribute {
+    /// Attribute 2, value.
+    Value = 2,
+    /// Attribute 3, scaler_unit.
+    ScalerUnit = 3,
+}
+
+impl RegisterAttribute {
+    /// The attribute of this number, or None where it isn't 2 or 3.
+    pub(crate) fn of_number(number: u8) -> Option<RegisterAttribute>
+        ensures { result ≡ attribute_numbered number }
+    {
+        Some(match number {
+            2 => RegisterAttribute::Value,
+            3 => RegisterAttribute::ScalerUnit,
+            _ => return None,
+        })
+    }
+}
+
+/// An attribute of a register that holds so many watts. The value takes no memory.
+pub(crate) fn read_register(
+    alloc: Global,
+    attribute: RegisterAttribute,
+    watts: u32,
+) -> Result<Data, AllocError>
+    ensures value { IfOk result (λ value. value ≡ data_at attribute watts) }
+    ensures plain { IsTrue (is_plain attribute) → IsOk result }
+{
+    Ok(match attribute {
+        RegisterAttribute::Value => Data::DoubleLongUnsigned(watts),
+        RegisterAttribute::ScalerUnit => {
+            let parts = vec![in alloc; Data::Integer(0), Data::Enum(WATT)]?;
+            Data::Structure(Items::from_vec(parts))
+        }
+    })
+}
