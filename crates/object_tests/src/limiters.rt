@@ -1,6 +1,6 @@
 //! The worked values: 5000 W held for a second is ten samples.
 use cosem_datetime::{PatternFault, read_date_time};
-use limiter_core::{Actions, Count, Fire, Kind, Limiter, Profile, RUN_LIMIT, are_fit};
+use limiter_core::{Actions, Count, Fire, Kind, Limiter, Profile, RUN_LIMIT, Settings, are_fit};
 use std::alloc::{AllocError, Global};
 use std::process::Abort;
 use std::test::Fail;
@@ -281,4 +281,45 @@ fn runs_fit_where_samples_can_give_them(rt: HostRuntime) {
     );
     assert!(rt; !are_fit(5_001, run(RUN_LIMIT, false), none));
     assert!(rt; !are_fit(5_001, run(RUN_LIMIT + 1, true), none));
+}
+
+/// A limiter of the settings of another, at a moment.
+fn limiter_like(alloc: Global, other: &Limiter, moment: u32) -> Result<Limiter, AllocError> {
+    let settings = other.settings().try_clone(alloc)?;
+    Ok(Limiter::of(settings, Some(moment)))
+}
+
+/// Whether a limiter begins with these settings, at this moment, with no sample.
+fn begins(limiter: &Limiter, normal_threshold: u32, min_over_duration: u32, moment: u32) -> bool {
+    let settings = limiter.settings();
+    settings.normal_threshold == normal_threshold
+        && settings.min_over_duration == min_over_duration
+        && limiter.moment() == Some(moment)
+        && limiter.value() == 0
+        && limiter.over_run() == Count::none()
+}
+
+#[test]
+fn a_limiter_begins_with_the_settings_of_another(rt: HostRuntime) {
+    let mut first = limiter(rt.alloc(), 3);
+    let told = first.moment().is_none() && first.sample(6000) == Fire::Quiet;
+    let begun = match limiter_like(rt.alloc(), &first, 86_400) {
+        Ok(second) => {
+            let begun = begins(&second, 5000, 3, 86_400);
+            drop(second);
+            begun
+        }
+        Err(AllocError) => false,
+    };
+    drop(first);
+    assert!(rt; told && begun);
+}
+
+#[test]
+fn new_settings_have_the_greatest_thresholds(rt: HostRuntime) {
+    let settings = Settings::new(rt.alloc());
+    let thresholds = (settings.normal_threshold, settings.emergency_threshold);
+    let is_empty = settings.groups.as_slice().is_empty();
+    drop(settings);
+    assert!(rt; thresholds == (4_294_967_295, 4_294_967_295) && is_empty);
 }
