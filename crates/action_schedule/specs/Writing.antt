@@ -1,5 +1,5 @@
 -- The attributes of a schedule as they are read (IEC 62056-6-2, class 22): times and dates are octet-strings.
-use Rattle.std.specs.Prelude.{◌≡◌, ℕ, List, [], ◌∷◌, map, Ok}
+use Rattle.std.specs.Prelude.{◌≡◌, List, [], ◌∷◌, map, Ok}
 use Rattle.cosem_axdr.specs.declared.value.Data.{Data}
 use Rattle.cosem_axdr.specs.declared.value.Data.TheVariants.{OctetString, Enum}
 use Rattle.cosem_datetime.specs.Fields.{time_bytes, date_bytes}

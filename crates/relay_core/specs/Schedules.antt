@@ -1,5 +1,5 @@
 -- The four single action schedules, and their attributes as they are read and written (IEC 62056-6-2, class 22).
-use Rattle.std.specs.Prelude.{List, [], ◌∷◌, Option, Some, None, Result, Ok, Err}
+use Rattle.std.specs.Prelude.{List, [], ◌∷◌, Option, Some, Result, Ok, Err}
 use Rattle.action_schedule.specs.declared.attribute.ScheduleAttribute.{ScheduleAttribute}
 use Rattle.action_schedule.specs.declared.attribute.ScheduleAttribute.TheVariants.{ExecutedScript, Kind}
 use Rattle.cosem_names.specs.WriteFault.{fault_code}
