@@ -1,4 +1,7 @@
 //! The command line, as its users see it.
+ghost use Rattle.std.specs.Prelude.{◌≡◌, Some, codes};
+ghost use Rattle.server_options.specs.Options.{default_of};
+
 use clap::{Arg, ArgAction, Command, value_parser};
 use program_start::{with_argument, with_subcommand};
 use std::alloc::{AllocError, Global};
@@ -27,7 +30,9 @@ fn text<'a>(
     value_name: &'a str,
     help: &'a str,
     default: &'a str,
-) -> Arg<'a> {
+) -> Arg<'a>
+    ensures { default_of result ≡ Some default.entry.now }
+{
     Arg::new(alloc, name)
         .long(name)
         .value_name(value_name)
@@ -37,7 +42,9 @@ fn text<'a>(
 }
 
 /// The option `--device`.
-fn device<'a>(alloc: Global) -> Arg<'a> {
+fn device<'a>(alloc: Global) -> Arg<'a>
+    ensures { default_of result ≡ Some (codes "RELAY1") }
+{
     text(
         alloc,
         "device",
@@ -75,7 +82,9 @@ fn hex<'a>(alloc: Global) -> Result<Command<'a>, AllocError> {
 }
 
 /// The option `--listen`.
-fn listen<'a>(alloc: Global) -> Arg<'a> {
+fn listen<'a>(alloc: Global) -> Arg<'a>
+    ensures { default_of result ≡ Some (codes "127.0.0.1:4059") }
+{
     text(
         alloc,
         "listen",
@@ -86,7 +95,9 @@ fn listen<'a>(alloc: Global) -> Arg<'a> {
 }
 
 /// The option `--depth`.
-fn depth<'a>(alloc: Global) -> Arg<'a> {
+fn depth<'a>(alloc: Global) -> Arg<'a>
+    ensures { default_of result ≡ Some (codes "256") }
+{
     Arg::new(alloc, "depth")
         .long("depth")
         .value_name("N")
@@ -96,7 +107,9 @@ fn depth<'a>(alloc: Global) -> Arg<'a> {
 }
 
 /// The option `--connections`.
-fn connections<'a>(alloc: Global) -> Arg<'a> {
+fn connections<'a>(alloc: Global) -> Arg<'a>
+    ensures { default_of result ≡ Some (codes "0") }
+{
     Arg::new(alloc, "connections")
         .long("connections")
         .value_name("N")
@@ -106,7 +119,9 @@ fn connections<'a>(alloc: Global) -> Arg<'a> {
 }
 
 /// An option whose value is a number of seconds, and this one where it is not given.
-fn seconds<'a>(alloc: Global, name: &'a str, help: &'a str, default: &'a str) -> Arg<'a> {
+fn seconds<'a>(alloc: Global, name: &'a str, help: &'a str, default: &'a str) -> Arg<'a>
+    ensures { default_of result ≡ Some default.entry.now }
+{
     Arg::new(alloc, name)
         .long(name)
         .value_name("SECONDS")
@@ -116,7 +131,9 @@ fn seconds<'a>(alloc: Global, name: &'a str, help: &'a str, default: &'a str) ->
 }
 
 /// The option `--inactivity`.
-fn inactivity<'a>(alloc: Global) -> Arg<'a> {
+fn inactivity<'a>(alloc: Global) -> Arg<'a>
+    ensures { default_of result ≡ Some (codes "180") }
+{
     seconds(
         alloc,
         "inactivity",
@@ -126,7 +143,9 @@ fn inactivity<'a>(alloc: Global) -> Arg<'a> {
 }
 
 /// The option `--session`.
-fn session<'a>(alloc: Global) -> Arg<'a> {
+fn session<'a>(alloc: Global) -> Arg<'a>
+    ensures { default_of result ≡ Some (codes "3600") }
+{
     seconds(
         alloc,
         "session",

@@ -1,6 +1,8 @@
 //! The options of each command.
-ghost use Rattle.std.specs.Prelude.{◌≡◌, true, IfErr};
+ghost use Rattle.std.specs.Prelude.{◌≡◌, true, codes, string_bytes, ℕ, List, Some, IfOk, IfErr};
+ghost use Rattle.clap.specs.Matches.{first_value, found_of};
 ghost use Rattle.server_options.specs.Asking.{is_of_asking};
+ghost use Rattle.server_options.specs.Options.{IsText, IsNumber, IsFlag, IsBounds};
 
 use clap::ArgMatches;
 use program_fault::Fault;
@@ -57,7 +59,8 @@ pub struct ServeOptions {
 
 /// A text in memory of its own.
 fn owned(alloc: Global, text: &str) -> Result<String, Fault>
-    ensures { IfErr result (λ fault. is_of_asking fault ≡ true) }
+    ensures text { IfOk result (λ owned. string_bytes owned ≡ text.now) }
+    ensures err { IfErr result (λ fault. is_of_asking fault ≡ true) }
 {
     let mut owned = String::new(alloc);
     match owned.push_str(text) {
@@ -68,27 +71,33 @@ fn owned(alloc: Global, text: &str) -> Result<String, Fault>
 
 /// The text of an option, which is empty where there is none.
 fn text_of(alloc: Global, matches: &ArgMatches<'_>, name: &str) -> Result<String, Fault>
-    ensures { IfErr result (λ fault. is_of_asking fault ≡ true) }
+    ensures text { IfOk result (λ text. IsText (found_of matches.now) name.now (string_bytes text)) }
+    ensures err { IfErr result (λ fault. is_of_asking fault ≡ true) }
 {
     owned(alloc, matches.get_str(name).unwrap_or(""))
 }
 
 /// The options of `hex`.
 pub(crate) fn hex_options(alloc: Global, matches: &ArgMatches<'_>) -> Result<HexOptions, Fault>
-    ensures { IfErr result (λ fault. is_of_asking fault ≡ true) }
+    ensures password { IfOk result (λ options. IsText (found_of matches.now) (codes "password") (string_bytes options.password)) }
+    ensures device { IfOk result (λ options. IsText (found_of matches.now) (codes "device") (string_bytes options.device)) }
+    ensures is_verbose { IfOk result (λ options. IsFlag (found_of matches.now) (codes "verbose") options.is_verbose) }
+    ensures err { IfErr result (λ fault. is_of_asking fault ≡ true) }
 {
     let password = text_of(alloc, matches, "password")?;
     let device = text_of(alloc, matches, "device")?;
     Ok(HexOptions {
         password,
         device,
-        is_verbose: matches.get_flag("verbose"),
+        is_verbose: is_given(matches, "verbose"),
     })
 }
 
 /// The password of the command line, else that of the environment. Errors: `Memory`, and `Input` where neither has one.
 fn password_of<R: Env + AllocGlobal>(rt: &R, matches: &ArgMatches<'_>) -> Result<String, Fault>
-    ensures { IfErr result (λ fault. is_of_asking fault ≡ true) }
+    ensures given { IfOk result (λ password. (text : List ℕ) → first_value (found_of matches.now) (codes "password") ≡ Some text
+        → string_bytes password ≡ text) }
+    ensures err { IfErr result (λ fault. is_of_asking fault ≡ true) }
 {
     if let Some(text) = matches.get_str("password") {
         return owned(rt.alloc(), text);
@@ -100,16 +109,46 @@ fn password_of<R: Env + AllocGlobal>(rt: &R, matches: &ArgMatches<'_>) -> Result
     }
 }
 
+/// How many events the trace holds.
+fn depth_of(matches: &ArgMatches<'_>) -> u16
+    ensures { IsNumber 16 (found_of matches.now) (codes "depth") result }
+{
+    matches.get_one::<u16>("depth").unwrap_or(0)
+}
+
+/// How many connections are accepted.
+fn connections_of(matches: &ArgMatches<'_>) -> u64
+    ensures { IsNumber 64 (found_of matches.now) (codes "connections") result }
+{
+    matches.get_one::<u64>("connections").unwrap_or(0)
+}
+
+/// The seconds of an option.
+fn seconds_of(matches: &ArgMatches<'_>, name: &str) -> u32
+    ensures { IsNumber 32 (found_of matches.now) name.now result }
+{
+    matches.get_one::<u32>(name).unwrap_or(0)
+}
+
+/// Whether an option without a value is given.
+fn is_given(matches: &ArgMatches<'_>, name: &str) -> bool
+    ensures { IsFlag (found_of matches.now) name.now result }
+{
+    matches.get_flag(name)
+}
+
 /// How far `serve` goes.
-fn bounds_of(matches: &ArgMatches<'_>) -> Bounds {
+fn bounds_of(matches: &ArgMatches<'_>) -> Bounds
+    ensures { IsBounds (found_of matches.now) result }
+{
     Bounds {
-        depth: matches.get_one::<u16>("depth").unwrap_or(0),
-        connections: matches.get_one::<u64>("connections").unwrap_or(0),
-        inactivity: matches.get_one::<u32>("inactivity").unwrap_or(0),
-        session: matches.get_one::<u32>("session").unwrap_or(0),
-        stops_with_input: matches.get_flag("stop-with-input"),
-        resumes: matches.get_flag("resume"),
-        is_verbose: matches.get_flag("verbose"),
+        depth: depth_of(matches),
+        connections: connections_of(matches),
+        inactivity: seconds_of(matches, "inactivity"),
+        session: seconds_of(matches, "session"),
+        stops_with_input: is_given(matches, "stop-with-input"),
+        resumes: is_given(matches, "resume"),
+        is_verbose: is_given(matches, "verbose"),
     }
 }
 
@@ -118,7 +157,12 @@ pub(crate) fn serve_options<R: Env + AllocGlobal>(
     rt: &R,
     matches: &ArgMatches<'_>,
 ) -> Result<ServeOptions, Fault>
-    ensures { IfErr result (λ fault. is_of_asking fault ≡ true) }
+    ensures password { IfOk result (λ options. (text : List ℕ) → first_value (found_of matches.now) (codes "password") ≡ Some text
+        → string_bytes options.password ≡ text) }
+    ensures device { IfOk result (λ options. IsText (found_of matches.now) (codes "device") (string_bytes options.device)) }
+    ensures address { IfOk result (λ options. IsText (found_of matches.now) (codes "listen") (string_bytes options.address)) }
+    ensures bounds { IfOk result (λ options. IsBounds (found_of matches.now) options.bounds) }
+    ensures err { IfErr result (λ fault. is_of_asking fault ≡ true) }
 {
     let bounds = bounds_of(matches);
     let password = password_of(rt, matches)?;

@@ -1,15 +1,16 @@
 //! The texts that options give.
-ghost use Rattle.std.specs.Prelude.{◌≡◌, ◌≤◌, length, IfOk, IfErr};
-ghost use Rattle.program_fault.specs.declared.Fault.TheVariants.{Memory};
+ghost use Rattle.std.specs.Prelude.{◌≡◌, ◌⊎◌, ◌<◌, ◌≤◌, length, Err, IfOk, IfErr};
+ghost use Rattle.program_fault.specs.declared.Fault.TheVariants.{Input, Memory};
 
 use cosem_axdr::Octets;
 use program_fault::Fault;
 use std::alloc::Global;
 
-/// The bytes of a text, 1 at least and so many at most. Errors: `Input` of any other text, `Memory`.
+/// The bytes of a text that has 1 to `longest` of them. Errors: `Input` of any other text, else `Memory`.
 pub fn octets_of(alloc: Global, text: &str, longest: usize) -> Result<Octets, Fault>
     ensures bytes { IfOk result (λ octets. octets ≡ text.now) }
     ensures fits { IfOk result (λ octets. (1 ≤ length octets) × (length octets ≤ longest)) }
+    ensures unfit { (length text.now ≡ 0) ⊎ (longest < length text.now) → result ≡ Err Input }
     ensures taken { 1 ≤ length text.now → length text.now ≤ longest → IfErr result (λ fault. fault ≡ Memory) }
 {
     let bytes = text.as_bytes();
