@@ -4,7 +4,8 @@
 --     hex_output    the lines of a whole session of a new meter
 --     PlayedOn      what came of the bytes of a session, by the result: of a meter
 --     Played        the same of a new meter
---     Hexed         what came of a text, by the result
+--     PlayedHex     what came of a text that was read, by the result
+--     Hexed         what came of a text that is read, by the result
 use Rattle.std.specs.Prelude.{◌≡◌, ◌⊎◌, ◌<◌, ◌≤◌, ℕ, Bool, ◌==◌, ◌||◌, not, Option, List, [], ◌∷◌, ◌++◌, length, map, filter, ⊤, Result, Ok, Err}
 use Rattle.std.specs.List.{flat_map}
 use Rattle.std.specs.Io.KnownBytes.{Appends, Consumes, IsAtEnd}
@@ -99,6 +100,19 @@ Played device password input written failed (Err fault.Read) written' failed' = 
 Played device password input written failed (Err fault.Write) written' failed' = failed < failed'
 Played device password input written failed (Err fault.Memory) written' failed' =
     Appends written written' [] ⊎ RunsShort device password input written written'
+
+-- what came of a text that was read
+abbrev pub PlayedHex : List ℕ → List ℕ → List ℕ → Option (List ℕ) → ℕ → Result (Unit {0}) HexFault → Option (List ℕ) → ℕ → Type 0
+PlayedHex device password text written failed (Ok done) written' failed' =
+    (input : List ℕ) × IsHex text input × Appends written written' (hex_output device password input)
+PlayedHex device password text written failed (Err fault.Digits) written' failed' =
+    ((input : List ℕ) → ¬ (IsHex text input)) × Appends written written' []
+PlayedHex device password text written failed (Err fault.TooLong) written' failed' = ⊥
+PlayedHex device password text written failed (Err fault.Read) written' failed' = ⊥
+PlayedHex device password text written failed (Err fault.Write) written' failed' =
+    (input : List ℕ) × IsHex text input × (failed < failed')
+PlayedHex device password text written failed (Err fault.Memory) written' failed' =
+    Appends written written' [] ⊎ ((input : List ℕ) × IsHex text input × RunsShort device password input written written')
 
 module _ {R W : Type 0}
     (remaining : R → Option (List ℕ)) (read_failures : R → ℕ)

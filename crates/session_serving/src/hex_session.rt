@@ -1,5 +1,5 @@
 ghost use Rattle.acse_ber.specs.Password.{IsPassword};
-ghost use Rattle.session_serving.specs.Hexadecimal.{Hexed, Played, PlayedOn};
+ghost use Rattle.session_serving.specs.Hexadecimal.{Hexed, Played, PlayedHex, PlayedOn};
 ghost use Rattle.relay_core.specs.World.{IsDeviceName};
 
 use crate::fault::{HexFault, ServeFault};
@@ -62,6 +62,25 @@ fn play<W: Writer>(
     played
 }
 
+/// Serves the session whose bytes a text has in hexadecimal, as [`run_hex`] does, of a text that was read.
+///
+/// Errors: `Digits` if the text is no pairs of digits, before anything is written; `Write`; `Memory`. Never `TooLong` or `Read`.
+pub fn play_hex<W: Writer>(
+    alloc: Global,
+    text: &[u8],
+    writer: &mut W,
+    device: &Octets,
+    password: &Octets,
+) -> Result<(), HexFault>
+    requires writable { W.can_write writer.now }
+    requires named { IsDeviceName device.now }
+    requires password { IsPassword password.now }
+    ensures { PlayedHex device.now password.now text.now (W.contents writer.old) (W.failures writer.old) result (W.contents writer.new) (W.failures writer.new) }
+{
+    let input = decode(alloc, text)?;
+    play(alloc, input.as_slice(), writer, device, password)
+}
+
 /// Serves a session whose bytes a text has in hexadecimal: pairs of digits in either case, with blanks and line ends passed over, at most 1,048,576 characters.
 /// It has a new meter of this device name, 1 to 16 bytes, and the management client this password, 1 to 32 bytes. Each frame that is sent is written as a line of hexadecimal in
 /// capitals. A session that a wrong header or the end of the text cuts is no fault.
@@ -81,6 +100,5 @@ pub fn run_hex<R: Reader, W: Writer>(
     ensures { Hexed R.remaining R.failures W.contents W.failures device.now password.now reader.old writer.old result reader.new writer.new }
 {
     let text = read_text(alloc, reader)?;
-    let input = decode(alloc, text)?;
-    play(alloc, input.as_slice(), writer, device, password)
+    play_hex(alloc, text.as_slice(), writer, device, password)
 }

@@ -5,7 +5,7 @@ ghost use Rattle.session_serving.specs.Hexadecimal.{IsHex, IsUndecoded, StopsRea
 use crate::fault::HexFault;
 use byte_streams::{InputFault, Reader, read_to_end_within};
 use hex::FromHexError;
-use std::alloc::Global;
+use std::alloc::{AllocError, Global};
 
 /// A text has at most so many characters.
 const MOST_CHARACTERS: usize = 1_048_576;
@@ -34,20 +34,23 @@ fn is_blank(character: u8) -> bool
     matches!(character, b' ' | b'\n' | b'\r')
 }
 
-/// Takes the blanks out of a text.
-fn remove_blanks(text: &mut Vec<u8>)
-    ensures { text.new.items ≡ filter (λ character. not (is_blank character)) text.old.items }
+/// The characters of a text but for its blanks.
+#[tactic(auto, unfolding(crate::specs::Hexadecimal::is_blank))]
+fn digits_of(alloc: Global, text: &[u8]) -> Result<Vec<u8>, AllocError>
+    ensures { IfOk result (λ digits. digits.items ≡ filter (λ character. not (is_blank character)) text.now) }
 {
-    text.retain(|character| !is_blank(*character));
+    text.iter()
+        .copied()
+        .filter(|character| !is_blank(*character))
+        .collect(alloc)
 }
 
 /// The bytes whose digits a text has.
-pub(crate) fn decode(alloc: Global, text: Vec<u8>) -> Result<Vec<u8>, HexFault>
-    ensures ok { IfOk result (λ input. IsHex text.items input.items) }
-    ensures err { IfErr result (λ fault. IsUndecoded text.items fault) }
+pub(crate) fn decode(alloc: Global, text: &[u8]) -> Result<Vec<u8>, HexFault>
+    ensures ok { IfOk result (λ input. IsHex text.now input.items) }
+    ensures err { IfErr result (λ fault. IsUndecoded text.now fault) }
 {
-    let mut digits = text;
-    remove_blanks(&mut digits);
+    let digits = digits_of(alloc, text)?;
     match hex::decode(alloc, digits.as_slice()) {
         Ok(input) => Ok(input),
         Err(FromHexError::OutOfMemory) => Err(HexFault::Memory),

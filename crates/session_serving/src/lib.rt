@@ -11,6 +11,6 @@ mod serving;
 
 pub use answering::answer_apdu;
 pub use fault::{HexFault, ServeFault};
-pub use hex_session::run_hex;
+pub use hex_session::{play_hex, run_hex};
 pub use meter::Meter;
 pub use serving::serve_session;
