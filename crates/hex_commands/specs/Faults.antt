@@ -1,10 +1,18 @@
--- What ends a command that reads its input whole.
-use Rattle.std.specs.Prelude.{Bool, true, false}
+-- The fault of the program for each fault of `apdu` and `hex`.
 use Rattle.program_fault.specs.declared.Fault.{Fault}
-use Rattle.program_fault.specs.declared.Fault.TheVariants.{Listen, Turns}
+use Rattle.program_fault.specs.declared.Fault.TheVariants as program
+use Rattle.hex_commands.specs.declared.telling.InputFault.{InputFault}
+use Rattle.hex_commands.specs.declared.telling.InputFault.TheVariants as fault
 
--- it is not that of a server
-abbrev pub is_of_commands : Fault → Bool
-is_of_commands Listen = false
-is_of_commands Turns = false
-is_of_commands _ = true
+-- input that is wrong, and what is not: a failed read, a failed write, memory that ran out
+abbrev pub fault_of : InputFault → Fault
+fault_of fault.TooLong = program.Input
+fault_of (fault.Odd line) = program.Input
+fault_of (fault.Character line byte) = program.Input
+fault_of (fault.Digit character) = program.Input
+fault_of fault.OddDigits = program.Input
+fault_of fault.Password = program.Input
+fault_of fault.Device = program.Input
+fault_of fault.Read = program.Read
+fault_of fault.Write = program.Write
+fault_of fault.Memory = program.Memory

@@ -1,10 +1,14 @@
-//! The commands `apdu` and `hex`: what standard input has in hexadecimal, answered on standard output by a new meter.
+//! The commands `apdu` and `hex`: each is one function from a text in hexadecimal to the text that a new meter answers.
 #![tactic(auto)]
 
+mod answers;
 mod apdu;
 mod hex_session;
 mod input;
+mod lines;
+mod requests;
 mod telling;
 
-pub use apdu::answer_requests;
-pub use hex_session::play_session;
+pub use apdu::answer_text;
+pub use hex_session::play_text;
+pub use telling::{InputFault, report_fault};

@@ -1,51 +1,60 @@
-//! Where and why standard input is not what `apdu` and `hex` take.
-ghost use Rattle.std.specs.Prelude.{◌≡◌, true};
-ghost use Rattle.hex_commands.specs.Faults.{is_of_commands};
+//! Why standard input is not what `apdu` and `hex` take, and how that is reported.
+ghost use Rattle.std.specs.Prelude.{◌≡◌};
+ghost use Rattle.hex_commands.specs.Faults.{fault_of};
 
 use program_fault::Fault;
 
-/// Why the commands `apdu` and `hex` have no input, or no output.
+/// Why the commands `apdu` and `hex` have no input, or no output. Lines, bytes and characters count from 1.
 #[derive(Clone, Copy, Debug, PartialEq, Eq)]
-pub(crate) enum InputFault {
+pub enum InputFault {
     /// There are more than 1,048,576 bytes.
     TooLong,
-    /// The line with this number, counted from 1, has an odd number of characters.
+    /// The line of this number has an odd number of characters.
     Odd(usize),
-    /// In the line with the first number the byte with the second one is no digit, both counted from 1.
+    /// In the line of the first number the byte of the second one is no hexadecimal digit.
     Character(usize, usize),
-    /// In a stream the character with this number, counted from 1, is no digit.
+    /// In a stream the character of this number is no hexadecimal digit.
     Digit(usize),
     /// A stream has an odd number of digits.
     OddDigits,
-    /// The password has not 1 to 32 bytes.
+    /// The password does not have 1 to 32 bytes.
     Password,
-    /// The device name has not 1 to 16 bytes.
+    /// The device name does not have 1 to 16 bytes.
     Device,
     /// Standard input could not be read.
     Read,
     /// Standard output could not be written.
     Write,
-    /// Memory ran out.
+    /// Out of memory.
     Memory,
 }
 
-/// The fault of the program. With `is_verbose`, a line on standard error tells first where and why the input is wrong.
-pub(crate) fn tell_fault<R: Eprint>(rt: &R, is_verbose: bool, fault: InputFault) -> Fault
-    ensures { is_of_commands result ≡ true }
-{
-    if is_verbose {
-        tell(rt, fault);
-    }
-    match fault {
-        InputFault::Read => Fault::Read,
-        InputFault::Write => Fault::Write,
-        InputFault::Memory => Fault::Memory,
-        _ => Fault::Input,
+impl InputFault {
+    /// The fault of the program: `Read`, `Write` or `Memory`, and `Input` of everything else.
+    pub fn fault(self) -> Fault
+        ensures { result ≡ fault_of self }
+    {
+        match self {
+            InputFault::Read => Fault::Read,
+            InputFault::Write => Fault::Write,
+            InputFault::Memory => Fault::Memory,
+            _ => Fault::Input,
+        }
     }
 }
 
-/// Tells on standard error, in a line, where and why the input is wrong.
-fn tell<R: Eprint>(rt: &R, fault: InputFault) {
+/// Reports a fault: with `is_verbose` a line on standard error says what is wrong. Returns the fault of the program.
+pub fn report_fault<R: Eprint>(rt: &R, is_verbose: bool, fault: InputFault) -> Fault
+    ensures { result ≡ fault_of fault }
+{
+    if is_verbose {
+        describe(rt, fault);
+    }
+    fault.fault()
+}
+
+/// Says on standard error, in a line, what is wrong.
+fn describe<R: Eprint>(rt: &R, fault: InputFault) {
     let _ = match fault {
         InputFault::TooLong => eprintln!(rt; "byte 1048577: more than 1,048,576 bytes"),
         InputFault::Odd(line) => eprintln!(rt; "line {line}: an odd number of characters"),

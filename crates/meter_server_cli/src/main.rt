@@ -8,10 +8,11 @@
 mod serving;
 
 use crate::serving::Server;
-use hex_commands::{answer_requests, play_session};
+use byte_streams::Counted;
+use hex_commands::{answer_text, play_text, report_fault};
 use program_fault::Fault;
 use program_start::ended;
-use server_options::{Work, asked};
+use server_options::{HexOptions, Work, asked};
 use std::process::ExitCode;
 
 /// What is to be done once the command line is read.
@@ -23,16 +24,38 @@ enum Next {
     Serve(Server),
 }
 
+/// `apdu`: answers the requests of standard input on standard output.
+fn run_apdu(rt: &HostRuntime, is_verbose: bool) -> Result<(), Fault> {
+    let mut input = Counted::new(rt.stdin());
+    let mut output = Counted::new(rt.stdout());
+    match answer_text(rt.alloc(), &mut input, &mut output) {
+        Ok(()) => Ok(()),
+        Err(fault) => Err(report_fault(rt, is_verbose, fault)),
+    }
+}
+
+/// `hex`: plays the session of standard input on standard output.
+fn run_hex(rt: &HostRuntime, options: &HexOptions) -> Result<(), Fault> {
+    let mut input = Counted::new(rt.stdin());
+    let mut output = Counted::new(rt.stdout());
+    let password = options.password.as_str();
+    let device = options.device.as_str();
+    match play_text(rt.alloc(), &mut input, &mut output, password, device) {
+        Ok(()) => Ok(()),
+        Err(fault) => Err(report_fault(rt, options.is_verbose, fault)),
+    }
+}
+
 /// Reads the command line and does what it asks for, up to the first client of a server.
 fn begin(rt: &HostRuntime) -> Result<Next, Fault> {
     match asked(rt)? {
         Work::Nothing(status) => Ok(Next::Ended(status)),
         Work::Apdu(is_verbose) => {
-            answer_requests(rt, is_verbose)?;
+            run_apdu(rt, is_verbose)?;
             Ok(Next::Ended(0))
         }
         Work::Hex(options) => {
-            play_session(rt, rt.alloc(), rt.stdin(), rt.stdout(), &options)?;
+            run_hex(rt, &options)?;
             Ok(Next::Ended(0))
         }
         Work::Serve(options) => Ok(Next::Serve(serving::begun(rt, &options)?)),

@@ -1,0 +1,7 @@
+pub mod LineCuts
+pub mod Pieces
+pub mod Decoded
+pub mod RequestLemmas
+pub mod Digits
+pub mod AnswerLemmas
+pub mod Played
