@@ -9,6 +9,7 @@ use Rattle.relay_events.specs.declared.reply.Reply.{Reply}
 use Rattle.session_core.proofs.Meet.{same_from, same_events, same_texts}
 use Rattle.session_core.specs.Answers.{answer_text, due_text}
 use Rattle.session_core.specs.Backwards.{to_server, end_by, end_of}
+use Rattle.session_core.specs.Ends.{EndsWithInput}
 use Rattle.session_core.specs.Incoming.{fault_of, outcome_by_fault, block_outcome_of, whole_by_data, whole_data, whole_outcome, event_by, form_by, later_outcome, transfer_of, no_blocks}
 use Rattle.session_core.specs.Outcome.{Outcome, asks, says, Turn, settled, continues, event_of, turn_event}
 use Rattle.session_core.specs.Outgoing.{answer_cut, value_answer, values_answer, outgoing_by, begun_by}
@@ -390,11 +391,26 @@ passes_frame E password old new finished s f n whole after goes_on elsewhere = (
   (refl, (let less = shorter old n new whole after in omega arith)),
 )
 
-is_quiet : (password pending : List ℕ) (s : State) → IsPart pending → IsQuiet (session password pending false s Listen)
-unfolding still_asks still_sends is_asking is_finished
+-- part of a frame is no wrong header
+part_ends : (bytes : List ℕ) → EndsWithInput (end_by head.Part bytes)
+part_ends [] = tt
+part_ends (byte ∷ bytes) = tt
+
+-- how an input ends that ends in part of a frame
+end_of_part : (bytes : List ℕ) → IsPart bytes → end_of (bytes ++ []) ≡ end_by head.Part bytes
+unfolding end_of
+end_of_part bytes part =
+    ap (λ (all : List ℕ). end_by (head_of (rest_of all)) (rest_of all)) (append-nil bytes)
+    ∙ ap (λ (rest : List ℕ). end_by (head_of rest) rest) part.rest
+    ∙ ap (λ (h : Head). end_by h bytes) part.front
+
+is_quiet : (password pending : List ℕ) (s : State) → IsPart pending
+    → IsQuiet (session password pending false s Listen)
+unfolding still_asks still_sends still_ends is_asking is_finished
 is_quiet password pending s part = record {
   asks = ap (λ (fs : List Frame). asks_on password (known_in s) (to_server fs)) (ap frames_of (append-nil pending) ∙ part.frames);
   sends = λ replies. ap (λ (fs : List Frame). answers_on password s (to_server fs) replies) (ap frames_of (append-nil pending) ∙ part.frames);
+  ends = subst EndsWithInput (sym (end_of_part pending part)) (part_ends pending);
   silent = refl;
   goes_on = refl;
 }
@@ -486,6 +502,19 @@ fresh_by password p pending s same empty none = rw (same, empty, none) (fresh pa
 pub feeds_finished : (password pending : List ℕ) (s : State) (task : Task) (bytes : List ℕ) → Feeds (session password pending true s task) bytes (session password pending true s task)
 unfolding still_asks still_sends still_ends
 feeds_finished password pending s task bytes = record { asks = λ more. refl; sends = λ more replies. refl; ends = λ more. refl; asking = refl; over = refl; finished = refl }
+
+-- once the session is over no bytes are taken
+pub feeds_over : (password pending : List ℕ) (finished : Bool) (s : State) (end : SessionEnd) (bytes : List ℕ)
+    → Feeds (session password pending finished s (Over end)) bytes (session password pending finished s (Over end))
+unfolding still_asks still_sends still_ends
+feeds_over password pending finished s end bytes = record {
+  asks = λ more. refl;
+  sends = λ more replies. refl;
+  ends = λ more. refl;
+  asking = refl;
+  over = refl;
+  finished = refl;
+}
 
 pub feeds : (password pending : List ℕ) (s : State) (task : Task) (bytes : List ℕ) → Feeds (session password pending false s task) bytes (session password (pending ++ bytes) false s task)
 unfolding still_asks still_sends still_ends is_asking ended is_finished
@@ -626,11 +655,29 @@ bad_version bytes f is stops = subst (λ (g : WrapperFault). StopsBy g bytes) is
 pub too_long : (bytes : List ℕ) (f : WrapperFault) → f ≡ fault.TooLong → StopsBy f bytes → Stops head.TooLong bytes
 too_long bytes f is stops = subst (λ (g : WrapperFault). StopsBy g bytes) is stops
 
+-- the session is over, and says so again
+pub ends_again : (s : Session) (end : SessionEnd) → ended s ≡ Some end → s.task ≡ Over end
+unfolding ended
+ends_again s end = over_by s.task end
+  where
+    over_by : (task : Task) (end : SessionEnd) → end_in task ≡ Some end → task ≡ Over end
+    over_by Listen end e = absurd cc
+    over_by (Read joined) end e = absurd cc
+    over_by (Await asked) end e = absurd cc
+    over_by (Say due) end e = absurd cc
+    over_by (Send text) end e = absurd cc
+    over_by (Over other) end e = cc
+
 -- ---- bytes come to any session
 
 pub feeds_after_end : (s : Session) (bytes : List ℕ) → s.is_finished ≡ true → Feeds s bytes s
 feeds_after_end s bytes finished =
     by_parts (λ (u : Session). Feeds u bytes u) s true s.task finished refl (feeds_finished s.password s.deframer s.state s.task bytes)
+
+pub feeds_after_over : (s : Session) (bytes : List ℕ) (end : SessionEnd) → ended s ≡ Some end → Feeds s bytes s
+feeds_after_over s bytes end over =
+    by_parts (λ (u : Session). Feeds u bytes u) s s.is_finished (Over end) refl (ends_again s end over)
+    (feeds_over s.password s.deframer s.is_finished s.state end bytes)
 
 pub feeds_any : (s : Session) (bytes pending : List ℕ) → s.is_finished ≡ false → pending ≡ s.deframer ++ bytes → Feeds s bytes (session s.password pending s.is_finished s.state s.task)
 feeds_any s bytes pending goes_on longer =
@@ -688,19 +735,6 @@ over_any E s end over =
 -- a session that needs more input
 pub idles : (s : Session) (h : Head) → s.task ≡ Listen → s.is_finished ≡ false → h ≡ head.Part → Fronts s.deframer h → IsQuiet s
 idles s h listens goes_on is means = by_parts IsQuiet s false Listen goes_on listens (is_quiet s.password s.deframer s.state (subst (Fronts s.deframer) is means))
-
--- the session is over, and says so again
-pub ends_again : (s : Session) (end : SessionEnd) → ended s ≡ Some end → s.task ≡ Over end
-unfolding ended
-ends_again s end = over_by s.task end
-  where
-    over_by : (task : Task) (end : SessionEnd) → end_in task ≡ Some end → task ≡ Over end
-    over_by Listen end e = absurd cc
-    over_by (Read joined) end e = absurd cc
-    over_by (Await asked) end e = absurd cc
-    over_by (Say due) end e = absurd cc
-    over_by (Send text) end e = absurd cc
-    over_by (Over other) end e = cc
 
 pub takes_any : (s t : Session) (asked : Asked) (reply : Reply) (text : List ℕ) (outgoing : Option Sending) → s.task ≡ Await asked
     → text ≡ reply_text asked reply → outgoing ≡ outgoing_by asked reply

@@ -13,4 +13,5 @@ pub mod Running
 pub mod Law
 pub mod Unframed
 pub mod Remaining
+pub mod Ends
 pub mod Progress

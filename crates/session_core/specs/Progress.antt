@@ -14,6 +14,7 @@ use Rattle.relay_events.specs.declared.event.Event.{Event}
 use Rattle.relay_events.specs.declared.event.Event.TheVariants.{Get}
 use Rattle.relay_events.specs.declared.reply.Reply.{Reply}
 use Rattle.session_core.specs.Backwards.{Asks, Answers, end_of}
+use Rattle.session_core.specs.Ends.{EndsWithInput}
 use Rattle.session_core.specs.Remaining.{still_asks, still_sends, still_ends, is_asking, is_asking_value, ended, is_finished, load}
 use Rattle.session_core.specs.declared.end.SessionEnd.{SessionEnd}
 use Rattle.session_core.specs.declared.next.Next.{Next}
@@ -100,10 +101,11 @@ abbrev pub StepsBy : {E : Type 0} → Session → Result Next E → Session → 
 StepsBy old (Ok next) new = Steps old (asked_by next) (sent_by next) new
 StepsBy old (Err error) new = Steps old [] [] new
 
--- nothing is asked and nothing sent without more input
+-- nothing is asked and nothing sent without more input, and no wrong header came so far
 pub record IsQuiet (s : Session) : Type 0 where
   pub asks : still_asks s [] ≡ []
   pub sends : (replies : List Reply) → still_sends s [] replies ≡ []
+  pub ends : EndsWithInput (still_ends s [])
   pub silent : is_asking s ≡ false
   pub goes_on : is_finished s ≡ false
 

@@ -1,4 +1,4 @@
-ghost use Rattle.std.specs.Prelude.{◌≡◌, ◌≤◌, ◌+◌, length, true, false, Some, IfSome, IfNone, IfOk, IfErr, OnOk, OnErr, Ok};
+ghost use Rattle.std.specs.Prelude.{◌≡◌, ◌≤◌, ◌+◌, length, true, false, Some, IfSome, IfNone, IfOk, IfErr, IsOk, OnOk, OnErr, Ok};
 ghost use Rattle.acse_ber.specs.Password.{IsPassword};
 ghost use Rattle.session_core.specs.declared.task.Task.TheVariants.{Listen, Over};
 ghost use Rattle.wrapper_frame.specs.Header.{header_size, head_of};
@@ -41,7 +41,7 @@ impl Debug for Session {
 }
 
 impl Session {
-    ghost use Rattle.session_core.specs.Remaining.{is_asking, is_asking_value, ended, is_idle};
+    ghost use Rattle.session_core.specs.Remaining.{is_asking, is_asking_value, ended, is_finished, is_idle, load};
     ghost use Rattle.session_core.specs.Progress.{Owes, IsQuiet, Feeds, Finishes, StepsBy, Leaves, Takes, AnswersBy, AsksFor, WorksBy, task_by, next_by};
 
     /// A session of which no byte has come. The management client has this password, 1 to 32 bytes.
@@ -58,19 +58,26 @@ impl Session {
         })
     }
 
-    /// The next bytes of the stream, in any cut. A session that is over, or whose input has ended, takes none.
+    /// Appends the next bytes of the stream, in any cut. Once the session is over or its input has
+    /// ended, the call succeeds and changes nothing. Out of memory, nothing has changed.
+    #[tactic(auto, unfolding(crate::specs::Remaining::is_finished))]
     pub fn feed(&mut self, bytes: &[u8]) -> Result<(), AllocError>
         ensures ok { OnOk result (Feeds self.old bytes.now self.new) }
         ensures err { OnErr result (self.new ≡ self.old) }
+        ensures finished { is_finished self.old ≡ true → IsOk result × (self.new ≡ self.old) }
+        ensures over { IfSome (ended self.old) (λ end. IsOk result × (self.new ≡ self.old)) }
     {
         if self.is_finished {
             return Ok(());
         }
-        match self.deframer.feed(bytes) {
-            Ok(()) => Ok(()),
-            Err(WrapperFault::Version) => Ok(()),
-            Err(WrapperFault::TooLong) => Ok(()),
-            Err(WrapperFault::Memory) => Err(AllocError),
+        match self.ended() {
+            Some(_) => Ok(()),
+            None => match self.deframer.feed(bytes) {
+                Ok(()) => Ok(()),
+                Err(WrapperFault::Version) => Ok(()),
+                Err(WrapperFault::TooLong) => Ok(()),
+                Err(WrapperFault::Memory) => Err(AllocError),
+            },
         }
     }
 
@@ -92,15 +99,19 @@ impl Session {
         }
     }
 
-    /// What the session wants next. Want of memory changes nothing of what it still asks and sends.
+    /// Returns what the session needs next: an event for the meter to answer, a frame to send, more
+    /// input, or nothing more. Out of memory, it still asks and sends the same, and the call may be
+    /// repeated. Its fields may differ: a frame for another port may have been dropped before, or the
+    /// blocks of a value joined, which the next call does not do again.
     pub fn next(&mut self, alloc: Global) -> Result<Next, AllocError>
         ensures steps { StepsBy self.old result self.new }
         ensures leaves { IfOk result (λ next. Leaves self.old next self.new) }
         // While a reply is awaited, and once the session is over, this is said again.
         ensures waits { is_asking self.old ≡ true → (result ≡ Ok Next.Wait) × (self.new ≡ self.old) }
         ensures again { (end : SessionEnd) → ended self.old ≡ Some end → (result ≡ Ok (Next.End end)) × (self.new ≡ self.old) }
-        // Where memory runs out no reply is awaited.
+        // Out of memory, no reply is awaited, and no more work is kept than before.
         ensures silent { OnErr result (is_asking self.new ≡ false) }
+        ensures kept { OnErr result (load self.new ≤ load self.old) }
     {
         if self.asking() {
             return Ok(Next::Wait);
@@ -201,6 +212,7 @@ impl Session {
     fn work(&mut self, alloc: Global) -> Result<Option<Next>, AllocError>
         ensures works { WorksBy self.old result self.new }
         ensures silent { OnErr result (is_asking self.new ≡ false) }
+        ensures err { OnErr result (self.new ≡ self.old) }
     {
         match &self.task {
             Task::Listen => self.listen(alloc),
@@ -230,6 +242,7 @@ impl Session {
         requires { self.now.task ≡ Listen }
         ensures works { WorksBy self.old result self.new }
         ensures silent { OnErr result (is_asking self.new ≡ false) }
+        ensures err { OnErr result (self.new ≡ self.old) }
     {
         match self.deframer.front() {
             Head::Whole(size) => self.hear(alloc, size),
@@ -249,6 +262,7 @@ impl Session {
         requires there { header_size + size ≤ length self.now.deframer }
         ensures works { WorksBy self.old result self.new }
         ensures silent { OnErr result (is_asking self.new ≡ false) }
+        ensures err { OnErr result (self.new ≡ self.old) }
     {
         let (src, dst) = self.deframer.ports();
         if dst != SERVER_PORT {

@@ -1,4 +1,5 @@
-use Rattle.session_core.proofs.Tasks.{feeds_any, feeds_after_end, feeds_behind_version, feeds_behind_length, bad_version, too_long}
+use Rattle.std.proofs.Common.{sym}
+use Rattle.session_core.proofs.Tasks.{feeds_any, feeds_after_end, feeds_after_over, feeds_behind_version, feeds_behind_length, bad_version, too_long}
 use Rattle.session_core.proofs.session.Session.feed.Goals as goal
 
 pub returns-then-self-clause-ok : goal.returns-then-self-clause-ok
@@ -14,3 +15,7 @@ returns-in-Err-Version-clause-ok c =
 pub returns-in-Err-TooLong-clause-ok : goal.returns-in-Err-TooLong-clause-ok
 returns-in-Err-TooLong-clause-ok c =
     feeds_behind_length c.args.self.now c.args.bytes.now c.feed.new.self c.if-self.false c.in-Err-TooLong.ensures.err (too_long _ _ c.in-Err-TooLong.field-0-is c.in-Err-TooLong.ensures.stops)
+
+pub returns-in-Some-clause-ok : goal.returns-in-Some-clause-ok
+returns-in-Some-clause-ok c =
+    feeds_after_over c.args.self.now c.args.bytes.now c.in-Some.field-0 (sym c.in-Some.ensures)
