@@ -1,5 +1,6 @@
 pub mod Answering
 pub mod Hexadecimal
 pub mod Meters
+pub mod Numbers
 pub mod Served
 pub mod Settling

@@ -1,4 +1,5 @@
 ghost use Rattle.std.specs.Prelude.{◌≡◌};
+ghost use Rattle.session_serving.specs.Numbers.{serve_number, hex_number};
 ghost use Rattle.session_serving.specs.Settling.{fault_of};
 ghost use Rattle.session_serving.specs.declared.fault.HexFault.TheVariants as hex_fault;
 ghost use Rattle.session_serving.specs.declared.fault.ServeFault.TheVariants as serve_fault;
@@ -46,6 +47,15 @@ impl From<CallFault> for ServeFault {
     }
 }
 
+/// The number of the fault, 1 to 5.
+impl From<ServeFault> for u8 {
+    ghost from_gives = { λ fault number. number ≡ serve_number fault };
+
+    fn from(fault: ServeFault) -> u8 {
+        fault as u8
+    }
+}
+
 /// Why a text of hexadecimal was not played to its end.
 #[derive(Clone, Copy, Debug, PartialEq, Eq, Error)]
 pub enum HexFault {
@@ -71,5 +81,14 @@ impl From<AllocError> for HexFault {
 
     fn from(_error: AllocError) -> HexFault {
         HexFault::Memory
+    }
+}
+
+/// The number of the fault, 1 to 5.
+impl From<HexFault> for u8 {
+    ghost from_gives = { λ fault number. number ≡ hex_number fault };
+
+    fn from(fault: HexFault) -> u8 {
+        fault as u8
     }
 }
