@@ -434,7 +434,7 @@ module _ {M : Type 0} (steps : M → Event → Result Reply CallFault → M → 
   settled_quiet old s new m m' written written' r silent finished st (inr quiet) = record {
     reached = reached_steps [] s new m' written' r st;
     settled = record { asks = quiet.asks; sends = quiet.sends };
-    done = quiet.goes_on;
+    done = (quiet.goes_on, quiet.ends);
     silent = quiet.silent;
     finished = st.finished ∙ finished;
   }

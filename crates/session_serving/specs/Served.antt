@@ -4,8 +4,9 @@
 --     IsUsedUp       the meter takes no more events
 --     IsUnwritten    a write failed
 --     Stops          a session that stopped in its midst
+--     Pieces         the reads: how many they were, and what the last of them gave
 --     Served         a whole session, by its result
-use Rattle.std.specs.Prelude.{◌≡◌, ◌⊎◌, ◌+◌, ◌<◌, ◌≤◌, ℕ, Option, List, ◌++◌, ⊤, Result, Ok, Err}
+use Rattle.std.specs.Prelude.{◌≡◌, ◌⊎◌, ◌+◌, ◌*◌, ◌<◌, ◌≤◌, ℕ, Option, List, ◌++◌, length, ⊤, Result, Ok, Err}
 use Rattle.std.specs.List.{flat_map}
 use Rattle.std.specs.Io.KnownBytes.{Appends, Consumes, IsAtEnd}
 use Rattle.session_serving.specs.Meters.{Replied, Refused}
@@ -14,6 +15,7 @@ use Rattle.session_serving.specs.declared.fault.ServeFault.TheVariants as fault
 use Rattle.relay_events.specs.declared.event.Event.{Event}
 use Rattle.relay_events.specs.declared.reply.Reply.{Reply}
 use Rattle.session_core.specs.Backwards.{Asks, Answers, end_of}
+use Rattle.session_core.specs.Ends.{EndsWithInput}
 use Rattle.session_core.specs.declared.end.SessionEnd.{SessionEnd}
 use Rattle.session_core.specs.declared.end.SessionEnd.TheVariants as ending
 use Rattle.call_fault.specs.declared.fault.CallFault.{CallFault}
@@ -71,9 +73,29 @@ module _ {M : Type 0} (steps : M → Event → Result Reply CallFault → M → 
   Stops asks sends m written failed fault.Exhausted m' written' failed' = IsUsedUp asks sends m written m' written'
   Stops asks sends m written failed fault.Listen m' written' failed' = ⊥
 
--- a session has at most so many reads
+-- the largest number of reads in a session
 abbrev pub most_reads : ℕ
 most_reads = 4294967295
+
+-- the largest number of bytes that one read returns
+abbrev pub longest_piece : ℕ
+longest_piece = 1024
+
+-- no read follows the piece that completes a wrong header
+pub record StopsAtHeader (seen : List ℕ) : Type 0 where
+  pub earlier : List ℕ
+  pub last : List ℕ
+  pub all : seen ≡ earlier ++ last
+  pub short : length last ≤ longest_piece
+  pub ends : EndsWithInput (end_of earlier)
+
+-- The bytes came in pieces. The numbers are those of the reads that succeeded and that failed, before
+-- and after; after a failure the reader's own count of successes is not known.
+pub record Pieces (seen : List ℕ) (made failed made' failed' : ℕ) : Type 0 where
+  pub count : ℕ
+  pub most : count ≤ most_reads
+  pub short : length seen ≤ count * longest_piece
+  pub made_so : (made' ≡ made + count) ⊎ (failed < failed')
 
 -- a session ends so, where these bytes are left: the input must have ended where no header ends the session
 abbrev pub EndsBefore : SessionEnd → Option (List ℕ) → Type 0
@@ -107,3 +129,5 @@ module _ {R W M : Type 0}
     pub seen : List ℕ
     pub read : Consumes (remaining r) (remaining r') seen
     pub did : Did password seen r w m result r' w' m'
+    pub stops : StopsAtHeader seen
+    pub pieces : Pieces seen (reads r) (read_failures r) (reads r') (read_failures r')

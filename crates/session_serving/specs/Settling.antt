@@ -3,7 +3,7 @@
 --     IsSettled    nothing is due without more input
 --     Settled      all that is due was done
 --     Stands       a session between two reads
-use Rattle.std.specs.Prelude.{◌≡◌, ◌<◌, ℕ, false, Option, Some, None, List, [], ◌++◌, Result}
+use Rattle.std.specs.Prelude.{◌≡◌, ◌*◌, ◌<◌, ◌≤◌, ℕ, false, Option, Some, None, List, [], ◌++◌, length, ⊤, Result}
 use Rattle.std.specs.List.{flat_map}
 use Rattle.std.specs.Io.KnownBytes.{Appends, Consumes}
 use Rattle.session_serving.specs.Meters.{Replied}
@@ -11,9 +11,12 @@ use Rattle.session_serving.specs.declared.fault.ServeFault.{ServeFault}
 use Rattle.session_serving.specs.declared.fault.ServeFault.TheVariants as fault
 use Rattle.relay_events.specs.declared.event.Event.{Event}
 use Rattle.relay_events.specs.declared.reply.Reply.{Reply}
+use Rattle.session_serving.specs.Served.{longest_piece}
+use Rattle.session_core.specs.Ends.{EndsWithInput}
 use Rattle.session_core.specs.Progress.{IsOver}
 use Rattle.session_core.specs.Remaining.{still_asks, still_sends, still_ends, is_asking, is_finished}
 use Rattle.session_core.specs.declared.end.SessionEnd.{SessionEnd}
+use Rattle.session_core.specs.declared.end.SessionEnd.TheVariants as ending
 use Rattle.session_core.specs.declared.session.Session.{Session}
 use Rattle.call_fault.specs.declared.fault.CallFault.{CallFault}
 use Rattle.call_fault.specs.declared.fault.CallFault.TheVariants as call
@@ -36,9 +39,21 @@ pub record IsSettled (s : Session) : Type 0 where
   pub asks : still_asks s [] ≡ []
   pub sends : (replies : List Reply) → still_sends s [] replies ≡ []
 
--- what a session whose input ended owes no more
+-- a wrong header ended the session
+abbrev pub IsWrongHeader : SessionEnd → Type 0
+IsWrongHeader ending.Closed = ⊥
+IsWrongHeader ending.Cut = ⊥
+IsWrongHeader ending.BadVersion = ⊤
+IsWrongHeader ending.TooLong = ⊤
+
+-- no wrong header ended the session, if it is over
+abbrev pub MayContinue : Option SessionEnd → Type 0
+MayContinue None = ⊤
+MayContinue (Some end) = EndsWithInput end
+
+-- what a session whose input ended owes no more; one whose input may continue met no wrong header
 abbrev pub IsDone : Option SessionEnd → Session → Type 0
-IsDone None s = is_finished s ≡ false
+IsDone None s = (is_finished s ≡ false) × EndsWithInput (still_ends s [])
 IsDone (Some end) s = IsOver end s
 
 module _ {M : Type 0} (steps : M → Event → Result Reply CallFault → M → Type 0) (written_as : List ℕ → List ℕ) where
@@ -62,10 +77,13 @@ module _ {M : Type 0} (steps : M → Event → Result Reply CallFault → M → 
     pub silent : is_asking new ≡ false
     pub finished : is_finished new ≡ is_finished old
 
-  -- a session between two reads: of the bytes that were read nothing more is due
-  pub record Stands (old : Session) (m : M) (written left : Option (List ℕ)) (s : Session) (m' : M) (written' left' : Option (List ℕ)) : Type 0 where
+  -- a session after this number of reads, with all done that the bytes read so far ask for
+  pub record Stands (old : Session) (m : M) (written left : Option (List ℕ)) (count : ℕ)
+      (s : Session) (m' : M) (written' left' : Option (List ℕ)) : Type 0 where
     pub seen : List ℕ
     pub read : Consumes left left' seen
+    pub short : length seen ≤ count * longest_piece
     pub reached : Reached (still_asks old) (still_sends old) (still_ends old) m written seen s m' written'
     pub settled : IsSettled s
+    pub ends : EndsWithInput (still_ends s [])
     pub silent : is_asking s ≡ false

@@ -1,7 +1,8 @@
-ghost use Rattle.std.specs.Prelude.{◌≡◌, ℕ, List, [], false, IfOk, IfErr, OnOk};
+ghost use Rattle.std.specs.Prelude.{◌≡◌, ℕ, List, [], false, Some, IfSome, IfNone, IfOk, IfErr, OnOk};
 ghost use Rattle.acse_ber.specs.Password.{IsPassword};
 ghost use Rattle.session_serving.specs.Served.{Served, DoesAll, Stops, as_bytes};
-ghost use Rattle.session_serving.specs.Settling.{Settled, IsSettled};
+ghost use Rattle.session_serving.specs.Settling.{Settled, IsSettled, MayContinue, IsWrongHeader};
+ghost use Rattle.session_core.specs.Ends.{EndsWithInput};
 ghost use Rattle.session_core.specs.Progress.{Owes};
 ghost use Rattle.session_core.specs.Remaining.{still_asks, still_sends, still_ends, is_asking, is_finished};
 
@@ -14,10 +15,10 @@ use relay_events::Event;
 use session_core::{Next, Session, SessionEnd};
 use std::alloc::Global;
 
-/// Input is read in pieces of at most so many bytes.
+// The largest number of bytes that one read asks for.
 const MAX_READ: usize = 1_024;
 
-/// A session has at most so many reads.
+// The largest number of reads in a session.
 const MOST_READS: u32 = 4_294_967_295;
 
 /// Asks the meter, and writes all that is due. It gives the end of a session that is over.
@@ -108,6 +109,19 @@ pub(crate) fn end_input<F: Form, W: Writer, M: Meter>(
     }
 }
 
+// The end of a session at a wrong header. In the two other ways it ends once its input has ended.
+fn wrong_header(end: Option<SessionEnd>) -> Option<SessionEnd>
+    ensures some { IfSome result (λ wrong. (end ≡ Some wrong) × IsWrongHeader wrong) }
+    ensures none { IfNone result (MayContinue end) }
+{
+    match end {
+        Some(SessionEnd::BadVersion) => Some(SessionEnd::BadVersion),
+        Some(SessionEnd::TooLong) => Some(SessionEnd::TooLong),
+        Some(SessionEnd::Closed | SessionEnd::Cut) => None,
+        None => None,
+    }
+}
+
 /// Serves a session of which no byte has come.
 fn serve<R: Reader, W: Writer, M: Meter>(
     alloc: Global,
@@ -119,6 +133,7 @@ fn serve<R: Reader, W: Writer, M: Meter>(
     requires readable { R.can_read reader.now }
     requires writable { W.can_write writer.now }
     requires settled { IsSettled session.now }
+    requires ends { EndsWithInput (still_ends session.now []) }
     requires silent { is_asking session.now ≡ false }
     ensures { (password : List ℕ) → Owes password session.old → Served R.remaining R.reads R.failures W.contents W.failures M.steps password reader.old writer.old meter.old result reader.new writer.new meter.new }
 {
@@ -131,22 +146,25 @@ fn serve<R: Reader, W: Writer, M: Meter>(
         if count == 0 {
             return end_input::<AsBytes, W, M>(alloc, session, writer, meter);
         }
-        match take_in(alloc, session, &buffer[..count], writer, meter)? {
-            Some(SessionEnd::BadVersion) => return Ok(SessionEnd::BadVersion),
-            Some(SessionEnd::TooLong) => return Ok(SessionEnd::TooLong),
-            // The other ends are told once the input has ended.
-            Some(SessionEnd::Closed | SessionEnd::Cut) | None => {}
+        let end = take_in(alloc, session, &buffer[..count], writer, meter)?;
+        match wrong_header(end) {
+            Some(end) => return Ok(end),
+            None => {}
         }
     }
     Err(ServeFault::Read)
 }
 
-/// Serves one session: reads what the client sends, asks the meter, and writes the answers, up to the end of the input or a header that no frame has. The
-/// management client has this password, 1 to 32 bytes.
+/// Serves one session: reads what the client sends, asks the meter and writes the answers, up to the
+/// end of the input or a wrong header. `password` is the management client's, 1 to 32 bytes.
 ///
-/// Whatever the input is, and however its bytes come, the meter is asked exactly the events of the session, and exactly the answers to its replies are
-/// written, all that are due before the next read or call. A fault is `Read` or `Write` where the reader or writer failed, or `Read` after 4,294,967,295 reads;
-/// `Memory` where memory ran out; and `Exhausted` where the meter takes no more events. After a fault no more is written.
+/// However the bytes arrive, the meter is asked exactly the events of the session, and exactly the
+/// answers to its replies are written, each before the next read or call. A read asks for at most
+/// 1,024 bytes, and no read follows the one that completes a wrong header.
+///
+/// Errors: `Read` if the reader failed, or after 4,294,967,295 reads; `Write` if the writer failed;
+/// `Memory` if memory ran out; `Exhausted` if the meter accepts no more events. After an error nothing
+/// more is written.
 pub fn serve_session<R: Reader, W: Writer, M: Meter>(
     alloc: Global,
     reader: &mut R,

@@ -6,7 +6,7 @@ use Rattle.session_serving.proofs.serving.serve.Given as goal
 
 abbrev pub invariant-reads : goal.invariant-reads
 invariant-reads g l = record {
-  stands : Stands g.M.Meter.steps as_bytes l.initial.session l.initial.meter (g.W.Writer.contents l.initial.writer) (g.R.Reader.remaining l.initial.reader)
+  stands : Stands g.M.Meter.steps as_bytes l.initial.session l.initial.meter (g.W.Writer.contents l.initial.writer) (g.R.Reader.remaining l.initial.reader) l.counter
       l.session l.meter (g.W.Writer.contents l.writer) (g.R.Reader.remaining l.reader);
   counted : g.R.Reader.reads l.reader ≡ g.R.Reader.reads l.initial.reader + l.counter;
   readable : g.R.Reader.can_read l.reader;

@@ -1,4 +1,4 @@
-use Rattle.session_serving.proofs.Sessions.{settled_new, served_none}
+use Rattle.session_serving.proofs.Sessions.{settled_new, ends_new, served_none}
 use Rattle.session_serving.proofs.serving.serve_session.Goals as goal
 
 pub returns-in_err-session : goal.returns-in_err-session
@@ -8,3 +8,6 @@ returns-in_err-session g c =
 
 pub serve-end-requires-clause-settled : goal.serve-end-requires-clause-settled
 serve-end-requires-clause-settled g c = settled_new c.args.password.now c.in_ok-session.session c.in_ok-session.ensures
+
+pub serve-end-requires-clause-ends : goal.serve-end-requires-clause-ends
+serve-end-requires-clause-ends g c = ends_new c.args.password.now c.in_ok-session.session c.in_ok-session.ensures
