@@ -46,7 +46,7 @@ port_fits k event (Err fault) l called = tt
 -- what is so of a meter and itself, of what a step makes of it, and goes on, is so of the first and the last meter of a session
 module _ {M : Type 0} (steps : M → Event → Result Reply CallFault → M → Type 0) (P : M → M → Type 0)
     (here : (m : M) → P m m) (on : (a b c : M) → P a b → P b c → P a c) (by : (m : M) (event : Event) (result : Result Reply CallFault) (n : M) → steps m event result n → P m n) where
-  replied_on : (m : M) (events : List Event) (replies : List Reply) (n : M) → Replied steps m events replies n → P m n
+  pub replied_on : (m : M) (events : List Event) (replies : List Reply) (n : M) → Replied steps m events replies n → P m n
   replied_on m [] [] n same = subst (P m) (sym same) (here m)
   replied_on m [] (reply ∷ replies) n never = absurd never
   replied_on m (event ∷ events) [] n never = absurd never
@@ -66,23 +66,24 @@ module _ {M : Type 0} (steps : M → Event → Result Reply CallFault → M → 
     did_on r w m (Err fault.Exhausted) r' w' m' did = refused_on m did.asked did.replies _ m' did.refused
     did_on r w m (Err fault.Listen) r' w' m' did = absurd did
 
-is_same : (p : MeterPort) → IsSame p p
-is_same p = record { lock = refl; bound = refl; origin = refl; number = refl; joined = refl }
+pub is_same : (p : MeterPort) → IsSame p p
+is_same p = record { lock = refl; bound = refl; origin = refl; number = refl; splits = refl; joined = refl }
 
-same_on : (p q s : MeterPort) → IsSame p q → IsSame q s → IsSame p s
+pub same_on : (p q s : MeterPort) → IsSame p q → IsSame q s → IsSame p s
 same_on p q s a b = record {
   lock = b.lock ∙ a.lock;
   bound = b.bound ∙ a.bound;
   origin = b.origin ∙ a.origin;
   number = b.number ∙ a.number;
+  splits = b.splits ∙ a.splits;
   joined = b.joined ∙ a.joined;
 }
 
-step_same : (p : MeterPort) (event : Event) (result : Result Reply CallFault) (q : MeterPort) → PortSteps p event result q → IsSame p q
+pub step_same : (p : MeterPort) (event : Event) (result : Result Reply CallFault) (q : MeterPort) → PortSteps p event result q → IsSame p q
 step_same p event (Ok reply) q step =
-    record { lock = step.lock; bound = step.bound; origin = step.calls.origin; number = step.calls.number; joined = step.calls.joined }
+    record { lock = step.lock; bound = step.bound; origin = step.calls.origin; number = step.calls.number; splits = step.calls.splits; joined = step.calls.joined }
 step_same p event (Err fault) q step =
-    record { lock = step.lock; bound = step.bound; origin = step.calls.0.sees.origin; number = step.calls.0.sees.number; joined = step.calls.0.joined }
+    record { lock = step.lock; bound = step.bound; origin = step.calls.0.sees.origin; number = step.calls.0.sees.number; splits = step.calls.0.sees.splits; joined = step.calls.0.joined }
 
 -- a port that served a session is the same port
 pub served_same : {R W : Type 0} (remaining : R → Option (List ℕ)) (reads read_failures : R → ℕ) (contents : W → Option (List ℕ)) (write_failures : W → ℕ) (password : List ℕ)

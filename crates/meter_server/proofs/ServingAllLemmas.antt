@@ -1,5 +1,5 @@
 -- What a worker's calls are once its port was joined in, and that they stay so.
-use Rattle.std.proofs.Common.{◌≡◌, ℕ, ◌+◌, ◌<◌, ◌≤◌, List, [], ◌++◌, refl, sym, ◌∙◌, ap, subst, inl, inr, arith, Option, Some, None, IfSome, IfOk, map}
+use Rattle.std.proofs.Common.{◌≡◌, ℕ, ◌≤◌, List, [], ◌++◌, refl, sym, ◌∙◌, ap, subst, inl, inr, arith, Option, Some, None, IfSome, IfOk, map}
 use Rattle.std.proofs.lemmas.Bool.{cases_eq}
 use Rattle.std.specs.Prelude.{⊤, IfErr, OnOk, replicate, Result, Ok, Err}
 use Rattle.lane_sampler.specs.Samples.{Samples}
@@ -14,20 +14,29 @@ use Rattle.turn_lock.specs.Shown.{IsSame}
 use Rattle.session_threads.specs.Ports.{GoesOn, AreJoined, SplitsOff, TakesIn, child}
 use Rattle.session_threads.specs.Workers.{Ended, ComesBack}
 use Rattle.session_threads.proofs.Going.{goes_trans}
+use Rattle.meter_workers.specs.Blocks.{AreOfBlocks, ReadsBetween}
 use Rattle.meter_workers.specs.Handed.{MeterPort, handed, unread, HandsBlocks, HandsMoments, HandsPresses}
 use Rattle.meter_workers.specs.Handed.{StopsFor as WorkerStops}
 use Rattle.session_serving.specs.Settling.{fault_of}
 use Rattle.session_serving.specs.declared.fault.ServeFault.{ServeFault}
 use Rattle.session_serving.specs.declared.fault.ServeFault.TheVariants as fault
 use Rattle.meter_server.specs.declared.serving_all.Served.{Served}
-use Rattle.meter_server.specs.ServingAll.{events_by, AllBlocks, AllMoments, AllPresses, Acted, EndsWith, IsServed, IsSpent, IsSpentBy, StopsFor, OnEnded, worker_fault, first_of}
+use Rattle.meter_server.specs.Sessions.{AreSessions}
+use Rattle.meter_server.proofs.SessionLemmas.{sessions_on}
+use Rattle.meter_server.specs.ServingAll.{events_by, AllBlocks, AllMoments, AllPresses, Acted, EndsWith, IsServed, IsSpent, StopsFor, OnEnded, worker_fault, first_of}
 
 fresh_handed : (own : MeterPort) → calls_by own.known.number own.known.seen ≡ [] → handed own ≡ []
 fresh_handed own fresh = ap (map (λ (call : Entry Event Reply). call.event)) fresh
 
-pub whole_blocks : (told : Option (List Samples)) (own back : MeterPort) (events : List Event) → events ≡ handed back → handed own ≡ [] → HandsBlocks told own back → AllBlocks told events
+pub whole_blocks : (told : Option (List Samples)) (own back : MeterPort) (events : List Event) → events ≡ handed back → handed own ≡ []
+    → HandsBlocks told own back × ReadsBetween told own back → AllBlocks told events
 whole_blocks None own back events e fresh hands = tt
-whole_blocks (Some blocks) own back events e fresh hands = ap unread e ∙ hands ∙ ap (λ xs. unread xs ++ map event.Samples blocks) fresh
+whole_blocks (Some blocks) own back events e fresh hands =
+    let those : hands.1.events ≡ events = sym (e ∙ hands.1.handed ∙ ap (λ xs. xs ++ hands.1.events) fresh) in
+    let P : List Event → Type 0 = λ xs. AreOfBlocks 0 blocks xs in (
+      ap unread e ∙ hands.0 ∙ ap (λ xs. unread xs ++ map event.Samples blocks) fresh,
+      subst P those hands.1.are,
+    )
 
 pub whole_moments : (told : Option (List ℕ)) (own back : MeterPort) (events : List Event) → events ≡ handed back → handed own ≡ [] → HandsMoments told own back → AllMoments told events
 whole_moments None own back events e fresh hands = tt
@@ -205,52 +214,18 @@ stops_by served result end A B F is why so spent =
     let O : Result Served ServeFault → Type 0 = λ r. IfErr r (StopsFor B F) in
     subst O (sym is) (stops_first served (worker_fault end) (StopsFor B F) (worker_stops end B F spent) (map_stops served A B F why so))
 
--- the port of a worker that was refused a call is spent
+-- a worker was refused a call: the port is spent, into which its port was joined
 spent_by : {W : Type 0} (hands : W → MeterPort → MeterPort → Type 0) (worker : W) (own begun before q : MeterPort) (end : Option (Result (Unit {0}) CallFault)) → ComesBack (Did hands worker) own end before q
-    → GoesOn begun before → own.lock ≡ begun.lock → own.bound ≡ begun.bound → end ≡ Some (Err call.Exhausted) → IsSpent q own.known.number
-spent_by hands worker own begun before q end back goes lock bound is =
+    → GoesOn begun before → own.bound ≡ begun.bound → end ≡ Some (Err call.Exhausted) → IsSpent q
+spent_by hands worker own begun before q end back goes bound is =
     let E : Option (Result (Unit {0}) CallFault) → Type 0 = λ e. Ended (Did hands worker) own back.back e in
-    let J : List ℕ → Type 0 = λ n. IsAmong n q.known.joined in
-    let D : ℕ → Type 0 = λ b. b ≤ back.back.known.drawn in
-    record {
-      joined = subst J back.same.number back.taken.joined;
-      own = back.back;
-      same = back.same.lock ∙ lock ∙ sym goes.lock ∙ sym back.taken.goes.lock;
-      named = back.same.number;
-      drawn = subst D (back.same.bound ∙ bound ∙ sym goes.bound ∙ sym back.taken.goes.bound) (subst E is back.ended).2;
-    }
+    let spent : back.back.bound ≤ back.back.known.drawn = (subst E is back.ended).2 in
+    let same : q.bound ≡ back.back.bound = back.taken.goes.bound ∙ goes.bound ∙ sym bound ∙ sym back.same.bound in
+    omega (arith, spent, same, back.taken.drawn)
 
 -- a port that was spent stays so
-spent_on : (p q : MeterPort) (number : List ℕ) → GoesOn p q → IsSpent p number → IsSpent q number
-spent_on p q number goes spent =
-    let D : ℕ → Type 0 = λ b. b ≤ spent.own.known.drawn in
-    record {
-      joined = goes.joined number spent.joined;
-      own = spent.own;
-      same = spent.same ∙ sym goes.lock;
-      named = spent.named;
-      drawn = subst D (sym goes.bound) spent.drawn;
-    }
-
-spent_still : (p q : MeterPort) (from count : ℕ) → GoesOn p q → IsSpentBy from count p → IsSpentBy from count q
-spent_still p q from count goes spent =
-    let Q : List ℕ → Type 0 = λ n. IsSpent q (child n (from + spent.0)) in
-    (spent.0, spent.1, subst Q (sym goes.number) (spent_on p q _ goes spent.2))
-
--- one more was split off first
-spent_first : (p own lent last : MeterPort) (count : ℕ) → SplitsOff p own lent → GoesOn lent last → IsSpent last own.known.number → IsSpentBy p.known.splits (count + 1) last
-spent_first p own lent last count off goes spent =
-    let Q : List ℕ → Type 0 = λ n. IsSpent last n in
-    let here : p.known.splits ≡ p.known.splits + 0 = omega (arith) in
-    let low : 0 < count + 1 = omega (arith) in
-    (0, low, subst Q (off.number ∙ ap (λ n. child n p.known.splits) (sym (goes.number ∙ off.goes.number)) ∙ ap (λ k. child last.known.number k) here) spent)
-
-spent_more : (p own lent last : MeterPort) (count : ℕ) → SplitsOff p own lent → IsSpentBy lent.known.splits count last → IsSpentBy p.known.splits (count + 1) last
-spent_more p own lent last count off spent =
-    let Q : List ℕ → Type 0 = λ n. IsSpent last n in
-    let next : lent.known.splits + spent.0 ≡ p.known.splits + (spent.0 + 1) = omega (arith, off.splits) in
-    let low : spent.0 + 1 < count + 1 = omega (arith, spent.1) in
-    (spent.0 + 1, low, subst Q (ap (λ k. child last.known.number k) next) spent.2)
+spent_on : (p q : MeterPort) → GoesOn p q → IsSpent p → IsSpent q
+spent_on p q goes spent = omega (arith, goes.bound, goes.drawn, spent)
 
 -- A port was split off for a worker, the rest was served, and then the worker's port was joined in
 module _ {did : MeterPort → MeterPort → Result (Unit {0}) CallFault → Type 0} {p own lent mid last : MeterPort} {served result : Result Served ServeFault}
@@ -272,6 +247,12 @@ module _ {did : MeterPort → MeterPort → Result (Unit {0}) CallFault → Type
   pub served_beside : (from before : ℕ) → from ≡ before → IfOk served (IsServed from mid.known.splits) → IfOk result (IsServed before last.known.splits)
   served_beside from before same so = served_from result from before _ same (served_on served result ends.end from _ _ ends.first ends.back.taken.splits so)
 
+  -- what sessions did stays so
+  pub sessions_beside : (password : List ℕ) (from before : ℕ) → from ≡ before → lent.known.splits ≤ from → AreJoined lent.known.splits mid
+      → AreSessions password from mid → AreSessions password before last
+  sessions_beside password from before same early joined sessions =
+      sessions_on password lent.known.splits from before mid last same early ends.back.taken.goes ends.back.taken.splits joined sessions
+
   -- what another worker did stays so
   pub acted_beside : (i j : ℕ) (Whole : List Event → Type 0) → i ≡ j → OnEnded served (Acted mid (child lent.known.number i) Whole) → OnEnded result (Acted last (child p.known.number j) Whole)
   acted_beside i j Whole same so =
@@ -289,9 +270,8 @@ module _ {W : Type 0} (hands : W → MeterPort → MeterPort → Type 0) (worker
       on_end served result ends.end _ ends.first
       (λ is. subst P same (acted_by last _ _ (All worker) off.number (acted_own hands worker own mid last ends.end (All worker) whole ends.back off.fresh is)))
 
-  pub stops_beside : (A F : Type 0) (count : ℕ) → IfErr served (StopsFor A F) → (A → IsSpentBy lent.known.splits count mid) → IfErr result (StopsFor (IsSpentBy p.known.splits (count + 1) last) F)
-  stops_beside A F count why so =
+  pub stops_beside : (A F : Type 0) → IfErr served (StopsFor A F) → (A → IsSpent mid) → IfErr result (StopsFor (IsSpent last) F)
+  stops_beside A F why so =
       stops_by served result ends.end A _ F ends.first why
-      (λ spent. spent_more p own lent last count off (spent_still mid last _ count ends.back.taken.goes (so spent)))
-      (λ refused. spent_first p own lent last count off (since off goes ends)
-      (spent_by hands worker own lent mid last ends.end ends.back goes (off.lock ∙ sym off.goes.lock) (off.bound ∙ sym off.goes.bound) refused))
+      (λ spent. spent_on mid last ends.back.taken.goes (so spent))
+      (λ refused. spent_by hands worker own lent mid last ends.end ends.back goes (off.bound ∙ sym off.goes.bound) refused)

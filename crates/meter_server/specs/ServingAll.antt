@@ -9,11 +9,11 @@ use Rattle.session_serving.specs.Settling.{fault_of}
 use Rattle.session_serving.specs.declared.fault.ServeFault.{ServeFault}
 use Rattle.session_serving.specs.declared.fault.ServeFault.TheVariants as fault
 use Rattle.meter_server.specs.declared.serving_all.Served.{Served}
+use Rattle.meter_workers.specs.Blocks.{AreOfBlocks}
 use Rattle.meter_workers.specs.Handed.{MeterPort, unread}
 use Rattle.relay_events.specs.declared.event.Event.{Event}
 use Rattle.relay_events.specs.declared.event.Event.TheVariants as event
 use Rattle.relay_events.specs.declared.reply.Reply.{Reply}
-use Rattle.session_threads.specs.Ports.{child}
 use Rattle.session_threads.specs.Workers.{ComesBack}
 use Rattle.call_fault.specs.declared.fault.CallFault.{CallFault}
 use Rattle.turn_lock.specs.declared.turned.Entry.{Entry}
@@ -23,9 +23,11 @@ use Rattle.turn_lock.specs.History.{IsAmong, calls_by}
 abbrev pub events_by : List ℕ → MeterPort → List Event
 events_by number port = map (λ (call : Entry Event Reply). call.event) (calls_by number port.known.seen)
 
--- but for reads, the events are the blocks that the source told, all of them, in order
+-- but for reads, the events are all blocks of the source's list, in order, and the thresholds are read before the
+-- first block and before each that comes after 64 further ones, if at all
 abbrev pub AllBlocks : Option (List Samples) → List Event → Type 0
-AllBlocks told events = IfSome told (λ blocks. unread events ≡ map event.Samples blocks)
+AllBlocks told events =
+    IfSome told (λ blocks. (unread events ≡ map event.Samples blocks) × AreOfBlocks 0 blocks events)
 
 -- the events are the moments that the source told, all of them, in order
 abbrev pub AllMoments : Option (List ℕ) → List Event → Type 0
@@ -49,19 +51,11 @@ pub record IsServed (splits later : ℕ) (served : Served) : Type 0 where
   pub most : splits + served.served ≤ later
   pub all : served.served < 18446744073709551615 → splits + served.served ≡ later
 
--- the port of this number, which was joined in, had read that as many turns were drawn as the lock has
-pub record IsSpent (port : MeterPort) (number : List ℕ) : Type 0 where
-  pub joined : IsAmong number port.known.joined
-  pub own : MeterPort
-  pub same : own.lock ≡ port.lock
-  pub named : own.known.number ≡ number
-  pub drawn : port.bound ≤ own.known.drawn
+-- the port has read that as many turns were drawn as the lock has
+abbrev pub IsSpent : MeterPort → Type 0
+IsSpent port = port.bound ≤ port.known.drawn
 
--- so it is of one of the first `count` ports that were split off from the count `from` on
-abbrev pub IsSpentBy : ℕ → ℕ → MeterPort → Type 0
-IsSpentBy from count port = (i : ℕ) × (i < count) × IsSpent port (child port.known.number (from + i))
-
--- why the server stops: want of memory, of which nothing is told; a worker whose port is spent; a listener that has failed
+-- why the server stops: out of memory, of which nothing is known; a port that is spent; a listener that has failed
 abbrev pub StopsFor : (spent failed : Type 0) → ServeFault → Type 0
 StopsFor spent failed fault.Memory = ⊤
 StopsFor spent failed fault.Exhausted = spent

@@ -18,9 +18,12 @@ pub(crate) struct Sampler<S> {
 impl<S: BlockSource + Send> Worker<Port<Kept>> for Sampler<S> {
     ghost use Rattle.std.specs.Prelude.{IfErr, OnOk};
     ghost use Rattle.turn_lock.specs.Shown.{IsSame};
+    ghost use Rattle.meter_workers.specs.Blocks.{ReadsBetween};
     ghost use Rattle.meter_workers.specs.Handed.{HandsBlocks, StopsFor};
 
-    ghost did = { λ sampler p q end. IsSame p q × OnOk end (HandsBlocks (S.told sampler.source) p q) × IfErr end (StopsFor q) };
+    ghost did = { λ sampler p q end. IsSame p q
+        × OnOk end (HandsBlocks (S.told sampler.source) p q × ReadsBetween (S.told sampler.source) p q)
+        × IfErr end (StopsFor q) };
 
     fn work<W: Wait>(
         self,

@@ -1,7 +1,7 @@
 //! Where clients come from, and who is told of their sessions.
-ghost use Rattle.std.specs.Prelude.{⊤, Some, OnErr};
+ghost use Rattle.std.specs.Prelude.{⊤, ℕ, Option, None, Some, OnOk, OnErr};
 ghost use Rattle.acse_ber.specs.Password.{IsPassword};
-ghost use Rattle.turn_lock.specs.Shown.{IsSame};
+ghost use Rattle.session_threads.specs.Listening.{RisesBy};
 
 use crate::ports::serve_port;
 use byte_streams::Counted;
@@ -32,9 +32,15 @@ pub trait Listener {
     /// It has failed. Of a listener that doesn't say how that is seen nothing is known.
     ghost has_failed: { Self → Type 0 } = { λ _. ⊤ };
 
+    /// Ghost value: the number of clients accepted so far, if the listener counts them. The default
+    /// claims nothing.
+    ghost accepted: { Self → Option ℕ } = { λ _. None };
+
     /// Waits for the next client: what it sends, what is sent to it, and who is told of its session. An error: no further one comes.
     fn accept(&mut self) -> Result<(Self::Input, Self::Output, Self::Observer), ListenFault>
-        ensures { OnErr result (has_failed self.new) };
+        ensures failed { OnErr result (has_failed self.new) }
+        ensures accepted { OnOk result (RisesBy (accepted self.old) 1 (accepted self.new)) }
+        ensures accepted_err { OnErr result (RisesBy (accepted self.old) 0 (accepted self.new)) };
 }
 
 /// A client that was accepted.
@@ -50,7 +56,12 @@ pub(crate) struct Client<I, O, V> {
 impl<I: Read + Drop + Send, O: Write + Drop + Send, V: Observer + Drop + Send> Connection<
     Port<Kept>,
 > for Client<I, O, V> {
-    ghost hands_back = { IsSame };
+    ghost use Rattle.turn_lock.specs.Shown.{IsSame};
+    ghost use Rattle.meter_server.specs.Sessions.{AsksThrough};
+
+    ghost terms = { λ client. client.password };
+
+    ghost hands_back = { λ password p q. IsSame p q × AsksThrough password p q };
 
     fn serve<W: Wait>(self, rt: &W, alloc: Global, port: Port<Kept>) -> Port<Kept> {
         let Client {
@@ -79,6 +90,10 @@ impl<'a, 'b, L: Listener> session_threads::Listener<Port<Kept>> for Clients<'a, 
     type Connection = Client<L::Input, L::Output, L::Observer>;
 
     ghost has_failed = { λ clients. L.has_failed clients.listener.now };
+
+    ghost terms = { λ clients. clients.password.now };
+
+    ghost accepted = { λ clients. L.accepted clients.listener.now };
 
     ghost borrowed = { λ clients. Some clients.listener.ghost_name };
 

@@ -3,6 +3,7 @@ ghost use Rattle.std.specs.Prelude.{List};
 ghost use Rattle.acse_ber.specs.Password.{IsPassword};
 ghost use Rattle.session_serving.specs.Meters.{Replied};
 ghost use Rattle.meter_server.specs.Ports.{MeterPort, PortSteps, Enters};
+ghost use Rattle.meter_server.specs.Sessions.{AsksThrough};
 ghost use Rattle.session_serving.specs.Served.{Served};
 ghost use Rattle.relay_events.specs.declared.event.Event.{Event};
 ghost use Rattle.relay_events.specs.declared.reply.Reply.{Reply};
@@ -69,6 +70,7 @@ pub fn serve_port<R: Reader, O: Writer, W: Wait>(
     requires password { IsPassword password.now }
     ensures served { Served R.remaining R.reads R.failures O.contents O.failures PortSteps password.now reader.old writer.old port result.1 reader.new writer.new result.0 }
     ensures same { IsSame port result.0 }
+    ensures asks { AsksThrough password.now port result.0 }
 {
     let mut wired = Wired { rt, port };
     let result = serve_session(alloc, reader, writer, &mut wired, password);

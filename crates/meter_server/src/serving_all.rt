@@ -2,7 +2,9 @@
 ghost use Rattle.std.specs.Prelude.{◌≡◌, ◌+◌, [], Err, IfOk, IfErr};
 ghost use Rattle.acse_ber.specs.Password.{IsPassword};
 ghost use Rattle.kept_meter.specs.Calls.{IsLegal as IsLegalRun};
-ghost use Rattle.meter_server.specs.ServingAll.{AllBlocks, AllMoments, AllPresses, Acted, EndsWith, IsLimit, IsServed, IsSpentBy, StopsFor, OnEnded, worker_fault, first_of};
+ghost use Rattle.meter_server.specs.ServingAll.{AllBlocks, AllMoments, AllPresses, Acted, EndsWith, IsLimit, IsServed, IsSpent, StopsFor, OnEnded, worker_fault, first_of};
+ghost use Rattle.meter_server.specs.Sessions.{AreSessions};
+ghost use Rattle.session_threads.specs.Listening.{IsCounted};
 ghost use Rattle.session_threads.specs.Ports.{GoesOn, AreJoined, child};
 ghost use Rattle.turn_lock.specs.Calls.{IsLegal};
 ghost use Rattle.turn_lock.specs.Shown.{IsSame};
@@ -45,6 +47,7 @@ fn first_fault(
 }
 
 // Serves the clients of a listener.
+#[tactic(auto, using(crate::proofs::SessionLemmas::are_sessions))]
 fn serve_clients<L: Listener, R: Threads + Wait + Copy + Send + 'static>(
     rt: &R,
     alloc: Global,
@@ -56,7 +59,9 @@ fn serve_clients<L: Listener, R: Threads + Wait + Copy + Send + 'static>(
     requires { IsPassword password.now }
     ensures goes { GoesOn port.old port.new }
     ensures joined { AreJoined port.old.known.splits port.new }
+    ensures sessions { AreSessions password.now port.old.known.splits port.new }
     ensures limit { IfOk result (IsLimit limit) }
+    ensures counted { IfOk result (λ served. IsCounted (L.accepted listener.old) (served.served + served.turned_away) (L.accepted listener.new)) }
     ensures served { IfOk result (IsServed port.old.known.splits port.new.known.splits) }
     ensures fault { IfErr result (StopsFor ⊥ (L.has_failed listener.new)) }
 {
@@ -106,10 +111,12 @@ fn serve_with_button<
     requires { IsPassword password.now }
     ensures goes { GoesOn port.old port.new }
     ensures joined { AreJoined port.old.known.splits port.new }
+    ensures sessions { AreSessions password.now (port.old.known.splits + 1) port.new }
     ensures limit { IfOk result (IsLimit limit) }
+    ensures counted { IfOk result (λ served. IsCounted (L.accepted listener.old) (served.served + served.turned_away) (L.accepted listener.new)) }
     ensures served { IfOk result (IsServed (port.old.known.splits + 1) port.new.known.splits) }
     ensures presses { OnEnded result (Acted port.new (child port.old.known.number port.old.known.splits) (AllPresses (U.told buttons))) }
-    ensures fault { IfErr result (StopsFor (IsSpentBy port.old.known.splits 1 port.new) (L.has_failed listener.new)) }
+    ensures fault { IfErr result (StopsFor (IsSpent port.new) (L.has_failed listener.new)) }
 {
     let Some(running) = start_worker(rt, alloc, Button { source: buttons }, port) else {
         return Err(ServeFault::Memory);
@@ -137,11 +144,13 @@ fn serve_with_clock<
     requires { IsPassword password.now }
     ensures goes { GoesOn port.old port.new }
     ensures joined { AreJoined port.old.known.splits port.new }
+    ensures sessions { AreSessions password.now (port.old.known.splits + 2) port.new }
     ensures limit { IfOk result (IsLimit limit) }
+    ensures counted { IfOk result (λ served. IsCounted (L.accepted listener.old) (served.served + served.turned_away) (L.accepted listener.new)) }
     ensures served { IfOk result (IsServed (port.old.known.splits + 2) port.new.known.splits) }
     ensures moments { OnEnded result (Acted port.new (child port.old.known.number port.old.known.splits) (AllMoments (M.told moments))) }
     ensures presses { OnEnded result (Acted port.new (child port.old.known.number (port.old.known.splits + 1)) (AllPresses (U.told buttons))) }
-    ensures fault { IfErr result (StopsFor (IsSpentBy port.old.known.splits 2 port.new) (L.has_failed listener.new)) }
+    ensures fault { IfErr result (StopsFor (IsSpent port.new) (L.has_failed listener.new)) }
 {
     let Some(running) = start_worker(rt, alloc, Clock { source: moments }, port) else {
         return Err(ServeFault::Memory);
@@ -171,12 +180,14 @@ fn serve_with_sampler<
     requires { IsPassword password.now }
     ensures goes { GoesOn port.old port.new }
     ensures joined { AreJoined port.old.known.splits port.new }
+    ensures sessions { AreSessions password.now (port.old.known.splits + 3) port.new }
     ensures limit { IfOk result (IsLimit limit) }
+    ensures counted { IfOk result (λ served. IsCounted (L.accepted listener.old) (served.served + served.turned_away) (L.accepted listener.new)) }
     ensures served { IfOk result (IsServed (port.old.known.splits + 3) port.new.known.splits) }
     ensures blocks { OnEnded result (Acted port.new (child port.old.known.number port.old.known.splits) (AllBlocks (B.told blocks))) }
     ensures moments { OnEnded result (Acted port.new (child port.old.known.number (port.old.known.splits + 1)) (AllMoments (M.told moments))) }
     ensures presses { OnEnded result (Acted port.new (child port.old.known.number (port.old.known.splits + 2)) (AllPresses (U.told buttons))) }
-    ensures fault { IfErr result (StopsFor (IsSpentBy port.old.known.splits 3 port.new) (L.has_failed listener.new)) }
+    ensures fault { IfErr result (StopsFor (IsSpent port.new) (L.has_failed listener.new)) }
 {
     let Some(running) = start_worker(rt, alloc, Sampler { source: blocks }, port) else {
         return Err(ServeFault::Memory);
@@ -191,12 +202,18 @@ fn serve_with_sampler<
 /// It ends once every source has given all, every session has ended, and `limit` connections came (0 is no limit) or the listener failed. A connection that comes while
 /// eight sessions are open, or for which a port, a thread or memory is not had, is closed with no byte sent.
 ///
-/// The port comes back in every case: it has seen a legal history that begins with what it had seen, and every port that was split off is joined in. At `Ok` what a source
-/// tells was handed in, all of it, in order: the blocks by the first of these ports, beside its reads, the moments by the second and the presses by the third.
+/// The port comes back in every case: it has seen a legal history that begins with what it had
+/// seen, and every port that was split off is joined in. At `Ok` all that a source lists was handed
+/// in, in order: the blocks by the first of these ports, with reads of the thresholds between them,
+/// the moments by the second and the presses by the third. Each further port made the calls of one
+/// session with this password, in every case. At `Ok` the listener accepted as many clients as are
+/// counted, unless the count reached `u64::MAX`.
 ///
-/// The fault is the first of these: `Memory`, where the room for eight sessions, or a port, thread or copy of the password for a worker or a connection was not had;
-/// `Exhausted`, where the meter took no more events of the sampler, the clock or the button: the port of one of them had read that all turns were drawn; `Listen`, where the
-/// listener failed: then too what each source tells was handed in. It is no other. A session's own fault ends that session alone.
+/// The fault is the first of these. `Memory`: the allocation for eight sessions, or a port, thread
+/// or copy of the password for a worker or a connection was refused. `Exhausted`: the meter took no
+/// more events of the sampler, the clock or the button; the port has read that as many turns were
+/// drawn as the lock has. `Listen`: the listener failed; all that each source lists was handed in.
+/// It is no other. A session's own fault ends that session alone.
 pub fn serve_all<
     L: Listener,
     B: BlockSource + Send + 'static,
@@ -217,12 +234,15 @@ pub fn serve_all<
     requires { IsPassword password.now }
     ensures goes { IfOk result (λ r. GoesOn port r.0 × IsLegal IsLegalRun r.0.known × AreJoined port.known.splits r.0) }
     ensures goes_err { IfErr result (λ r. GoesOn port r.0 × IsLegal IsLegalRun r.0.known × AreJoined port.known.splits r.0) }
+    ensures sessions { IfOk result (λ r. AreSessions password.now (port.known.splits + 3) r.0) }
+    ensures sessions_err { IfErr result (λ r. AreSessions password.now (port.known.splits + 3) r.0) }
     ensures limit { IfOk result (λ r. IsLimit limit r.1) }
+    ensures counted { IfOk result (λ r. IsCounted (L.accepted listener.old) (r.1.served + r.1.turned_away) (L.accepted listener.new)) }
     ensures served { IfOk result (λ r. IsServed (port.known.splits + 3) r.0.known.splits r.1) }
     ensures blocks { IfOk result (λ r. Acted r.0 (child port.known.number port.known.splits) (AllBlocks (B.told blocks))) }
     ensures moments { IfOk result (λ r. Acted r.0 (child port.known.number (port.known.splits + 1)) (AllMoments (M.told moments))) }
     ensures presses { IfOk result (λ r. Acted r.0 (child port.known.number (port.known.splits + 2)) (AllPresses (U.told buttons))) }
-    ensures fault { IfErr result (λ r. StopsFor (IsSpentBy port.known.splits 3 r.0) (L.has_failed listener.new) r.1) }
+    ensures fault { IfErr result (λ r. StopsFor (IsSpent r.0) (L.has_failed listener.new) r.1) }
     ensures blocks_err { IfErr result (λ r. OnEnded (Err r.1) (Acted r.0 (child port.known.number port.known.splits) (AllBlocks (B.told blocks)))) }
     ensures moments_err { IfErr result (λ r. OnEnded (Err r.1) (Acted r.0 (child port.known.number (port.known.splits + 1)) (AllMoments (M.told moments)))) }
     ensures presses_err { IfErr result (λ r. OnEnded (Err r.1) (Acted r.0 (child port.known.number (port.known.splits + 2)) (AllPresses (U.told buttons)))) }

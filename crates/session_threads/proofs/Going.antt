@@ -34,6 +34,7 @@ module _ {E R O : Type 0} where
         origin = refl;
         number = refl;
         splits = omega arith;
+        drawn = omega arith;
         seen = starts_itself p.known.seen;
         joined = λ n among. among;
         own = λ n own. refl;
@@ -47,6 +48,7 @@ module _ {E R O : Type 0} where
         origin = t.origin ∙ s.origin;
         number = t.number ∙ s.number;
         splits = omega (arith, s.splits, t.splits);
+        drawn = omega (arith, s.drawn, t.drawn);
         seen = starts_trans p.known.seen q.known.seen r.known.seen s.seen t.seen;
         joined = λ n among. t.joined n (s.joined n among);
         own = λ n own. t.own n (own_later p q s n own) ∙ s.own n own;
@@ -61,6 +63,7 @@ module _ {E R O : Type 0} where
         origin = ap (λ k. k.origin) known;
         number = ap (λ k. k.number) known;
         splits = omega (arith, ap (λ k. k.splits) known);
+        drawn = omega (arith, ap (λ k. k.drawn) known);
         seen = ([], ap (λ k. k.seen) known ∙ sym (append-nil p.known.seen));
         joined = λ n among. let Q : Known E R O → Type 0 = λ k. IsAmong n k.joined in subst Q (sym known) among;
         own = λ n own. ap (λ k. calls_by n k.seen) known;
@@ -75,6 +78,7 @@ module _ {E R O : Type 0} where
         origin = joins.sees.origin;
         number = joins.sees.number;
         splits = omega (arith, joins.sees.splits);
+        drawn = joins.sees.drawn;
         seen = joins.sees.seen;
         joined = λ n among. rw joins.joined (among_front n p.known.joined (u.number ∷ u.joined) among);
         own = joins.sees.own;

@@ -12,7 +12,7 @@ use Rattle.session_threads.proofs.Going.{among_at, goes_trans, goes_split, goes_
 module _ {E R O : Type 0} where
   pub ended_same : (did : ShownPort E R O → ShownPort E R O → Result (Unit {0}) CallFault → Type 0) (p q : ShownPort E R O) (end : Option (Result (Unit {0}) CallFault)) → ((r s : ShownPort E R O) (e : Result (Unit {0}) CallFault) → did r s e → IsSame r s) → Ended did p q end → IsSame p q
   ended_same did p q None same e =
-      record { lock = ap (λ r. r.lock) e; bound = ap (λ r. r.bound) e; origin = ap (λ r. r.known.origin) e; number = ap (λ r. r.known.number) e; joined = ap (λ r. r.known.joined) e }
+      record { lock = ap (λ r. r.lock) e; bound = ap (λ r. r.bound) e; origin = ap (λ r. r.known.origin) e; number = ap (λ r. r.known.number) e; splits = ap (λ r. r.known.splits) e; joined = ap (λ r. r.known.joined) e }
   ended_same did p q (Some end) same done = same p q end done
 
   -- the port u was joined in
@@ -22,6 +22,7 @@ module _ {E R O : Type 0} where
         goes = goes_joins legal p q u.known lock bound joins;
         splits = joins.sees.splits;
         joined = rw joins.joined (among_at refl p.known.joined u.known.joined);
+        drawn = joins.drawn;
         told = joins.told;
         theirs = joins.theirs u.known.number (inl refl);
       }

@@ -1,3 +1,4 @@
+pub mod Listening
 pub mod Ports
 pub mod Sessions
 pub mod Workers

@@ -1,19 +1,23 @@
 -- Sessions that are open, what becomes of the port that theirs were split off from, and what came of the connections.
-use Rattle.std.specs.Prelude.{◌≡◌, ◌⊎◌, ℕ, ◌+◌, ◌<◌, ◌≤◌, true, false, List, Some, None}
+use Rattle.std.specs.Prelude.{◌≡◌, ◌⊎◌, ℕ, ◌+◌, ◌<◌, ◌≤◌, true, false, List, [], Some, None}
 use Rattle.std.specs.declared.thread.PromisedHandle.{PromisedHandle}
-use Rattle.slab.specs.Slab.{Slab, get}
+use Rattle.slab.specs.Slab.{Slab, get, slab_len}
 use Rattle.turn_lock.specs.declared.port.Port.{Port}
-use Rattle.turn_lock.specs.History.{IsAmong}
+use Rattle.turn_lock.specs.History.{IsAmong, calls_by}
 use Rattle.turn_lock.specs.Shown.{ShownPort}
 use Rattle.session_threads.specs.declared.accepted.Accepted.{Accepted}
 use Rattle.session_threads.specs.declared.accepted.Outcome.{Outcome}
 use Rattle.session_threads.specs.declared.accepted.Outcome.TheVariants.{Served, Crowded, Starved}
 use Rattle.session_threads.specs.declared.session.Lent.{Lent}
-use Rattle.session_threads.specs.Ports.{GoesOn, child}
+use Rattle.session_threads.specs.Ports.{GoesOn, AreCallsOf, child}
 
 -- the port that a session's thread was lent
-abbrev pub port_of : {T E R O : Type 0} → PromisedHandle (Port T E R O) (Lent T E R O) → ShownPort E R O
+abbrev pub port_of : {T E R O C : Type 0} → PromisedHandle (Port T E R O) (Lent T C E R O) → ShownPort E R O
 port_of session = session.promise.port.value
+
+-- the terms on which a session's thread serves
+abbrev pub terms_of : {T E R O C : Type 0} → (C → List ℕ) → PromisedHandle (Port T E R O) (Lent T C E R O) → List ℕ
+terms_of terms session = terms session.promise.connection.value
 
 -- no session is open, and there is room for eight
 pub record IsEmpty {H : Type 0} (held : Slab H) : Type 0 where
@@ -27,18 +31,30 @@ module _ {H E R O : Type 0} (lent : H → ShownPort E R O) where
     pub places : (key : ℕ) (session : H) → get held key ≡ Some session → key < 8
     pub locks : (key : ℕ) (session : H) → get held key ≡ Some session → (lent session).lock ≡ p.lock
 
-  -- an open session has the port of this number
-  abbrev pub IsOpen : Slab H → List ℕ → Type 0
-  IsOpen held number = (key : ℕ) × (session : H) × (get held key ≡ Some session) × ((lent session).known.number ≡ number)
+module _ {H E R O : Type 0} (lent : H → ShownPort E R O) (terms_of : H → List ℕ)
+    (did : List ℕ → ShownPort E R O → ShownPort E R O → Type 0) (terms : List ℕ) where
+  -- an open session has the port of this number, which is new, and serves on these terms
+  pub record IsOpen (held : Slab H) (number : List ℕ) : Type 0 where
+    pub key : ℕ
+    pub session : H
+    pub there : get held key ≡ Some session
+    pub named : (lent session).known.number ≡ number
+    pub fresh : calls_by number (lent session).known.seen ≡ []
+    pub on_terms : terms_of session ≡ terms
+
+  -- the port of this number was joined in, and its calls are those of a session on these terms
+  pub record IsEnded (p : ShownPort E R O) (number : List ℕ) : Type 0 where
+    pub among : IsAmong number p.known.joined
+    pub served : AreCallsOf (did terms) number (calls_by number p.known.seen)
 
   -- each port that was split off, from the count `from` on, was joined in or is an open session's
   abbrev pub IsAccounted : ℕ → ShownPort E R O → Slab H → Type 0
-  IsAccounted from p held = (i : ℕ) → from ≤ i → i < p.known.splits → IsAmong (child p.known.number i) p.known.joined ⊎ IsOpen held (child p.known.number i)
+  IsAccounted from p held = (i : ℕ) → from ≤ i → i < p.known.splits → IsEnded p (child p.known.number i) ⊎ IsOpen held (child p.known.number i)
 
   -- sessions were opened and closed, and no port was lost
   pub record Tends (p : ShownPort E R O) (held : Slab H) (q : ShownPort E R O) (later : Slab H) : Type 0 where
     pub goes : GoesOn p q
-    pub holds : AreHeld p held → AreHeld q later
+    pub holds : AreHeld lent p held → AreHeld lent q later
     pub accounts : (from : ℕ) → IsAccounted from p held → IsAccounted from q later
 
 -- as many connections came as the limit says, or fewer and the listener failed; with the limit 0 it failed
@@ -51,6 +67,10 @@ abbrev pub Takes : Outcome → ℕ → ℕ → Type 0
 Takes Served splits later = later ≡ splits + 1
 Takes Crowded splits later = later ≡ splits
 Takes Starved splits later = splits ≤ later
+
+-- a connection is one too many only if eight sessions are open
+abbrev pub IsCrowd : {H : Type 0} → Outcome → Slab H → Type 0
+IsCrowd outcome held = outcome ≡ Crowded → 8 ≤ slab_len held
 
 -- No more connections were served than ports were split off; and as many, where none was closed for want of one and the count has not come to its end
 pub record IsServed (splits later : ℕ) (a : Accepted) : Type 0 where

@@ -1,5 +1,5 @@
 //! What came of the connections.
-ghost use Rattle.std.specs.Prelude.{◌≡◌, ℕ, ◌+◌, ◌<◌, ◌≤◌, ◌↔◌, false, IsTrue};
+ghost use Rattle.std.specs.Prelude.{◌≡◌, ◌⊎◌, ℕ, ◌+◌, ◌<◌, ◌≤◌, ◌↔◌, true, false, IsTrue};
 ghost use Rattle.session_threads.specs.Sessions.{Takes, IsServed};
 
 /// What became of one connection.
@@ -42,6 +42,8 @@ impl Accepted {
     /// Counts one connection more.
     pub(crate) fn count(&mut self, outcome: Outcome)
         ensures counted { self.old.served + self.old.turned_away < u64.MAX → self.new.served + self.new.turned_away ≡ self.old.served + self.old.turned_away + 1 }
+        ensures rises { self.old.served + self.old.turned_away ≤ self.new.served + self.new.turned_away }
+        ensures starved { self.new.has_starved ≡ true → (self.old.has_starved ≡ true) ⊎ (outcome ≡ Outcome.Starved) }
         ensures served { (before : ℕ) (now : ℕ) (later : ℕ) → IsServed before now self.old → Takes outcome now later → IsServed before later self.new }
         ensures failed { self.new.has_failed ≡ self.old.has_failed }
     {

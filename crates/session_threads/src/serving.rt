@@ -1,7 +1,8 @@
 //! The loop that accepts connections.
-ghost use Rattle.std.specs.Prelude.{◌≡◌, IsTrue, IfOk, IfSome, IfNone, OnOk, OnErr};
-ghost use Rattle.session_threads.specs.Ports.{GoesOn, AreJoined};
-ghost use Rattle.session_threads.specs.Sessions.{port_of, AreHeld, Tends, Takes, IsComplete, IsServed};
+ghost use Rattle.std.specs.Prelude.{◌≡◌, ◌+◌, IsTrue, IfOk, IfSome, IfNone, OnOk, OnErr};
+ghost use Rattle.session_threads.specs.Listening.{RisesBy, IsCounted};
+ghost use Rattle.session_threads.specs.Ports.{GoesOn, AreJoined, AreServed};
+ghost use Rattle.session_threads.specs.Sessions.{port_of, terms_of, AreHeld, Tends, Takes, IsComplete, IsServed};
 ghost use Rattle.turn_lock.specs.Calls.{IsLegal};
 ghost use Rattle.turn_lock.specs.Shown.{IsSame};
 
@@ -22,7 +23,7 @@ fn take_next<
     rt: &R,
     alloc: Global,
     listener: &mut L,
-    sessions: &mut Sessions<T>,
+    sessions: &mut Sessions<T, L::Connection>,
     port: &mut Port<T>,
 ) -> Option<Outcome>
 where
@@ -30,11 +31,14 @@ where
     T::Reply: Send + 'static,
     T::Origin: 'static,
     requires held { AreHeld port_of port.old sessions.old.handles }
-    requires hands_back { (p : _) (q : _) → L.Connection.hands_back p q → IsSame p q }
-    ensures tends { Tends port_of port.old sessions.old.handles port.new sessions.new.handles }
+    requires hands_back { (t : _) (p : _) (q : _) → L.Connection.hands_back t p q → IsSame p q }
+    ensures tends { Tends port_of (terms_of L.Connection.terms) L.Connection.hands_back (L.terms listener.old) port.old sessions.old.handles port.new sessions.new.handles }
     ensures splits { IfSome result (λ outcome. Takes outcome port.old.known.splits port.new.known.splits) }
     ensures failed { IfNone result (L.has_failed listener.new) }
     ensures borrowed { L.borrowed listener.new ≡ L.borrowed listener.old }
+    ensures terms { L.terms listener.new ≡ L.terms listener.old }
+    ensures accepted { IfSome result (λ _. RisesBy (L.accepted listener.old) 1 (L.accepted listener.new)) }
+    ensures accepted_none { IfNone result (RisesBy (L.accepted listener.old) 0 (L.accepted listener.new)) }
     ensures none { IfNone result (port.new.known.splits ≡ port.old.known.splits) }
 {
     let next = listener.accept(alloc);
@@ -55,7 +59,7 @@ fn accept_all<
     rt: &R,
     alloc: Global,
     listener: &mut L,
-    sessions: &mut Sessions<T>,
+    sessions: &mut Sessions<T, L::Connection>,
     port: &mut Port<T>,
     limit: u64,
 ) -> Accepted
@@ -64,12 +68,14 @@ where
     T::Reply: Send + 'static,
     T::Origin: 'static,
     requires held { AreHeld port_of port.old sessions.old.handles }
-    requires hands_back { (p : _) (q : _) → L.Connection.hands_back p q → IsSame p q }
-    ensures tends { Tends port_of port.old sessions.old.handles port.new sessions.new.handles }
+    requires hands_back { (t : _) (p : _) (q : _) → L.Connection.hands_back t p q → IsSame p q }
+    ensures tends { Tends port_of (terms_of L.Connection.terms) L.Connection.hands_back (L.terms listener.old) port.old sessions.old.handles port.new sessions.new.handles }
     ensures complete { IsComplete limit result }
     ensures served { IsServed port.old.known.splits port.new.known.splits result }
     ensures failed { IsTrue result.has_failed → L.has_failed listener.new }
     ensures borrowed { L.borrowed listener.new ≡ L.borrowed listener.old }
+    ensures terms { L.terms listener.new ≡ L.terms listener.old }
+    ensures counted { IsCounted (L.accepted listener.old) (result.served + result.turned_away) (L.accepted listener.new) }
 {
     let mut accepted = Accepted::none();
     'connections: for _ in rt.forever() {
@@ -105,14 +111,16 @@ where
     T::Event: Send + 'static,
     T::Reply: Send + 'static,
     T::Origin: 'static,
-    requires { (p : _) (q : _) → L.Connection.hands_back p q → IsSame p q }
+    requires { (t : _) (p : _) (q : _) → L.Connection.hands_back t p q → IsSame p q }
     ensures goes { GoesOn port.old port.new }
     ensures lawful { OnOk result (IsLegal T.legal port.new.known) }
     ensures joined { AreJoined port.old.known.splits port.new }
+    ensures sessions { AreServed (L.Connection.hands_back (L.terms listener.old)) port.old.known.splits port.new }
     ensures complete { IfOk result (IsComplete limit) }
     ensures served { IfOk result (IsServed port.old.known.splits port.new.known.splits) }
     ensures failed { IfOk result (λ accepted. IsTrue accepted.has_failed → L.has_failed listener.new) }
     ensures borrowed { L.borrowed listener.new ≡ L.borrowed listener.old }
+    ensures counted { IfOk result (λ accepted. IsCounted (L.accepted listener.old) (accepted.served + accepted.turned_away) (L.accepted listener.new)) }
     ensures err { OnErr result (port.new ≡ port.old) }
 {
     let mut sessions = Sessions::new(alloc)?;

@@ -1,6 +1,6 @@
 //! One session in a thread of its own.
 ghost use Rattle.std.specs.Prelude.{◌≡◌, ◌<◌, IfOk, IfErr};
-ghost use Rattle.turn_lock.specs.Shown.{IsSame};
+ghost use Rattle.session_threads.specs.Ports.{Returns};
 
 use crate::connections::Connection;
 use crate::flags::{Flags, SESSIONS};
@@ -11,18 +11,21 @@ use std::thread;
 use std::thread::{Promise, PromisedHandle, Threads};
 use turn_lock::{Port, Turned};
 
-/// What a session's thread promises: the port that it hands back is the one that it was lent.
+/// What a session's thread promises: it hands back the port that it was lent, as it was or as the connection's session left it.
 #[derive(Drop)]
-pub(crate) struct Lent<T: Turned> {
+pub(crate) struct Lent<T: Turned, C> {
+    pub(crate) connection: Snapshot<C>,
     pub(crate) port: Snapshot<Port<T>>,
 }
 
-impl<T: Turned> Promise<Port<T>> for Lent<T> {
-    ghost kept_by = { λ lent port. IsSame lent.port.value port };
+impl<T: Turned, C: Connection<Port<T>>> Promise<Port<T>> for Lent<T, C> {
+    ghost use Rattle.session_threads.specs.Ports.{Returns};
+
+    ghost kept_by = { λ lent port. Returns (C.hands_back (C.terms lent.connection.value)) lent.port.value port };
 }
 
 /// The handle of a session's thread.
-pub(crate) type Session<T> = PromisedHandle<Port<T>, Lent<T>>;
+pub(crate) type Session<T, C> = PromisedHandle<Port<T>, Lent<T, C>>;
 
 /// What the thread at this place does. Where it was refused it closes the connection with no byte sent.
 pub(crate) fn attend<T: Turned, C: Connection<Port<T>>, W: Wait + Copy>(
@@ -33,9 +36,8 @@ pub(crate) fn attend<T: Turned, C: Connection<Port<T>>, W: Wait + Copy>(
     connection: C,
     port: Port<T>,
 ) -> Port<T>
-    requires place { key < SESSIONS }
-    requires hands_back { (p : _) (q : _) → C.hands_back p q → IsSame p q }
-    ensures { IsSame port result }
+    requires { key < SESSIONS }
+    ensures { Returns (C.hands_back (C.terms connection)) port result }
 {
     if flags.is_refused(key) {
         return port;
@@ -58,15 +60,15 @@ pub(crate) fn start<
     key: usize,
     connection: C,
     port: Port<T>,
-) -> Result<Session<T>, Port<T>>
+) -> Result<Session<T, C>, Port<T>>
 where
     T::Event: Send + 'static,
     T::Reply: Send + 'static,
     T::Origin: 'static,
-    requires place { key < SESSIONS }
-    requires hands_back { (p : _) (q : _) → C.hands_back p q → IsSame p q }
+    requires { key < SESSIONS }
     ensures ok { IfOk result (λ session. session.promise.port.value ≡ port) }
-    ensures err { IfErr result (λ back. IsSame port back) }
+    ensures connection { IfOk result (λ session. session.promise.connection.value ≡ connection) }
+    ensures err { IfErr result (λ back. Returns (C.hands_back (C.terms connection)) port back) }
 {
     let Ok(theirs) = Arc::try_clone(flags) else {
         return Err(port);
@@ -74,14 +76,14 @@ where
     flags.begin(key);
     let here = *rt;
     let lent = Lent {
+        connection: Snapshot::of(&connection),
         port: Snapshot::of(&port),
     };
     let session = thread::spawn_with(
         rt,
         lent,
         move || -> Port<T>
-            requires place { key < SESSIONS }
-            requires hands_back { (p : _) (q : _) → C.hands_back p q → IsSame p q }
+            requires { key < SESSIONS }
         { attend(here, alloc, theirs, key, connection, port) },
     );
     match session {

@@ -1,7 +1,7 @@
 //! The open sessions: each has a place, a thread and a port.
-ghost use Rattle.std.specs.Prelude.{◌≡◌, ℕ, ◌<◌, None, IfOk};
+ghost use Rattle.std.specs.Prelude.{◌≡◌, ℕ, ◌<◌, List, None, IfOk};
 ghost use Rattle.slab.specs.Slab.{get};
-ghost use Rattle.session_threads.specs.Sessions.{port_of, AreHeld, IsEmpty, Tends, Takes};
+ghost use Rattle.session_threads.specs.Sessions.{port_of, terms_of, AreHeld, IsEmpty, Tends, Takes, IsCrowd};
 ghost use Rattle.turn_lock.specs.Calls.{Joins};
 ghost use Rattle.turn_lock.specs.Shown.{IsSame};
 
@@ -17,8 +17,8 @@ use turn_lock::{Port, Turned};
 
 /// The open sessions, at most eight, and the flags of their places.
 #[derive(Drop)]
-pub(crate) struct Sessions<T: Turned> {
-    pub(crate) handles: Slab<Session<T>>,
+pub(crate) struct Sessions<T: Turned, C: Connection<Port<T>>> {
+    pub(crate) handles: Slab<Session<T, C>>,
     flags: Arc<Flags, Global>,
 }
 
@@ -33,9 +33,9 @@ fn take_back<T: Turned>(port: &mut Port<T>, unused: Port<T>) -> Outcome
     Outcome::Starved
 }
 
-impl<T: Turned> Sessions<T> {
+impl<T: Turned, C: Connection<Port<T>>> Sessions<T, C> {
     /// No session is open. All memory that sessions take is taken here.
-    pub(crate) fn new(alloc: Global) -> Result<Sessions<T>, AllocError>
+    pub(crate) fn new(alloc: Global) -> Result<Sessions<T, C>, AllocError>
         ensures { IfOk result (λ sessions. IsEmpty sessions.handles) }
     {
         let mut handles = Slab::new(alloc);
@@ -46,8 +46,9 @@ impl<T: Turned> Sessions<T> {
 
     /// Waits for the end of the session at this place, if one is open there, and joins its port in.
     fn close<R: Threads>(&mut self, rt: &R, key: usize, port: &mut Port<T>)
-        requires { AreHeld port_of port.old self.old.handles }
-        ensures tends { Tends port_of port.old self.old.handles port.new self.new.handles }
+        requires held { AreHeld port_of port.old self.old.handles }
+        requires hands_back { (t : _) (p : _) (q : _) → C.hands_back t p q → IsSame p q }
+        ensures tends { (t : List ℕ) → Tends port_of (terms_of C.terms) C.hands_back t port.old self.old.handles port.new self.new.handles }
         ensures splits { port.new.known.splits ≡ port.old.known.splits }
         ensures closed { get self.new.handles key ≡ None }
         ensures others { (other : ℕ) → get self.old.handles other ≡ None → get self.new.handles other ≡ None }
@@ -62,7 +63,8 @@ impl<T: Turned> Sessions<T> {
     fn reap_one<R: Threads>(&mut self, rt: &R, key: usize, port: &mut Port<T>)
         requires place { key < SESSIONS }
         requires held { AreHeld port_of port.old self.old.handles }
-        ensures tends { Tends port_of port.old self.old.handles port.new self.new.handles }
+        requires hands_back { (t : _) (p : _) (q : _) → C.hands_back t p q → IsSame p q }
+        ensures tends { (t : List ℕ) → Tends port_of (terms_of C.terms) C.hands_back t port.old self.old.handles port.new self.new.handles }
         ensures splits { port.new.known.splits ≡ port.old.known.splits }
     {
         if self.flags.has_ended(key) {
@@ -72,8 +74,9 @@ impl<T: Turned> Sessions<T> {
 
     /// Closes each session whose thread has come to its end.
     pub(crate) fn reap<R: Threads>(&mut self, rt: &R, port: &mut Port<T>)
-        requires { AreHeld port_of port.old self.old.handles }
-        ensures tends { Tends port_of port.old self.old.handles port.new self.new.handles }
+        requires held { AreHeld port_of port.old self.old.handles }
+        requires hands_back { (t : _) (p : _) (q : _) → C.hands_back t p q → IsSame p q }
+        ensures tends { (t : List ℕ) → Tends port_of (terms_of C.terms) C.hands_back t port.old self.old.handles port.new self.new.handles }
         ensures splits { port.new.known.splits ≡ port.old.known.splits }
     {
         'places: for key in 0..SESSIONS {
@@ -83,8 +86,9 @@ impl<T: Turned> Sessions<T> {
 
     /// Waits for the end of every session.
     pub(crate) fn close_all<R: Threads>(&mut self, rt: &R, port: &mut Port<T>)
-        requires { AreHeld port_of port.old self.old.handles }
-        ensures tends { Tends port_of port.old self.old.handles port.new self.new.handles }
+        requires held { AreHeld port_of port.old self.old.handles }
+        requires hands_back { (t : _) (p : _) (q : _) → C.hands_back t p q → IsSame p q }
+        ensures tends { (t : List ℕ) → Tends port_of (terms_of C.terms) C.hands_back t port.old self.old.handles port.new self.new.handles }
         ensures splits { port.new.known.splits ≡ port.old.known.splits }
         ensures closed { (key : ℕ) → key < SESSIONS → get self.new.handles key ≡ None }
     {
@@ -94,23 +98,31 @@ impl<T: Turned> Sessions<T> {
     }
 
     /// Gives the connection a thread and a port split off from this one, or closes it.
-    pub(crate) fn admit<
-        C: Connection<Port<T>> + 'static,
-        R: Threads + Wait + Copy + Send + 'static,
-    >(&mut self, rt: &R, alloc: Global, connection: C, port: &mut Port<T>) -> Outcome
+    pub(crate) fn admit<R: Threads + Wait + Copy + Send + 'static>(
+        &mut self,
+        rt: &R,
+        alloc: Global,
+        connection: C,
+        port: &mut Port<T>,
+    ) -> Outcome
     where
         T: Send + 'static,
+        C: 'static,
         T::Event: Send + 'static,
         T::Reply: Send + 'static,
         T::Origin: 'static,
         requires held { AreHeld port_of port.old self.old.handles }
-        requires hands_back { (p : _) (q : _) → C.hands_back p q → IsSame p q }
-        ensures tends { Tends port_of port.old self.old.handles port.new self.new.handles }
+        requires hands_back { (t : _) (p : _) (q : _) → C.hands_back t p q → IsSame p q }
+        ensures tends { Tends port_of (terms_of C.terms) C.hands_back (C.terms connection) port.old self.old.handles port.new self.new.handles }
         ensures splits { Takes result port.old.known.splits port.new.known.splits }
+        ensures crowded { IsCrowd result self.old.handles }
     {
-        let key = self.handles.vacant_key();
-        if self.handles.len() >= SESSIONS || key >= SESSIONS {
+        if self.handles.len() >= SESSIONS {
             return Outcome::Crowded;
+        }
+        let key = self.handles.vacant_key();
+        if key >= SESSIONS {
+            return Outcome::Starved;
         }
         let Ok(own) = port.split() else {
             return Outcome::Starved;

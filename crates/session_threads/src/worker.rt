@@ -1,5 +1,5 @@
 //! Workers: each has a thread of its own and a port that was split off for it.
-ghost use Rattle.std.specs.Prelude.{◌≡◌, IfOk, IfErr, IfSome, IfNone};
+ghost use Rattle.std.specs.Prelude.{◌≡◌, ◌+◌, ◌≤◌, IfOk, IfErr, IfSome, IfNone};
 ghost use Rattle.turn_lock.specs.Shown.{IsSame};
 ghost use Rattle.session_threads.specs.Ports.{GoesOn, AreJoined, SplitsOff};
 ghost use Rattle.session_threads.specs.Workers.{Ended, ComesBack};
@@ -112,6 +112,7 @@ where
     ensures worker { IfSome result (λ running. running.promise.worker.value ≡ worker) }
     ensures port { IfSome result (λ running. SplitsOff port.old running.promise.port.value port.new) }
     ensures none { IfNone result (GoesOn port.old port.new × AreJoined port.old.known.splits port.new) }
+    ensures most { IfNone result (port.new.known.splits ≤ port.old.known.splits + 1) }
 {
     let Ok(own) = port.split() else {
         return None;

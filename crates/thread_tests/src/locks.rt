@@ -10,7 +10,9 @@ use counter::{Bump, Counter, Gate, Gated, Moody, Wish};
 use std::alloc::{AllocError, Global};
 use std::sync::{Arc, Wait};
 use std::test::Fail;
+use std::thread;
 use std::thread::{Threads, join};
+use std::time::{Clock, Duration, Instant};
 use turn_lock::{Busy, Port, Shared, Turned};
 
 // What a call of a test's value answered.
@@ -328,6 +330,57 @@ fn is_busy_while_a_turn_is_held(rt: HostRuntime) -> Result<(), Fail> {
     let held = hold_up(&rt, rt.alloc(), &gate);
     drop(gate);
     assert!(rt; held? == (Ok(1), Some((2, 1, 2))));
+    Ok(())
+}
+
+// Opens the gate after 20 ms.
+fn open_late<R: Clock>(rt: &R, gate: &Gate) {
+    gate.has_begun();
+    let _ = thread::sleep(rt, Duration::from_millis(20));
+    gate.open();
+}
+
+// A call that waits while another one holds the turn for 20 ms, and how long it waited.
+fn call_behind<R: Threads + Wait + Sync + Clock>(
+    rt: &R,
+    alloc: Global,
+    holder: Port<Gated>,
+    waiter: Port<Gated>,
+    gate: &Gate,
+) -> Option<Duration> {
+    let (held, (opened, waited)) = join(
+        rt,
+        || {
+            let mut holder = holder;
+            holder.call(rt, alloc, Bump).is_ok()
+        },
+        || {
+            join(
+                rt,
+                || open_late(rt, gate),
+                || {
+                    let mut waiter = waiter;
+                    gate.has_begun();
+                    let begun = Instant::now(rt).ok()?;
+                    waiter.call(rt, alloc, Bump).ok()?;
+                    begun.elapsed(rt).ok()
+                },
+            )
+        },
+    );
+    if held { waited } else { None }
+}
+
+#[test]
+fn waits_no_longer_than_a_turn_is_held(rt: HostRuntime) -> Result<(), Fail> {
+    let alloc = rt.alloc();
+    let gate = Arc::new(alloc, Gate::new())?;
+    let (shared, mut holder) = start_gated(alloc, Arc::try_clone(&gate)?)?;
+    let waiter = holder.split()?;
+    let waited = call_behind(&rt, alloc, holder, waiter, &gate);
+    drop(shared);
+    drop(gate);
+    assert!(rt; waited.is_some_and(|waited| waited < Duration::from_secs(1)));
     Ok(())
 }
 

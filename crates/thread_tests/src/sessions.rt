@@ -77,6 +77,51 @@ fn turns_the_ninth_away(rt: HostRuntime) -> Result<(), Fail> {
     Ok(())
 }
 
+/// An evening of guests who come one after the other.
+fn long_evening<R: Threads + Wait + Copy + Send + 'static>(
+    rt: &R,
+    alloc: Global,
+    guests: u64,
+) -> Result<Evening, AllocError> {
+    let hall = Arc::new(alloc, Hall::new(1))?;
+    let mut door = Door::one_by_one(Arc::try_clone(&hall)?, guests);
+    let served = serve(rt, alloc, &mut door, guests);
+    drop(door);
+    let (accepted, count) = served?;
+    let content = hall.content();
+    drop(hall);
+    Ok((accepted, content, count))
+}
+
+#[test]
+fn gives_the_place_of_an_ended_session_to_the_next(rt: HostRuntime) -> Result<(), Fail> {
+    let spent = long_evening(&rt, rt.alloc(), 20)?;
+    assert!(rt; spent == (told(20, 0, false, false), 20, Some(20)));
+    Ok(())
+}
+
+/// An evening of three guests, the last of whom comes after the first has left, and the second waits for the last.
+fn relay_evening<R: Threads + Wait + Copy + Send + 'static>(
+    rt: &R,
+    alloc: Global,
+) -> Result<Evening, AllocError> {
+    let hall = Arc::new(alloc, Hall::new(1))?;
+    let mut door = Door::after_the_first(Arc::try_clone(&hall)?);
+    let served = serve(rt, alloc, &mut door, 3);
+    drop(door);
+    let (accepted, count) = served?;
+    let content = hall.content();
+    drop(hall);
+    Ok((accepted, content, count))
+}
+
+#[test]
+fn waits_for_no_session_but_those_that_ended(rt: HostRuntime) -> Result<(), Fail> {
+    let spent = relay_evening(&rt, rt.alloc())?;
+    assert!(rt; spent == (told(3, 0, false, false), 3, Some(3)));
+    Ok(())
+}
+
 #[test]
 fn ends_where_the_listener_fails(rt: HostRuntime) -> Result<(), Fail> {
     let spent = evening(&rt, rt.alloc(), 1, 0, 0)?;

@@ -84,6 +84,11 @@ module _ {E R O : Type 0} where
   turn_of d (Waiting n) = n
   turn_of d _ = d
 
+  -- the turn that a stage has, and d where it has none
+  abbrev held_of : ℕ → Stage E R O → ℕ
+  held_of d (Turn n) = n
+  held_of d _ = d
+
 module _ {T E R O : Type 0} (origin : T → O) (stands : T → List (Entry E R) → Type 0) (legal : O → List (Entry E R) → Type 0) (first : T) where
   abbrev V : Type 0
   V = View E R O
@@ -199,7 +204,7 @@ module _ {T E R O : Type 0} (origin : T → O) (stands : T → List (Entry E R) 
 
   pub looks : (slots id : ℕ) (me : M) → me.0.is_port ≡ true → Allows Rule slots id me 0 (λ n. n) (looked legal (step slots 0 0 0 none) me)
   looks slots id me port = loads slots id me 0 (looked legal (step slots 0 0 0 none) me) (λ m vs f fit.
-      (informed_view m me.0 Idle, informs m id me.0 Idle fit tt, (watched m id me Idle me.1 fit port f.lawful, refl, le_refl m.ticket)))
+      (informed_view m me.0 Idle, informs m id me.0 Idle fit tt, (watched m id me Idle me.1 fit port f.lawful, refl, refl)))
 
   -- the view of a seat that has read the count of ended turns
   counts : (m : Mo) (i : ℕ) (v : V) → Fit m i v → Fit m i (counted_view v m.serving)
@@ -230,7 +235,7 @@ module _ {T E R O : Type 0} (origin : T → O) (stands : T → List (Entry E R) 
   draw_staged m i new j k up (Waiting n) h = let low : n < m.ticket = h.0.1 in ((h.0.0, omega arith, put_else m.owner m.ticket i n (λ e. omega arith) ∙ h.0.2), h.1)
   draw_staged m i new j k up (Turn n) h = let low : n < m.ticket = h.0.1 in ((h.0.0, omega arith, put_else m.owner m.ticket i n (λ e. omega arith) ∙ h.0.2), h.1, h.2, h.3)
   draw_staged m i new j k up (SawServing n) h = h
-  draw_staged m i new j k up (Met b u) h = h
+  draw_staged m i new j k up (Met b u) h = let few : u.drawn ≤ m.ticket = h.2 in (h.0, h.1, omega arith, h.3)
 
   draw_fit : (m : Mo) (i new j : ℕ) (d : V) → new ≡ m.ticket + 1 → Fit m j d → Fit (after_draw m i new) j d
   draw_fit m i new j d up f = let low : d.known.drawn ≤ m.ticket = f.drawn in
@@ -308,7 +313,7 @@ module _ {T E R O : Type 0} (origin : T → O) (stands : T → List (Entry E R) 
         ap (λ h. some h) home.2,
         kept (after_take m) (set vs id w) (takes_at id n me.0 m vs f fit is hit),
         λ k is'. let same : n ≡ k = ap (turn_of n) (sym is ∙ is') in
-            ((λ _. subst (λ (z : ℕ). Takes origin stands legal (Turn z) me (w, (0, full home.0 home.1) ∷ me.1)) same met), λ miss. absurd (miss (hit ∙ same))),
+            ((λ _. subst (λ (z : ℕ). Takes origin stands legal (Turn z) me (w, (0, full home.0 home.1) ∷ me.1) × (z < m.ticket)) same (met, st.0.1)), λ miss. absurd (miss (hit ∙ same))),
       ))
       (λ miss. (
         me.0,
@@ -333,7 +338,8 @@ module _ {T E R O : Type 0} (origin : T → O) (stands : T → List (Entry E R) 
   end_staged m i n j p x l k other mine here holds pair home (Met b u) h = (
     starts_more m.whole u.seen (added p l) h.0,
     h.1,
-    λ yes q one. let a = h.2 yes q one in (a.0, added_other q p m.whole l (λ e. other (sym a.0 ∙ (ap m.holder e ∙ holds))) ∙ a.1, a.2, a.3),
+    h.2,
+    λ yes q one. let a = h.3 yes q one in (a.0, added_other q p m.whole l (λ e. other (sym a.0 ∙ (ap m.holder e ∙ holds))) ∙ a.1, a.2, a.3),
   )
 
   end_others : (m : Mo) (i n j : ℕ) (p : List ℕ) (x : T) (l : Option (Snapshot E × Snapshot R)) (d : V) → j ≢ i → m.owner n ≡ i → n ≡ m.serving → m.holder p ≡ i → (m.lone ≡ true → ⊥)
@@ -388,6 +394,7 @@ module _ {T E R O : Type 0} (origin : T → O) (stands : T → List (Entry E R) 
             lawful = (m.start, mine.begun, subst (legal m.start) (sym whole) lawful);
             own = added_own p v.known.seen l;
             others = λ q a. added_other q p v.known.seen l (mine.apart q a).0;
+            within = λ turn at. let same : n ≡ turn = ap (held_of n) (sym is ∙ at) in let long : length (v.known.seen ++ added p l) ≡ length (m.whole ++ added p l) = ap (λ h. length h) whole in omega (arith, were, more, here, same, long);
           },
         )
 
@@ -446,7 +453,7 @@ module _ {T E R O : Type 0} (origin : T → O) (stands : T → List (Entry E R) 
   close_staged m j k ended pair (Waiting q) h = let low : m.serving ≤ q = h.0.0 in let high : q < m.ticket = h.0.1 in absurd (omega arith)
   close_staged m j k ended pair (Turn q) h = let low : m.serving ≤ q = h.0.0 in let high : q < m.ticket = h.0.1 in absurd (omega arith)
   close_staged m j k ended pair (SawServing q) h = h
-  close_staged m j k ended pair (Met b u) h = h
+  close_staged m j k ended pair (Met b u) h = let few : u.drawn ≤ m.ticket = h.2 in (h.0, h.1, omega arith, h.3)
 
   closes_at : (id : ℕ) (v : V) (m : Mo) (vs : List V) → F m vs → Fit m id v → m.ticket ≡ m.serving → m.closed ≡ 0 → F (after_close m) (set vs id (informed_view m v Idle))
   closes_at id v m vs f fit ended fresh = let few : m.ticket ≤ most_turns + m.closed = f.few in let more : m.ticket ≤ m.ticket + 1 = omega arith in let w : V = informed_view m v Idle in
@@ -498,9 +505,9 @@ module _ {T E R O : Type 0} (origin : T → O) (stands : T → List (Entry E R) 
   merge_port m i k false u st t = record { begun = t.begun; own = λ q o. ((t.own q o).0, refl); future = t.future; apart = t.apart }
   merge_port m i k true u st t = record {
     begun = t.begun;
-    own = λ q o. (⊎_elim (λ e. (t.own q (inl e)).0) (λ a. ⊎_elim (λ x. (t.own q (inr x)).0) (λ x. (st.2 refl q x).0) (among-append q u.number k.joined u.joined a)) o, refl);
+    own = λ q o. (⊎_elim (λ e. (t.own q (inl e)).0) (λ a. ⊎_elim (λ x. (t.own q (inr x)).0) (λ x. (st.3 refl q x).0) (among-append q u.number k.joined u.joined a)) o, refl);
     future = t.future;
-    apart = λ q a. ⊎_elim (t.apart q) (λ x. let y = st.2 refl q x in (y.2, y.3)) (among-append q u.number k.joined u.joined a);
+    apart = λ q a. ⊎_elim (t.apart q) (λ x. let y = st.3 refl q x in (y.2, y.3)) (among-append q u.number k.joined u.joined a);
   }
 
   pub merges : (slots id : ℕ) (me : M) (b : Bool) (u : Known E R O) → me.0.is_port ≡ true → me.0.stage ≡ Met b u
@@ -512,9 +519,10 @@ module _ {T E R O : Type 0} (origin : T → O) (stands : T → List (Entry E R) 
         staged = refl;
         sees = record { origin = refl; number = refl; splits = refl; drawn = see.drawn; served = see.served; seen = see.seen; lawful = see.lawful; own = see.own };
         joined = refl;
+        drawn = st.2;
         told = st.0;
         same = λ o e. (fit.port port).begun ∙ ap (λ (z : O). Some z) (sym (st.1 o e));
-        theirs = λ yes q x. (st.2 yes q x).1;
+        theirs = λ yes q x. (st.3 yes q x).1;
       } in (
         w,
         record {
@@ -582,7 +590,7 @@ module _ {T E R O : Type 0} (origin : T → O) (stands : T → List (Entry E R) 
     split_staged j d other pair (Waiting q) h = h
     split_staged j d other pair (Turn q) h = h
     split_staged j d other pair (SawServing q) h = h
-    split_staged j d other pair (Met b u) h = (h.0, h.1, λ yes q one. let a = h.2 yes q one in (theirs_stay j q other a.0, a.1, a.2, a.3))
+    split_staged j d other pair (Met b u) h = (h.0, h.1, h.2, λ yes q one. let a = h.3 yes q one in (theirs_stay j q other a.0, a.1, a.2, a.3))
 
     split_others : (v : V) (j : ℕ) (d : V) → Fit m i v → j ≢ i → Fit m j d → Fit Forked j d
     split_others v j d fit other f = record {
@@ -669,7 +677,7 @@ module _ {T E R O : Type 0} (origin : T → O) (stands : T → List (Entry E R) 
   join_staged m other i j k apart (Waiting q) h = h
   join_staged m other i j k apart (Turn q) h = h
   join_staged m other i j k apart (SawServing q) h = h
-  join_staged m other i j k apart (Met b u) h = (h.0, h.1, λ yes q one. let a = h.2 yes q one in (passed_else m.holder other i j q apart a.0, a.1, a.2, a.3))
+  join_staged m other i j k apart (Met b u) h = (h.0, h.1, h.2, λ yes q one. let a = h.3 yes q one in (passed_else m.holder other i j q apart a.0, a.1, a.2, a.3))
 
   -- a seat other than the one that was taken in
   join_fit : (m : Mo) (other i j : ℕ) (d : V) → j ≢ other → Fit m j d → Fit (after_join m other i) j d
@@ -694,6 +702,7 @@ module _ {T E R O : Type 0} (origin : T → O) (stands : T → List (Entry E R) 
   join_met m other i v w apart port f g = let mine = f.port port in (
     g.seen,
     g.named,
+    g.drawn,
     λ yes q one. let a = (g.port yes).own q one in (
       passed_here m.holder other i q a.0,
       a.1,

@@ -1,5 +1,5 @@
 -- What the public calls promise of what a port knows: `k` before the call, `l` after it.
-use Rattle.std.specs.Prelude.{◌≡◌, ℕ, ◌+◌, ◌<◌, ◌≤◌, List, [], ◌∷◌, ◌++◌, length, Option, Some}
+use Rattle.std.specs.Prelude.{◌≡◌, ℕ, ◌+◌, ◌<◌, ◌≤◌, List, [], ◌∷◌, ◌++◌, length, Option, Some, Result, Ok, Err}
 use Rattle.turn_lock.specs.declared.turned.Entry.{Entry}
 use Rattle.turn_lock.specs.declared.known.Known.{Known}
 use Rattle.turn_lock.specs.declared.faults.Busy.{Busy}
@@ -46,6 +46,13 @@ abbrev pub IsCause : {E R O : Type 0} → (E → Type 0) → E → ℕ → Known
 IsCause sure event bound l Memory = ¬ sure event
 IsCause sure event bound l Exhausted = bound ≤ l.drawn
 
+-- A call that ends with a reply or out of memory ends a turn of its own: one that was drawn after
+-- the last turn that the port had read of
+abbrev pub EndsTurn : {E R O : Type 0} → Known E R O → Known E R O → Result R CallFault → Type 0
+EndsTurn k l (Ok reply) = k.drawn < l.drawn
+EndsTurn k l (Err Memory) = k.drawn < l.drawn
+EndsTurn k l (Err Exhausted) = Unit {0}
+
 -- why a lock was not closed: so many turns were read to have ended, one for each call that the port had seen at least, and
 -- then more were read to be drawn
 pub record IsBusy {E R O : Type 0} (k l : Known E R O) (busy : Busy) : Type 0 where
@@ -72,6 +79,7 @@ pub record Meets {E R O : Type 0} (legal : O → List (Entry E R) → Type 0) (k
 pub record Joins {E R O : Type 0} (legal : O → List (Entry E R) → Type 0) (k u l : Known E R O) : Type 0 where
   pub sees : Sees legal k l
   pub joined : l.joined ≡ k.joined ++ u.number ∷ u.joined
+  pub drawn : u.drawn ≤ l.drawn
   pub told : StartsWith l.seen u.seen
   pub same : u.origin ≡ k.origin
   pub theirs : (q : List ℕ) → IsOwn u q → calls_by q l.seen ≡ calls_by q u.seen

@@ -85,6 +85,7 @@ module _ {E R O : Type 0} (legal : O → List (Entry E R) → Type 0) where
     pub lawful : IsLegal legal w.known
     pub own : calls_by v.known.number w.known.seen ≡ calls_by v.known.number v.known.seen ++ added v.known.number l
     pub others : (q : List ℕ) → IsAmong q v.known.joined → calls_by q w.known.seen ≡ calls_by q v.known.seen
+    pub within : (turn : ℕ) → v.stage ≡ Turn turn → length w.known.seen ≤ turn + 1
 
   -- what a load tells a seat that has taken in another
   pub record Merged (b : Bool) (u k : Known E R O) (w : View E R O) : Type 0 where
@@ -92,6 +93,7 @@ module _ {E R O : Type 0} (legal : O → List (Entry E R) → Type 0) where
     pub staged : w.stage ≡ Idle
     pub sees : Sees legal k w.known
     pub joined : w.known.joined ≡ (if b then k.joined ++ u.number ∷ u.joined else k.joined)
+    pub drawn : u.drawn ≤ w.known.drawn
     pub told : StartsWith w.known.seen u.seen
     pub same : (o : O) → u.origin ≡ Some o → k.origin ≡ Some o
     pub theirs : b ≡ true → (q : List ℕ) → IsOwn u q → calls_by q w.known.seen ≡ calls_by q u.seen
@@ -104,7 +106,7 @@ module _ {T E R O : Type 0} (legal : O → List (Entry E R) → Type 0) where
     pub watches : Watches legal m.0.known m'.0.known
 
   abbrev pub looked : At T E R → Sat T E R O → ℕ → Sat T E R O → Type 0
-  looked st m n m' = Watched Idle m m' × (m'.1 ≡ m.1) × (n ≤ m'.0.known.drawn)
+  looked st m n m' = Watched Idle m m' × (m'.1 ≡ m.1) × (m'.0.known.drawn ≡ n)
 
   abbrev pub ended : At T E R → Sat T E R O → ℕ → Sat T E R O → Type 0
   ended st m n m' = (m'.1 ≡ []) × Ended legal (last_of m.1) m.0 m'.0
@@ -123,7 +125,7 @@ module _ {T E R O : Type 0} (origin : T → O) (stands : T → List (Entry E R) 
     pub begun : m.0.known.origin ≡ Some (origin value)
 
   abbrev pub reached : At T E R → Sat T E R O → ℕ → Sat T E R O → Type 0
-  reached st m n m' = (k : ℕ) → m.0.stage ≡ Waiting k → (n ≡ k → Takes (Turn k) m m') × (n ≢ k → m' ≡ m)
+  reached st m n m' = (k : ℕ) → m.0.stage ≡ Waiting k → (n ≡ k → Takes (Turn k) m m' × (k < m'.0.known.drawn)) × (n ≢ k → m' ≡ m)
 
   abbrev pub closed : At T E R → Sat T E R O → ℕ → Sat T E R O → Type 0
   closed st m n m' = (n ≡ st.first → Takes Idle m m') × (n ≢ st.first → Watched legal Idle m m' × (m'.1 ≡ m.1) × (st.first < n) × (m'.0.known.drawn ≡ n) × (m'.0.known.served ≡ m.0.known.served))

@@ -61,6 +61,7 @@ module _ {T E R O : Type 0} (origin : T → O) (stands : T → List (Entry E R) 
   Staged first m i k (Turn n) = Holds m i n × (n ≡ m.serving) × (k.seen ≡ m.whole) × (m.closed ≡ 0)
   Staged first m i k (SawServing n) = n ≤ m.serving
   Staged first m i k (Met b u) = StartsWith m.whole u.seen × ((o : O) → u.origin ≡ Some o → o ≡ m.start)
+      × (u.drawn ≤ m.ticket)
       × (b ≡ true → (q : List ℕ) → IsOwn u q → (m.holder q ≡ i) × (calls_by q m.whole ≡ calls_by q u.seen) × (q ≢ k.number) × ¬ IsFuture k.number k.splits q)
 
 -- Of its own numbers a port has seen all calls; of those that it may come to give there are none; and they all differ

@@ -10,12 +10,13 @@ pub record ShownPort (E R O : Type 0) : Type 0 where
   pub bound : ℕ
   pub known : Known E R O
 
--- q is the port p, which may have made calls since, and may have seen those of others
+-- q is the port p, after any number of calls: no port was split off, and none was joined in
 pub record IsSame {E R O : Type 0} (p q : ShownPort E R O) : Type 0 where
   pub lock : q.lock ≡ p.lock
   pub bound : q.bound ≡ p.bound
   pub origin : q.known.origin ≡ p.known.origin
   pub number : q.known.number ≡ p.known.number
+  pub splits : q.known.splits ≡ p.known.splits
   pub joined : q.known.joined ≡ p.known.joined
 
 -- a note: which lock it belongs to, the origin, and the history that it tells

@@ -1,7 +1,7 @@
 //! Ports, through which threads call the value, and the notes that ports write to one another.
-ghost use Rattle.std.specs.Prelude.{◌≡◌, ◌++◌, [], ◌∷◌, IfOk, IfErr, OnOk, OnErr};
+ghost use Rattle.std.specs.Prelude.{◌≡◌, ◌≤◌, ◌++◌, [], ◌∷◌, length, IfOk, IfErr, OnOk, OnErr};
 ghost use Rattle.turn_lock.specs.History.{calls_by};
-ghost use Rattle.turn_lock.specs.Calls.{IsLegal, Called, Watches, IsCause, divided, born, Meets, Joins};
+ghost use Rattle.turn_lock.specs.Calls.{IsLegal, Called, Watches, IsCause, EndsTurn, divided, born, Meets, Joins};
 
 use crate::board::{Board, Place};
 use crate::steps::{call_at, divide, take_in, write_note};
@@ -77,6 +77,8 @@ impl<T: Turned> Port<T> {
         ensures lock { (self.new.lock ≡ self.old.lock) × (self.new.bound ≡ self.old.bound) }
         ensures ok { IfOk result (λ r. Called T.legal self.old.known event r self.new.known) }
         ensures err { IfErr result (λ f. Watches T.legal self.old.known self.new.known × IsCause T.sure event self.old.bound self.new.known f) }
+        ensures within { OnOk result (length self.new.known.seen ≤ self.old.bound) }
+        ensures turn { EndsTurn self.old.known self.new.known result }
     {
         let table = &self.table;
         call_at(&table.shared, &mut self.place, rt, alloc, self.bound, event)

@@ -1,10 +1,10 @@
 //! The steps that the calls of a port are made of, each a step or two on the table.
-ghost use Rattle.std.specs.Prelude.{◌≡◌, ℕ, ◌+◌, ◌<◌, ◌≤◌, [], ◌∷◌, ◌++◌, Some, None, IfOk, IfErr, IfSome, IfNone, IsTrue, IsFalse, Option};
+ghost use Rattle.std.specs.Prelude.{◌≡◌, ℕ, ◌+◌, ◌<◌, ◌≤◌, [], ◌∷◌, ◌++◌, Some, None, length, IfOk, IfErr, OnOk, IfSome, IfNone, IsTrue, IsFalse, Option};
 ghost use Rattle.std.specs.declared.snapshot.Snapshot.{Snapshot};
 ghost use Rattle.turn_lock.specs.declared.known.Stage.TheVariants.{Young, Idle, Waiting, Turn};
 ghost use Rattle.turn_lock.specs.History.{calls_by};
 ghost use Rattle.turn_lock.specs.Rule.{most_turns, full};
-ghost use Rattle.turn_lock.specs.Calls.{IsLegal, Watches, Called, IsCause, IsBusy};
+ghost use Rattle.turn_lock.specs.Calls.{IsLegal, Watches, Called, IsCause, EndsTurn, IsBusy};
 ghost use Rattle.turn_lock.specs.Plays.{IsSized, IsReady, hollow, posed, added, divided_view, born_view, noted_view, Ended, Merged, Takes};
 
 use crate::board::{HOME, Place, SERVING, Slot, TICKET, Top};
@@ -37,7 +37,7 @@ fn look<T: Turned>(top: &Top<T>, place: &mut Place<T>) -> u64
     requires ready { IsReady place.old Idle [] }
     ensures seat { (place.new.table_id ≡ place.old.table_id) × IsReady place.new Idle [] }
     ensures watches { Watches T.legal place.old.me.0.known place.new.me.0.known }
-    ensures drawn { result ≤ place.new.me.0.known.drawn }
+    ensures drawn { place.new.me.0.known.drawn ≡ result }
 {
     top.load::<Look<T>>(place, TICKET)
 }
@@ -83,7 +83,8 @@ pub(crate) fn draw<T: Turned, W: Wait>(
     requires ready { IsReady place.old Idle [] × IsLegal T.legal place.old.me.0.known }
     ensures seat { place.new.table_id ≡ place.old.table_id }
     ensures watches { Watches T.legal place.old.me.0.known place.new.me.0.known }
-    ensures some { IfSome result (λ n. IsReady place.new (Waiting n) []) }
+    ensures some { IfSome result (λ n. IsReady place.new (Waiting n) [] × (n < bound)) }
+    ensures next { IfSome result (λ n. place.old.me.0.known.drawn ≤ n) }
     ensures none { IfNone result (IsReady place.new Idle [] × (bound ≤ place.new.me.0.known.drawn)) }
 {
     let backoff = Backoff::new();
@@ -107,6 +108,7 @@ fn try_reach<T: Turned>(top: &Top<T>, place: &mut Place<T>, turn: u64) -> bool
     requires waiting { IsReady place.old (Waiting turn) [] }
     ensures seat { place.new.table_id ≡ place.old.table_id }
     ensures yes { IsTrue result → Takes T.origin T.stands T.legal (Turn turn) place.old.me place.new.me }
+    ensures drawn { IsTrue result → turn < place.new.me.0.known.drawn }
     ensures no { IsFalse result → place.new.me ≡ place.old.me }
 {
     top.load::<Reach<T>>(place, SERVING) == turn
@@ -146,6 +148,7 @@ pub(crate) fn reach<T: Turned, W: Wait>(
     requires waiting { IsReady place.old (Waiting turn) [] }
     ensures seat { (place.new.table_id ≡ place.old.table_id) × IsReady place.new (Turn turn) ((0, hollow) ∷ []) }
     ensures watches { Watches T.legal place.old.me.0.known place.new.me.0.known }
+    ensures drawn { turn < place.new.me.0.known.drawn }
     ensures value { (place.new.me.0.known.origin ≡ Some (T.origin result)) × T.stands result place.new.me.0.known.seen }
 {
     let backoff = Backoff::new();
@@ -171,6 +174,7 @@ pub(crate) fn end_turn<T: Turned>(
     requires value { (place.old.me.0.known.origin ≡ Some (T.origin value)) × T.stands value (place.old.me.0.known.seen ++ added place.old.me.0.known.number last) }
     ensures seat { (place.new.table_id ≡ place.old.table_id) × (place.new.me.1 ≡ []) }
     ensures ended { Ended T.legal last place.old.me.0 place.new.me.0 }
+    ensures within { length place.new.me.0.known.seen ≤ turn + 1 }
 {
     let slot = Slot {
         value: Some(value),
@@ -195,6 +199,8 @@ pub(crate) fn call_at<T: Turned, W: Wait>(
     ensures seat { (place.new.table_id ≡ place.old.table_id) × IsReady place.new Idle [] × IsLegal T.legal place.new.me.0.known }
     ensures ok { IfOk result (λ r. Called T.legal place.old.me.0.known event r place.new.me.0.known) }
     ensures err { IfErr result (λ f. Watches T.legal place.old.me.0.known place.new.me.0.known × IsCause T.sure event bound place.new.me.0.known f) }
+    ensures within { OnOk result (length place.new.me.0.known.seen ≤ bound) }
+    ensures turn { EndsTurn place.old.me.0.known place.new.me.0.known result }
 {
     let Some(turn) = draw(top, place, rt, bound) else {
         return Err(CallFault::Exhausted);

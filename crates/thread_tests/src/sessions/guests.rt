@@ -10,6 +10,9 @@ use turn_lock::Port;
 /// How often a wait asks.
 const ASKED: u64 = 1_000_000;
 
+/// The number of yields in which the thread of a guest who has left ends.
+const AFTER: u64 = 2_000;
+
 /// Where guests see one another.
 #[derive(Drop)]
 pub(super) struct Hall {
@@ -50,10 +53,38 @@ impl Hall {
         false
     }
 
+    // Waits until this number of guests have left, and then for the ends of their threads.
+    fn wait_until_left(&self, guests: u64) {
+        for _ in 0..ASKED {
+            if self.content() >= guests {
+                break;
+            }
+            thread::yield_now();
+        }
+        for _ in 0..AFTER {
+            thread::yield_now();
+        }
+    }
+
+    // Waits until this number of guests have arrived, whoever was closed.
+    fn wait_for_all(&self, guests: u64) -> bool {
+        for _ in 0..ASKED {
+            if self.arrived.load(Ordering::SeqCst) >= guests {
+                return true;
+            }
+            thread::yield_now();
+        }
+        false
+    }
+
     // A guest arrives and waits.
-    fn stay(&self) {
+    fn stay(&self, patience: Patience) {
         self.arrived.fetch_add(1, Ordering::SeqCst);
-        if self.wait_for(self.wanted) {
+        let is_content = match patience {
+            Patience::UntilClosed => self.wait_for(self.wanted),
+            Patience::ForAll(guests) => self.wait_for_all(guests),
+        };
+        if is_content {
             self.content.fetch_add(1, Ordering::SeqCst);
         }
     }
@@ -62,17 +93,38 @@ impl Hall {
 /// A connection that makes one call and waits for others.
 pub(super) struct Guest {
     hall: Arc<Hall, Global>,
+    patience: Patience,
+}
+
+/// What a guest waits for.
+#[derive(Clone, Copy)]
+enum Patience {
+    /// Until the guests that the hall wants have arrived, or one was closed.
+    UntilClosed,
+    /// Until this number of guests have arrived.
+    ForAll(u64),
+}
+
+/// When a listener gives its guests.
+#[derive(Clone, Copy)]
+enum Pace {
+    /// All at once, but the last after all others have arrived.
+    Together,
+    /// Each after the one before has left.
+    OneByOne,
+    /// The first waits for the second alone; the last comes after the first has left, and the others wait for it.
+    AfterTheFirst,
 }
 
 impl Guest {
-    fn new(hall: Arc<Hall, Global>) -> Guest {
-        Guest { hall }
+    fn new(hall: Arc<Hall, Global>, patience: Patience) -> Guest {
+        Guest { hall, patience }
     }
 }
 
 impl Drop for Guest {
     fn drop(self) {
-        let Guest { hall } = self;
+        let Guest { hall, patience: _ } = self;
         hall.closed.store(true, Ordering::SeqCst);
     }
 }
@@ -80,12 +132,12 @@ impl Drop for Guest {
 impl Connection<Port<Counter>> for Guest {
     ghost use Rattle.turn_lock.specs.Shown.{IsSame};
 
-    ghost hands_back = { IsSame };
+    ghost hands_back = { λ _. IsSame };
 
     fn serve<W: Wait>(self, rt: &W, alloc: Global, port: Port<Counter>) -> Port<Counter> {
         let mut port = port;
         let _ = port.call(rt, alloc, Bump);
-        self.hall.stay();
+        self.hall.stay(self.patience);
         port
     }
 }
@@ -96,6 +148,8 @@ pub(super) struct Door {
     hall: Arc<Hall, Global>,
     guests: u64,
     hungry: u64,
+    given: u64,
+    pace: Pace,
 }
 
 impl Door {
@@ -105,6 +159,43 @@ impl Door {
             hall,
             guests,
             hungry,
+            given: 0,
+            pace: Pace::Together,
+        }
+    }
+
+    /// A listener of this number of guests, each of whom comes after the one before has left.
+    pub(super) fn one_by_one(hall: Arc<Hall, Global>, guests: u64) -> Door {
+        let mut door = Door::new(hall, guests, 0);
+        door.pace = Pace::OneByOne;
+        door
+    }
+
+    /// A listener of three guests. The last comes after the first has left, and the second waits for it.
+    pub(super) fn after_the_first(hall: Arc<Hall, Global>) -> Door {
+        let mut door = Door::new(hall, 3, 0);
+        door.pace = Pace::AfterTheFirst;
+        door
+    }
+
+    // Waits until the next guest is to come.
+    fn pause(&self) {
+        match self.pace {
+            Pace::Together if self.guests == 0 => {
+                self.hall.wait_for(self.hall.wanted.saturating_sub(1));
+            }
+            Pace::OneByOne => self.hall.wait_until_left(self.given),
+            Pace::AfterTheFirst if self.guests == 0 => self.hall.wait_until_left(1),
+            _ => {}
+        }
+    }
+
+    // What the next guest waits for.
+    fn patience(&self) -> Patience {
+        match self.pace {
+            Pace::AfterTheFirst if self.given == 0 => Patience::ForAll(2),
+            Pace::AfterTheFirst => Patience::ForAll(3),
+            _ => Patience::UntilClosed,
         }
     }
 }
@@ -121,9 +212,12 @@ impl Listener<Port<Counter>> for Door {
             return Err(ListenFault);
         }
         self.guests -= 1;
-        if self.guests == 0 {
-            self.hall.wait_for(self.hall.wanted.saturating_sub(1));
+        self.pause();
+        let patience = self.patience();
+        self.given = self.given.saturating_add(1);
+        match Arc::try_clone(&self.hall) {
+            Ok(hall) => Ok(Some(Guest::new(hall, patience))),
+            Err(_) => Ok(None),
         }
-        Ok(Arc::try_clone(&self.hall).ok().map(Guest::new))
     }
 }

@@ -5,7 +5,8 @@ use Rattle.session_serving.proofs.Sent.{event_send, reply_send}
 use Rattle.std.proofs.Common.{◌≡◌, ◌+◌, arith}
 use Rattle.meter_workers.specs.Handed.{HandsMoments}
 use Rattle.meter_server.specs.ServingAll.{AllMoments}
-use Rattle.meter_server.proofs.ServingAllLemmas.{acted_beside, acted_itself, goes_beside, joined_beside, limit_beside, served_beside, stops_beside, whole_moments}
+use Rattle.meter_server.proofs.SessionLemmas.{no_sessions}
+use Rattle.meter_server.proofs.ServingAllLemmas.{sessions_beside, acted_beside, acted_itself, goes_beside, joined_beside, limit_beside, served_beside, stops_beside, whole_moments}
 use Rattle.meter_server.proofs.serving_all.serve_with_clock.Goals as goal
 
 pub returns-clause-goes : goal.returns-clause-goes
@@ -16,6 +17,17 @@ returns-clause-joined g c = joined_beside c.in-Some.ensures.port c.serve_with_bu
 
 pub returns-clause-limit : goal.returns-clause-limit
 returns-clause-limit g c = limit_beside c.in-Some.ensures.port c.serve_with_button-served.ensures.goes c.join_beside.ensures _ c.serve_with_button-served.ensures.limit
+
+pub returns-clause-counted : goal.returns-clause-counted
+returns-clause-counted g c = limit_beside c.in-Some.ensures.port c.serve_with_button-served.ensures.goes c.join_beside.ensures _ c.serve_with_button-served.ensures.counted
+
+pub returns-in_default-clause-sessions : goal.returns-in_default-clause-sessions
+returns-in_default-clause-sessions g c = no_sessions c.args.password.now (c.args.port.now.known.splits + 2) c.start_worker.new.port (omega (arith, c.in_default.ensures.most))
+
+pub returns-clause-sessions : goal.returns-clause-sessions
+returns-clause-sessions g c =
+    let next : c.start_worker.new.port.known.splits + 1 ≡ c.args.port.now.known.splits + 2 = omega (arith, c.in-Some.ensures.port.splits) in
+    sessions_beside {lent = c.start_worker.new.port} {mid = c.serve_with_button-served.new.port} c.in-Some.ensures.port c.serve_with_button-served.ensures.goes c.join_beside.ensures _ _ _ next (omega arith) c.serve_with_button-served.ensures.joined c.serve_with_button-served.ensures.sessions
 
 pub returns-clause-served : goal.returns-clause-served
 returns-clause-served g c =
@@ -33,7 +45,7 @@ returns-clause-presses g c =
 
 pub returns-clause-fault : goal.returns-clause-fault
 returns-clause-fault g c =
-    stops_beside (λ w. HandsMoments (g.M.MomentSource.told w.source)) c.in-Some.running.promise.worker.value c.in-Some.ensures.port c.serve_with_button-served.ensures.goes c.join_beside.ensures _ _ 1 c.serve_with_button-served.ensures.fault (λ spent. spent)
+    stops_beside (λ w. HandsMoments (g.M.MomentSource.told w.source)) c.in-Some.running.promise.worker.value c.in-Some.ensures.port c.serve_with_button-served.ensures.goes c.join_beside.ensures _ _ c.serve_with_button-served.ensures.fault (λ spent. spent)
 
 pub start_worker-requires-send-T : goal.start_worker-requires-send-T
 start_worker-requires-send-T g c κs within = search (sendable, crosses, kept_send) depth 20 fits 100000

@@ -3,9 +3,11 @@ use Rattle.std.proofs.Crossing.{crosses}
 use Rattle.kept_meter.proofs.Sent.{kept_send}
 use Rattle.session_serving.proofs.Sent.{event_send, reply_send}
 use Rattle.std.proofs.Common.{◌≡◌, ◌+◌, arith}
+use Rattle.meter_workers.specs.Blocks.{ReadsBetween}
 use Rattle.meter_workers.specs.Handed.{HandsBlocks}
 use Rattle.meter_server.specs.ServingAll.{AllBlocks}
-use Rattle.meter_server.proofs.ServingAllLemmas.{acted_beside, acted_itself, goes_beside, joined_beside, limit_beside, served_beside, stops_beside, whole_blocks}
+use Rattle.meter_server.proofs.SessionLemmas.{no_sessions}
+use Rattle.meter_server.proofs.ServingAllLemmas.{sessions_beside, acted_beside, acted_itself, goes_beside, joined_beside, limit_beside, served_beside, stops_beside, whole_blocks}
 use Rattle.meter_server.proofs.serving_all.serve_with_sampler.Goals as goal
 
 pub returns-clause-goes : goal.returns-clause-goes
@@ -17,6 +19,17 @@ returns-clause-joined g c = joined_beside c.in-Some.ensures.port c.serve_with_cl
 pub returns-clause-limit : goal.returns-clause-limit
 returns-clause-limit g c = limit_beside c.in-Some.ensures.port c.serve_with_clock-served.ensures.goes c.join_beside.ensures _ c.serve_with_clock-served.ensures.limit
 
+pub returns-clause-counted : goal.returns-clause-counted
+returns-clause-counted g c = limit_beside c.in-Some.ensures.port c.serve_with_clock-served.ensures.goes c.join_beside.ensures _ c.serve_with_clock-served.ensures.counted
+
+pub returns-in_default-clause-sessions : goal.returns-in_default-clause-sessions
+returns-in_default-clause-sessions g c = no_sessions c.args.password.now (c.args.port.now.known.splits + 3) c.start_worker.new.port (omega (arith, c.in_default.ensures.most))
+
+pub returns-clause-sessions : goal.returns-clause-sessions
+returns-clause-sessions g c =
+    let next : c.start_worker.new.port.known.splits + 2 ≡ c.args.port.now.known.splits + 3 = omega (arith, c.in-Some.ensures.port.splits) in
+    sessions_beside {lent = c.start_worker.new.port} {mid = c.serve_with_clock-served.new.port} c.in-Some.ensures.port c.serve_with_clock-served.ensures.goes c.join_beside.ensures _ _ _ next (omega arith) c.serve_with_clock-served.ensures.joined c.serve_with_clock-served.ensures.sessions
+
 pub returns-clause-served : goal.returns-clause-served
 returns-clause-served g c =
     let next : c.start_worker.new.port.known.splits + 2 ≡ c.args.port.now.known.splits + 3 = omega (arith, c.in-Some.ensures.port.splits) in
@@ -24,7 +37,8 @@ returns-clause-served g c =
 
 pub returns-clause-blocks : goal.returns-clause-blocks
 returns-clause-blocks g c =
-    acted_itself (λ w. HandsBlocks (g.B.BlockSource.told w.source)) _ c.in-Some.ensures.port c.serve_with_clock-served.ensures.goes c.join_beside.ensures (λ w. AllBlocks (g.B.BlockSource.told w.source)) _ c.in-Some.ensures.worker (whole_blocks _)
+    let told = g.B.BlockSource.told in
+    acted_itself (λ w p q. HandsBlocks (told w.source) p q × ReadsBetween (told w.source) p q) _ c.in-Some.ensures.port c.serve_with_clock-served.ensures.goes c.join_beside.ensures (λ w. AllBlocks (g.B.BlockSource.told w.source)) _ c.in-Some.ensures.worker (whole_blocks _)
 
 pub returns-clause-moments : goal.returns-clause-moments
 returns-clause-moments g c =
@@ -38,7 +52,8 @@ returns-clause-presses g c =
 
 pub returns-clause-fault : goal.returns-clause-fault
 returns-clause-fault g c =
-    stops_beside (λ w. HandsBlocks (g.B.BlockSource.told w.source)) c.in-Some.running.promise.worker.value c.in-Some.ensures.port c.serve_with_clock-served.ensures.goes c.join_beside.ensures _ _ 2 c.serve_with_clock-served.ensures.fault (λ spent. spent)
+    let told = g.B.BlockSource.told in
+    stops_beside (λ w p q. HandsBlocks (told w.source) p q × ReadsBetween (told w.source) p q) c.in-Some.running.promise.worker.value c.in-Some.ensures.port c.serve_with_clock-served.ensures.goes c.join_beside.ensures _ _ c.serve_with_clock-served.ensures.fault (λ spent. spent)
 
 pub start_worker-requires-send-T : goal.start_worker-requires-send-T
 start_worker-requires-send-T g c κs within = search (sendable, crosses, kept_send) depth 20 fits 100000

@@ -1,11 +1,11 @@
-use Rattle.std.proofs.Common.{◌≡◌, ℕ, ◌<◌, None}
+use Rattle.std.proofs.Common.{◌≡◌, ℕ, ◌<◌, List, None}
 use Rattle.slab.specs.Slab.{get}
-use Rattle.session_threads.specs.Sessions.{port_of, Tends}
+use Rattle.session_threads.specs.Sessions.{port_of, terms_of, Tends}
 use Rattle.session_threads.proofs.sessions.Sessions.close_all.Given as goal
 
 abbrev pub invariant-last : goal.invariant-last
 invariant-last g l = record {
-  tends : Tends port_of l.initial.port l.initial.self.handles l.port l.self.handles;
+  tends : (t : List ℕ) → Tends port_of (terms_of g.C.Connection.terms) g.C.Connection.hands_back t l.initial.port l.initial.self.handles l.port l.self.handles;
   splits : l.port.known.splits ≡ l.initial.port.known.splits;
   closed : (key : ℕ) → key < l.key → get l.self.handles key ≡ None;
 }

@@ -1,11 +1,14 @@
-use Rattle.std.proofs.Common.{◌∙◌}
-use Rattle.session_threads.specs.Sessions.{port_of}
+use Rattle.std.proofs.Common.{◌∙◌, []}
+use Rattle.session_threads.specs.Sessions.{port_of, terms_of}
 use Rattle.session_threads.proofs.Tending.{tends_trans}
 use Rattle.session_threads.proofs.sessions.Sessions.reap.Goals as goal
 
 pub places-preserved : goal.places-preserved
 places-preserved g c =
     record {
-      tends = tends_trans port_of _ _ _ _ _ _ c.places.invariant.tends c.reap_one.ensures.tends;
+      tends = λ t. tends_trans port_of (terms_of g.C.Connection.terms) g.C.Connection.hands_back t _ _ _ _ _ _ (c.places.invariant.tends t) (c.reap_one.ensures.tends t);
       splits = c.reap_one.ensures.splits ∙ c.places.invariant.splits;
     }
+
+pub reap_one-requires-clause-held : goal.reap_one-requires-clause-held
+reap_one-requires-clause-held g c κs within = (c.places.invariant.tends []).holds c.requires.held

@@ -1,0 +1,120 @@
+-- The calls of a session's port are those that the session asks.
+use Rattle.std.proofs.Common.{◌≡◌, ℕ, ◌<◌, ◌≤◌, List, [], ◌∷◌, ◌++◌, map, Result, Ok, Err, refl, sym, ap, ◌∙◌, subst, inl, inr, ⊎_elim, arith, Option}
+use Rattle.std.proofs.lemmas.List.{append-nil, append_assoc, map-append}
+use Rattle.relay_events.specs.declared.event.Event.{Event}
+use Rattle.relay_events.specs.declared.reply.Reply.{Reply}
+use Rattle.session_core.specs.Backwards.{Asks}
+use Rattle.session_core.specs.declared.end.SessionEnd.{SessionEnd}
+use Rattle.session_serving.specs.Meters.{Replied, Refused}
+use Rattle.session_serving.specs.Served.{Served, Did}
+use Rattle.session_serving.specs.declared.fault.ServeFault.{ServeFault}
+use Rattle.session_serving.specs.declared.fault.ServeFault.TheVariants as fault
+use Rattle.call_fault.specs.declared.fault.CallFault.{CallFault}
+use Rattle.turn_lock.specs.declared.turned.Entry.{Entry}
+use Rattle.turn_lock.specs.History.{calls_by}
+use Rattle.turn_lock.specs.Shown.{IsSame}
+use Rattle.session_threads.specs.Ports.{GoesOn, AreJoined, AreServed, AreCallsOf, child}
+use Rattle.meter_server.specs.Ports.{MeterPort, PortSteps, entries}
+use Rattle.meter_server.specs.ServingAll.{events_by}
+use Rattle.meter_server.specs.Sessions.{AreAsked, AsksThrough, AreSessions}
+use Rattle.meter_server.proofs.PortLemmas.{is_same, same_on, step_same, replied_on, entered}
+
+abbrev event_of : Entry Event Reply → Event
+event_of call = call.event
+
+-- the events of entered calls are those that were replied to
+entries_events : (by : List ℕ) (p : MeterPort) (events : List Event) (replies : List Reply) (q : MeterPort)
+    → Replied PortSteps p events replies q → map event_of (entries by events replies) ≡ events
+entries_events by p [] [] q same = refl
+entries_events by p [] (reply ∷ replies) q never = absurd never
+entries_events by p (event ∷ events) [] q never = absurd never
+entries_events by p (event ∷ events) (reply ∷ replies) q (next, step, rest) =
+    ap (λ (es : List Event). event ∷ es) (entries_events by next events replies q rest)
+
+replied_events : (p : MeterPort) (events : List Event) (replies : List Reply) (q : MeterPort)
+    → Replied PortSteps p events replies q → events_by p.known.number q ≡ events_by p.known.number p ++ events
+replied_events p events replies q replied =
+    let by : List ℕ = p.known.number in
+    ap (map event_of) (entered p events replies q replied)
+    ∙ map-append event_of (calls_by by p.known.seen) (entries by events replies)
+    ∙ ap (λ (es : List Event). events_by by p ++ es) (entries_events by p events replies q replied)
+
+by_replied : (password seen : List ℕ) (p : MeterPort) (events later : List Event) (replies : List Reply) (q : MeterPort)
+    → Asks password seen ≡ events ++ later → Replied PortSteps p events replies q → AsksThrough password p q
+by_replied password seen p events later replies q all replied = record {
+  asked = events;
+  are = record { input = seen; later = later; all = all };
+  entered = replied_events p events replies q replied;
+}
+
+by_refused : (password seen : List ℕ) (p : MeterPort) (events later : List Event) (replies : List Reply) (refusal : CallFault) (q : MeterPort)
+    → Asks password seen ≡ events ++ later → Refused PortSteps p events replies refusal q → AsksThrough password p q
+by_refused password seen p events later replies refusal q all r =
+    let same = replied_on PortSteps IsSame is_same same_on step_same p r.taken replies r.before r.replied in
+    let N : List ℕ → Type 0 = λ n. events_by n q ≡ events_by n r.before in
+    let still : events_by p.known.number q ≡ events_by p.known.number r.before =
+    subst N same.number (ap (map event_of) (r.refused.calls.0.sees.own r.before.known.number (inl refl))) in record {
+      asked = r.taken;
+      are = record {
+        input = seen;
+        later = r.event ∷ later;
+        all = all ∙ ap (λ (es : List Event). es ++ later) r.all ∙ append_assoc r.taken (r.event ∷ []) later;
+      };
+      entered = still ∙ replied_events p r.taken replies r.before r.replied;
+    }
+
+module _ {R W : Type 0} (remaining : R → Option (List ℕ)) (reads read_failures : R → ℕ) (contents : W → Option (List ℕ)) (write_failures : W → ℕ) (password seen : List ℕ) where
+  did_ask : (r : R) (w : W) (p : MeterPort) (result : Result SessionEnd ServeFault) (r' : R) (w' : W) (q : MeterPort)
+      → Did remaining reads read_failures contents write_failures PortSteps password seen r w p result r' w' q → AsksThrough password p q
+  did_ask r w p (Ok end) r' w' q did = by_replied password seen p _ [] did.0.replies q (sym (append-nil (Asks password seen))) did.0.replied
+  did_ask r w p (Err fault.Read) r' w' q did = by_replied password seen p _ [] did.0.replies q (sym (append-nil (Asks password seen))) did.0.replied
+  did_ask r w p (Err fault.Write) r' w' q did = by_replied password seen p did.0.asked did.0.later did.0.replies q did.0.all_asked did.0.replied
+  did_ask r w p (Err fault.Memory) r' w' q did =
+      ⊎_elim (by_replied password seen p did.asked did.later did.replies q did.all_asked) (by_refused password seen p did.asked did.later did.replies _ q did.all_asked) did.replied
+  did_ask r w p (Err fault.Exhausted) r' w' q did = by_refused password seen p did.asked did.later did.replies _ q did.all_asked did.refused
+  did_ask r w p (Err fault.Listen) r' w' q did = absurd did
+
+-- a port that served a session made the session's calls
+pub served_asks : {R W : Type 0} (remaining : R → Option (List ℕ)) (reads read_failures : R → ℕ) (contents : W → Option (List ℕ)) (write_failures : W → ℕ) (password : List ℕ)
+    (r : R) (w : W) (p : MeterPort) (result : Result SessionEnd ServeFault) (r' : R) (w' : W) (q : MeterPort)
+    → Served remaining reads read_failures contents write_failures PortSteps password r w p result r' w' q → AsksThrough password p q
+served_asks remaining reads read_failures contents write_failures password r w p result r' w' q served =
+    did_ask remaining reads read_failures contents write_failures password served.seen r w p result r' w' q served.did
+
+abbrev Session : List ℕ → MeterPort → MeterPort → Type 0
+Session password p q = IsSame p q × AsksThrough password p q
+
+-- the calls of a new port that served a session, or came back unused
+calls_asked : (password number : List ℕ) (calls : List (Entry Event Reply)) → AreCallsOf (Session password) number calls → AreAsked password (map event_of calls)
+calls_asked password number calls c =
+    let A : List Event → Type 0 = λ es. AreAsked password es in
+    let none : map event_of (calls_by number c.lent.known.seen) ≡ [] = ap (map event_of) c.fresh in
+    elim c.returned [
+      | inl unused ↦
+          let empty : map event_of calls ≡ [] = ap (map event_of) c.calls_are ∙ ap (λ (x : MeterPort). events_by number x) unused ∙ none in
+          subst A (sym empty) record { input = []; later = Asks password []; all = refl }
+      | inr session ↦
+          let N : List ℕ → Type 0 = λ n. events_by n c.back ≡ events_by n c.lent ++ session.1.asked in
+          let mine : events_by number c.back ≡ events_by number c.lent ++ session.1.asked = subst N c.named session.1.entered in
+          let those : map event_of calls ≡ session.1.asked = ap (map event_of) c.calls_are ∙ mine ∙ ap (λ (es : List Event). es ++ session.1.asked) none in
+          subst A (sym those) session.1.are
+    ]
+
+pub are_sessions : (password : List ℕ) (from : ℕ) (port : MeterPort) → AreServed (Session password) from port → AreSessions password from port
+are_sessions password from port served i low high = calls_asked password (child port.known.number i) _ (served i low high)
+
+-- no port was split off
+pub no_sessions : (password : List ℕ) (from : ℕ) (port : MeterPort) → port.known.splits ≤ from → AreSessions password from port
+no_sessions password from port few i low high = absurd (omega (arith, few, low, high))
+
+-- what was so of joined ports stays so
+pub sessions_on : (password : List ℕ) (first from before : ℕ) (p q : MeterPort) → from ≡ before → first ≤ from → GoesOn p q → q.known.splits ≡ p.known.splits
+    → AreJoined first p → AreSessions password from p → AreSessions password before q
+sessions_on password first from before p q same early goes splits joined sessions i low high =
+    let within : i < p.known.splits = omega (arith, high, splits) in
+    let late : from ≤ i = omega (arith, low, same) in
+    let number = child p.known.number i in
+    let A : List Event → Type 0 = λ es. AreAsked password es in
+    let N : List ℕ → Type 0 = λ n. AreAsked password (events_by (child n i) q) in
+    let kept : events_by number q ≡ events_by number p = ap (map event_of) (goes.own number (inr (joined i (omega (arith, early, late)) within))) in
+    subst N (sym goes.number) (subst A (sym kept) (sessions i late within))
