@@ -1,11 +1,14 @@
-ghost use Rattle.std.specs.Prelude.{◌≤◌, length};
+ghost use Rattle.std.specs.Prelude.{◌≤◌, length, IfOk};
+ghost use Rattle.acse_ber.specs.Password.{IsPassword};
+ghost use Rattle.head_end.specs.Rows.{AreLines};
 
 use crate::meters::{DONE, REJECTED, add_job, job, password};
 use crate::scripts::{Everywhere, Meters};
 use client_core::{Job, Outcome};
+use cosem_axdr::Octets;
 use head_end::{
-    Connector, Line, Row, Watcher, jobs_may_be_cut, report, reports_stand_end_to_end, run_campaign,
-    run_job, run_watched_campaign,
+    Attempt, Connector, Line, Row, Watcher, jobs_may_be_cut, places_for, report,
+    reports_stand_end_to_end, run_campaign, run_job, run_watched_campaign,
 };
 use listed::Listed;
 use std::alloc::{AllocError, Global};
@@ -31,6 +34,26 @@ fn reported(alloc: Global, lines: &Listed<Line>, text: &[u8]) -> Result<bool, Al
     Ok(same)
 }
 
+/// The lines of jobs at meters, on places that are made for them.
+pub(crate) fn lines_at<R: Threads + Sync, C: Connector>(
+    rt: &R,
+    alloc: Global,
+    jobs: &Listed<Job>,
+    meters: &C,
+    password: &Octets,
+    workers: u8,
+) -> Result<Listed<Line>, AllocError>
+    requires some { 1 ≤ workers }
+    requires few { workers ≤ 16 }
+    requires password { IsPassword password.now }
+    ensures { IfOk result (AreLines (C.tells meters.now) jobs.now) }
+{
+    let mut places = places_for(alloc, meters, jobs.len(), workers)?;
+    let lines = run_campaign(rt, alloc, jobs, places.as_mut_slice(), password, workers);
+    drop(places);
+    lines
+}
+
 /// The lines of the jobs.
 fn lines_of<R: Threads + Sync>(
     rt: &R,
@@ -43,7 +66,8 @@ fn lines_of<R: Threads + Sync>(
     requires few { workers ≤ 16 }
 {
     let password = password(alloc)?;
-    let lines = run_campaign(rt, alloc, jobs, &Meters { piece }, &password, workers);
+    let meters = Meters { piece };
+    let lines = lines_at(rt, alloc, jobs, &meters, &password, workers);
     drop(password);
     lines
 }
@@ -108,7 +132,9 @@ fn rows_stand_in_the_order_of_the_jobs(rt: HostRuntime) {
 /// The row of a job, with the password 12345678.
 fn row_with<C: Connector>(alloc: Global, job: &Job, meters: &C) -> Result<Row, AllocError> {
     let password = password(alloc)?;
-    let row = run_job(alloc, job, meters, &password);
+    let mut attempt = Attempt::new(meters);
+    let row = run_job(alloc, job, &mut attempt, &password);
+    drop(attempt);
     drop(password);
     Ok(row)
 }
@@ -178,6 +204,23 @@ impl Watcher for Tally {
     }
 }
 
+/// The lines of jobs at meters, of which a watcher is told.
+fn watched_at<R: Threads + Sync, C: Connector, W: Watcher>(
+    rt: &R,
+    alloc: Global,
+    jobs: &Listed<Job>,
+    meters: &C,
+    password: &Octets,
+    watcher: &W,
+) -> Result<Listed<Line>, AllocError>
+    requires { IsPassword password.now }
+{
+    let mut places = places_for(alloc, meters, jobs.len(), 3)?;
+    let lines = run_watched_campaign(rt, alloc, jobs, places.as_mut_slice(), password, 3, watcher);
+    drop(places);
+    lines
+}
+
 /// The lines of the jobs, of which a tally is told.
 fn watched_lines<R: Threads + Sync>(
     rt: &R,
@@ -187,7 +230,7 @@ fn watched_lines<R: Threads + Sync>(
 ) -> Result<Listed<Line>, AllocError> {
     let password = password(alloc)?;
     let meters = Meters { piece: 100 };
-    let lines = run_watched_campaign(rt, alloc, jobs, &meters, &password, 3, tally);
+    let lines = watched_at(rt, alloc, jobs, &meters, &password, tally);
     drop(password);
     lines
 }

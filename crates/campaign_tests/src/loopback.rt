@@ -1,7 +1,7 @@
 //! Meters that are reached over TCP on this machine.
 use crate::meters::{DONE, SENT, job, password};
 use client_core::{Job, Outcome};
-use head_end::{Connector, Row, TcpConnector, run_job};
+use head_end::{Attempt, Connector, Row, TcpConnector, run_job};
 use std::alloc::{AllocError, Global};
 use std::io::{Read, Write};
 use std::net::TcpListener;
@@ -26,7 +26,9 @@ fn within<R>(rt: R, millis: u64) -> TcpConnector<R> {
 
 fn row_of<C: Connector>(alloc: Global, connector: &C, job: &Job) -> Result<Row, AllocError> {
     let password = password(alloc)?;
-    let row = run_job(alloc, job, connector, &password);
+    let mut attempt = Attempt::new(connector);
+    let row = run_job(alloc, job, &mut attempt, &password);
+    drop(attempt);
     drop(password);
     Ok(row)
 }

@@ -1,9 +1,10 @@
 //! Two meters, each of which answers only once the other's request was written.
+use crate::campaigns::lines_at;
 use crate::meters::{OPENED, add_job, password};
 use byte_streams::StreamFault;
 use client_core::{Job, Outcome};
 use cosem_axdr::Octets;
-use head_end::{ConnectFault, Connection, Connector, Line, Row, run_campaign};
+use head_end::{ConnectFault, Connection, Connector, Line, Row};
 use listed::Listed;
 use std::alloc::{AllocError, Global};
 use std::sync::Arc;
@@ -108,7 +109,7 @@ fn lines_of<R: Threads + Sync>(
 ) -> Result<Listed<Line>, AllocError> {
     let two = Two::new(alloc)?;
     let password = password(alloc)?;
-    let lines = run_campaign(rt, alloc, jobs, &two, &password, 2);
+    let lines = lines_at(rt, alloc, jobs, &two, &password, 2);
     drop(password);
     drop(two);
     lines

@@ -1,4 +1,5 @@
-mod Moving
-mod Lookups
+pub mod Moving
+pub mod Lookups
 mod Clients
 mod Passwords
+pub mod Accepting

@@ -1,4 +1,5 @@
-mod Writing
+mod Texts
+mod Talking
 mod Steps
 mod Turning
 mod JobOutcomes

@@ -1,7 +1,16 @@
 -- Which worker takes which job.
 --     place_at          the job of a slot: the slots of a worker stand side by side, and its jobs as many apart as there are workers
 --     slot_at           the slot of a job
-use Rattle.std.specs.Prelude.{◌+◌, ◌*◌, ◌/◌, ◌%◌, ℕ}
+--     turns_for         the number of slots of each worker, and slots_for of all workers
+--     IsRun             what comes of a slot
+--     AreTried          what all jobs did with their attempts
+use Rattle.std.specs.Prelude.{◌≡◌, ◌+◌, ◌*◌, ◌/◌, ◌%◌, ◌<◌, ◌≤◌, ℕ, List, length, slice_index_or, Option}
+use Rattle.client_core.specs.declared.job.Job.{Job}
+use Rattle.head_end.specs.declared.row.Row.{Row}
+use Rattle.head_end.specs.declared.row.Line.{Line}
+use Rattle.head_end.specs.Connections.{Told}
+use Rattle.head_end.specs.Rows.{IsRow}
+use Rattle.head_end.specs.Attempts.{State, unused, IsTried}
 
 -- the job of a slot, where each worker has so many slots
 abbrev pub place_at : (turns workers slot : ℕ) → ℕ
@@ -10,3 +19,26 @@ place_at turns workers slot = (slot % turns) * workers + slot / turns
 -- the slot of a job
 abbrev pub slot_at : (turns workers place : ℕ) → ℕ
 slot_at turns workers place = (place % workers) * turns + place / workers
+
+-- the number of slots of each worker for so many jobs, and of all workers
+abbrev pub turns_for : (jobs workers : ℕ) → ℕ
+turns_for jobs workers = jobs / workers + 1
+
+abbrev pub slots_for : (jobs workers : ℕ) → ℕ
+slots_for jobs workers = turns_for jobs workers * workers
+
+-- what comes of a slot: the row of its job, and what the job did with its attempt. Without a job the attempt is unused
+pub record IsRun (turns workers : ℕ) (jobs : List Job) (password : List ℕ) (slot : ℕ) (tells : List ℕ → Option Told) (stage : State) (row : Row) : Type 0 where
+  pub row_is : (job : Job) → place_at turns workers slot < length jobs → IsRow tells (slice_index_or jobs (place_at turns workers slot) job) row
+  pub tried : (job : Job) → place_at turns workers slot < length jobs → IsTried (slice_index_or jobs (place_at turns workers slot) job) password row stage
+  pub others : length jobs ≤ place_at turns workers slot → stage ≡ unused
+
+-- a relation between the elements of two lists, place by place
+abbrev pub EachChange : {X : Type 0} → (ℕ → X → X → Type 0) → List X → List X → Type 0
+EachChange {X} R old new = (i : ℕ) (x : X) → i < length old → R i (slice_index_or old i x) (slice_index_or new i x)
+
+-- what each job did with the attempt of its slot, by its line; the attempts of slots without a job are unused
+pub record AreTried (turns workers : ℕ) (jobs : List Job) (password : List ℕ) (lines : List Line) (stages : List State) : Type 0 where
+  pub of_jobs : (i : ℕ) (job : Job) (line : Line) (stage : State) → i < length jobs
+      → IsTried (slice_index_or jobs i job) password (slice_index_or lines i line).row (slice_index_or stages (slot_at turns workers i) stage)
+  pub others : (slot : ℕ) (stage : State) → slot < length stages → length jobs ≤ place_at turns workers slot → slice_index_or stages slot stage ≡ unused

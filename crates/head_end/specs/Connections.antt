@@ -1,7 +1,6 @@
 -- What a connection tells of itself, and what its calls then do.
 --     Told              what so many reads of a connection will give
 --     ReadTells, WriteTells, ConnectTells      what a read, a write and a connect say of that
---     WritesTo          what a write does to the bytes that were written
 use Rattle.std.specs.Prelude.{◌≡◌, ℕ, zero, suc, List, [], ◌++◌, length, take, Option, Some, None, Result, Ok, Err, ⊤}
 use Rattle.byte_streams.specs.declared.fault.StreamFault.{StreamFault}
 use Rattle.head_end.specs.declared.connection.ConnectFault.{ConnectFault}
@@ -51,27 +50,3 @@ abbrev pub ConnectTells : {K : Type 0} → Option Told → (K → Option Told) �
 ConnectTells None told_of result = ⊤
 ConnectTells (Some told) told_of (Ok connection) = (told_of connection ≡ Some told) × (told.reads ≡ 65536)
 ConnectTells (Some told) told_of (Err fault) = (told.bytes ≡ []) × (told.stop ≡ failed)
-
--- ---- what was written
-
--- a front of a text
-pub record IsFront (front text : List ℕ) : Type 0 where
-  pub rest : List ℕ
-  pub parts : text ≡ front ++ rest
-
--- behind what was written a front of a text comes, and nothing else
-pub record SendsFront (text written : List ℕ) (new : Option (List ℕ)) : Type 0 where
-  pub front : List ℕ
-  pub is_front : IsFront front text
-  pub new_is : new ≡ Some (written ++ front)
-
--- all of the text comes behind what was written, and of a write that fails a front of it
-abbrev pub WritesTo : {X : Type 0} → Option (List ℕ) → List ℕ → Result X StreamFault → Option (List ℕ) → Type 0
-WritesTo None text result new = ⊤
-WritesTo (Some written) text (Ok x) new = new ≡ Some (written ++ text)
-WritesTo (Some written) text (Err fault) new = SendsFront text written new
-
--- nothing was written yet, where that is known
-abbrev pub IsUnwritten : Option (List ℕ) → Type 0
-IsUnwritten None = ⊤
-IsUnwritten (Some written) = written ≡ []

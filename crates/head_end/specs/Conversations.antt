@@ -2,14 +2,16 @@
 --     Follows           so much was read of what was told
 --     At, AtEnd         a client that was fed what was read, and one that was fed all
 --     GivesUp .. Converses      what the steps of a conversation do to that
-use Rattle.std.specs.Prelude.{◌≡◌, ℕ, suc, Bool, false, true, List, [], ◌++◌, Option, Some, None}
+--     Talks .. Speaks           what they do to the log of the connection
+use Rattle.std.specs.Prelude.{◌≡◌, ◌≤◌, ℕ, suc, Bool, false, true, List, [], ◌++◌, length, Option, Some, None, Result, Ok, Err}
 use Rattle.client_core.specs.declared.client.Client.{Client}
 use Rattle.client_core.specs.declared.job.Outcome.{Outcome}
 use Rattle.client_core.specs.declared.job.Verb.{Verb}
-use Rattle.client_core.specs.Outcomes.{outcome_of}
+use Rattle.client_core.specs.Outcomes.{progress_of, due, outcome_of}
 use Rattle.client_core.specs.Standing.{Stands}
-use Rattle.head_end.specs.Connections.{Told, SendsFront}
-use Rattle.head_end.specs.Wires.{job_texts, HasSent}
+use Rattle.head_end.specs.Connections.{Told}
+use Rattle.head_end.specs.Logs.{Happening, heard_in, sent_in, reads_in}
+use Rattle.head_end.specs.Wires.{due_text, given_text, Listens, GoesOn, Conversation, HasConversed}
 
 -- of what was told at first this was read, and so many reads are left
 pub record Follows (start : Told) (now : Option Told) (seen : List ℕ) (left : ℕ) : Type 0 where
@@ -54,16 +56,62 @@ pub record Turns (old : Client) (before : Option Told) (result : Option Outcome)
 pub record Converses (old : Client) (before : Option Told) (outcome : Outcome) : Type 0 where
   pub outcome_is : (start : Told) (verb : Verb) (password : List ℕ) → At start verb password 65536 old before → outcome ≡ outcome_of verb start.bytes
 
--- ---- what goes out
+-- ---- what goes over the connection
 
--- what the client gave is what was written, or no more than a front of its texts was
-abbrev pub SentAfter : Bool → Verb → List ℕ → List ℕ → Client → Option (List ℕ) → Type 0
-SentAfter true verb password start client written = HasSent verb password start client written
-SentAfter false verb password start client written = SendsFront (job_texts verb password) start written
+-- a client that was fed what was heard, and gave what was sent. Whatever goes on in its turn from here, the whole is a conversation
+pub record Talks (verb : Verb) (password : List ℕ) (reads : ℕ) (client : Client) (now : Option (List Happening)) : Type 0 where
+  pub log : List Happening
+  pub log_is : now ≡ Some log
+  pub given : ℕ
+  pub stands : Stands verb password (heard_in log) given false client
+  pub sent_is : sent_in log ≡ given_text verb password given
+  pub within : given ≤ length (due verb password (progress_of verb (heard_in log)))
+  pub reads_are : reads_in log ≡ reads
+  pub more : (whole : Bool) (next : List Happening) → GoesOn whole verb password log next → GoesOn whole verb password [] (log ++ next)
 
-pub record Sends (old : Client) (before : Option (List ℕ)) (goes_on : Bool) (new : Client) (after : Option (List ℕ)) : Type 0 where
-  pub on : (verb : Verb) (password start : List ℕ) → HasSent verb password start old before → SentAfter goes_on verb password start new after
+-- all that is due was sent
+pub record HasSent (verb : Verb) (password : List ℕ) (reads : ℕ) (client : Client) (now : Option (List Happening)) : Type 0 where
+  pub talks : Talks verb password reads client now
+  pub all_is : sent_in talks.log ≡ due_text verb password (heard_in talks.log)
 
--- a whole conversation writes a front of the texts of the job
-pub record Speaks (old : Client) (before : Option (List ℕ)) (after : Option (List ℕ)) : Type 0 where
-  pub on : (verb : Verb) (password start : List ℕ) → HasSent verb password start old before → SendsFront (job_texts verb password) start after
+-- and the outcome is not settled: a read comes next
+pub record Waits (verb : Verb) (password : List ℕ) (reads : ℕ) (client : Client) (now : Option (List Happening)) : Type 0 where
+  pub talks : Talks verb password reads client now
+  pub listens : Listens verb password talks.log
+
+-- a write failed
+pub record IsCut (verb : Verb) (password : List ℕ) (client : Client) (now : Option (List Happening)) : Type 0 where
+  pub log : List Happening
+  pub log_is : now ≡ Some log
+  pub given : ℕ
+  pub stands : Stands verb password (heard_in log) given false client
+  pub conversation : Conversation true verb password log
+
+-- what is due is sent, or a write fails
+abbrev pub SentAfter : Bool → Verb → List ℕ → ℕ → Client → Option (List Happening) → Type 0
+SentAfter true verb password reads client now = HasSent verb password reads client now
+SentAfter false verb password reads client now = IsCut verb password client now
+
+pub record Sends (old : Client) (before : Option (List Happening)) (result : Bool) (new : Client) (after : Option (List Happening)) : Type 0 where
+  pub on : (verb : Verb) (password : List ℕ) (reads : ℕ) → Talks verb password reads old before → SentAfter result verb password reads new after
+  pub unknown : before ≡ None → after ≡ None
+
+-- after a read the next one comes, or the conversation is over, or it is cut short out of memory
+abbrev pub TurnAfter : {E : Type 0} → Result (Option Outcome) E → Verb → List ℕ → ℕ → Client → Option (List Happening) → Type 0
+TurnAfter (Ok None) verb password reads client now = Waits verb password reads client now
+TurnAfter (Ok (Some outcome)) verb password reads client now = HasConversed verb password (Some outcome) now
+TurnAfter (Err error) verb password reads client now = HasConversed verb password None now
+
+pub record TakesTurn {E : Type 0} (old : Client) (before : Option (List Happening)) (result : Result (Option Outcome) E) (new : Client) (after : Option (List Happening)) : Type 0 where
+  pub on : (verb : Verb) (password : List ℕ) (reads : ℕ) → Waits verb password reads old before → TurnAfter result verb password (suc reads) new after
+  pub unknown : before ≡ None → after ≡ None
+
+-- the outcome, if memory did not run out
+abbrev pub outcome_in : {E : Type 0} → Result Outcome E → Option Outcome
+outcome_in (Ok outcome) = Some outcome
+outcome_in (Err error) = None
+
+-- what a new client and a new connection come to is a conversation
+pub record Speaks {E : Type 0} (old : Client) (before : Option (List Happening)) (result : Result Outcome E) (after : Option (List Happening)) : Type 0 where
+  pub on : (verb : Verb) (password : List ℕ) → Stands verb password [] 0 false old → before ≡ Some [] → HasConversed verb password (outcome_in result) after
+  pub unknown : before ≡ None → after ≡ None

@@ -1,6 +1,8 @@
 pub mod Connections
+pub mod Logs
 pub mod Wires
 pub mod Conversations
+pub mod Attempts
 pub mod Rows
 pub mod Campaigns
 pub mod Reports

@@ -1,13 +1,17 @@
 //! Many jobs at many meters, side by side.
-ghost use Rattle.std.specs.Prelude.{◌≡◌, ◌+◌, ◌*◌, ◌^◌, ◌<◌, ◌≤◌, ℕ, length, map, slice_index_or, IfOk, IfSome};
+ghost use Rattle.std.specs.Prelude.{◌≡◌, ◌+◌, ◌*◌, ◌^◌, ◌<◌, ◌≤◌, ℕ, List, Option, length, map, slice_index_or, IfOk, OnOk, OnErr};
+ghost use Rattle.std.specs.List.{All};
 ghost use Rattle.acse_ber.specs.Password.{IsPassword};
 ghost use Rattle.client_core.specs.declared.job.Job.{Job};
 ghost use Rattle.head_end.specs.declared.row.Row.{Row};
 ghost use Rattle.head_end.specs.declared.row.Line.{Line};
-ghost use Rattle.head_end.specs.Campaigns.{place_at, slot_at};
-ghost use Rattle.head_end.specs.Rows.{IsRow, AreLines};
+ghost use Rattle.head_end.specs.Attempts.{unused};
+ghost use Rattle.head_end.specs.Campaigns.{place_at, slot_at, turns_for, slots_for, IsRun, EachChange, AreTried};
+ghost use Rattle.head_end.specs.Connections.{Told};
+ghost use Rattle.head_end.specs.Rows.{AreLines};
 
 use crate::connection::Connector;
+use crate::placing::{Place, turns_for};
 use crate::row::{Line, Row};
 use crate::running::run_job;
 use crate::watching::{Unwatched, Watcher};
@@ -18,31 +22,39 @@ use std::alloc::{AllocError, Global};
 use std::thread;
 use std::thread::Threads;
 
-/// Runs all jobs, each on one connection to its meter, with so many workers, and gives their lines in the order of the jobs. The password has 1 to 32 bytes.
+/// Runs all jobs on 1 to 16 workers, and returns their lines in the order of the jobs. The password has 1 to 32 bytes.
 ///
-/// Jobs that stand side by side are taken by different workers. All memory of the report is taken before the first connection is made.
+/// Each job has one attempt, that of its place, and uses it as `run_job` does. Jobs that are next to one another are run
+/// by different workers. All memory of the report is allocated before the first connection is made: an error leaves all
+/// places unchanged.
 pub fn run_campaign<R: Threads + Sync, C: Connector>(
     rt: &R,
     alloc: Global,
     jobs: &Listed<Job>,
-    connector: &C,
+    places: &mut [Place<C>],
     password: &Octets,
     workers: u8,
 ) -> Result<Listed<Line>, AllocError>
     requires some { 1 ≤ workers }
     requires few { workers ≤ 16 }
     requires password { IsPassword password.now }
-    ensures { IfOk result (AreLines (C.tells connector.now) jobs.now) }
+    requires count { length places.old ≡ slots_for (length jobs.now) workers }
+    requires unused { All (λ place. place.attempt.stage ≡ unused) places.old }
+    ensures lines { IfOk result (λ lines. (tells : List ℕ → Option Told) → All (λ place. C.tells place.attempt.source.value ≡ tells) places.old
+        → AreLines tells jobs.now lines) }
+    ensures tried { IfOk result (λ lines. AreTried (turns_for (length jobs.now) workers) workers jobs.now password.now lines
+        (map (λ place. place.attempt.stage) places.new)) }
+    ensures unchanged_on_error { OnErr result (places.new ≡ places.old) }
 {
-    run_watched_campaign(rt, alloc, jobs, connector, password, workers, &Unwatched)
+    run_watched_campaign(rt, alloc, jobs, places, password, workers, &Unwatched)
 }
 
-/// As [`run_campaign`], and tells a watcher of each job that is done.
+/// Runs all jobs as [`run_campaign`] does, and calls a watcher after each job.
 pub fn run_watched_campaign<R: Threads + Sync, C: Connector, W: Watcher>(
     rt: &R,
     alloc: Global,
     jobs: &Listed<Job>,
-    connector: &C,
+    places: &mut [Place<C>],
     password: &Octets,
     workers: u8,
     watcher: &W,
@@ -50,63 +62,57 @@ pub fn run_watched_campaign<R: Threads + Sync, C: Connector, W: Watcher>(
     requires some { 1 ≤ workers }
     requires few { workers ≤ 16 }
     requires password { IsPassword password.now }
-    ensures { IfOk result (AreLines (C.tells connector.now) jobs.now) }
+    requires count { length places.old ≡ slots_for (length jobs.now) workers }
+    requires unused { All (λ place. place.attempt.stage ≡ unused) places.old }
+    ensures lines { IfOk result (λ lines. (tells : List ℕ → Option Told) → All (λ place. C.tells place.attempt.source.value ≡ tells) places.old
+        → AreLines tells jobs.now lines) }
+    ensures tried { IfOk result (λ lines. AreTried (turns_for (length jobs.now) workers) workers jobs.now password.now lines
+        (map (λ place. place.attempt.stage) places.new)) }
+    ensures unchanged_on_error { OnErr result (places.new ≡ places.old) }
 {
     let workers = usize::from(workers);
     let turns = turns_for(jobs.len(), workers).ok_or(AllocError)?;
     let mut lines = blank_lines(alloc, jobs.as_slice())?;
-    let mut rows = Vec::from_elem(alloc, Row::Memory, turns * workers)?;
     fill(
         rt,
         alloc,
         jobs.as_slice(),
-        connector,
         password,
         turns,
         workers,
         watcher,
-        rows.as_mut_slice(),
+        places,
         lines.as_mut_slice(),
     );
     Ok(Listed::from_vec(lines))
 }
 
-/// Runs all jobs, and puts their rows into their lines. It takes no memory but that of the jobs' own conversations.
+/// Runs all jobs, and puts their rows into their lines. It allocates nothing but for the conversations of the jobs.
 fn fill<R: Threads + Sync, C: Connector, W: Watcher>(
     rt: &R,
     alloc: Global,
     jobs: &[Job],
-    connector: &C,
     password: &Octets,
     turns: usize,
     workers: usize,
     watcher: &W,
-    rows: &mut [Row],
+    places: &mut [Place<C>],
     lines: &mut [Line],
 )
     requires some { 0 < turns }
     requires workers { 0 < workers }
-    requires slots { length rows.old ≡ turns * workers }
+    requires slots { length places.old ≡ turns * workers }
     requires room { length jobs.now < turns * workers }
     requires password { IsPassword password.now }
+    requires unused { All (λ place. place.attempt.stage ≡ unused) places.old }
     requires names { map (λ line. line.id) lines.old ≡ map (λ job. job.id) jobs.now }
-    ensures lines { AreLines (C.tells connector.now) jobs.now lines.new }
+    ensures lines { (tells : List ℕ → Option Told) → All (λ place. C.tells place.attempt.source.value ≡ tells) places.old
+        → AreLines tells jobs.now lines.new }
+    ensures tried { AreTried turns workers jobs.now password.now lines.new (map (λ place. place.attempt.stage) places.new) }
     ensures len { length lines.new ≡ length lines.old }
 {
-    work(
-        rt, alloc, jobs, connector, password, turns, workers, watcher, rows,
-    );
-    gather(lines, rows, turns, workers);
-}
-
-/// How many jobs each worker gets at most. `None` where so many rows can't be counted.
-fn turns_for(jobs: usize, workers: usize) -> Option<usize>
-    requires { 0 < workers }
-    ensures { IfSome result (λ turns. (0 < turns) × (jobs < turns * workers) × (turns * workers < 2 ^ 64)) }
-{
-    let turns = (jobs / workers).checked_add(1)?;
-    let _rows = turns.checked_mul(workers)?;
-    Some(turns)
+    work(rt, alloc, jobs, password, turns, workers, watcher, places);
+    gather(lines, places, turns, workers);
 }
 
 /// A line with the name of each job.
@@ -129,32 +135,29 @@ fn work<R: Threads + Sync, C: Connector, W: Watcher>(
     rt: &R,
     alloc: Global,
     jobs: &[Job],
-    connector: &C,
     password: &Octets,
     turns: usize,
     workers: usize,
     watcher: &W,
-    rows: &mut [Row],
+    places: &mut [Place<C>],
 )
     requires some { 0 < turns }
     requires workers { 0 < workers }
-    requires slots { length rows.old ≡ turns * workers }
+    requires slots { length places.old ≡ turns * workers }
     requires password { IsPassword password.now }
-    ensures rows { (slot : ℕ) (job : Job) (row : Row) → slot < turns * workers → place_at turns workers slot < length jobs.now
-        → IsRow (C.tells connector.now) (slice_index_or jobs.now (place_at turns workers slot) job) (slice_index_or rows.new slot row) }
-    ensures len { length rows.new ≡ length rows.old }
+    requires unused { All (λ place. place.attempt.stage ≡ unused) places.old }
+    ensures { EachChange (λ slot old new. IsRun turns workers jobs.now password.now slot (C.tells old.attempt.source.value)
+        new.attempt.stage new.row) places.old places.new }
 {
     thread::for_each_mut(
         rt,
-        rows,
+        places,
         workers,
-        &|slot, row|
-            requires { (0 < turns) × (slot < turns * workers) × (turns * workers < 2 ^ 64) × IsPassword password.now }
-            ensures { (job : Job) → place_at turns workers slot < length jobs.entry.now → IsRow (C.tells connector.entry.now) (slice_index_or jobs.entry.now (place_at turns workers slot) job) row.exit.now }
+        &|slot, place|
+            requires { (0 < turns) × (slot < turns * workers) × (turns * workers < 2 ^ 64) × IsPassword password.now × (place.now.attempt.stage ≡ unused) }
+            ensures { IsRun turns workers jobs.entry.now password.entry.now slot (C.tells place.entry.now.attempt.source.value) place.exit.now.attempt.stage place.exit.now.row }
         {
-            work_slot(
-                alloc, jobs, connector, password, turns, workers, watcher, slot, row,
-            );
+            work_slot(alloc, jobs, password, turns, workers, watcher, slot, place);
         },
     );
 }
@@ -163,24 +166,23 @@ fn work<R: Threads + Sync, C: Connector, W: Watcher>(
 fn work_slot<C: Connector, W: Watcher>(
     alloc: Global,
     jobs: &[Job],
-    connector: &C,
     password: &Octets,
     turns: usize,
     workers: usize,
     watcher: &W,
     slot: usize,
-    row: &mut Row,
+    place: &mut Place<C>,
 )
     requires some { 0 < turns }
     requires slot { slot < turns * workers }
     requires fits { turns * workers < 2 ^ 64 }
     requires password { IsPassword password.now }
-    ensures { (job : Job) → place_at turns workers slot < length jobs.now
-        → IsRow (C.tells connector.now) (slice_index_or jobs.now (place_at turns workers slot) job) row.new }
+    requires unused { place.old.attempt.stage ≡ unused }
+    ensures { IsRun turns workers jobs.now password.now slot (C.tells place.old.attempt.source.value) place.new.attempt.stage place.new.row }
 {
     if let Some(job) = jobs.get(place_of(turns, workers, slot)) {
-        *row = run_job(alloc, job, connector, password);
-        watcher.done(job, *row);
+        place.row = run_job(alloc, job, &mut place.attempt, password);
+        watcher.done(job, place.row);
     }
 }
 
@@ -195,17 +197,18 @@ fn place_of(turns: usize, workers: usize, slot: usize) -> usize
 }
 
 /// Puts the rows of the slots into the lines of their jobs.
-fn gather(lines: &mut [Line], rows: &[Row], turns: usize, workers: usize)
+fn gather<C: Connector>(lines: &mut [Line], places: &[Place<C>], turns: usize, workers: usize)
     requires workers { 0 < workers }
-    requires slots { length rows.now ≡ turns * workers }
+    requires slots { length places.now ≡ turns * workers }
     requires few { length lines.old < turns * workers }
-    ensures rows { (i : ℕ) (line : Line) (row : Row) → i < length lines.old → (slice_index_or lines.new i line).row ≡ slice_index_or rows.now (slot_at turns workers i) row }
+    ensures rows { (i : ℕ) (line : Line) (row : Row) → i < length lines.old → (slice_index_or lines.new i line).row
+        ≡ slice_index_or (map (λ place. place.row) places.now) (slot_at turns workers i) row }
     ensures ids { (i : ℕ) (line : Line) → i < length lines.old → (slice_index_or lines.new i line).id ≡ (slice_index_or lines.old i line).id }
     ensures len { length lines.new ≡ length lines.old }
 {
     for i in 0..lines.len() {
         let line = &mut lines[i];
-        line.row = rows[slot_of(turns, workers, i)];
+        line.row = places[slot_of(turns, workers, i)].row;
     }
 }
 

@@ -1,6 +1,7 @@
-ghost use Rattle.std.specs.Prelude.{◌≡◌, ℕ, List, Option, None, IfOk};
+ghost use Rattle.std.specs.Prelude.{ℕ, List, Option, None, IfOk};
 ghost use Rattle.std.specs.Io.{ReadsAtMost};
-ghost use Rattle.head_end.specs.Connections.{Told, ReadTells, WriteTells, ConnectTells, WritesTo, IsUnwritten};
+ghost use Rattle.head_end.specs.Connections.{Told, ReadTells, WriteTells, ConnectTells};
+ghost use Rattle.head_end.specs.Logs.{Happening, ReadLogs, WriteLogs, IsNewLog};
 
 use byte_streams::StreamFault;
 use cosem_axdr::Octets;
@@ -13,19 +14,19 @@ pub trait Connection: Drop {
     // What its next reads will give, where that is known.
     ghost told: { Self → Option Told } = { λ _. None };
 
-    // The bytes that were written on it so far, where they are known.
-    ghost written: { Self → Option (List ℕ) } = { λ _. None };
+    // The reads and writes on it so far, in order, if they are known.
+    ghost log: { Self → Option (List Happening) } = { λ _. None };
 
     /// Reads into the buffer, and gives the number of bytes read: 0 at the end of the connection.
     fn read(&mut self, buffer: &mut [u8]) -> Result<usize, StreamFault>
         ensures bound { ReadsAtMost result buffer.new }
         ensures told { ReadTells (told self.old) result buffer.new (told self.new) }
-        ensures written { written self.new ≡ written self.old };
+        ensures log { ReadLogs (log self.old) result buffer.new (log self.new) };
 
     /// Writes all the bytes. Where it fails, it may have written a front of them.
     fn write_all(&mut self, bytes: &[u8]) -> Result<(), StreamFault>
         ensures told { WriteTells (told self.old) result (told self.new) }
-        ensures written { WritesTo (written self.old) bytes.now result (written self.new) };
+        ensures log { WriteLogs (log self.old) bytes.now result (log self.new) };
 }
 
 /// What reaches meters, also from several threads at once.
@@ -40,7 +41,7 @@ pub trait Connector: Sync {
     /// A new connection to the meter at an address.
     fn connect(&self, address: &Octets) -> Result<Self::Connection, ConnectFault>
         ensures told { ConnectTells (tells self.now address.now) Self.Connection.told result }
-        ensures written { IfOk result (λ connection. IsUnwritten (Self.Connection.written connection)) };
+        ensures log { IfOk result (λ connection. IsNewLog (Self.Connection.log connection)) };
 }
 
 /// No connection was made.

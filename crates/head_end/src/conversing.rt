@@ -1,6 +1,6 @@
 //! A client's conversation with the meter at the other end of a connection.
-ghost use Rattle.std.specs.Prelude.{◌≡◌, true, is_none, length, IfOk, OnErr, IfErr};
-ghost use Rattle.head_end.specs.Conversations.{GivesUp, SendsAll, Turns, Converses, Sends, Speaks};
+ghost use Rattle.std.specs.Prelude.{IfOk};
+ghost use Rattle.head_end.specs.Conversations.{GivesUp, SendsAll, Turns, Converses, Sends, TakesTurn, Speaks};
 
 use crate::connection::Connection;
 use client_core::{Client, Outcome};
@@ -22,7 +22,7 @@ pub fn converse<K: Connection>(
     connection: &mut K,
 ) -> Result<Outcome, AllocError>
     ensures told { IfOk result (Converses client.old (K.told connection.old)) }
-    ensures written { Speaks client.old (K.written connection.old) (K.written connection.new) }
+    ensures log { Speaks client.old (K.log connection.old) result (K.log connection.new) }
 {
     if !send_due(client, connection) {
         return Ok(give_up(client));
@@ -44,8 +44,7 @@ fn take_turn<K: Connection>(
     buffer: &mut [u8; MAX_READ],
 ) -> Result<Option<Outcome>, AllocError>
     ensures told { IfOk result (λ outcome. Turns client.old (K.told connection.old) outcome client.new (K.told connection.new)) }
-    ensures written { IfOk result (λ outcome. Sends client.old (K.written connection.old) (is_none outcome) client.new (K.written connection.new)) }
-    ensures err { OnErr result (Sends client.old (K.written connection.old) true client.new (K.written connection.new)) }
+    ensures log { TakesTurn client.old (K.log connection.old) result client.new (K.log connection.new) }
 {
     let count = match connection.read(buffer) {
         Ok(0) => return Ok(Some(give_up(client))),
@@ -62,7 +61,7 @@ fn take_turn<K: Connection>(
 /// Writes all texts that are due. False where a write failed.
 fn send_due<K: Connection>(client: &mut Client, connection: &mut K) -> bool
     ensures told { SendsAll client.old (K.told connection.old) result client.new (K.told connection.new) }
-    ensures written { Sends client.old (K.written connection.old) result client.new (K.written connection.new) }
+    ensures log { Sends client.old (K.log connection.old) result client.new (K.log connection.new) }
 {
     'texts: for _ in 0..MAX_TEXTS {
         let text = match client.to_send() {

@@ -4,24 +4,28 @@
 //! `specs/Wires.antt` what goes out on a connection, whatever the meter answers.
 #![tactic(auto)]
 
+mod attempt;
 mod campaign;
 mod connection;
 mod conversing;
 mod fault;
 mod jobs;
 mod laws;
+mod placing;
 mod reporting;
 mod row;
 mod running;
 mod tcp;
 mod watching;
 
+pub use attempt::Attempt;
 pub use campaign::{run_campaign, run_watched_campaign};
 pub use connection::{ConnectFault, Connection, Connector};
 pub use conversing::converse;
 pub use fault::JobsFault;
 pub use jobs::{MAX_ADDRESS, MAX_ID, read_jobs};
 pub use laws::{jobs_may_be_cut, reports_stand_end_to_end};
+pub use placing::{Place, places_for};
 pub use reporting::{add_report, report};
 pub use row::{Line, Row};
 pub use running::run_job;

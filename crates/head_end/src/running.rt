@@ -1,8 +1,10 @@
 //! One job at one meter.
-ghost use Rattle.std.specs.Prelude.{IfOk};
+ghost use Rattle.std.specs.Prelude.{◌≡◌, IfOk};
 ghost use Rattle.acse_ber.specs.Password.{IsPassword};
+ghost use Rattle.head_end.specs.Attempts.{unused, row_in, IsTried};
 ghost use Rattle.head_end.specs.Rows.{IsOutcome, IsRow};
 
+use crate::attempt::Attempt;
 use crate::connection::Connector;
 use crate::conversing::{converse, give_up};
 use crate::row::Row;
@@ -10,12 +12,22 @@ use client_core::{Client, Job, Outcome};
 use cosem_axdr::Octets;
 use std::alloc::{AllocError, Global};
 
-/// The row of a job: on one connection to its meter, what the meter answers. The password has 1 to 32 bytes.
-pub fn run_job<C: Connector>(alloc: Global, job: &Job, connector: &C, password: &Octets) -> Row
-    requires { IsPassword password.now }
-    ensures { IsRow (C.tells connector.now) job.now result }
+/// Runs a job on one connection to its meter, and returns its row. The password has 1 to 32 bytes.
+///
+/// The attempt is used for the job's address alone. Its connection is closed, after a conversation of the job's verb
+/// with this password. Only a job that is out of memory before it connects leaves the attempt unused.
+pub fn run_job<C: Connector>(
+    alloc: Global,
+    job: &Job,
+    attempt: &mut Attempt<C>,
+    password: &Octets,
+) -> Row
+    requires unused { attempt.old.stage ≡ unused }
+    requires password { IsPassword password.now }
+    ensures row { IsRow (C.tells attempt.old.source.value) job.now result }
+    ensures tried { IsTried job.now password.now result attempt.new.stage }
 {
-    match try_job(alloc, job, connector, password) {
+    match try_job(alloc, job, attempt, password) {
         Ok(outcome) => Row::Came(outcome),
         Err(_) => Row::Memory,
     }
@@ -25,15 +37,21 @@ pub fn run_job<C: Connector>(alloc: Global, job: &Job, connector: &C, password: 
 fn try_job<C: Connector>(
     alloc: Global,
     job: &Job,
-    connector: &C,
+    attempt: &mut Attempt<C>,
     password: &Octets,
 ) -> Result<Outcome, AllocError>
-    requires { IsPassword password.now }
-    ensures { IfOk result (IsOutcome (C.tells connector.now job.now.address) job.now.verb) }
+    requires unused { attempt.old.stage ≡ unused }
+    requires password { IsPassword password.now }
+    ensures outcome { IfOk result (IsOutcome (C.tells attempt.old.source.value job.now.address) job.now.verb) }
+    ensures tried { IsTried job.now password.now (row_in result) attempt.new.stage }
 {
     let mut client = Client::start(alloc, job, password)?;
-    match connector.connect(&job.address) {
-        Ok(mut connection) => converse(alloc, &mut client, &mut connection),
+    match attempt.connect(&job.address) {
+        Ok(mut connection) => {
+            let outcome = converse(alloc, &mut client, &mut connection);
+            attempt.close(connection);
+            outcome
+        }
         Err(_) => Ok(give_up(&mut client)),
     }
 }

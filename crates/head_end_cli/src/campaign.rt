@@ -8,7 +8,7 @@ use acse_ber::MAX_PASSWORD;
 use clap::ArgMatches;
 use client_core::Job;
 use cosem_axdr::Octets;
-use head_end::{Connector, add_report, run_watched_campaign};
+use head_end::{Connector, add_report, places_for, run_watched_campaign};
 use listed::Listed;
 use program_fault::Fault;
 use std::alloc::Global;
@@ -121,15 +121,18 @@ pub(crate) fn run<R: Threads + Sync, C: Connector>(
         progress: &progress,
         is_shown: plan.is_shown,
     };
+    let places = places_for(rt.alloc(), connector, plan.jobs.len(), plan.workers);
+    let mut places = places.map_err(|_| Fault::Memory)?;
     let campaign = run_watched_campaign(
         threads,
         rt.alloc(),
         &plan.jobs,
-        connector,
+        places.as_mut_slice(),
         &plan.password,
         plan.workers,
         &watch,
     );
+    drop(places);
     let lines = campaign.map_err(|_| Fault::Memory)?;
     add_report(&lines, &mut text).map_err(|_| Fault::Memory)?;
     print(rt, text.as_slice())

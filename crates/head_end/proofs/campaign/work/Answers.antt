@@ -1,11 +1,10 @@
-use Rattle.std.proofs.Common.{arith, subst, slice_index_or}
-use Rattle.head_end.specs.declared.row.Row.{Row}
-use Rattle.head_end.specs.Campaigns.{place_at}
-use Rattle.head_end.specs.Rows.{IsRow}
+use Rattle.std.proofs.Common.{slice_index_or}
+use Rattle.head_end.proofs.CampaignLemmas.{run_moved}
 use Rattle.head_end.proofs.campaign.work.Goals as goal
 
-pub returns-clause-rows : goal.returns-clause-rows
-returns-clause-rows g c = λ slot job row below there.
-    let changes = (c.for_each_mut.ensures slot row (omega arith)).1 in
-    subst (λ (r : Row). IsRow (g.C.Connector.tells c.args.connector.now) (slice_index_or c.args.jobs.now (place_at c.args.turns c.args.workers slot) job) r) changes.left
-    (changes.call job there)
+pub returns : goal.returns
+returns g c = λ slot place below.
+    let changes = (c.for_each_mut.ensures slot place below).1 in
+    run_moved (slice_index_or c.args.places.now slot place) changes.argument.now (slice_index_or c.for_each_mut.new.s slot place) changes.after_call.now
+    (λ p. g.C.Connector.tells p.attempt.source.value) (λ p. p.attempt.stage) (λ p. p.row)
+    c.args.turns c.args.workers c.args.jobs.now c.args.password.now slot changes.argument_is changes.left changes.call

@@ -1,9 +1,10 @@
 use Rattle.std.proofs.Common.{true}
-use Rattle.head_end.specs.Conversations.{SendsAll, Sends}
+use Rattle.head_end.specs.Conversations.{SendsAll}
+use Rattle.head_end.proofs.Talking.{Keeps}
 use Rattle.head_end.proofs.conversing.send_due.Given as goal
 
--- all that was given was written
+-- all that was given was written, and at least so many texts were given
 abbrev pub invariant-texts : goal.invariant-texts
 invariant-texts g l =
     SendsAll l.fn.client (g.K.Connection.told l.fn.connection) true l.client (g.K.Connection.told l.connection)
-    × Sends l.fn.client (g.K.Connection.written l.fn.connection) true l.client (g.K.Connection.written l.connection)
+    × Keeps l.counter l.fn.client (g.K.Connection.log l.fn.connection) l.client (g.K.Connection.log l.connection)

@@ -1,0 +1,11 @@
+use Rattle.std.proofs.Common.{◌≡◌, length}
+use Rattle.std.specs.List.{All}
+use Rattle.head_end.specs.Attempts.{unused}
+use Rattle.head_end.proofs.placing.places_for.Given as goal
+
+-- so many places have unused attempts of the connector
+abbrev pub invariant-places : goal.invariant-places
+invariant-places g l =
+    (length l.places.items ≡ l.counter)
+    × All (λ place. place.attempt.stage ≡ unused) l.places.items
+    × All (λ place. place.attempt.source.value ≡ l.connector) l.places.items

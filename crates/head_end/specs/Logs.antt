@@ -1,0 +1,68 @@
+-- What went over a connection.
+--     Happening             one read or one write
+--     heard_in, sent_in     the bytes that were heard, and the bytes that were sent
+--     ReadLogs, WriteLogs   what a read and a write add to the log of a connection
+use Rattle.std.specs.Prelude.{◌≡◌, ℕ, zero, suc, List, [], ◌∷◌, ◌++◌, take, Option, Some, None, Result, Ok, Err, ⊤}
+use Rattle.byte_streams.specs.declared.fault.StreamFault.{StreamFault}
+
+-- a read that gave bytes; a read that gave none, at the end of the connection or since it failed;
+-- a write; a write that failed after this front of its bytes
+pub data Happening : Type 0 where
+  heard : List ℕ → Happening
+  heard_nothing : Happening
+  sent : List ℕ → Happening
+  cut_off : List ℕ → Happening
+
+-- all bytes that were heard
+unfoldable pub heard_in : List Happening → List ℕ
+heard_in [] = []
+heard_in (heard bytes ∷ later) = bytes ++ heard_in later
+heard_in (heard_nothing ∷ later) = heard_in later
+heard_in (sent bytes ∷ later) = heard_in later
+heard_in (cut_off bytes ∷ later) = heard_in later
+
+-- all bytes that were sent
+unfoldable pub sent_in : List Happening → List ℕ
+sent_in [] = []
+sent_in (heard bytes ∷ later) = sent_in later
+sent_in (heard_nothing ∷ later) = sent_in later
+sent_in (sent bytes ∷ later) = bytes ++ sent_in later
+sent_in (cut_off bytes ∷ later) = bytes ++ sent_in later
+
+-- the number of reads that gave bytes
+unfoldable pub reads_in : List Happening → ℕ
+reads_in [] = 0
+reads_in (heard bytes ∷ later) = suc (reads_in later)
+reads_in (heard_nothing ∷ later) = reads_in later
+reads_in (sent bytes ∷ later) = reads_in later
+reads_in (cut_off bytes ∷ later) = reads_in later
+
+-- ---- what calls add to a log; one that is not known stays so
+
+-- a read adds the bytes that it gave, or that it gave none
+abbrev pub ReadLogs : Option (List Happening) → Result ℕ StreamFault → List ℕ → Option (List Happening) → Type 0
+ReadLogs None result buffer new = new ≡ None
+ReadLogs (Some log) (Ok zero) buffer new = new ≡ Some (log ++ heard_nothing ∷ [])
+ReadLogs (Some log) (Ok (suc count)) buffer new = new ≡ Some (log ++ heard (take (suc count) buffer) ∷ [])
+ReadLogs (Some log) (Err fault) buffer new = new ≡ Some (log ++ heard_nothing ∷ [])
+
+-- a front of a text
+pub record IsFront (front text : List ℕ) : Type 0 where
+  pub rest : List ℕ
+  pub parts : text ≡ front ++ rest
+
+-- a write failed after a front of its text
+pub record IsCutOff (text : List ℕ) (log : List Happening) (new : Option (List Happening)) : Type 0 where
+  pub front : List ℕ
+  pub is_front : IsFront front text
+  pub new_is : new ≡ Some (log ++ cut_off front ∷ [])
+
+abbrev pub WriteLogs : {X : Type 0} → Option (List Happening) → List ℕ → Result X StreamFault → Option (List Happening) → Type 0
+WriteLogs None text result new = new ≡ None
+WriteLogs (Some log) text (Ok x) new = new ≡ Some (log ++ sent text ∷ [])
+WriteLogs (Some log) text (Err fault) new = IsCutOff text log new
+
+-- nothing has happened on a new connection
+abbrev pub IsNewLog : Option (List Happening) → Type 0
+IsNewLog None = ⊤
+IsNewLog (Some log) = log ≡ []

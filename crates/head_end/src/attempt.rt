@@ -1,0 +1,106 @@
+//! One attempt to reach a meter.
+ghost use Rattle.std.specs.Prelude.{◌≡◌, if◌then◌else◌, IfOk};
+ghost use Rattle.head_end.specs.Connections.{ConnectTells};
+ghost use Rattle.head_end.specs.Logs.{IsNewLog};
+ghost use Rattle.head_end.specs.Attempts.{State, unused, refused, connected, is_connected, state_of, connect_state, close_state};
+
+use crate::connection::{ConnectFault, Connection, Connector};
+use cosem_axdr::Octets;
+use std::marker::Model;
+use std::snapshot::Snapshot;
+
+/// What was done with an attempt. Contracts see a `State` of `specs/Attempts.antt`.
+#[derive(Drop)]
+pub struct Stage<K: Connection> {
+    address: Option<Snapshot<Octets>>,
+    is_refused: bool,
+    closed: Option<Snapshot<K>>,
+}
+
+impl<K: Connection> Model for Stage<K> {
+    ghost Value = { State };
+
+    ghost view = { λ s. state_of K.log s.address s.is_refused s.closed };
+}
+
+impl<K: Connection> Stage<K> {
+    // Nothing was done.
+    fn new() -> Stage<K>
+        ensures { result ≡ unused }
+    {
+        Stage {
+            address: None,
+            is_refused: false,
+            closed: None,
+        }
+    }
+
+    // The attempt was used for an address, which refused or gave a connection that is open.
+    fn used(address: &Octets, is_refused: bool) -> Stage<K>
+        ensures { result ≡ (if is_refused then refused address.now else connected address.now) }
+    {
+        Stage {
+            address: Some(Snapshot::of(address)),
+            is_refused,
+            closed: None,
+        }
+    }
+}
+
+/// One attempt to reach a meter: at most one connection, whose log contracts see once it is closed.
+///
+/// A job gets an attempt of its own. So the contract of what runs the job says how many connections it made, to which
+/// address, and what went over them.
+#[derive(Drop)]
+pub struct Attempt<'a, C: Connector> {
+    connector: &'a C,
+    /// The connector, as contracts see it. It has no bytes.
+    pub source: Snapshot<C>,
+    /// What was done with the attempt.
+    pub stage: Stage<C::Connection>,
+    ghost same: { source.value ≡ connector.now },
+}
+
+impl<'a, C: Connector> Attempt<'a, C> {
+    /// Returns an unused attempt.
+    pub fn new(connector: &'a C) -> Attempt<'a, C>
+        ensures source { result.source.value ≡ connector.now }
+        ensures unused { result.stage ≡ unused }
+    {
+        Attempt {
+            connector,
+            source: Snapshot::of(connector),
+            stage: Stage::new(),
+        }
+    }
+
+    /// Connects to the meter at an address. From then on the attempt is used.
+    pub fn connect(&mut self, address: &Octets) -> Result<C::Connection, ConnectFault>
+        requires { self.old.stage ≡ unused }
+        ensures told { ConnectTells (C.tells self.old.source.value address.now) C.Connection.told result }
+        ensures log { IfOk result (λ connection. IsNewLog (C.Connection.log connection)) }
+        ensures used { self.new.stage ≡ connect_state address.now result }
+        ensures source { self.new.source.value ≡ self.old.source.value }
+    {
+        match self.connector.connect(address) {
+            Ok(connection) => {
+                self.stage = Stage::used(address, false);
+                Ok(connection)
+            }
+            Err(fault) => {
+                self.stage = Stage::used(address, true);
+                Err(fault)
+            }
+        }
+    }
+
+    /// Closes the connection of the attempt.
+    pub fn close(&mut self, connection: C::Connection)
+        requires { is_connected self.old.stage }
+        ensures closed { self.new.stage ≡ close_state (C.Connection.log connection) self.old.stage }
+        ensures source { self.new.source.value ≡ self.old.source.value }
+    {
+        self.stage.closed = Some(Snapshot::of(&connection));
+        drop(connection);
+    }
+}
