@@ -1,13 +1,12 @@
 //! The command `serve`: a meter that clients reach over TCP.
-ghost use Rattle.std.specs.Prelude.{◌≡◌, length, IfOk};
+ghost use Rattle.std.specs.Prelude.{◌≡◌, length};
 ghost use Rattle.acse_ber.specs.Password.{IsPassword};
 
 use client_sockets::{Closing, Limits, Sockets, Stopped};
 use cosem_axdr::Octets;
-use kept_meter::Kept;
-use meter_console::{Console, Reading, Sources};
-use meter_server::{ServeFault, serve_all};
-use meter_serving::{closed_meter, meter_trace};
+use meter_console::{Console, Reading, Sources as ConsoleSources};
+use meter_run::{MeterRun, Sources, run_meter};
+use meter_server::ServeFault;
 use program_fault::Fault;
 use relay_recorder::Recorder;
 use serve_plan::{Plan, planned};
@@ -18,10 +17,6 @@ use std::net::{SocketAddr, TcpListener};
 use std::sync::atomic::AtomicBool;
 use std::sync::{Arc, Wait};
 use std::thread::{JoinHandle, Threads};
-use turn_lock::{Port, Shared};
-
-/// The meter takes so many calls.
-const MOST_CALLS: u64 = 4_611_686_018_427_387_904;
 
 /// The fault of a server. That no further client was taken is none where the listener did not fail: standard input had ended.
 fn fault_of(fault: ServeFault, has_failed: bool) -> Result<(), Fault> {
@@ -35,98 +30,11 @@ fn fault_of(fault: ServeFault, has_failed: bool) -> Result<(), Fault> {
     }
 }
 
-/// Serves over the sockets and the console, and tells the fault that ended it, if one did.
-fn serve_sockets<R: Threads + Wait + Copy + Drop + Send + 'static>(
-    rt: &R,
-    alloc: Global,
-    sockets: &mut Sockets<HostRuntime>,
-    sources: Sources<R>,
-    port: Port<Kept>,
-    password: &Octets,
-    connections: u64,
-) -> (Port<Kept>, Result<(), Fault>)
-    requires { IsPassword password.now }
-    ensures { result.0.lock ≡ port.lock }
-{
-    let Sources {
-        blocks,
-        moments,
-        presses,
-    } = sources;
-    match serve_all(
-        rt,
-        alloc,
-        sockets,
-        blocks,
-        moments,
-        presses,
-        port,
-        password,
-        connections,
-    ) {
-        Ok((port, _)) => (port, Ok(())),
-        Err((port, fault)) => {
-            let has_failed = sockets.has_failed();
-            (port, fault_of(fault, has_failed))
-        }
-    }
-}
-
-/// The meter, taken out from behind its lock.
-fn taken_out(shared: Shared<Kept>, port: Port<Kept>) -> Result<Kept, Fault>
-    requires { port.lock ≡ shared }
-{
-    match closed_meter(shared, port) {
-        Ok(kept) => Ok(kept),
-        Err((fault, port)) => {
-            drop(port);
-            Err(fault)
-        }
-    }
-}
-
 /// Prints a text.
 fn print_text(rt: &HostRuntime, text: &[u8]) -> Result<(), Fault> {
     let mut output = rt.stdout();
     output.write_all(text).map_err(|_| Fault::Write)?;
     output.flush().map_err(|_| Fault::Write)
-}
-
-/// Prints the trace of a meter's recorder.
-fn print_kept(rt: &HostRuntime, kept: &Kept) -> Result<(), Fault> {
-    match meter_trace(rt.alloc(), kept) {
-        Ok(text) => print_text(rt, text.as_slice()),
-        Err(_) => Err(Fault::Memory),
-    }
-}
-
-/// Prints the trace of what came to the meter.
-fn print_trace(rt: &HostRuntime, shared: Shared<Kept>, port: Port<Kept>) -> Result<(), Fault>
-    requires { port.lock ≡ shared }
-{
-    match taken_out(shared, port) {
-        Ok(kept) => {
-            let printed = print_kept(rt, &kept);
-            drop(kept);
-            printed
-        }
-        Err(fault) => Err(fault),
-    }
-}
-
-/// A lock over a recorder that no event has come to, and its first port.
-#[tactic(auto, using(serve_plan::proofs::Unused::unused))]
-fn locked(alloc: Global, recorder: Recorder) -> Result<(Shared<Kept>, Port<Kept>), Fault>
-    requires { length recorder.events ≡ 0 }
-    ensures { IfOk result (λ r. r.1.lock ≡ r.0) }
-{
-    match Shared::new(alloc, Kept::new(recorder), MOST_CALLS) {
-        Ok(meter) => Ok(meter),
-        Err((_, kept)) => {
-            drop(kept);
-            Err(Fault::Memory)
-        }
-    }
 }
 
 /// Where clients come from, and the flag by which the console ends the listening.
@@ -144,38 +52,21 @@ fn sockets_of(
     Ok((sockets, stopped))
 }
 
-/// Serves the clients, and prints the trace of the meter when that ends. The fault of each is told.
-fn serve_and_print<R: Threads + Wait + Copy + Drop + Send + 'static>(
-    rt: &HostRuntime,
-    threads: &R,
-    sockets: &mut Sockets<HostRuntime>,
-    sources: Sources<R>,
-    meter: (Shared<Kept>, Port<Kept>),
-    password: &Octets,
-    connections: u64,
-) -> (Result<(), Fault>, Result<(), Fault>)
-    requires password { IsPassword password.now }
-    requires lock { meter.1.lock ≡ meter.0 }
-{
-    let (shared, port) = meter;
-    let (port, served) = serve_sockets(
-        threads,
-        rt.alloc(),
-        sockets,
-        sources,
-        port,
-        password,
-        connections,
-    );
-    (served, print_trace(rt, shared, port))
+/// Prints the text of a trace, if there is one.
+fn print_trace(rt: &HostRuntime, trace: Result<Octets, Fault>) -> Result<(), Fault> {
+    match trace {
+        Ok(text) => print_text(rt, text.as_slice()),
+        Err(fault) => Err(fault),
+    }
 }
 
-/// The same over a recorder that no event has come to.
-fn serve_recorder<R: Threads + Wait + Copy + Drop + Send + 'static>(
+/// Runs the meter, and prints its trace. Returns why the serving ended, and whether the trace was printed.
+#[tactic(auto, using(serve_plan::proofs::Unused::unused))]
+fn run_and_print<R: Threads + Wait + Copy + Drop + Send + 'static>(
     rt: &HostRuntime,
     threads: &R,
     sockets: &mut Sockets<HostRuntime>,
-    sources: Sources<R>,
+    sources: ConsoleSources<R>,
     recorder: Recorder,
     password: &Octets,
     connections: u64,
@@ -183,10 +74,30 @@ fn serve_recorder<R: Threads + Wait + Copy + Drop + Send + 'static>(
     requires password { IsPassword password.now }
     requires unused { length recorder.events ≡ 0 }
 {
-    match locked(rt.alloc(), recorder) {
-        Ok(meter) => serve_and_print(rt, threads, sockets, sources, meter, password, connections),
-        Err(fault) => (Err(fault), Ok(())),
-    }
+    let ConsoleSources {
+        blocks,
+        moments,
+        presses,
+    } = sources;
+    let sources = Sources {
+        blocks,
+        moments,
+        buttons: presses,
+    };
+    let MeterRun { served, trace } = run_meter(
+        threads,
+        rt.alloc(),
+        recorder,
+        sockets,
+        sources,
+        password,
+        connections,
+    );
+    let ended = match served {
+        Ok(_) => Ok(()),
+        Err(fault) => fault_of(fault, sockets.has_failed()),
+    };
+    (ended, print_trace(rt, trace))
 }
 
 /// The sockets, the sources of the meter's own events, and what the console's thread reads.
@@ -200,7 +111,7 @@ fn prepared<R: Wait + Copy>(
 ) -> Result<
     (
         Sockets<HostRuntime>,
-        Sources<R>,
+        ConsoleSources<R>,
         Reading<Stdin, Closing<HostRuntime>>,
     ),
     Fault,
@@ -234,7 +145,7 @@ fn started<R: Threads + Wait + Copy + Drop + Send + 'static>(
     input: BufReader<Stdin>,
     listener: TcpListener,
     address: SocketAddr,
-) -> Result<(Sockets<HostRuntime>, Sources<R>, JoinHandle<()>), Fault> {
+) -> Result<(Sockets<HostRuntime>, ConsoleSources<R>, JoinHandle<()>), Fault> {
     let (sockets, sources, reading) = prepared(rt, threads, bounds, input, listener, address)?;
     match meter_console::start(threads, rt.alloc(), reading) {
         Some(console) => Ok((sockets, sources, console)),
@@ -300,7 +211,7 @@ pub(crate) fn run<R: Threads + Wait + Copy + Drop + Send + 'static>(
     match started(rt, threads, bounds, input, listener, address) {
         Ok((mut sockets, sources, console)) => {
             let connections = bounds.connections;
-            let (served, printed) = serve_recorder(
+            let (served, printed) = run_and_print(
                 rt,
                 threads,
                 &mut sockets,

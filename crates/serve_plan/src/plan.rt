@@ -1,10 +1,11 @@
-ghost use Rattle.std.specs.Prelude.{◌≡◌, ◌≤◌, [], length, false, IfOk, IfErr};
+ghost use Rattle.std.specs.Prelude.{◌≡◌, ◌≤◌, [], length, true, false, ⊤, IfOk, IfErr, IsErrOf};
 ghost use Rattle.std.specs.String.{string_bytes};
 ghost use Rattle.acse_ber.specs.Password.{IsPassword};
 ghost use Rattle.program_fault.specs.declared.Fault.TheVariants.{Memory};
 ghost use Rattle.relay_core.specs.World.{IsDeviceName, new_world};
 ghost use Rattle.relay_recorder.specs.Histories.{StandsForHistory};
-ghost use Rattle.serve_plan.specs.Plans.{IsNewMeter};
+ghost use Rattle.meter_serving.specs.Heads.{IsHeadFault};
+ghost use Rattle.serve_plan.specs.Plans.{HasNoTrace, IsPlanFault, IsRecorderFault, Resumes};
 
 use acse_ber::MAX_PASSWORD;
 use cosem_axdr::Octets;
@@ -16,16 +17,23 @@ use server_options::{Bounds, ServeOptions, octets_of};
 use std::alloc::Global;
 use std::io::{BufRead, BufReader, Read};
 
-/// The trace of an earlier run has at most so many bytes.
-const LONGEST_TRACE: u64 = 33_554_432;
+/// The longest trace of an earlier run, in bytes.
+const MAX_TRACE: u64 = 33_554_432;
 
-/// The recorder of a meter that goes on from the trace at the head of an input.
+/// The recorder of a meter that resumes from the trace at the head of an input.
 fn recorder_of_head<B: BufRead>(alloc: Global, input: &mut B, depth: u16) -> Result<Recorder, Fault>
     requires { (1 ≤ depth) × (depth ≤ 1024) }
     ensures unused { IfOk result (λ recorder. recorder.events ≡ []) }
     ensures capacity { IfOk result (λ recorder. recorder.capacity ≡ depth) }
+    ensures resumed { IfOk result (Resumes (B.remaining input.old)) }
+    ensures input { IsErrOf result Fault.Input → HasNoTrace (B.remaining input.old) }
+    ensures err { IfErr result IsHeadFault }
 {
-    let trace = read_head(alloc, &mut input.by_ref().take(LONGEST_TRACE))?;
+    let mut head = (&mut *input).take(MAX_TRACE);
+    let trace = match read_head(alloc, &mut head) {
+        Ok(trace) => trace,
+        Err(fault) => return Err(fault),
+    };
     let made = resumed_recorder(alloc, &trace, depth);
     drop(trace);
     match made {
@@ -49,7 +57,7 @@ fn new_recorder(alloc: Global, device: &Octets, depth: u16) -> Result<Recorder, 
     }
 }
 
-/// The recorder that the meter begins with: a new meter's, or that of one which goes on from the trace at the head of an input.
+/// The recorder that the meter begins with: a new meter's, or that of one that resumes from the trace at the head of an input.
 fn first_recorder<B: BufRead>(
     alloc: Global,
     device: &Octets,
@@ -60,7 +68,8 @@ fn first_recorder<B: BufRead>(
     ensures unused { IfOk result (λ recorder. recorder.events ≡ []) }
     ensures capacity { IfOk result (λ recorder. recorder.capacity ≡ bounds.depth) }
     ensures begun { bounds.resumes ≡ false → IfOk result (λ recorder. StandsForHistory recorder [] (new_world device.now)) }
-    ensures err { IsNewMeter bounds → IfErr result (λ fault. fault ≡ Memory) }
+    ensures resumed { bounds.resumes ≡ true → IfOk result (Resumes (B.remaining input.old)) }
+    ensures err { IfErr result (IsRecorderFault bounds (B.remaining input.old)) }
 {
     let depth = bounds.depth;
     if depth < 1 || depth > 1024 {
@@ -88,8 +97,11 @@ pub struct Plan<I> {
     ghost unused: { length recorder.events ≡ 0 },
 }
 
-/// Judges the options, and reads the trace to go on from where they say so. Errors, in this order: `Input` of a password that has not 1 to 32 bytes, of a device name
-/// that has not 1 to 16, of a depth that is not 1 to 1,024, and of an input at whose head no trace stands; `Read`; `Memory` in between.
+/// Judges the options, and reads the trace to resume from if they ask for it.
+///
+/// Errors, in this order: `Input` of a password that does not have 1 to 32 bytes, of a device name that does not have 1 to 16, of a
+/// depth that is not 1 to 1,024, and of an input that does not begin with a trace of at most 33,554,432 bytes; `Read`; `Memory` in
+/// between.
 #[tactic(auto, using(crate::proofs::Unused::uncounted))]
 pub fn planned<I: Read + Drop>(
     alloc: Global,
@@ -100,8 +112,8 @@ pub fn planned<I: Read + Drop>(
     ensures password { IfOk result (λ plan. plan.password ≡ string_bytes options.now.password) }
     ensures capacity { IfOk result (λ plan. plan.recorder.capacity ≡ options.now.bounds.depth) }
     ensures begun { options.now.bounds.resumes ≡ false → IfOk result (λ plan. StandsForHistory plan.recorder [] (new_world (string_bytes options.now.device))) }
-    ensures err { IsPassword (string_bytes options.now.password) → IsDeviceName (string_bytes options.now.device) → IsNewMeter options.now.bounds
-        → IfErr result (λ fault. fault ≡ Memory) }
+    ensures resumed { options.now.bounds.resumes ≡ true → IfOk result (λ plan. Resumes (I.remaining input) plan.recorder) }
+    ensures err { IfErr result (IsPlanFault (string_bytes options.now.password) (string_bytes options.now.device) options.now.bounds (I.remaining input)) }
 {
     let bounds = options.bounds;
     let password = octets_of(alloc, options.password.as_str(), MAX_PASSWORD)?;

@@ -1,0 +1,158 @@
+ghost use Rattle.std.specs.Prelude.{◌≡◌, ◌⊎◌, [], IfOk, IfErr};
+ghost use Rattle.acse_ber.specs.Password.{IsPassword};
+ghost use Rattle.meter_run.specs.Runs.{IsRun, ServesAll, Traces};
+ghost use Rattle.meter_server.specs.ServingAll.{IsLimit};
+ghost use Rattle.relay_core.specs.Opening.{opening_of};
+ghost use Rattle.turn_lock.specs.Rule.{opened};
+ghost use Rattle.program_fault.specs.declared.Fault.TheVariants.{Memory, Turns};
+
+use cosem_axdr::Octets;
+use kept_meter::Kept;
+use meter_server::{
+    BlockSource, ButtonSource, Listener, MomentSource, ServeFault, Served, serve_all,
+};
+use meter_serving::{closed_meter, meter_trace};
+use program_fault::Fault;
+use relay_recorder::Recorder;
+use std::alloc::{AllocError, Global};
+use std::sync::Wait;
+use std::thread::Threads;
+use turn_lock::{Port, Shared};
+
+/// The calls that one run may make: 2^62, the most that a lock is made for.
+const MAX_CALLS: u64 = 4_611_686_018_427_387_904;
+
+/// The meter's own sources: blocks of power samples, moments of the clock, presses of the button.
+#[derive(Drop)]
+pub struct Sources<B, M, U> {
+    pub blocks: B,
+    pub moments: M,
+    pub buttons: U,
+}
+
+/// How a run ended.
+#[derive(Drop)]
+pub struct MeterRun {
+    /// What became of the connections, or why the server stopped.
+    pub served: Result<Served, ServeFault>,
+    /// The text of the trace. Errors: `Turns` if a call was still in its turn; `Memory`.
+    pub trace: Result<Octets, Fault>,
+}
+
+// A lock for 2^62 calls over a recorder, and its first port.
+fn lock(alloc: Global, recorder: Recorder) -> Result<(Shared<Kept>, Port<Kept>), AllocError>
+    requires { recorder.events ≡ [] }
+    ensures lock { IfOk result (λ r. r.1.lock ≡ r.0) }
+    ensures bound { IfOk result (λ r. r.1.bound ≡ 4611686018427387904) }
+    ensures known { IfOk result (λ r. r.1.known ≡ opened (opening_of recorder.core)) }
+{
+    match Shared::new(alloc, Kept::new(recorder), MAX_CALLS) {
+        Ok(meter) => Ok(meter),
+        Err((error, kept)) => {
+            drop(kept);
+            Err(error)
+        }
+    }
+}
+
+// Serves clients and hands in what the sources give. The port comes back.
+fn serve<
+    L: Listener,
+    B: BlockSource + Send + 'static,
+    M: MomentSource + Send + 'static,
+    U: ButtonSource + Send + 'static,
+    R: Threads + Wait + Copy + Send + 'static,
+>(
+    rt: &R,
+    alloc: Global,
+    listener: &mut L,
+    sources: Sources<B, M, U>,
+    port: Port<Kept>,
+    password: &Octets,
+    limit: u64,
+) -> (Port<Kept>, Result<Served, ServeFault>)
+    requires { IsPassword password.now }
+    ensures lock { result.0.lock ≡ port.lock }
+    ensures serves { ServesAll (record { blocks = B.told sources.blocks; moments = M.told sources.moments; presses = U.told sources.buttons; password = password.now })
+        port result.0 result.1 }
+    ensures limit { IfOk result.1 (IsLimit limit) }
+{
+    let Sources {
+        blocks,
+        moments,
+        buttons,
+    } = sources;
+    match serve_all(
+        rt, alloc, listener, blocks, moments, buttons, port, password, limit,
+    ) {
+        Ok((port, served)) => (port, Ok(served)),
+        Err((port, fault)) => (port, Err(fault)),
+    }
+}
+
+// The text of the trace of the meter behind a lock, which ends here.
+fn trace_text(alloc: Global, shared: Shared<Kept>, port: Port<Kept>) -> Result<Octets, Fault>
+    requires { port.lock ≡ shared }
+    ensures traces { IfOk result (Traces port.known) }
+    ensures err { IfErr result (λ fault. (fault ≡ Turns) ⊎ (fault ≡ Memory)) }
+{
+    match closed_meter(shared, port) {
+        Ok(kept) => {
+            let text = meter_trace(alloc, &kept);
+            drop(kept);
+            match text {
+                Ok(text) => Ok(text),
+                Err(_) => Err(Fault::Memory),
+            }
+        }
+        Err((fault, port)) => {
+            drop(port);
+            Err(fault)
+        }
+    }
+}
+
+/// Runs a meter: puts its recorder, to which no event has come, behind a lock for 2^62 calls, serves the clients of the listener and
+/// hands in what the sources give, as [`serve_all`] does, and then writes the text of the meter's trace. The management client has this
+/// password, 1 to 32 bytes; `limit` connections are served or turned away, 0 is no limit.
+///
+/// Both results are independent: the trace is written whatever ended the serving. If there is no memory for the lock, both are
+/// `Memory`, and no connection was accepted.
+pub fn run_meter<
+    L: Listener,
+    B: BlockSource + Send + 'static,
+    M: MomentSource + Send + 'static,
+    U: ButtonSource + Send + 'static,
+    R: Threads + Wait + Copy + Send + 'static,
+>(
+    rt: &R,
+    alloc: Global,
+    recorder: Recorder,
+    listener: &mut L,
+    sources: Sources<B, M, U>,
+    password: &Octets,
+    limit: u64,
+) -> MeterRun
+    requires unused { recorder.events ≡ [] }
+    requires password { IsPassword password.now }
+    ensures run { IfOk result.trace (IsRun recorder
+        (record { blocks = B.told sources.blocks; moments = M.told sources.moments; presses = U.told sources.buttons; password = password.now })
+        result.served) }
+    ensures limit { IfOk result.served (IsLimit limit) }
+    ensures err { IfErr result.trace (λ fault. (fault ≡ Turns) ⊎ (fault ≡ Memory)) }
+{
+    match lock(alloc, recorder) {
+        Ok((shared, port)) => {
+            let (port, served) = serve(rt, alloc, listener, sources, port, password, limit);
+            let trace = trace_text(alloc, shared, port);
+            MeterRun { served, trace }
+        }
+        Err(_) => {
+            drop(sources);
+            MeterRun {
+                served: Err(ServeFault::Memory),
+                trace: Err(Fault::Memory),
+            }
+        }
+    }
+}
