@@ -8,11 +8,15 @@ mod campaigns;
 #[cfg(test)]
 mod clients;
 #[cfg(test)]
+mod counting;
+#[cfg(test)]
 mod jobs_texts;
 #[cfg(test)]
 mod loopback;
 #[cfg(test)]
 mod meters;
+#[cfg(test)]
+mod recording;
 #[cfg(test)]
 mod scripts;
 #[cfg(test)]

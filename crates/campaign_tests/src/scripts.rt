@@ -45,7 +45,7 @@ impl Connector for Meters {
     }
 }
 
-fn bytes_of(address: &[u8]) -> Option<&'static [u8]> {
+pub(crate) fn bytes_of(address: &[u8]) -> Option<&'static [u8]> {
     if address == b"m1".as_slice() {
         Some(&DONE)
     } else if address == b"m2".as_slice() {

@@ -17,31 +17,40 @@ use Rattle.client_core.specs.Standing.{Stands}
 abbrev accepting : Option Outcome → Progress
 accepting outcome = record { accepted = true; outcome = outcome }
 
-all_accepting : (verb : Verb) (outcome : Option Outcome) (payloads : List (List ℕ)) → (after_all verb (accepting outcome) payloads).accepted ≡ true
+all_accepting : (verb : Verb) (outcome : Option Outcome) (payloads : List (List ℕ))
+    → (after_all verb (accepting outcome) payloads).accepted ≡ true
 all_accepting verb outcome [] = refl
 all_accepting verb None (payload ∷ later) = all_accepting verb (Some (replied verb payload)) later
 all_accepting verb (Some outcome) (payload ∷ later) = all_accepting verb (Some outcome) later
 
-ended_accepting : (progress : Progress) (head : Head) → (ended_by progress head).accepted ≡ progress.accepted
+ended_accepting : (progress : Progress) (head : Head)
+    → (ended_by progress head).accepted ≡ progress.accepted
 ended_accepting progress Part = refl
 ended_accepting progress BadVersion = refl
 ended_accepting progress TooLong = refl
 ended_accepting progress (Whole n) = refl
 
-goes_accepting : (verb : Verb) (outcome : Option Outcome) (bytes : List ℕ) → (goes verb (accepting outcome) bytes).accepted ≡ true
+goes_accepting : (verb : Verb) (outcome : Option Outcome) (bytes : List ℕ)
+    → (goes verb (accepting outcome) bytes).accepted ≡ true
 unfolding goes
 goes_accepting verb outcome bytes =
-    ended_accepting (after_all verb (accepting outcome) (heard (frames_of bytes))) (head_of (rest_of bytes))
+    ended_accepting (after_all verb (accepting outcome) (heard (frames_of bytes))) (head_of
+        (rest_of bytes))
     ∙ all_accepting verb outcome (heard (frames_of bytes))
 
-accepted_goes : (verb : Verb) (progress : Progress) (bytes : List ℕ) → progress.accepted ≡ true → (goes verb progress bytes).accepted ≡ true
+accepted_goes : (verb : Verb) (progress : Progress) (bytes : List ℕ) → progress.accepted ≡ true
+    → (goes verb progress bytes).accepted ≡ true
 accepted_goes verb progress bytes is =
     let same : accepting progress.outcome ≡ progress =
-    ap (λ (b : Bool). let p : Progress = record { accepted = b; outcome = progress.outcome } in p) (sym is) in
-    subst (λ (p : Progress). (goes verb p bytes).accepted ≡ true) same (goes_accepting verb progress.outcome bytes)
+    ap (λ (b : Bool). let p : Progress = record
+        { accepted = b; outcome = progress.outcome } in p) (sym is) in
+    subst (λ (p : Progress). (goes verb p bytes).accepted ≡ true) same
+        (goes_accepting verb progress.outcome bytes)
 
-pub accepted_stays : (verb : Verb) (password fed more : List ℕ) (given : ℕ) (over : Bool) (c : Client) → Stands verb password fed given over c
+pub accepted_stays : (verb : Verb) (password fed more : List ℕ) (given : ℕ) (over : Bool)
+    (c : Client) → Stands verb password fed given over c
     → (progress_of verb fed).accepted ≡ true → (progress_of verb (fed ++ more)).accepted ≡ true
 accepted_stays verb password fed more given over c s is =
     ap (λ (p : Progress). p.accepted) (s.later more)
-    ∙ accepted_goes verb c.progress (c.deframer ++ more) (ap (λ (p : Progress). p.accepted) s.now ∙ is)
+    ∙ accepted_goes verb c.progress (c.deframer ++ more) (ap (λ
+    (p : Progress). p.accepted) s.now ∙ is)

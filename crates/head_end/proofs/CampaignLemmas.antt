@@ -72,76 +72,117 @@ an_element [] i below = absurd (omega arith)
 an_element (x ∷ xs) i below = x
 
 -- the row of a slot by its place
-pub row_at : {X : Type 0} (old new : List X) (tells_of : X → List ℕ → Option Told) (stage_of : X → State) (row_of : X → Row) (tells : List ℕ → Option Told)
-    (turns workers : ℕ) (jobs : List Job) (password : List ℕ) → length old ≡ turns * workers → length new ≡ length old
-    → EachChange (λ slot o n. IsRun turns workers jobs password slot (tells_of o) (stage_of n) (row_of n)) old new → All (λ o. tells_of o ≡ tells) old
-    → (slot : ℕ) (job : Job) (row : Row) → slot < turns * workers → place_at turns workers slot < length jobs
-    → IsRow tells (slice_index_or jobs (place_at turns workers slot) job) (slice_index_or (map row_of new) slot row)
-row_at {X} old new tells_of stage_of row_of tells turns workers jobs password count same each all slot job row below there =
+pub row_at : {X : Type 0} (old new : List X) (tells_of : X → List ℕ → Option Told) (stage_of : X
+    → State) (row_of : X → Row) (tells : List ℕ → Option Told)
+    (turns workers : ℕ) (jobs : List Job) (password : List ℕ) → length old ≡ turns * workers
+    → length new ≡ length old
+    → EachChange (λ slot o n. IsRun turns workers jobs password slot (tells_of o) (stage_of n)
+    (row_of n)) old new → All (λ o. tells_of o ≡ tells) old
+    → (slot : ℕ) (job : Job) (row : Row) → slot < turns * workers
+    → place_at turns workers slot < length jobs
+    → IsRow tells (slice_index_or jobs (place_at turns workers slot) job) (slice_index_or
+    (map row_of new) slot row)
+row_at {X} old new tells_of stage_of row_of tells turns workers jobs password count same each all
+    slot job row below there =
     let within : slot < length old = omega arith in
     let x = an_element old slot within in
     let run = each slot x within in
-    let told : tells_of (slice_index_or old slot x) ≡ tells = All-get_or (λ (o : X). tells_of o ≡ tells) old slot x within all in
-    let is : IsRow tells (slice_index_or jobs (place_at turns workers slot) job) (row_of (slice_index_or new slot x)) =
-    subst (λ (t : List ℕ → Option Told). IsRow t (slice_index_or jobs (place_at turns workers slot) job) (row_of (slice_index_or new slot x))) told
+    let told : tells_of (slice_index_or old slot x) ≡ tells = All-get_or (λ (o : X). tells_of o
+    ≡ tells) old slot x within all in
+    let is : IsRow tells (slice_index_or jobs (place_at turns workers slot) job) (row_of
+    (slice_index_or new slot x)) =
+    subst (λ (t : List ℕ → Option Told). IsRow t (slice_index_or jobs
+    (place_at turns workers slot) job) (row_of (slice_index_or new slot x))) told
     (run.row_is job there) in
-    let mapped : slice_index_or (map row_of new) slot row ≡ row_of (slice_index_or new slot x) = get_or-map row_of new slot x row (omega arith) in
-    subst (λ (r : Row). IsRow tells (slice_index_or jobs (place_at turns workers slot) job) r) (sym mapped) is
+    let mapped : slice_index_or (map row_of new) slot row ≡ row_of
+    (slice_index_or new slot x) = get_or-map row_of new slot x row (omega arith) in
+    subst (λ (r : Row). IsRow tells (slice_index_or jobs (place_at turns workers slot) job) r)
+    (sym mapped) is
 
 -- what the job of a slot did with its attempt
-tried_at : {X : Type 0} (old new : List X) (tells_of : X → List ℕ → Option Told) (stage_of : X → State) (row_of : X → Row)
-    (turns workers : ℕ) (jobs : List Job) (password : List ℕ) → length old ≡ turns * workers → length new ≡ length old
-    → EachChange (λ slot o n. IsRun turns workers jobs password slot (tells_of o) (stage_of n) (row_of n)) old new
-    → (slot : ℕ) (job : Job) (row : Row) (stage : State) → slot < turns * workers → place_at turns workers slot < length jobs
-    → IsTried (slice_index_or jobs (place_at turns workers slot) job) password (slice_index_or (map row_of new) slot row) (slice_index_or (map stage_of new) slot stage)
-tried_at old new tells_of stage_of row_of turns workers jobs password count same each slot job row stage below there =
+tried_at : {X : Type 0} (old new : List X) (tells_of : X → List ℕ → Option Told) (stage_of : X
+    → State) (row_of : X → Row)
+    (turns workers : ℕ) (jobs : List Job) (password : List ℕ) → length old ≡ turns * workers
+    → length new ≡ length old
+    → EachChange (λ slot o n. IsRun turns workers jobs password slot (tells_of o) (stage_of n)
+    (row_of n)) old new
+    → (slot : ℕ) (job : Job) (row : Row) (stage : State) → slot < turns * workers
+    → place_at turns workers slot < length jobs
+    → IsTried (slice_index_or jobs (place_at turns workers slot) job) password (slice_index_or
+    (map row_of new) slot row) (slice_index_or (map stage_of new) slot stage)
+tried_at old new tells_of stage_of row_of turns workers jobs password count same each slot job row
+    stage below there =
     let within : slot < length old = omega arith in
     let x = an_element old slot within in
     let run = each slot x within in
-    let rows : slice_index_or (map row_of new) slot row ≡ row_of (slice_index_or new slot x) = get_or-map row_of new slot x row (omega arith) in
-    let stages : slice_index_or (map stage_of new) slot stage ≡ stage_of (slice_index_or new slot x) = get_or-map stage_of new slot x stage (omega arith) in
-    subst (λ (r : Row). IsTried (slice_index_or jobs (place_at turns workers slot) job) password r (slice_index_or (map stage_of new) slot stage)) (sym rows)
-    (subst (λ (t : State). IsTried (slice_index_or jobs (place_at turns workers slot) job) password (row_of (slice_index_or new slot x)) t) (sym stages)
+    let rows : slice_index_or (map row_of new) slot row ≡ row_of
+    (slice_index_or new slot x) = get_or-map row_of new slot x row (omega arith) in
+    let stages : slice_index_or (map stage_of new) slot stage ≡ stage_of
+    (slice_index_or new slot x) = get_or-map stage_of new slot x stage (omega arith) in
+    subst (λ (r : Row). IsTried (slice_index_or jobs
+    (place_at turns workers slot) job) password r (slice_index_or
+    (map stage_of new) slot stage)) (sym rows)
+    (subst (λ (t : State). IsTried (slice_index_or jobs
+    (place_at turns workers slot) job) password (row_of (slice_index_or new slot x)) t)
+    (sym stages)
     (run.tried job there))
 
 -- a slot without a job
-unused_at : {X : Type 0} (old new : List X) (tells_of : X → List ℕ → Option Told) (stage_of : X → State) (row_of : X → Row)
-    (turns workers : ℕ) (jobs : List Job) (password : List ℕ) → length old ≡ turns * workers → length new ≡ length old
-    → EachChange (λ slot o n. IsRun turns workers jobs password slot (tells_of o) (stage_of n) (row_of n)) old new
-    → (slot : ℕ) (stage : State) → slot < length old → length jobs ≤ place_at turns workers slot → slice_index_or (map stage_of new) slot stage ≡ unused
-unused_at old new tells_of stage_of row_of turns workers jobs password count same each slot stage within free =
+unused_at : {X : Type 0} (old new : List X) (tells_of : X → List ℕ → Option Told) (stage_of : X
+    → State) (row_of : X → Row)
+    (turns workers : ℕ) (jobs : List Job) (password : List ℕ) → length old ≡ turns * workers
+    → length new ≡ length old
+    → EachChange (λ slot o n. IsRun turns workers jobs password slot (tells_of o) (stage_of n)
+    (row_of n)) old new
+    → (slot : ℕ) (stage : State) → slot < length old → length jobs ≤ place_at turns workers slot
+    → slice_index_or (map stage_of new) slot stage ≡ unused
+unused_at old new tells_of stage_of row_of turns workers jobs password count same each slot stage
+    within free =
     let x = an_element old slot within in
     get_or-map stage_of new slot x stage (omega arith) ∙ (each slot x within).others free
 
 -- what all jobs did
-pub are_tried : {X : Type 0} (old new : List X) (tells_of : X → List ℕ → Option Told) (stage_of : X → State) (row_of : X → Row)
-    (turns workers : ℕ) (jobs : List Job) (password : List ℕ) (blank lines : List Line) → 0 < workers → length jobs < turns * workers
-    → map (λ (l : Line). l.id) blank ≡ map (λ (j : Job). j.id) jobs → length old ≡ turns * workers → length new ≡ length old
-    → EachChange (λ slot o n. IsRun turns workers jobs password slot (tells_of o) (stage_of n) (row_of n)) old new
-    → Gathers turns workers blank (map row_of new) (length blank) lines → AreTried turns workers jobs password lines (map stage_of new)
-are_tried old new tells_of stage_of row_of turns workers jobs password blank lines some few names count same each gathers =
+pub are_tried : {X : Type 0} (old new : List X) (tells_of : X → List ℕ
+    → Option Told) (stage_of : X → State) (row_of : X → Row)
+    (turns workers : ℕ) (jobs : List Job) (password : List ℕ) (blank lines : List Line)
+    → 0 < workers → length jobs < turns * workers
+    → map (λ (l : Line). l.id) blank ≡ map (λ (j : Job). j.id) jobs
+    → length old ≡ turns * workers → length new ≡ length old
+    → EachChange (λ slot o n. IsRun turns workers jobs password slot (tells_of o) (stage_of n)
+    (row_of n)) old new
+    → Gathers turns workers blank (map row_of new) (length blank) lines
+    → AreTried turns workers jobs password lines (map stage_of new)
+are_tried old new tells_of stage_of row_of turns workers jobs password blank lines some few names
+    count same each gathers =
     let long : length blank ≡ length jobs = same_length jobs blank names in
     record {
       of_jobs = λ i job line stage below.
           let back = place_back turns workers i some (omega arith) in
           let slot = slot_below turns workers i some (omega arith) in
-          let there : place_at turns workers (slot_at turns workers i) < length jobs = rw back below in
-          let is = tried_at old new tells_of stage_of row_of turns workers jobs password count same each (slot_at turns workers i) job
+          let there : place_at turns workers
+          (slot_at turns workers i) < length jobs = rw back below in
+          let is = tried_at old new tells_of stage_of row_of turns workers jobs password count
+          same each (slot_at turns workers i) job
           (slice_index_or lines i line).row stage slot there in
           rw (gathers.rows i line (slice_index_or lines i line).row (omega arith)) (rw back at is);
       others = λ slot stage below free.
-          unused_at old new tells_of stage_of row_of turns workers jobs password count same each slot stage
+          unused_at old new tells_of stage_of row_of turns workers jobs password count same each
+          slot stage
           (let within : slot < length old = omega (arith, length-map new stage_of) in within) free;
     }
 
 -- what comes of a slot, by values that are equal
-pub run_moved : {X : Type 0} (old here new there : X) (tells_of : X → List ℕ → Option Told) (stage_of : X → State) (row_of : X → Row)
+pub run_moved : {X : Type 0} (old here new there : X) (tells_of : X → List ℕ
+    → Option Told) (stage_of : X → State) (row_of : X → Row)
     (turns workers : ℕ) (jobs : List Job) (password : List ℕ) (slot : ℕ) → here ≡ old → there ≡ new
     → IsRun turns workers jobs password slot (tells_of here) (stage_of there) (row_of there)
     → IsRun turns workers jobs password slot (tells_of old) (stage_of new) (row_of new)
-run_moved {X} old here new there tells_of stage_of row_of turns workers jobs password slot before after run =
-    subst (λ (n : X). IsRun turns workers jobs password slot (tells_of old) (stage_of n) (row_of n)) after
-    (subst (λ (o : X). IsRun turns workers jobs password slot (tells_of o) (stage_of there) (row_of there)) before run)
+run_moved {X} old here new there tells_of stage_of row_of turns workers jobs password slot before
+    after run =
+    subst (λ (n : X). IsRun turns workers jobs password slot (tells_of old) (stage_of n)
+    (row_of n)) after
+    (subst (λ (o : X). IsRun turns workers jobs password slot (tells_of o) (stage_of there)
+    (row_of there)) before run)
 
 -- what is written into all places of a list is there
 pub written : {T : Type 0} (n : ℕ) (xs ys : List T) → n ≡ length xs → take n (xs ++ ys) ≡ xs

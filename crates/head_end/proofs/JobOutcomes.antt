@@ -62,27 +62,38 @@ nothing_unknown : (verb : Verb) → outcome_of verb [] ≡ Unknown
 unfolding outcome_of
 nothing_unknown verb = ap (λ (p : Progress). unwrap_or p.outcome Unknown) (nothing_said verb)
 
-spoken : {E : Type 0} (verb : Verb) (password : List ℕ) (result : Result Outcome E) (after : Option (List Happening))
-    → HasConversed verb password (outcome_in result) after → HasRow verb password (row_in result) after
+spoken : {E : Type 0} (verb : Verb) (password : List ℕ) (result : Result Outcome E)
+    (after : Option (List Happening))
+    → HasConversed verb password (outcome_in result) after
+    → HasRow verb password (row_in result) after
 spoken verb password result None said = tt
 spoken verb password (Ok outcome) (Some log) said = said
 spoken verb password (Err error) (Some log) said = said
 
-has_row : {E : Type 0} (verb : Verb) (password : List ℕ) (client : Client) (before after : Option (List Happening)) (result : Result Outcome E)
-    → Stands verb password [] 0 false client → IsNewLog before → Speaks client before result after → HasRow verb password (row_in result) after
+has_row : {E : Type 0} (verb : Verb) (password : List ℕ) (client : Client) (before after : Option
+    (List Happening)) (result : Result Outcome E)
+    → Stands verb password [] 0 false client → IsNewLog before
+    → Speaks client before result after → HasRow verb password (row_in result) after
 has_row verb password client None after result stands new speaks = rw (speaks.unknown refl) tt
 has_row verb password client (Some log) after result stands new speaks =
-    spoken verb password result after (speaks.on verb password stands (ap (λ (l : List Happening). Some l) new))
+    spoken verb password result after (speaks.on verb password stands (ap (λ
+    (l : List Happening). Some l) new))
 
 -- the connection was closed
-pub tried_closed : {E : Type 0} (job : Job) (password : List ℕ) (client : Client) (before after : Option (List Happening)) (result : Result Outcome E)
-    → Stands job.verb password [] 0 false client → IsNewLog before → Speaks client before result after
+pub tried_closed : {E : Type 0} (job : Job) (password : List ℕ) (client : Client)
+    (before after : Option (List Happening)) (result : Result Outcome E)
+    → Stands job.verb password [] 0 false client → IsNewLog before
+    → Speaks client before result after
     → IsTried job password (row_in result) (closed job.address after)
 tried_closed job password client before after result stands new speaks =
     (refl, has_row job.verb password client before after result stands new speaks)
 
 -- no connection was made
-pub tried_refused : (job : Job) (password : List ℕ) (client : Client) (outcome : Outcome) → Stands job.verb password [] 0 false client
+pub tried_refused : (job : Job) (password : List ℕ) (client : Client) (outcome : Outcome)
+    → Stands job.verb password [] 0 false client
     → GivesUp client outcome → IsTried job password (Came outcome) (refused job.address)
-tried_refused job password client outcome stands gives =
-    (refl, ap Came (gives_at job.verb password [] 0 client outcome gives stands ∙ nothing_unknown job.verb))
+tried_refused job password client outcome stands gives = (
+  refl,
+  ap Came (gives_at job.verb password [] 0 client outcome gives stands
+      ∙ nothing_unknown job.verb),
+)

@@ -70,7 +70,6 @@ wrong_by text old new number rest line lines (fault.Line wrong) left taken adds 
     taken_all text old number rest line lines left taken
     ∙ ap (λ (r : Result (List Job) ℕ). joined_jobs (joined_jobs (Ok old) r) (jobs_in (suc number) lines)) adds
 wrong_by text old new number rest line lines fault.Memory left taken adds = tt
-wrong_by text old new number rest line lines fault.TooLong left taken adds = adds
 wrong_by text old new number rest line lines fault.TooMany left taken adds = adds
 
 pub wrong_line : (text : List ℕ) (old new : List Job) (number : ℕ) (rest line behind : List ℕ) (f : JobsFault) → Left text old number rest

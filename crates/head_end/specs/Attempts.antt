@@ -13,7 +13,8 @@ use Rattle.head_end.specs.declared.row.Row.TheVariants.{Came, Memory}
 use Rattle.head_end.specs.Logs.{Happening}
 use Rattle.head_end.specs.Wires.{HasConversed}
 
--- unused; used for an address, which refused; or which gave a connection, that is open, or closed with this log
+-- unused; used for an address, which refused; or which gave a connection, that is open, or closed
+-- with this log
 pub data State : Type 0 where
   unused : State
   refused : List ℕ → State
@@ -39,14 +40,17 @@ close_state log (connected address) = closed address log
 close_state log (closed address before) = closed address before
 
 -- the state by an attempt's parts
-abbrev pub used_state : {K : Type 0} → (K → Option (List Happening)) → List ℕ → Bool → Option (Snapshot K) → State
+abbrev pub used_state : {K : Type 0} → (K → Option (List Happening)) → List ℕ → Bool
+    → Option (Snapshot K) → State
 used_state log_of address true connection = refused address
 used_state log_of address false None = connected address
 used_state log_of address false (Some connection) = closed address (log_of connection.value)
 
-abbrev pub state_of : {K : Type 0} → (K → Option (List Happening)) → Option (Snapshot (List ℕ)) → Bool → Option (Snapshot K) → State
+abbrev pub state_of : {K : Type 0} → (K → Option (List Happening)) → Option (Snapshot (List ℕ))
+    → Bool → Option (Snapshot K) → State
 state_of log_of None is_refused connection = unused
-state_of log_of (Some address) is_refused connection = used_state log_of address.value is_refused connection
+state_of log_of
+    (Some address) is_refused connection = used_state log_of address.value is_refused connection
 
 -- ---- what a job does with its attempt
 
@@ -59,13 +63,15 @@ abbrev pub HasRow : Verb → List ℕ → Row → Option (List Happening) → Ty
 HasRow verb password row None = ⊤
 HasRow verb password row (Some log) = HasConversed verb password (row_outcome row) (Some log)
 
--- nothing, if there was no memory for its texts; a connect to its address that was refused; or one connection to its
--- address, which was closed after a conversation of its verb with this password, whose outcome is the row
+-- nothing, if there was no memory for its texts; a connect to its address that was refused; or one
+-- connection to its address, which was closed after a conversation of its verb with this password,
+-- whose outcome is the row
 abbrev pub IsTried : Job → List ℕ → Row → State → Type 0
 IsTried job password row unused = row ≡ Memory
 IsTried job password row (refused address) = (address ≡ job.address) × (row ≡ Came Unknown)
 IsTried job password row (connected address) = ⊥
-IsTried job password row (closed address log) = (address ≡ job.address) × HasRow job.verb password row log
+IsTried job password row (closed address log) = (address ≡ job.address)
+    × HasRow job.verb password row log
 
 -- the row of a job that ended so
 abbrev pub row_in : {E : Type 0} → Result Outcome E → Row

@@ -27,18 +27,27 @@ turns_for jobs workers = jobs / workers + 1
 abbrev pub slots_for : (jobs workers : ℕ) → ℕ
 slots_for jobs workers = turns_for jobs workers * workers
 
--- what comes of a slot: the row of its job, and what the job did with its attempt. Without a job the attempt is unused
-pub record IsRun (turns workers : ℕ) (jobs : List Job) (password : List ℕ) (slot : ℕ) (tells : List ℕ → Option Told) (stage : State) (row : Row) : Type 0 where
-  pub row_is : (job : Job) → place_at turns workers slot < length jobs → IsRow tells (slice_index_or jobs (place_at turns workers slot) job) row
-  pub tried : (job : Job) → place_at turns workers slot < length jobs → IsTried (slice_index_or jobs (place_at turns workers slot) job) password row stage
+-- what comes of a slot: the row of its job, and what the job did with its attempt. Without a job
+-- the attempt is unused
+pub record IsRun (turns workers : ℕ) (jobs : List Job) (password : List ℕ) (slot : ℕ)
+    (tells : List ℕ → Option Told) (stage : State) (row : Row) : Type 0 where
+  pub row_is : (job : Job) → place_at turns workers slot < length jobs
+      → IsRow tells (slice_index_or jobs (place_at turns workers slot) job) row
+  pub tried : (job : Job) → place_at turns workers slot < length jobs
+      → IsTried (slice_index_or jobs (place_at turns workers slot) job) password row stage
   pub others : length jobs ≤ place_at turns workers slot → stage ≡ unused
 
 -- a relation between the elements of two lists, place by place
 abbrev pub EachChange : {X : Type 0} → (ℕ → X → X → Type 0) → List X → List X → Type 0
-EachChange {X} R old new = (i : ℕ) (x : X) → i < length old → R i (slice_index_or old i x) (slice_index_or new i x)
+EachChange {X} R old new = (i : ℕ) (x : X) → i < length old
+    → R i (slice_index_or old i x) (slice_index_or new i x)
 
--- what each job did with the attempt of its slot, by its line; the attempts of slots without a job are unused
-pub record AreTried (turns workers : ℕ) (jobs : List Job) (password : List ℕ) (lines : List Line) (stages : List State) : Type 0 where
+-- what each job did with the attempt of its slot, by its line; the attempts of slots without a job
+-- are unused
+pub record AreTried (turns workers : ℕ) (jobs : List Job) (password : List ℕ) (lines : List Line)
+    (stages : List State) : Type 0 where
   pub of_jobs : (i : ℕ) (job : Job) (line : Line) (stage : State) → i < length jobs
-      → IsTried (slice_index_or jobs i job) password (slice_index_or lines i line).row (slice_index_or stages (slot_at turns workers i) stage)
-  pub others : (slot : ℕ) (stage : State) → slot < length stages → length jobs ≤ place_at turns workers slot → slice_index_or stages slot stage ≡ unused
+      → IsTried (slice_index_or jobs i job) password (slice_index_or lines i line).row
+      (slice_index_or stages (slot_at turns workers i) stage)
+  pub others : (slot : ℕ) (stage : State) → slot < length stages
+      → length jobs ≤ place_at turns workers slot → slice_index_or stages slot stage ≡ unused

@@ -58,8 +58,10 @@ pub record Converses (old : Client) (before : Option Told) (outcome : Outcome) :
 
 -- ---- what goes over the connection
 
--- a client that was fed what was heard, and gave what was sent. Whatever goes on in its turn from here, the whole is a conversation
-pub record Talks (verb : Verb) (password : List ℕ) (reads : ℕ) (client : Client) (now : Option (List Happening)) : Type 0 where
+-- a client that was fed what was heard, and gave what was sent. Whatever goes on in its turn from
+-- here, the whole is a conversation
+pub record Talks (verb : Verb) (password : List ℕ) (reads : ℕ) (client : Client) (now : Option
+    (List Happening)) : Type 0 where
   pub log : List Happening
   pub log_is : now ≡ Some log
   pub given : ℕ
@@ -67,20 +69,24 @@ pub record Talks (verb : Verb) (password : List ℕ) (reads : ℕ) (client : Cli
   pub sent_is : sent_in log ≡ given_text verb password given
   pub within : given ≤ length (due verb password (progress_of verb (heard_in log)))
   pub reads_are : reads_in log ≡ reads
-  pub more : (whole : Bool) (next : List Happening) → GoesOn whole verb password log next → GoesOn whole verb password [] (log ++ next)
+  pub more : (whole : Bool) (next : List Happening) → GoesOn whole verb password log next
+      → GoesOn whole verb password [] (log ++ next)
 
 -- all that is due was sent
-pub record HasSent (verb : Verb) (password : List ℕ) (reads : ℕ) (client : Client) (now : Option (List Happening)) : Type 0 where
+pub record HasSent (verb : Verb) (password : List ℕ) (reads : ℕ) (client : Client) (now : Option
+    (List Happening)) : Type 0 where
   pub talks : Talks verb password reads client now
   pub all_is : sent_in talks.log ≡ due_text verb password (heard_in talks.log)
 
 -- and the outcome is not settled: a read comes next
-pub record Waits (verb : Verb) (password : List ℕ) (reads : ℕ) (client : Client) (now : Option (List Happening)) : Type 0 where
+pub record Waits (verb : Verb) (password : List ℕ) (reads : ℕ) (client : Client) (now : Option
+    (List Happening)) : Type 0 where
   pub talks : Talks verb password reads client now
   pub listens : Listens verb password talks.log
 
 -- a write failed
-pub record IsCut (verb : Verb) (password : List ℕ) (client : Client) (now : Option (List Happening)) : Type 0 where
+pub record IsCut (verb : Verb) (password : List ℕ) (client : Client) (now : Option
+    (List Happening)) : Type 0 where
   pub log : List Happening
   pub log_is : now ≡ Some log
   pub given : ℕ
@@ -92,18 +98,25 @@ abbrev pub SentAfter : Bool → Verb → List ℕ → ℕ → Client → Option 
 SentAfter true verb password reads client now = HasSent verb password reads client now
 SentAfter false verb password reads client now = IsCut verb password client now
 
-pub record Sends (old : Client) (before : Option (List Happening)) (result : Bool) (new : Client) (after : Option (List Happening)) : Type 0 where
-  pub on : (verb : Verb) (password : List ℕ) (reads : ℕ) → Talks verb password reads old before → SentAfter result verb password reads new after
+pub record Sends (old : Client) (before : Option (List Happening)) (result : Bool) (new : Client)
+    (after : Option (List Happening)) : Type 0 where
+  pub on : (verb : Verb) (password : List ℕ) (reads : ℕ) → Talks verb password reads old before
+      → SentAfter result verb password reads new after
   pub unknown : before ≡ None → after ≡ None
 
 -- after a read the next one comes, or the conversation is over, or it is cut short out of memory
-abbrev pub TurnAfter : {E : Type 0} → Result (Option Outcome) E → Verb → List ℕ → ℕ → Client → Option (List Happening) → Type 0
+abbrev pub TurnAfter : {E : Type 0} → Result (Option Outcome) E → Verb → List ℕ → ℕ → Client
+    → Option (List Happening) → Type 0
 TurnAfter (Ok None) verb password reads client now = Waits verb password reads client now
-TurnAfter (Ok (Some outcome)) verb password reads client now = HasConversed verb password (Some outcome) now
+TurnAfter (Ok (Some outcome)) verb password reads client now = HasConversed verb password
+    (Some outcome) now
 TurnAfter (Err error) verb password reads client now = HasConversed verb password None now
 
-pub record TakesTurn {E : Type 0} (old : Client) (before : Option (List Happening)) (result : Result (Option Outcome) E) (new : Client) (after : Option (List Happening)) : Type 0 where
-  pub on : (verb : Verb) (password : List ℕ) (reads : ℕ) → Waits verb password reads old before → TurnAfter result verb password (suc reads) new after
+pub record TakesTurn {E : Type 0} (old : Client) (before : Option (List Happening))
+    (result : Result (Option Outcome) E) (new : Client) (after : Option
+    (List Happening)) : Type 0 where
+  pub on : (verb : Verb) (password : List ℕ) (reads : ℕ) → Waits verb password reads old before
+      → TurnAfter result verb password (suc reads) new after
   pub unknown : before ≡ None → after ≡ None
 
 -- the outcome, if memory did not run out
@@ -112,6 +125,8 @@ outcome_in (Ok outcome) = Some outcome
 outcome_in (Err error) = None
 
 -- what a new client and a new connection come to is a conversation
-pub record Speaks {E : Type 0} (old : Client) (before : Option (List Happening)) (result : Result Outcome E) (after : Option (List Happening)) : Type 0 where
-  pub on : (verb : Verb) (password : List ℕ) → Stands verb password [] 0 false old → before ≡ Some [] → HasConversed verb password (outcome_in result) after
+pub record Speaks {E : Type 0} (old : Client) (before : Option (List Happening))
+    (result : Result Outcome E) (after : Option (List Happening)) : Type 0 where
+  pub on : (verb : Verb) (password : List ℕ) → Stands verb password [] 0 false old
+      → before ≡ Some [] → HasConversed verb password (outcome_in result) after
   pub unknown : before ≡ None → after ≡ None

@@ -3,7 +3,7 @@
 --     job_of            the job of a line
 --     jobs_in           the jobs of lines, or the number of the first wrong line
 --     jobs_of           the jobs of a text, or what is wrong with it
-use Rattle.std.specs.Prelude.{◌≡◌, ℕ, suc, Bool, ◌&&◌, nat_lt, nat_le, if◌then◌else◌, List, [], ◌∷◌, ◌++◌, length, codes, bytes_eq, Option, Some, None, Result, Ok, Err}
+use Rattle.std.specs.Prelude.{◌≡◌, ℕ, suc, Bool, ◌&&◌, nat_lt, nat_le, if◌then◌else◌, List, [], ◌∷◌, ◌++◌, length, codes, decimal, bytes_eq, Option, Some, None, Result, Ok, Err}
 use Rattle.std.specs.List.{list_all}
 use Rattle.trace_text.specs.Lines.{lines_of, unended_of}
 use Rattle.trace_text.specs.Words.{words_of}
@@ -69,29 +69,36 @@ abbrev pub limited_jobs : Result (List Job) ℕ → Result (List Job) JobsFault
 limited_jobs (Err number) = Err (fault.Line number)
 limited_jobs (Ok jobs) = if nat_lt 1000 (length jobs) then Err fault.TooMany else Ok jobs
 
--- the jobs of a text of at most 1,048,576 bytes
+-- the jobs of a text: a wrong line comes before too many jobs
 unfoldable pub jobs_of : List ℕ → Result (List Job) JobsFault
-jobs_of text = if nat_lt 1048576 (length text) then Err fault.TooLong else limited_jobs (jobs_in 1 (job_lines text))
+jobs_of text = limited_jobs (jobs_in 1 (job_lines text))
 
 -- a text was read: its jobs, or what is wrong with it, or memory ran out
 abbrev pub ReadsJobs : List ℕ → Result (List Job) JobsFault → Type 0
 ReadsJobs text (Ok jobs) = jobs_of text ≡ Ok jobs
 ReadsJobs text (Err fault.Memory) = Unit {0}
-ReadsJobs text (Err fault.TooLong) = jobs_of text ≡ Err fault.TooLong
 ReadsJobs text (Err (fault.Line number)) = jobs_of text ≡ Err (fault.Line number)
 ReadsJobs text (Err fault.TooMany) = jobs_of text ≡ Err fault.TooMany
+
+-- the line `jobs N`, ended by the byte 0A
+abbrev pub count_text : ℕ → List ℕ
+count_text count = (codes "jobs " ++ decimal count) ++ 10 ∷ []
+
+-- a text was counted: the number of its jobs, or what is wrong with it
+abbrev pub CountsJobs : List ℕ → Result (List ℕ) JobsFault → Type 0
+CountsJobs text (Ok out) = (jobs : List Job) × (jobs_of text ≡ Ok jobs)
+    × (out ≡ count_text (length jobs))
+CountsJobs text (Err fault) = ReadsJobs text (Err fault)
 
 -- what reading lines answers, and adding one
 abbrev pub ReadsLines : ℕ → List (List ℕ) → Result (List Job) JobsFault → Type 0
 ReadsLines number lines (Ok jobs) = jobs_in number lines ≡ Ok jobs
 ReadsLines number lines (Err (fault.Line wrong)) = jobs_in number lines ≡ Err wrong
 ReadsLines number lines (Err fault.Memory) = Unit {0}
-ReadsLines number lines (Err fault.TooLong) = ⊥
 ReadsLines number lines (Err fault.TooMany) = ⊥
 
 abbrev pub AddsJob : {X : Type 0} → ℕ → List ℕ → List Job → Result X JobsFault → List Job → Type 0
 AddsJob number line old (Ok x) new = (added : List Job) × (jobs_at number line (job_of line) ≡ Ok added) × (new ≡ old ++ added)
 AddsJob number line old (Err (fault.Line wrong)) new = jobs_at number line (job_of line) ≡ Err wrong
 AddsJob number line old (Err fault.Memory) new = Unit {0}
-AddsJob number line old (Err fault.TooLong) new = ⊥
 AddsJob number line old (Err fault.TooMany) new = ⊥

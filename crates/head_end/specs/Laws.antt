@@ -2,14 +2,18 @@
 --     line_told         the line of a job whose meter's connection is told
 --     AreTold           so it is for all jobs
 --     HaveMemory        no job met want of memory
+--     Reports           a text is the report of jobs that were run
 --     campaign_text     the report of jobs, as a function of what the connector tells
-use Rattle.std.specs.Prelude.{◌≡◌, ◌≢◌, ℕ, List, [], ◌∷◌, ◌++◌, map, Option, Some, None, IsSome, Ok, ⊤}
+use Rattle.std.specs.Prelude.{◌≡◌, ◌≢◌, ℕ, List, [], ◌∷◌, ◌++◌, length, map, Option, Some, None, IsSome, Ok, ⊤}
+use Rattle.std.specs.List.{All}
 use Rattle.trace_text.specs.Lines.{unended_of}
 use Rattle.client_core.specs.declared.job.Job.{Job}
 use Rattle.client_core.specs.declared.job.Outcome.TheVariants.{Unknown}
 use Rattle.client_core.specs.Outcomes.{outcome_of}
 use Rattle.head_end.specs.declared.row.Row.TheVariants.{Came, Memory}
 use Rattle.head_end.specs.declared.row.Line.{Line}
+use Rattle.head_end.specs.Attempts.{State}
+use Rattle.head_end.specs.Campaigns.{turns_for, AreTried}
 use Rattle.head_end.specs.Connections.{Told}
 use Rattle.head_end.specs.Jobs.{job_lines, jobs_in}
 use Rattle.head_end.specs.Reports.{report_text}
@@ -55,3 +59,14 @@ IsTheReport = (tells : List ℕ → Option Told) (jobs : List Job) (lines : List
 abbrev pub JobsJoin : Type 0
 JobsJoin = (text rest : List ℕ) (jobs others : List Job) → unended_of text ≡ [] → jobs_in 1 (job_lines text) ≡ Ok jobs → jobs_in 1 (job_lines rest) ≡ Ok others
     → jobs_in 1 (job_lines (text ++ rest)) ≡ Ok (jobs ++ others)
+
+-- the text is the report of lines that are those of the jobs, each of which used its attempt as it
+-- should
+pub record Reports {X : Type 0} (tells_of : X → List ℕ
+    → Option Told) (workers : ℕ) (jobs : List Job) (password : List ℕ) (old : List X)
+    (stages : List State) (text : List ℕ) : Type 0 where
+  pub lines : List Line
+  pub text_is : text ≡ report_text lines
+  pub lines_are : (tells : List ℕ → Option Told) → All (λ x. tells_of x ≡ tells) old
+      → AreLines tells jobs lines
+  pub tried : AreTried (turns_for (length jobs) workers) workers jobs password lines stages

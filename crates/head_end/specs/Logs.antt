@@ -40,10 +40,12 @@ reads_in (cut_off bytes ∷ later) = reads_in later
 -- ---- what calls add to a log; one that is not known stays so
 
 -- a read adds the bytes that it gave, or that it gave none
-abbrev pub ReadLogs : Option (List Happening) → Result ℕ StreamFault → List ℕ → Option (List Happening) → Type 0
+abbrev pub ReadLogs : Option (List Happening) → Result ℕ StreamFault → List ℕ
+    → Option (List Happening) → Type 0
 ReadLogs None result buffer new = new ≡ None
 ReadLogs (Some log) (Ok zero) buffer new = new ≡ Some (log ++ heard_nothing ∷ [])
-ReadLogs (Some log) (Ok (suc count)) buffer new = new ≡ Some (log ++ heard (take (suc count) buffer) ∷ [])
+ReadLogs (Some log) (Ok (suc count)) buffer new = new ≡ Some (log ++ heard (take
+    (suc count) buffer) ∷ [])
 ReadLogs (Some log) (Err fault) buffer new = new ≡ Some (log ++ heard_nothing ∷ [])
 
 -- a front of a text
@@ -52,12 +54,14 @@ pub record IsFront (front text : List ℕ) : Type 0 where
   pub parts : text ≡ front ++ rest
 
 -- a write failed after a front of its text
-pub record IsCutOff (text : List ℕ) (log : List Happening) (new : Option (List Happening)) : Type 0 where
+pub record IsCutOff (text : List ℕ) (log : List Happening) (new : Option
+    (List Happening)) : Type 0 where
   pub front : List ℕ
   pub is_front : IsFront front text
   pub new_is : new ≡ Some (log ++ cut_off front ∷ [])
 
-abbrev pub WriteLogs : {X : Type 0} → Option (List Happening) → List ℕ → Result X StreamFault → Option (List Happening) → Type 0
+abbrev pub WriteLogs : {X : Type 0} → Option (List Happening) → List ℕ → Result X StreamFault
+    → Option (List Happening) → Type 0
 WriteLogs None text result new = new ≡ None
 WriteLogs (Some log) text (Ok x) new = new ≡ Some (log ++ sent text ∷ [])
 WriteLogs (Some log) text (Err fault) new = IsCutOff text log new

@@ -49,8 +49,8 @@ impl<K: Connection> Stage<K> {
 
 /// One attempt to reach a meter: at most one connection, whose log contracts see once it is closed.
 ///
-/// A job gets an attempt of its own. So the contract of what runs the job says how many connections it made, to which
-/// address, and what went over them.
+/// A job gets an attempt of its own. So the contract of what runs the job says how many connections
+/// it made, to which address, and what went over them.
 #[derive(Drop)]
 pub struct Attempt<'a, C: Connector> {
     connector: &'a C,
@@ -77,7 +77,8 @@ impl<'a, C: Connector> Attempt<'a, C> {
     /// Connects to the meter at an address. From then on the attempt is used.
     pub fn connect(&mut self, address: &Octets) -> Result<C::Connection, ConnectFault>
         requires { self.old.stage ≡ unused }
-        ensures told { ConnectTells (C.tells self.old.source.value address.now) C.Connection.told result }
+        ensures told { ConnectTells
+            (C.tells self.old.source.value address.now) C.Connection.told result }
         ensures log { IfOk result (λ connection. IsNewLog (C.Connection.log connection)) }
         ensures used { self.new.stage ≡ connect_state address.now result }
         ensures source { self.new.source.value ≡ self.old.source.value }

@@ -22,11 +22,12 @@ use std::alloc::{AllocError, Global};
 use std::thread;
 use std::thread::Threads;
 
-/// Runs all jobs on 1 to 16 workers, and returns their lines in the order of the jobs. The password has 1 to 32 bytes.
+/// Runs all jobs on 1 to 16 workers, and returns their lines in the order of the jobs. The password
+/// has 1 to 32 bytes.
 ///
-/// Each job has one attempt, that of its place, and uses it as `run_job` does. Jobs that are next to one another are run
-/// by different workers. All memory of the report is allocated before the first connection is made: an error leaves all
-/// places unchanged.
+/// Each job has one attempt, that of its place, and uses it as `run_job` does. Jobs that are next
+/// to one another are run by different workers. All memory of the report is allocated before the
+/// first connection is made: an error leaves all places unchanged.
 pub fn run_campaign<R: Threads + Sync, C: Connector>(
     rt: &R,
     alloc: Global,
@@ -40,9 +41,11 @@ pub fn run_campaign<R: Threads + Sync, C: Connector>(
     requires password { IsPassword password.now }
     requires count { length places.old ≡ slots_for (length jobs.now) workers }
     requires unused { All (λ place. place.attempt.stage ≡ unused) places.old }
-    ensures lines { IfOk result (λ lines. (tells : List ℕ → Option Told) → All (λ place. C.tells place.attempt.source.value ≡ tells) places.old
+    ensures lines { IfOk result (λ lines. (tells : List ℕ → Option Told)
+        → All (λ place. C.tells place.attempt.source.value ≡ tells) places.old
         → AreLines tells jobs.now lines) }
-    ensures tried { IfOk result (λ lines. AreTried (turns_for (length jobs.now) workers) workers jobs.now password.now lines
+    ensures tried { IfOk result (λ lines. AreTried (turns_for (length jobs.now) workers)
+        workers jobs.now password.now lines
         (map (λ place. place.attempt.stage) places.new)) }
     ensures unchanged_on_error { OnErr result (places.new ≡ places.old) }
 {
@@ -64,9 +67,11 @@ pub fn run_watched_campaign<R: Threads + Sync, C: Connector, W: Watcher>(
     requires password { IsPassword password.now }
     requires count { length places.old ≡ slots_for (length jobs.now) workers }
     requires unused { All (λ place. place.attempt.stage ≡ unused) places.old }
-    ensures lines { IfOk result (λ lines. (tells : List ℕ → Option Told) → All (λ place. C.tells place.attempt.source.value ≡ tells) places.old
+    ensures lines { IfOk result (λ lines. (tells : List ℕ → Option Told)
+        → All (λ place. C.tells place.attempt.source.value ≡ tells) places.old
         → AreLines tells jobs.now lines) }
-    ensures tried { IfOk result (λ lines. AreTried (turns_for (length jobs.now) workers) workers jobs.now password.now lines
+    ensures tried { IfOk result (λ lines. AreTried (turns_for (length jobs.now) workers)
+        workers jobs.now password.now lines
         (map (λ place. place.attempt.stage) places.new)) }
     ensures unchanged_on_error { OnErr result (places.new ≡ places.old) }
 {
@@ -87,7 +92,8 @@ pub fn run_watched_campaign<R: Threads + Sync, C: Connector, W: Watcher>(
     Ok(Listed::from_vec(lines))
 }
 
-/// Runs all jobs, and puts their rows into their lines. It allocates nothing but for the conversations of the jobs.
+/// Runs all jobs, and puts their rows into their lines. It allocates nothing but for the
+/// conversations of the jobs.
 fn fill<R: Threads + Sync, C: Connector, W: Watcher>(
     rt: &R,
     alloc: Global,
@@ -106,9 +112,11 @@ fn fill<R: Threads + Sync, C: Connector, W: Watcher>(
     requires password { IsPassword password.now }
     requires unused { All (λ place. place.attempt.stage ≡ unused) places.old }
     requires names { map (λ line. line.id) lines.old ≡ map (λ job. job.id) jobs.now }
-    ensures lines { (tells : List ℕ → Option Told) → All (λ place. C.tells place.attempt.source.value ≡ tells) places.old
+    ensures lines { (tells : List ℕ → Option Told)
+        → All (λ place. C.tells place.attempt.source.value ≡ tells) places.old
         → AreLines tells jobs.now lines.new }
-    ensures tried { AreTried turns workers jobs.now password.now lines.new (map (λ place. place.attempt.stage) places.new) }
+    ensures tried { AreTried turns workers jobs.now password.now lines.new
+        (map (λ place. place.attempt.stage) places.new) }
     ensures len { length lines.new ≡ length lines.old }
 {
     work(rt, alloc, jobs, password, turns, workers, watcher, places);
@@ -146,7 +154,8 @@ fn work<R: Threads + Sync, C: Connector, W: Watcher>(
     requires slots { length places.old ≡ turns * workers }
     requires password { IsPassword password.now }
     requires unused { All (λ place. place.attempt.stage ≡ unused) places.old }
-    ensures { EachChange (λ slot old new. IsRun turns workers jobs.now password.now slot (C.tells old.attempt.source.value)
+    ensures { EachChange (λ slot old new. IsRun turns workers jobs.now password.now slot
+        (C.tells old.attempt.source.value)
         new.attempt.stage new.row) places.old places.new }
 {
     thread::for_each_mut(
@@ -154,8 +163,11 @@ fn work<R: Threads + Sync, C: Connector, W: Watcher>(
         places,
         workers,
         &|slot, place|
-            requires { (0 < turns) × (slot < turns * workers) × (turns * workers < 2 ^ 64) × IsPassword password.now × (place.now.attempt.stage ≡ unused) }
-            ensures { IsRun turns workers jobs.entry.now password.entry.now slot (C.tells place.entry.now.attempt.source.value) place.exit.now.attempt.stage place.exit.now.row }
+            requires { (0 < turns) × (slot < turns * workers) × (turns * workers < 2 ^ 64)
+                × IsPassword password.now × (place.now.attempt.stage ≡ unused) }
+            ensures { IsRun turns workers jobs.entry.now password.entry.now slot
+                (C.tells place.entry.now.attempt.source.value) place.exit.now.attempt.stage
+                place.exit.now.row }
         {
             work_slot(alloc, jobs, password, turns, workers, watcher, slot, place);
         },
@@ -178,7 +190,8 @@ fn work_slot<C: Connector, W: Watcher>(
     requires fits { turns * workers < 2 ^ 64 }
     requires password { IsPassword password.now }
     requires unused { place.old.attempt.stage ≡ unused }
-    ensures { IsRun turns workers jobs.now password.now slot (C.tells place.old.attempt.source.value) place.new.attempt.stage place.new.row }
+    ensures { IsRun turns workers jobs.now password.now slot
+        (C.tells place.old.attempt.source.value) place.new.attempt.stage place.new.row }
 {
     if let Some(job) = jobs.get(place_of(turns, workers, slot)) {
         place.row = run_job(alloc, job, &mut place.attempt, password);
@@ -201,7 +214,8 @@ fn gather<C: Connector>(lines: &mut [Line], places: &[Place<C>], turns: usize, w
     requires workers { 0 < workers }
     requires slots { length places.now ≡ turns * workers }
     requires few { length lines.old < turns * workers }
-    ensures rows { (i : ℕ) (line : Line) (row : Row) → i < length lines.old → (slice_index_or lines.new i line).row
+    ensures rows { (i : ℕ) (line : Line) (row : Row) → i < length lines.old
+        → (slice_index_or lines.new i line).row
         ≡ slice_index_or (map (λ place. place.row) places.now) (slot_at turns workers i) row }
     ensures ids { (i : ℕ) (line : Line) → i < length lines.old → (slice_index_or lines.new i line).id ≡ (slice_index_or lines.old i line).id }
     ensures len { length lines.new ≡ length lines.old }

@@ -44,7 +44,8 @@ fn take_turn<K: Connection>(
     buffer: &mut [u8; MAX_READ],
 ) -> Result<Option<Outcome>, AllocError>
     ensures told { IfOk result (λ outcome. Turns client.old (K.told connection.old) outcome client.new (K.told connection.new)) }
-    ensures log { TakesTurn client.old (K.log connection.old) result client.new (K.log connection.new) }
+    ensures log { TakesTurn client.old (K.log connection.old) result client.new
+        (K.log connection.new) }
 {
     let count = match connection.read(buffer) {
         Ok(0) => return Ok(Some(give_up(client))),

@@ -7,12 +7,9 @@ use thiserror::Error;
 /// Why a text is no list of jobs.
 #[derive(Clone, Copy, Debug, PartialEq, Eq, Error)]
 pub enum JobsFault {
-    /// It has more than 1,048,576 bytes.
-    #[error("more than 1,048,576 bytes")]
-    TooLong,
     /// The first wrong line, counted from 1.
     #[error("line {0}")]
-    Line(u32),
+    Line(u64),
     /// There are more than 1,000 jobs.
     #[error("more than 1,000 jobs")]
     TooMany,

@@ -10,8 +10,6 @@ use listed::Listed;
 use std::alloc::{AllocError, Global};
 use trace_text::{Words, split_line};
 
-/// The longest text, in bytes.
-const MAX_TEXT: usize = 1_048_576;
 /// The most jobs.
 const MAX_JOBS: usize = 1_000;
 /// The longest name of a job, in bytes.
@@ -22,16 +20,13 @@ pub const MAX_ADDRESS: usize = 64;
 /// Reads the jobs of a text, one of each line `NAME ADDRESS VERB` with one blank between. The name has 1 to 32 and the address 1 to 64 bytes from 21 to 7E; the verb
 /// is `disconnect`, `reconnect` or `state`. Lines end with the byte 0A, which the last may lack; empty lines are skipped.
 ///
-/// Errors, the first that holds: `TooLong` of more than 1,048,576 bytes, `Line` with the first wrong line, `TooMany` of more than 1,000 jobs. `Memory` where it runs
-/// out on the way.
+/// Errors: `Line` with the number of the first wrong line, counted from 1, even if there are too
+/// many jobs; `TooMany` if there are more than 1,000 jobs; `Memory` if it runs out.
 #[tactic(auto, unfolding(crate::specs::Jobs::jobs_of))]
 pub fn read_jobs(alloc: Global, text: &[u8]) -> Result<Listed<Job>, JobsFault>
     ensures read { ReadsJobs text.now result }
     ensures few { IfOk result (λ jobs. length jobs ≤ 1000) }
 {
-    if text.len() > MAX_TEXT {
-        return Err(JobsFault::TooLong);
-    }
     let jobs = read_lines(alloc, text)?;
     if jobs.len() > MAX_JOBS {
         return Err(JobsFault::TooMany);
@@ -41,12 +36,11 @@ pub fn read_jobs(alloc: Global, text: &[u8]) -> Result<Listed<Job>, JobsFault>
 
 /// Reads the jobs of all lines.
 fn read_lines(alloc: Global, text: &[u8]) -> Result<Listed<Job>, JobsFault>
-    requires { length text.now ≤ 1048576 }
     ensures { ReadsLines 1 (job_lines text.now) result }
 {
     let mut jobs = Listed::new(alloc);
     let mut rest = text;
-    let mut number: u32 = 1;
+    let mut number: u64 = 1;
     'lines: while let Some((line, behind)) = split_line(rest) {
         match add_job(alloc, number, line, &mut jobs) {
             Ok(()) => {}
@@ -62,7 +56,7 @@ fn read_lines(alloc: Global, text: &[u8]) -> Result<Listed<Job>, JobsFault>
 }
 
 /// Adds the job of a line, if the line is not empty.
-fn add_job(alloc: Global, number: u32, line: &[u8], jobs: &mut Listed<Job>) -> Result<(), JobsFault>
+fn add_job(alloc: Global, number: u64, line: &[u8], jobs: &mut Listed<Job>) -> Result<(), JobsFault>
     ensures { AddsJob number line.now jobs.old result jobs.new }
 {
     if line.is_empty() {

@@ -9,14 +9,16 @@ use crate::connection::Connector;
 use crate::row::Row;
 use std::alloc::{AllocError, Global};
 
-/// A place for a job: its attempt and its row. Each worker fills the places next to one another that are its own.
+/// A place for a job: its attempt and its row. Each worker fills the places next to one another
+/// that are its own.
 #[derive(Drop)]
 pub struct Place<'a, C: Connector> {
     pub attempt: Attempt<'a, C>,
     pub row: Row,
 }
 
-/// Returns the places for a campaign of so many jobs on so many workers, each with an unused attempt.
+/// Returns the places for a campaign of so many jobs on so many workers, each with an unused
+/// attempt.
 pub fn places_for<C: Connector>(
     alloc: Global,
     connector: &C,
@@ -25,8 +27,10 @@ pub fn places_for<C: Connector>(
 ) -> Result<Vec<Place<'_, C>>, AllocError>
     requires { 1 ≤ workers }
     ensures count { IfOk result (λ places. length places.items ≡ slots_for jobs workers) }
-    ensures unused { IfOk result (λ places. All (λ place. place.attempt.stage ≡ unused) places.items) }
-    ensures source { IfOk result (λ places. All (λ place. place.attempt.source.value ≡ connector.now) places.items) }
+    ensures unused { IfOk result (λ places. All (λ place. place.attempt.stage
+        ≡ unused) places.items) }
+    ensures source { IfOk result (λ places. All (λ place. place.attempt.source.value
+        ≡ connector.now) places.items) }
 {
     let workers = usize::from(workers);
     let turns = turns_for(jobs, workers).ok_or(AllocError)?;

@@ -42,16 +42,16 @@ fn put_row(row: Row, out: &mut Octets) -> Result<(), AllocError>
     ensures { OnOk result (out.new ≡ out.old ++ row_text row) }
 {
     match row {
-        Row::Came(Outcome::Done(number)) => put_number(b" done ", number, out),
-        Row::Came(Outcome::Refused(number)) => put_number(b" refused ", number, out),
-        Row::Came(Outcome::Rejected(number)) => put_number(b" rejected ", number, out),
+        Row::Came(Outcome::Done(number)) => put_number(b" done ", usize::from(number), out),
+        Row::Came(Outcome::Refused(number)) => put_number(b" refused ", usize::from(number), out),
+        Row::Came(Outcome::Rejected(number)) => put_number(b" rejected ", usize::from(number), out),
         Row::Came(Outcome::Unknown) => out.extend_from_slice(b" unknown"),
         Row::Memory => out.extend_from_slice(b" memory"),
     }
 }
 
 /// A word and a number.
-fn put_number(word: &[u8], number: u8, out: &mut Octets) -> Result<(), AllocError>
+pub fn put_number(word: &[u8], number: usize, out: &mut Octets) -> Result<(), AllocError>
     ensures { OnOk result (out.new ≡ out.old ++ (word.now ++ decimal number)) }
 {
     let mut buffer = Buffer::new();

@@ -14,8 +14,9 @@ use std::alloc::{AllocError, Global};
 
 /// Runs a job on one connection to its meter, and returns its row. The password has 1 to 32 bytes.
 ///
-/// The attempt is used for the job's address alone. Its connection is closed, after a conversation of the job's verb
-/// with this password. Only a job that is out of memory before it connects leaves the attempt unused.
+/// The attempt is used for the job's address alone. Its connection is closed, after a conversation
+/// of the job's verb with this password. Only a job that is out of memory before it connects leaves
+/// the attempt unused.
 pub fn run_job<C: Connector>(
     alloc: Global,
     job: &Job,
@@ -42,7 +43,8 @@ fn try_job<C: Connector>(
 ) -> Result<Outcome, AllocError>
     requires unused { attempt.old.stage ≡ unused }
     requires password { IsPassword password.now }
-    ensures outcome { IfOk result (IsOutcome (C.tells attempt.old.source.value job.now.address) job.now.verb) }
+    ensures outcome { IfOk result (IsOutcome
+        (C.tells attempt.old.source.value job.now.address) job.now.verb) }
     ensures tried { IsTried job.now password.now (row_in result) attempt.new.stage }
 {
     let mut client = Client::start(alloc, job, password)?;

@@ -1,70 +1,66 @@
 //! Connections over TCP, with limits of time.
-use crate::connection::{ConnectFault, Connection, Connector};
+ghost use Rattle.std.specs.Prelude.{◌≡◌, IfSome};
+
+use crate::connection::{ConnectFault, Connector};
+use crate::limited::{LimitedConnection, LimitedStream};
 use byte_streams::{Counted, Reader, StreamFault, Writer};
 use cosem_axdr::Octets;
 use std::net::{Net, TcpStream, ToSocketAddrs};
 use std::time::{Clock, Duration, Instant};
 
+/// The limits of time of a connector.
+#[derive(Clone, Copy, Debug, PartialEq, Eq)]
+pub struct Limits {
+    /// For a connect, to each IP address of a name.
+    pub connect: Duration,
+    /// For a whole connection, from then on.
+    pub answer: Duration,
+}
+
 /// Connects over TCP. An address is an IP address or a host's name, a colon and a port.
 ///
-/// A meter that does not answer holds its worker no longer than both limits: the one for a connect, which holds for each IP address of a name, and the one for a whole
-/// connection. What comes later is a failure. The look-up of a name has no limit of its own.
+/// A meter that does not answer holds its worker no longer than both limits. What comes later is a
+/// failure. The look-up of a name has no limit of its own.
 #[derive(Debug, Drop)]
 pub struct TcpConnector<R> {
     rt: R,
-    connect_within: Duration,
-    answer_within: Duration,
+    /// Its limits of time.
+    pub limits: Limits,
 }
 
 impl<R> TcpConnector<R> {
-    /// A connector with a limit for a connect, and one for a whole connection from then on.
-    pub fn new(rt: R, connect_within: Duration, answer_within: Duration) -> TcpConnector<R> {
-        TcpConnector {
-            rt,
-            connect_within,
-            answer_within,
-        }
+    /// Returns a connector with these limits.
+    pub fn new(rt: R, limits: Limits) -> TcpConnector<R>
+        ensures { result.limits ≡ limits }
+    {
+        TcpConnector { rt, limits }
     }
-}
-
-/// A connection over TCP that fails once its time is over.
-#[derive(Debug, Drop)]
-pub struct TcpConnection<R> {
-    rt: R,
-    stream: TcpStream,
-    opened: Instant,
-    within: Duration,
 }
 
 impl<R: Net<Stream = TcpStream> + Clock + Clone + Send + Sync + Drop + 'static> Connector
     for TcpConnector<R> {
-    type Connection = TcpConnection<R>;
+    type Connection = LimitedConnection<R, TcpStream>;
 
-    fn connect(&self, address: &Octets) -> Result<TcpConnection<R>, ConnectFault> {
-        open(&self.rt, address, self.connect_within, self.answer_within).ok_or(ConnectFault)
+    fn connect(&self, address: &Octets) -> Result<LimitedConnection<R, TcpStream>, ConnectFault> {
+        open(&self.rt, address, self.limits).ok_or(ConnectFault)
     }
 }
 
-impl<R: Clock + Drop> Connection for TcpConnection<R> {
-    fn read(&mut self, buffer: &mut [u8]) -> Result<usize, StreamFault> {
-        let Some(left) = time_left(&self.rt, self.opened, self.within) else {
-            return Err(StreamFault);
-        };
-        if self.stream.set_read_timeout(Some(left)).is_err() {
+// std refuses a limit of zero, so a read or a write whose time is over fails.
+impl LimitedStream for TcpStream {
+    fn read_within(&mut self, limit: Duration, buffer: &mut [u8]) -> Result<usize, StreamFault> {
+        if self.set_read_timeout(Some(limit)).is_err() {
             return Err(StreamFault);
         }
-        let mut stream = Counted::new(&self.stream);
+        let mut stream = Counted::new(&*self);
         stream.read(buffer)
     }
 
-    fn write_all(&mut self, bytes: &[u8]) -> Result<(), StreamFault> {
-        let Some(left) = time_left(&self.rt, self.opened, self.within) else {
-            return Err(StreamFault);
-        };
-        if self.stream.set_write_timeout(Some(left)).is_err() {
+    fn write_all_within(&mut self, limit: Duration, bytes: &[u8]) -> Result<(), StreamFault> {
+        if self.set_write_timeout(Some(limit)).is_err() {
             return Err(StreamFault);
         }
-        let mut stream = Counted::new(&self.stream);
+        let mut stream = Counted::new(&*self);
         stream.write_all(bytes)
     }
 }
@@ -73,19 +69,15 @@ impl<R: Clock + Drop> Connection for TcpConnection<R> {
 fn open<R: Net<Stream = TcpStream> + Clock + Clone + Drop>(
     rt: &R,
     address: &Octets,
-    connect_within: Duration,
-    answer_within: Duration,
-) -> Option<TcpConnection<R>> {
+    limits: Limits,
+) -> Option<LimitedConnection<R, TcpStream>>
+    ensures { IfSome result (λ connection. connection.within ≡ limits.answer) }
+{
     let text = str::from_utf8(address.as_slice()).ok()?;
     let own = rt.clone().ok()?;
-    let stream = reach(rt, text, connect_within)?;
+    let stream = reach(rt, text, limits.connect)?;
     let opened = Instant::now(rt).ok()?;
-    Some(TcpConnection {
-        rt: own,
-        stream,
-        opened,
-        within: answer_within,
-    })
+    Some(LimitedConnection::new(own, stream, opened, limits.answer))
 }
 
 /// A stream to the first IP address of a text that answers.
@@ -96,10 +88,4 @@ fn reach<R: Net<Stream = TcpStream>>(rt: &R, text: &str, within: Duration) -> Op
         }
     }
     None
-}
-
-/// The time that is left of a limit, if there is any.
-fn time_left<R: Clock>(rt: &R, opened: Instant, within: Duration) -> Option<Duration> {
-    let left = within.checked_sub(opened.elapsed(rt).ok()?)?;
-    if left.is_zero() { None } else { Some(left) }
 }

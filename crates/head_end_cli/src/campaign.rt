@@ -8,7 +8,7 @@ use acse_ber::MAX_PASSWORD;
 use clap::ArgMatches;
 use client_core::Job;
 use cosem_axdr::Octets;
-use head_end::{Connector, add_report, places_for, run_watched_campaign};
+use head_end::{Connector, Limits, places_for, report_jobs};
 use listed::Listed;
 use program_fault::Fault;
 use std::alloc::Global;
@@ -23,8 +23,7 @@ pub(crate) struct Plan {
     pub(crate) jobs: Listed<Job>,
     pub(crate) password: Octets,
     pub(crate) workers: u8,
-    pub(crate) connect_within: Duration,
-    pub(crate) answer_within: Duration,
+    pub(crate) limits: Limits,
     pub(crate) is_shown: bool,
     ghost sized: { IsPassword password },
     ghost some: { 1 ≤ workers },
@@ -90,21 +89,12 @@ pub(crate) fn planned(rt: &HostRuntime, matches: &ArgMatches<'_>) -> Result<Plan
         jobs,
         password,
         workers: workers(matches),
-        connect_within: limit(matches, "connect-timeout"),
-        answer_within: limit(matches, "timeout"),
+        limits: Limits {
+            connect: limit(matches, "connect-timeout"),
+            answer: limit(matches, "timeout"),
+        },
         is_shown: matches.get_flag("progress") || rt.stderr().is_terminal(),
     })
-}
-
-/// A line of a report has at most so many bytes: a name of 32, and ` rejected 255` with its end.
-const LONGEST_LINE: usize = 46;
-
-/// Room for the report of so many jobs, so that none is lost for want of memory once its command went out.
-fn room_for(alloc: Global, jobs: usize) -> Result<Octets, Fault> {
-    match Vec::with_capacity(alloc, jobs.saturating_mul(LONGEST_LINE)) {
-        Ok(room) => Ok(Octets::from_vec(room)),
-        Err(_) => Err(Fault::Memory),
-    }
 }
 
 /// Runs the jobs and prints the report.
@@ -114,7 +104,6 @@ pub(crate) fn run<R: Threads + Sync, C: Connector>(
     connector: &C,
     plan: &Plan,
 ) -> Result<(), Fault> {
-    let mut text = room_for(rt.alloc(), plan.jobs.len())?;
     let progress = Progress::new(rt, plan.jobs.len());
     let watch = Watch {
         rt,
@@ -123,7 +112,7 @@ pub(crate) fn run<R: Threads + Sync, C: Connector>(
     };
     let places = places_for(rt.alloc(), connector, plan.jobs.len(), plan.workers);
     let mut places = places.map_err(|_| Fault::Memory)?;
-    let campaign = run_watched_campaign(
+    let report = report_jobs(
         threads,
         rt.alloc(),
         &plan.jobs,
@@ -133,13 +122,12 @@ pub(crate) fn run<R: Threads + Sync, C: Connector>(
         &watch,
     );
     drop(places);
-    let lines = campaign.map_err(|_| Fault::Memory)?;
-    add_report(&lines, &mut text).map_err(|_| Fault::Memory)?;
+    let text = report.map_err(|_| Fault::Memory)?;
     print(rt, text.as_slice())
 }
 
 /// Writes all to standard output.
-fn print(rt: &HostRuntime, text: &[u8]) -> Result<(), Fault> {
+pub(crate) fn print(rt: &HostRuntime, text: &[u8]) -> Result<(), Fault> {
     let mut out = rt.stdout();
     out.write_all(text).map_err(|_| Fault::Write)?;
     out.flush().map_err(|_| Fault::Write)

@@ -9,12 +9,12 @@ mod progress;
 mod telling;
 
 use crate::arguments::command_line;
-use crate::campaign::Plan;
+use crate::campaign::{Plan, print};
 use crate::telling::{input_fault, jobs_fault, tell_input, tell_jobs};
 use byte_streams::{Counted, read_to_end_within};
 use clap::ArgMatches;
 use client_core::Job;
-use head_end::{TcpConnector, read_jobs};
+use head_end::{JobsFault, TcpConnector, count_jobs, read_jobs};
 use listed::Listed;
 use program_fault::Fault;
 use program_start::{ended, without_work, words};
@@ -24,37 +24,50 @@ use std::process::ExitCode;
 /// A list of jobs has at most so many bytes.
 const MAX_INPUT: usize = 1_048_576;
 
-/// The jobs on standard input. Where there are none to be had and `is_verbose`, a line on standard error tells where and why.
+/// Returns the text on standard input. On an error, if `is_verbose`, a line on standard error says
+/// where and why.
+fn text_of<I: Read + Drop>(rt: &HostRuntime, input: I, is_verbose: bool) -> Result<Vec<u8>, Fault> {
+    let mut reader = Counted::new(input);
+    match read_to_end_within(rt.alloc(), &mut reader, MAX_INPUT) {
+        Ok(text) => Ok(text),
+        Err(fault) => {
+            if is_verbose {
+                tell_input(rt, fault);
+            }
+            Err(input_fault(fault))
+        }
+    }
+}
+
+/// Returns the fault of a text that is no list of jobs. If `is_verbose`, a line on standard error
+/// says where and why.
+fn told_fault(rt: &HostRuntime, text: &[u8], fault: JobsFault, is_verbose: bool) -> Fault {
+    if is_verbose {
+        tell_jobs(rt, text, fault);
+    }
+    jobs_fault(fault)
+}
+
+/// Returns the jobs on standard input.
 pub(crate) fn jobs_of<I: Read + Drop>(
     rt: &HostRuntime,
     input: I,
     is_verbose: bool,
 ) -> Result<Listed<Job>, Fault> {
-    let mut reader = Counted::new(input);
-    let text = match read_to_end_within(rt.alloc(), &mut reader, MAX_INPUT) {
-        Ok(text) => text,
-        Err(fault) => {
-            if is_verbose {
-                tell_input(rt, fault);
-            }
-            return Err(input_fault(fault));
-        }
-    };
+    let text = text_of(rt, input, is_verbose)?;
     match read_jobs(rt.alloc(), text.as_slice()) {
         Ok(jobs) => Ok(jobs),
-        Err(fault) => {
-            if is_verbose {
-                tell_jobs(rt, text.as_slice(), fault);
-            }
-            Err(jobs_fault(fault))
-        }
+        Err(fault) => Err(told_fault(rt, text.as_slice(), fault, is_verbose)),
     }
 }
 
-/// Counts the jobs.
+/// Counts the jobs on standard input.
 fn check(rt: &HostRuntime, is_verbose: bool) -> Result<(), Fault> {
-    let jobs = jobs_of(rt, rt.stdin(), is_verbose)?;
-    println!(rt; "jobs {}", jobs.len()).map_err(|_| Fault::Write)
+    let text = text_of(rt, rt.stdin(), is_verbose)?;
+    match count_jobs(rt.alloc(), text.as_slice()) {
+        Ok(line) => print(rt, line.as_slice()),
+        Err(fault) => Err(told_fault(rt, text.as_slice(), fault, is_verbose)),
+    }
 }
 
 /// What is to be done once the command line is read.
@@ -93,7 +106,7 @@ fn main(rt: HostRuntime) -> ExitCode {
     match begin(&rt) {
         Ok(Next::Ended(status)) => ExitCode::from(status),
         Ok(Next::Campaign(plan)) => {
-            let connector = TcpConnector::new(rt, plan.connect_within, plan.answer_within);
+            let connector = TcpConnector::new(rt, plan.limits);
             let done = campaign::run(&rt, &rt, &connector, &plan).map(|_| 0);
             ended(&rt, done)
         }

@@ -15,7 +15,7 @@ pub(crate) fn input_fault(fault: InputFault) -> Fault {
 /// The fault of the program where a text is no list of jobs.
 pub(crate) fn jobs_fault(fault: JobsFault) -> Fault {
     match fault {
-        JobsFault::TooLong | JobsFault::Line(_) | JobsFault::TooMany => Fault::Input,
+        JobsFault::Line(_) | JobsFault::TooMany => Fault::Input,
         JobsFault::Memory => Fault::Memory,
     }
 }
@@ -31,7 +31,6 @@ pub(crate) fn tell_input(rt: &HostRuntime, fault: InputFault) {
 /// Tells on standard error, in a line, where and why a text is no list of jobs.
 pub(crate) fn tell_jobs(rt: &HostRuntime, text: &[u8], fault: JobsFault) {
     let _ = match fault {
-        JobsFault::TooLong => eprintln!(rt; "byte 1048577: {fault}"),
         JobsFault::Line(number) => {
             eprintln!(rt; "line {number}: {}", why_no_job(line_of(text, number)))
         }
@@ -41,8 +40,8 @@ pub(crate) fn tell_jobs(rt: &HostRuntime, text: &[u8], fault: JobsFault) {
 }
 
 /// The line of a text with that number, counted from 1; none of its bytes where it has no such line.
-fn line_of(text: &[u8], number: u32) -> &[u8] {
-    let mut at: u32 = 1;
+fn line_of(text: &[u8], number: u64) -> &[u8] {
+    let mut at: u64 = 1;
     for line in text.split(|byte| *byte == b'\n') {
         if at == number {
             return line;

@@ -7,10 +7,13 @@ gather-requires-clause-few g c = omega (arith, same_length c.args.jobs.now c.arg
 
 pub returns-clause-lines : goal.returns-clause-lines
 returns-clause-lines g c = λ tells all.
-    campaign_lines tells c.args.turns c.args.workers c.args.jobs.now c.args.lines.now c.gather.new.lines _
+    campaign_lines tells c.args.turns c.args.workers c.args.jobs.now c.args.lines.now
+    c.gather.new.lines _
     c.requires.workers c.requires.room c.requires.names
-    (row_at c.args.places.now c.work.new.places (λ p. g.C.Connector.tells p.attempt.source.value) (λ p. p.attempt.stage) (λ p. p.row) tells
-    c.args.turns c.args.workers c.args.jobs.now c.args.password.now c.requires.slots (omega arith) c.work.ensures all)
+    (row_at c.args.places.now c.work.new.places (λ p. g.C.Connector.tells p.attempt.source.value)
+    (λ p. p.attempt.stage) (λ p. p.row) tells
+    c.args.turns c.args.workers c.args.jobs.now c.args.password.now c.requires.slots
+    (omega arith) c.work.ensures all)
     (record {
       rows = λ i line row below. c.gather.ensures.rows i line row below;
       ids = λ i line below. c.gather.ensures.ids i line below;
@@ -19,9 +22,12 @@ returns-clause-lines g c = λ tells all.
 
 pub returns-clause-tried : goal.returns-clause-tried
 returns-clause-tried g c =
-    are_tried c.args.places.now c.work.new.places (λ p. g.C.Connector.tells p.attempt.source.value) (λ p. p.attempt.stage) (λ p. p.row)
-    c.args.turns c.args.workers c.args.jobs.now c.args.password.now c.args.lines.now c.gather.new.lines
-    c.requires.workers c.requires.room c.requires.names c.requires.slots (omega arith) c.work.ensures
+    are_tried c.args.places.now c.work.new.places
+    (λ p. g.C.Connector.tells p.attempt.source.value) (λ p. p.attempt.stage) (λ p. p.row)
+    c.args.turns c.args.workers c.args.jobs.now c.args.password.now c.args.lines.now
+    c.gather.new.lines
+    c.requires.workers c.requires.room c.requires.names c.requires.slots
+    (omega arith) c.work.ensures
     (record {
       rows = λ i line row below. c.gather.ensures.rows i line row below;
       ids = λ i line below. c.gather.ensures.ids i line below;

@@ -5,6 +5,8 @@ use Rattle.head_end.proofs.campaign.work.Goals as goal
 pub returns : goal.returns
 returns g c = λ slot place below.
     let changes = (c.for_each_mut.ensures slot place below).1 in
-    run_moved (slice_index_or c.args.places.now slot place) changes.argument.now (slice_index_or c.for_each_mut.new.s slot place) changes.after_call.now
+    run_moved (slice_index_or c.args.places.now slot place) changes.argument.now
+    (slice_index_or c.for_each_mut.new.s slot place) changes.after_call.now
     (λ p. g.C.Connector.tells p.attempt.source.value) (λ p. p.attempt.stage) (λ p. p.row)
-    c.args.turns c.args.workers c.args.jobs.now c.args.password.now slot changes.argument_is changes.left changes.call
+    c.args.turns c.args.workers c.args.jobs.now c.args.password.now slot changes.argument_is
+    changes.left changes.call

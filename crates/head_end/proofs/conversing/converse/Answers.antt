@@ -9,7 +9,8 @@ returns-then-not-send_due-clause-told g c =
 
 pub returns-then-not-send_due-clause-log : goal.returns-then-not-send_due-clause-log
 returns-then-not-send_due-clause-log g c =
-    speaks_unsent c.args.client.now c.send_due.new.client _ _ c.give_up.result c.if-not-send_due.ensures.log c.give_up.ensures
+    speaks_unsent c.args.client.now c.send_due.new.client _ _ c.give_up.result
+    c.if-not-send_due.ensures.log c.give_up.ensures
 
 pub turns-init : goal.turns-init
 turns-init g c = (
@@ -19,7 +20,8 @@ turns-init g c = (
 
 pub returns-in_err-outcome-clause-log : goal.returns-in_err-outcome-clause-log
 returns-in_err-outcome-clause-log g c =
-    speaks_starved c.args.client.now c.turns.client c.take_turn.new.client _ _ _ c.turns.counter _ c.from_residual.result
+    speaks_starved c.args.client.now c.turns.client c.take_turn.new.client _ _ _ c.turns.counter _
+    c.from_residual.result
     c.from_residual.ensures.0 c.turns.invariant.1 c.in_err-outcome.ensures.log
 
 pub returns-in-Some-clause-told : goal.returns-in-Some-clause-told
@@ -29,13 +31,15 @@ returns-in-Some-clause-told g c =
 
 pub returns-in-Some-clause-log : goal.returns-in-Some-clause-log
 returns-in-Some-clause-log g c =
-    speaks_turn c.args.client.now c.turns.client c.take_turn.new.client _ _ _ c.turns.counter c.in-Some.outcome c.turns.invariant.1
+    speaks_turn c.args.client.now c.turns.client c.take_turn.new.client _ _ _ c.turns.counter
+    c.in-Some.outcome c.turns.invariant.1
     (rw c.in-Some.is at c.in_ok-outcome.ensures.log)
 
 pub turns-preserved : goal.turns-preserved
 turns-preserved g c = (
   goes_on c.args.client.now c.turns.client c.take_turn.new.client _ _ _ c.turns.counter c.turns.invariant.0 (rw c.in_default.is at c.in_ok-outcome.ensures.told),
-  reaches_next c.args.client.now c.turns.client c.take_turn.new.client _ _ _ c.turns.counter c.turns.invariant.1
+  reaches_next c.args.client.now c.turns.client c.take_turn.new.client _ _ _ c.turns.counter
+      c.turns.invariant.1
       (rw c.in_default.is at c.in_ok-outcome.ensures.log),
 )
 
@@ -45,4 +49,5 @@ returns-clause-told g c =
 
 pub returns-clause-log : goal.returns-clause-log
 returns-clause-log g c =
-    speaks_last c.args.client.now c.turns.client _ _ c.turns.counter c.give_up-2.result (omega arith) c.turns.invariant.1 c.give_up-2.ensures
+    speaks_last c.args.client.now c.turns.client _ _ c.turns.counter c.give_up-2.result
+    (omega arith) c.turns.invariant.1 c.give_up-2.ensures

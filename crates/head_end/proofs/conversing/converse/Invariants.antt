@@ -6,4 +6,5 @@ use Rattle.head_end.proofs.conversing.converse.Given as goal
 abbrev pub invariant-turns : goal.invariant-turns
 invariant-turns g l =
     Goes l.fn.client (g.K.Connection.told l.fn.connection) l.counter l.client (g.K.Connection.told l.connection)
-    × Reaches l.fn.client (g.K.Connection.log l.fn.connection) l.counter l.client (g.K.Connection.log l.connection)
+    × Reaches l.fn.client (g.K.Connection.log l.fn.connection) l.counter l.client
+    (g.K.Connection.log l.connection)

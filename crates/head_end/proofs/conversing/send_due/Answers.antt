@@ -12,7 +12,8 @@ returns-in-None-clause-told g c =
 
 pub returns-in-None-clause-log : goal.returns-in-None-clause-log
 returns-in-None-clause-log g c =
-    sends_none c.texts.counter c.args.client.now c.texts.client c.to_send.new.self _ _ c.texts.invariant.1 c.in-None.ensures
+    sends_none c.texts.counter c.args.client.now c.texts.client c.to_send.new.self _ _
+    c.texts.invariant.1 c.in-None.ensures
 
 pub returns-in-Err-clause-told : goal.returns-in-Err-clause-told
 returns-in-Err-clause-told g c =
@@ -21,16 +22,19 @@ returns-in-Err-clause-told g c =
 
 pub returns-in-Err-clause-log : goal.returns-in-Err-clause-log
 returns-in-Err-clause-log g c =
-    sends_cut c.texts.counter c.args.client.now c.texts.client c.to_send.new.self c.in-Some.text _ _ _ c.in-Err.field-0
+    sends_cut c.texts.counter c.args.client.now c.texts.client c.to_send.new.self c.in-Some.text _
+    _ _ c.in-Err.field-0
     c.texts.invariant.1 c.in-Some.ensures (rw (c.as_slice.ensures) at c.in-Err.ensures.log)
 
 pub texts-preserved : goal.texts-preserved
 texts-preserved g c = (
   all_twice c.args.client.now c.texts.client c.to_send.new.self _ _ _ true c.texts.invariant.0
       (all_text c.texts.client c.to_send.new.self c.in-Some.text _ _ c.in-Some.ensures c.in-Ok.ensures.told),
-  keeps_text c.texts.counter c.args.client.now c.texts.client c.to_send.new.self c.in-Some.text _ _ _
+  keeps_text c.texts.counter c.args.client.now c.texts.client c.to_send.new.self c.in-Some.text _
+      _ _
       c.texts.invariant.1 c.in-Some.ensures (rw (c.as_slice.ensures) at c.in-Ok.ensures.log),
 )
 
 pub returns-clause-log : goal.returns-clause-log
-returns-clause-log g c = sends_three c.texts.counter c.args.client.now c.texts.client _ _ (omega arith) c.texts.invariant.1
+returns-clause-log g c = sends_three c.texts.counter c.args.client.now c.texts.client _ _
+    (omega arith) c.texts.invariant.1

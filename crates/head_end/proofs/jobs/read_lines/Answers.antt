@@ -11,7 +11,7 @@ returns-in-Err c =
     c.in-Some.ensures.lines c.in-Some.ensures.unended c.in-Err.ensures
 
 pub overflow_add-number : goal.overflow_add-number
-overflow_add-number c = omega (arith, c.lines.invariant.count, lines_few c.args.text.now, c.requires)
+overflow_add-number c = omega (arith, c.lines.invariant.count, lines_few c.args.text.now)
 
 pub lines-preserved : goal.lines-preserved
 lines-preserved c =

@@ -1,0 +1,81 @@
+//! Connections that are limited in time.
+ghost use Rattle.std.specs.Prelude.{◌≡◌, ◌-◌, ◌≤◌, List, Option, None};
+ghost use Rattle.std.specs.Duration.{as_nanos};
+ghost use Rattle.std.specs.Io.{ReadsAtMost};
+ghost use Rattle.head_end.specs.Logs.{Happening, ReadLogs, WriteLogs};
+
+use crate::connection::Connection;
+use byte_streams::StreamFault;
+use std::time::{Clock, Duration, Instant};
+
+/// A stream whose next read or write is limited in time.
+pub trait LimitedStream: Drop {
+    // The reads and writes on it so far, in order, if they are known.
+    ghost log: { Self → Option (List Happening) } = { λ _. None };
+
+    /// Reads into the buffer within a limit, and returns the number of bytes read: 0 at the end of
+    /// the stream. Fails if the limit is zero.
+    fn read_within(&mut self, limit: Duration, buffer: &mut [u8]) -> Result<usize, StreamFault>
+        ensures bound { ReadsAtMost result buffer.new }
+        ensures log { ReadLogs (log self.old) result buffer.new (log self.new) };
+
+    /// Writes all the bytes, each part of them within a limit. If it fails, a front of them may
+    /// have been written. Fails if the limit is zero.
+    fn write_all_within(&mut self, limit: Duration, bytes: &[u8]) -> Result<(), StreamFault>
+        ensures log { WriteLogs (log self.old) bytes.now result (log self.new) };
+}
+
+/// A connection over a stream that fails once its time is over.
+#[derive(Debug, Drop)]
+pub struct LimitedConnection<R, S> {
+    rt: R,
+    stream: S,
+    opened: Instant,
+    /// The limit of the whole connection, from its opening on.
+    pub within: Duration,
+}
+
+impl<R: Clock + Drop, S: LimitedStream> LimitedConnection<R, S> {
+    /// Returns a connection over a stream that was opened at this time.
+    pub fn new(rt: R, stream: S, opened: Instant, within: Duration) -> LimitedConnection<R, S>
+        ensures { result.within ≡ within }
+    {
+        LimitedConnection {
+            rt,
+            stream,
+            opened,
+            within,
+        }
+    }
+}
+
+impl<R: Clock + Drop, S: LimitedStream> Connection for LimitedConnection<R, S> {
+    ghost log = { λ c. S.log c.stream };
+
+    fn read(&mut self, buffer: &mut [u8]) -> Result<usize, StreamFault> {
+        let limit = time_left(&self.rt, self.opened, self.within);
+        self.stream.read_within(limit, buffer)
+    }
+
+    fn write_all(&mut self, bytes: &[u8]) -> Result<(), StreamFault> {
+        let limit = time_left(&self.rt, self.opened, self.within);
+        self.stream.write_all_within(limit, bytes)
+    }
+}
+
+// What is left of a limit now; nothing without a clock.
+fn time_left<R: Clock>(rt: &R, opened: Instant, within: Duration) -> Duration
+    ensures { as_nanos result ≤ as_nanos within }
+{
+    match opened.elapsed(rt) {
+        Ok(passed) => left_of(within, passed),
+        Err(_) => Duration::ZERO,
+    }
+}
+
+// What is left of a limit after so much time has passed.
+fn left_of(within: Duration, passed: Duration) -> Duration
+    ensures { as_nanos result ≡ as_nanos within - as_nanos passed }
+{
+    within.saturating_sub(passed)
+}

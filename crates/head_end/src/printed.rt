@@ -1,0 +1,74 @@
+//! From a list of jobs to the text that a program prints.
+ghost use Rattle.std.specs.Prelude.{◌≡◌, ◌++◌, ◌≤◌, codes, length, map, decimal, IfOk, OnErr};
+ghost use Rattle.std.specs.List.{All};
+ghost use Rattle.acse_ber.specs.Password.{IsPassword};
+ghost use Rattle.head_end.specs.Attempts.{unused};
+ghost use Rattle.head_end.specs.Campaigns.{turns_for, slots_for};
+ghost use Rattle.head_end.specs.Jobs.{CountsJobs, count_text};
+ghost use Rattle.head_end.specs.Laws.{Reports};
+
+use crate::campaign::run_watched_campaign;
+use crate::connection::Connector;
+use crate::fault::JobsFault;
+use crate::jobs::read_jobs;
+use crate::placing::Place;
+use crate::reporting::{add_report, put_number};
+use crate::watching::Watcher;
+use client_core::Job;
+use cosem_axdr::Octets;
+use listed::Listed;
+use std::alloc::{AllocError, Global};
+use std::thread::Threads;
+
+/// A line of a report has at most 46 bytes: a name of 32, and ` rejected 255` with its end.
+const LONGEST_LINE: usize = 46;
+
+/// Returns the line `jobs N` with the number of jobs of a text, ended by the byte 0A. Errors as
+/// those of `read_jobs`.
+pub fn count_jobs(alloc: Global, text: &[u8]) -> Result<Octets, JobsFault>
+    ensures { CountsJobs text.now result }
+{
+    let jobs = read_jobs(alloc, text)?;
+    let count = jobs.len();
+    drop(jobs);
+    Ok(count_line(alloc, count)?)
+}
+
+// The line of a number of jobs.
+fn count_line(alloc: Global, count: usize) -> Result<Octets, AllocError>
+    ensures { IfOk result (λ out. out ≡ count_text count) }
+{
+    let mut out = Octets::new(alloc);
+    put_number(b"jobs ", count, &mut out)?;
+    out.push(b'\n')?;
+    Ok(out)
+}
+
+/// Runs all jobs as `run_watched_campaign` does, and returns the text of their report.
+///
+/// All memory of the text is allocated before the first connection is made.
+pub fn report_jobs<R: Threads + Sync, C: Connector, W: Watcher>(
+    rt: &R,
+    alloc: Global,
+    jobs: &Listed<Job>,
+    places: &mut [Place<C>],
+    password: &Octets,
+    workers: u8,
+    watcher: &W,
+) -> Result<Octets, AllocError>
+    requires some { 1 ≤ workers }
+    requires few { workers ≤ 16 }
+    requires password { IsPassword password.now }
+    requires count { length places.old ≡ slots_for (length jobs.now) workers }
+    requires unused { All (λ place. place.attempt.stage ≡ unused) places.old }
+    ensures { IfOk result (Reports
+        (λ place. C.tells place.attempt.source.value) workers jobs.now password.now places.old
+        (map (λ place. place.attempt.stage) places.new)) }
+{
+    let room = Vec::with_capacity(alloc, jobs.len().saturating_mul(LONGEST_LINE))?;
+    let mut text = Octets::from_vec(room);
+    let lines = run_watched_campaign(rt, alloc, jobs, places, password, workers, watcher)?;
+    add_report(&lines, &mut text)?;
+    drop(lines);
+    Ok(text)
+}
