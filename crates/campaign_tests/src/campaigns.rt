@@ -188,8 +188,7 @@ fn a_meter_that_tells_is_asked(rt: HostRuntime) -> Result<(), Fail> {
     Ok(())
 }
 
-/// Adds up what it is told: for each job a digit of its own, and more for a row that is not the
-/// job's.
+/// Adds a digit of its own for each job, and more for a row that is not the job's.
 #[derive(Drop)]
 struct Tally {
     told: AtomicU64,
@@ -230,7 +229,7 @@ impl Watcher for Tally {
     }
 }
 
-/// The lines of jobs at meters, of which a watcher is told.
+/// The lines of jobs at meters, with a watcher.
 fn watched_at<R: Threads + Sync, C: Connector, W: Watcher>(
     rt: &R,
     alloc: Global,

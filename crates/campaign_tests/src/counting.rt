@@ -82,7 +82,7 @@ impl Counting {
         })
     }
 
-    /// Whether there were so many connects, and so many bytes, all of them right.
+    /// Whether the counts are these, and no byte is wrong.
     fn has_counted(&self, connects: u64, bytes: u64) -> bool {
         self.connects.load(Ordering::SeqCst) == connects
             && self.right.load(Ordering::SeqCst) == bytes

@@ -82,7 +82,7 @@ impl<'a, R: Abort + Sync> Connector for Recorder<'a, R> {
     }
 }
 
-/// Whether a job is done. Then its attempt is closed, after a conversation that says so.
+/// Whether a job is done. Then its attempt is closed, after a conversation with that outcome.
 fn is_done<C: Connector>(
     alloc: Global,
     job: &Job,

@@ -158,7 +158,7 @@ still_within verb password given old now unsettled stays within =
 
 -- ---- a client gives its texts
 
--- so many texts were written
+-- at least `count` texts were given and written
 pub record TalksFrom (count : ℕ) (verb : Verb) (password : List ℕ) (reads : ℕ) (client : Client)
     (now : Option (List Happening)) : Type 0 where
   pub talks : Talks verb password reads client now
@@ -543,7 +543,7 @@ unsettled_new : (verb : Verb) (log : List Happening) → reads_in log ≡ 0
 unsettled_new verb log none = ap (decided verb) (heard_none log none)
     ∙ ap (λ (p : Progress). p.outcome) (nothing_said verb)
 
--- so many reads have not settled the outcome
+-- `reads` reads have not settled the outcome
 pub record Reaches (old : Client) (begun : Option (List Happening)) (reads : ℕ) (client : Client)
     (now : Option (List Happening)) : Type 0 where
   pub on : (verb : Verb) (password : List ℕ) → Stands verb password [] 0 false old

@@ -20,7 +20,7 @@ place_at turns workers slot = (slot % turns) * workers + slot / turns
 abbrev pub slot_at : (turns workers place : ℕ) → ℕ
 slot_at turns workers place = (place % workers) * turns + place / workers
 
--- the number of slots of each worker for so many jobs, and of all workers
+-- the number of slots of each worker for a number of jobs, and of all workers
 abbrev pub turns_for : (jobs workers : ℕ) → ℕ
 turns_for jobs workers = jobs / workers + 1
 

@@ -1,7 +1,9 @@
 //! Switching campaigns: many jobs at many meters, side by side, and one report in the order of the jobs.
 //!
-//! `specs/Connections.antt` says what a connection may tell of itself, `specs/Rows.antt` what the report's rows then are, for every number of workers, and
-//! `specs/Wires.antt` what goes out on a connection, whatever the meter answers.
+//! `specs/Connections.antt` defines what is known of the reads of a connection, `specs/Rows.antt`
+//! the report's rows by that, for every number of workers, `specs/Wires.antt` what a conversation
+//! over a connection is, whatever the meter answers, and `specs/Attempts.antt` how a job uses its
+//! attempt to reach its meter.
 #![tactic(auto)]
 
 mod attempt;

@@ -63,7 +63,7 @@ impl<R: Clock + Drop, S: LimitedStream> Connection for LimitedConnection<R, S> {
     }
 }
 
-// What is left of a limit now; nothing without a clock.
+// Returns the remaining time of a limit; zero without a clock.
 fn time_left<R: Clock>(rt: &R, opened: Instant, within: Duration) -> Duration
     ensures { as_nanos result ≤ as_nanos within }
 {
@@ -73,7 +73,7 @@ fn time_left<R: Clock>(rt: &R, opened: Instant, within: Duration) -> Duration
     }
 }
 
-// What is left of a limit after so much time has passed.
+// Returns the remaining time of a limit after some time has passed.
 fn left_of(within: Duration, passed: Duration) -> Duration
     ensures { as_nanos result ≡ as_nanos within - as_nanos passed }
 {

@@ -17,7 +17,7 @@ pub struct Place<'a, C: Connector> {
     pub row: Row,
 }
 
-/// Returns the places for a campaign of so many jobs on so many workers, each with an unused
+/// Returns the places for a campaign of `jobs` jobs on `workers` workers, each with an unused
 /// attempt.
 pub fn places_for<C: Connector>(
     alloc: Global,

@@ -2,7 +2,7 @@ use Rattle.head_end.proofs.Turning.{Goes}
 use Rattle.head_end.proofs.Talking.{Reaches}
 use Rattle.head_end.proofs.conversing.converse.Given as goal
 
--- so many turns have not settled the outcome, and the log is a conversation so far
+-- the turns so far have not settled the outcome, and the log is a conversation so far
 abbrev pub invariant-turns : goal.invariant-turns
 invariant-turns g l =
     Goes l.fn.client (g.K.Connection.told l.fn.connection) l.counter l.client (g.K.Connection.told l.connection)

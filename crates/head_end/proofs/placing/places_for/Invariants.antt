@@ -3,7 +3,7 @@ use Rattle.std.specs.List.{All}
 use Rattle.head_end.specs.Attempts.{unused}
 use Rattle.head_end.proofs.placing.places_for.Given as goal
 
--- so many places have unused attempts of the connector
+-- the places so far have unused attempts of the connector
 abbrev pub invariant-places : goal.invariant-places
 invariant-places g l =
     (length l.places.items ≡ l.counter)
