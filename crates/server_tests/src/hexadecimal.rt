@@ -2,6 +2,7 @@
 ghost use Rattle.acse_ber.specs.Password.{IsPassword};
 ghost use Rattle.relay_core.specs.World.{IsDeviceName};
 
+use crate::repeated::repeated;
 use crate::sessions::{Input, Output, PUBLIC_AARE, PUBLIC_AARQ, PUBLIC_GET, PUBLIC_STATE};
 use byte_streams::Counted;
 use cosem_axdr::Octets;
@@ -129,6 +130,23 @@ fn each_frame_is_a_line(rt: HostRuntime) -> Result<(), Fail> {
     let is_so = gives_both_lines(rt.alloc(), text.as_str());
     drop(text);
     assert!(rt; is_so?);
+    Ok(())
+}
+
+/// Whether a text of 4,278 characters, an opening and 100 equal requests, gives 101 lines.
+fn gives_101_lines(alloc: Global) -> Result<bool, AllocError> {
+    let text = repeated(alloc, PUBLIC_AARQ, PUBLIC_GET, "", 100)?;
+    let lines = repeated(alloc, PUBLIC_AARE, PUBLIC_STATE, "\n", 100)?;
+    let is_long = text.len() == 4_278;
+    let is_so = gives(alloc, text.as_str(), lines.as_str(), Ok(()));
+    drop(text);
+    drop(lines);
+    Ok(is_long && is_so?)
+}
+
+#[test]
+fn a_text_of_4278_characters_is_played(rt: HostRuntime) -> Result<(), Fail> {
+    assert!(rt; gives_101_lines(rt.alloc())?);
     Ok(())
 }
 

@@ -6,6 +6,8 @@
 #[cfg(test)]
 mod hexadecimal;
 #[cfg(test)]
+mod repeated;
+#[cfg(test)]
 mod requests;
 #[cfg(test)]
 mod sessions;

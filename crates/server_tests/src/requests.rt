@@ -1,3 +1,4 @@
+use crate::repeated::repeated;
 use cosem_axdr::Octets;
 use relay_core::RelayCore;
 use session_serving::answer_apdu;
@@ -150,4 +151,30 @@ fn ask_each_new(rt: &impl Abort, alloc: Global, rows: &[Asked]) -> Result<(), Fa
 #[test]
 fn requests_are_answered(rt: HostRuntime) -> Result<(), Fail> {
     ask_each_new(&rt, rt.alloc(), &REQUESTS)
+}
+
+/// The head of a Get-Request-With-List and of its response, for 40 attributes: tag, choice,
+/// invoke-id-and-priority and number of items (IEC 62056-5-3).
+const FORTY: (&str, &str) = ("C003C128", "C403C128");
+
+/// The logical name of the disconnect control as an item of the request, and as a result with data.
+const NAME: (&str, &str) = ("0046000060030AFF0100", "000906000060030AFF");
+
+/// Whether a core answers a request of 404 bytes by a response of 364.
+fn is_long_answered(alloc: Global, core: &mut RelayCore) -> Result<bool, Fail> {
+    let request = repeated(alloc, FORTY.0, NAME.0, "", 40)?;
+    let answer = repeated(alloc, FORTY.1, NAME.1, "", 40)?;
+    let is_so = is_answered(alloc, core, &(request.as_str(), answer.as_str()));
+    drop(request);
+    drop(answer);
+    is_so
+}
+
+#[test]
+fn a_request_of_404_bytes_is_answered(rt: HostRuntime) -> Result<(), Fail> {
+    let mut core = new_core(&rt, rt.alloc())?;
+    let answered = is_long_answered(rt.alloc(), &mut core);
+    drop(core);
+    assert!(rt; answered?);
+    Ok(())
 }
