@@ -29,7 +29,8 @@ ends_before ending.BadVersion left at_end = tt
 ends_before ending.TooLong left at_end = tt
 
 -- a session may end at a wrong header whatever bytes are left
-pub wrong_ends : (end : SessionEnd) (left : Option (List ℕ)) → IsWrongHeader end → EndsBefore end left
+pub wrong_ends : (end : SessionEnd) (left : Option (List ℕ)) → IsWrongHeader end
+    → EndsBefore end left
 wrong_ends ending.Closed left wrong = absurd wrong
 wrong_ends ending.Cut left wrong = absurd wrong
 wrong_ends ending.BadVersion left wrong = tt
@@ -92,7 +93,8 @@ pieces_so_far : (seen : List ℕ) (count made failed made' failed' : ℕ)
 pieces_so_far seen count made failed made' failed' short most so = record {
   count = count;
   most = most;
-  short = subst (λ (all : List ℕ). length all ≤ count * longest_piece) (sym (append-nil seen)) short;
+  short = subst (λ (all : List ℕ). length all ≤ count * longest_piece) (sym (append-nil seen))
+      short;
   made_so = so;
 }
 
@@ -117,50 +119,61 @@ module _ {M : Type 0} (steps : M → Event → Result Reply CallFault → M → 
   }
 
   -- the end of what was read so far
-  ends_so_far : (password : List ℕ) (old s : Session) (m m' : M) (written written' left left' : Option (List ℕ)) (count : ℕ)
-      → Owes password old → (st : Stands steps written_as old m written left count s m' written' left')
+  ends_so_far : (password : List ℕ) (old s : Session) (m m' : M)
+      (written written' left left' : Option (List ℕ)) (count : ℕ)
+      → Owes password old → (st : Stands steps written_as old m written left count s m' written'
+      left')
       → EndsWithInput (end_of st.seen)
   ends_so_far password old s m m' written written' left left' count owes st =
       let e : end_of st.seen ≡ still_ends s [] =
-      ap end_of (sym (append-nil st.seen)) ∙ sym (owes.ends (st.seen ++ [])) ∙ st.reached.ends_rest [] in
+      ap end_of (sym (append-nil st.seen)) ∙ sym (owes.ends (st.seen ++ []))
+      ∙ st.reached.ends_rest [] in
       subst EndsWithInput (sym e) st.ends
 
   -- one read more
-  stands_on : (old s new : Session) (m m' m'' : M) (written written' written'' left left' left'' : Option (List ℕ))
+  stands_on : (old s new : Session) (m m' m'' : M)
+      (written written' written'' left left' left'' : Option (List ℕ))
       (count : ℕ) (bytes : List ℕ) (end : Option SessionEnd)
       → Stands steps written_as old m written left count s m' written' left'
       → Consumes left' left'' bytes → length bytes ≤ longest_piece
       → Settled steps written_as s m' written' bytes end new m'' written''
       → EndsWithInput (still_ends new [])
       → Stands steps written_as old m written left (count + 1) new m'' written'' left''
-  stands_on old s new m m' m'' written written' written'' left left' left'' count bytes end st consumed piece settled ends = record {
-    seen = st.seen ++ bytes;
-    read = Consumes-trans left left' left'' st.seen bytes st.read consumed;
-    short = more_is_short st.seen bytes count st.short piece;
-    reached = reached_on st.seen bytes s new m' m'' written' written'' st.reached settled.reached;
-    settled = settled.settled;
-    ends = ends;
-    silent = settled.silent;
-  }
+  stands_on old s new m m' m'' written written' written'' left left' left'' count bytes end st
+      consumed piece settled ends = record {
+        seen = st.seen ++ bytes;
+        read = Consumes-trans left left' left'' st.seen bytes st.read consumed;
+        short = more_is_short st.seen bytes count st.short piece;
+        reached = reached_on st.seen bytes s new m' m'' written' written'' st.reached settled.reached;
+        settled = settled.settled;
+        ends = ends;
+        silent = settled.silent;
+      }
 
   -- the same, if no wrong header ended the session
-  pub stands_next : (old s new : Session) (m m' m'' : M) (written written' written'' left left' left'' : Option (List ℕ))
+  pub stands_next : (old s new : Session) (m m' m'' : M)
+      (written written' written'' left left' left'' : Option (List ℕ))
       (count : ℕ) (bytes : List ℕ) (end : Option SessionEnd)
       → Stands steps written_as old m written left count s m' written' left'
       → Consumes left' left'' bytes → length bytes ≤ longest_piece
       → Settled steps written_as s m' written' bytes end new m'' written'' → MayContinue end
       → Stands steps written_as old m written left (count + 1) new m'' written'' left''
-  stands_next old s new m m' m'' written written' written'' left left' left'' count bytes None st consumed piece settled continues =
-      stands_on old s new m m' m'' written written' written'' left left' left'' count bytes None st consumed piece settled
+  stands_next old s new m m' m'' written written' written'' left left' left'' count bytes None st
+      consumed piece settled continues =
+      stands_on old s new m m' m'' written written' written'' left left' left'' count bytes None st
+      consumed piece settled
       settled.done.1
-  stands_next old s new m m' m'' written written' written'' left left' left'' count bytes (Some end) st consumed piece settled continues =
-      stands_on old s new m m' m'' written written' written'' left left' left'' count bytes (Some end) st consumed piece settled
+  stands_next old s new m m' m'' written written' written'' left left' left'' count bytes (Some end)
+      st consumed piece settled continues =
+      stands_on old s new m m' m'' written written' written'' left left' left'' count bytes
+      (Some end) st consumed piece settled
       (subst EndsWithInput (sym (settled.done.ends [])) continues)
 
 -- a read into a buffer of 1,024 bytes returns no more
 pub piece_of : (buffer : List ℕ) (count : ℕ) → count ≤ length buffer → length buffer ≡ longest_piece
     → length (take count buffer) ≤ longest_piece
-piece_of buffer count bound room = let e = length-take-le count buffer bound in omega (arith, e, bound, room)
+piece_of buffer count bound room = let e = length-take-le count buffer bound in omega
+    (arith, e, bound, room)
 
 module _ {R W M : Type 0}
     (remaining : R → Option (List ℕ)) (reads read_failures : R → ℕ)
@@ -183,8 +196,21 @@ module _ {R W M : Type 0}
   served_none password r w m (Err f) is = record {
     seen = [];
     read = Consumes-nil (remaining r);
-    stops = record { earlier = []; last = []; all = refl; short = omega arith; ends = nothing_ends };
-    pieces = record { count = 0; most = omega arith; short = omega arith; made_so = inl (omega arith) };
+    stops = record {
+      earlier = [];
+      last = [];
+      all = refl;
+      short = omega arith;
+      ends =
+          nothing_ends;
+    };
+    pieces = record {
+      count = 0;
+      most = omega arith;
+      short = omega arith;
+      made_so = inl
+          (omega arith);
+    };
     did = did_stop password [] r r w w m m f
         (subst (λ (g : ServeFault). Stops steps as_bytes (Asks password []) (Answers password []) m (contents w) (write_failures w) g m (contents w) (write_failures w)) (sym is)
         (record {
@@ -201,43 +227,55 @@ module _ {R W M : Type 0}
   }
 
   -- a stop after these bytes
-  pub served_stop : (password bytes : List ℕ) (count : ℕ) (old s : Session) (r r1 r' : R) (w w1 w' : W) (m m1 m' : M) (f : ServeFault)
-      → Owes password old → Stands steps as_bytes old m (contents w) (remaining r) count s m1 (contents w1) (remaining r1)
+  pub served_stop : (password bytes : List ℕ) (count : ℕ) (old s : Session) (r r1 r' : R)
+      (w w1 w' : W) (m m1 m' : M) (f : ServeFault)
+      → Owes password old → Stands steps as_bytes old m (contents w) (remaining r) count s m1
+      (contents w1) (remaining r1)
       → Consumes (remaining r1) (remaining r') bytes
       → length bytes ≤ longest_piece → count < most_reads → reads r' ≡ reads r + (count + 1)
       → write_failures w1 ≡ write_failures w
       → Stops steps as_bytes (still_asks s bytes) (still_sends s bytes) m1 (contents w1) (write_failures w1) f m' (contents w') (write_failures w')
       → Served remaining reads read_failures contents write_failures steps password r w m (Err f) r' w' m'
-  served_stop password bytes count old s r r1 r' w w1 w' m m1 m' f owes st consumed piece few counted even stop = record {
-    seen = st.seen ++ bytes;
-    read = Consumes-trans (remaining r) (remaining r1) (remaining r') st.seen bytes st.read consumed;
-    did = did_stop password (st.seen ++ bytes) r r' w w' m m' f
-        (subst (λ (n : ℕ). Stops steps as_bytes (Asks password (st.seen ++ bytes)) (Answers password (st.seen ++ bytes)) m (contents w) n f m' (contents w') (write_failures w')) even
-        (stops_on st.seen bytes s m1 m' (contents w1) (contents w') (write_failures w1) (write_failures w') f
-        (owed steps as_bytes password st.seen old s m m1 (contents w) (contents w1) owes st.reached) stop));
-    stops = stops_after st.seen bytes piece
-        (ends_so_far steps as_bytes password old s m m1 (contents w) (contents w1) (remaining r) (remaining r1) count owes st);
-    pieces = pieces_more st.seen bytes count (reads r) (read_failures r) (reads r') (read_failures r')
-        st.short piece few counted;
-  }
+  served_stop password bytes count old s r r1 r' w w1 w' m m1 m' f owes st consumed piece few
+      counted even stop = record {
+        seen = st.seen ++ bytes;
+        read = Consumes-trans (remaining r) (remaining r1) (remaining r') st.seen bytes st.read consumed;
+        did = did_stop password (st.seen ++ bytes) r r' w w' m m' f
+            (subst (λ (n : ℕ). Stops steps as_bytes (Asks password (st.seen ++ bytes)) (Answers password (st.seen ++ bytes)) m (contents w) n f m' (contents w') (write_failures w')) even
+            (stops_on st.seen bytes s m1 m' (contents w1) (contents w') (write_failures w1) (write_failures w') f
+            (owed steps as_bytes password st.seen old s m m1 (contents w) (contents w1) owes st.reached) stop));
+        stops = stops_after st.seen bytes piece
+            (ends_so_far steps as_bytes password old s m m1 (contents w) (contents w1) (remaining r)
+            (remaining r1) count owes st);
+        pieces = pieces_more st.seen bytes count (reads r) (read_failures r) (reads r')
+            (read_failures r')
+            st.short piece few counted;
+      }
 
   -- the same, where the fault is the one of a call
-  pub served_stop_by : (password bytes : List ℕ) (count : ℕ) (old s : Session) (r r1 r' : R) (w w1 w' : W) (m m1 m' : M) (f : ServeFault) (result : Result SessionEnd ServeFault)
-      → Owes password old → Stands steps as_bytes old m (contents w) (remaining r) count s m1 (contents w1) (remaining r1)
+  pub served_stop_by : (password bytes : List ℕ) (count : ℕ) (old s : Session) (r r1 r' : R)
+      (w w1 w' : W) (m m1 m' : M) (f : ServeFault) (result : Result SessionEnd ServeFault)
+      → Owes password old → Stands steps as_bytes old m (contents w) (remaining r) count s m1
+      (contents w1) (remaining r1)
       → Consumes (remaining r1) (remaining r') bytes
       → length bytes ≤ longest_piece → count < most_reads → reads r' ≡ reads r + (count + 1)
       → write_failures w1 ≡ write_failures w
       → Stops steps as_bytes (still_asks s bytes) (still_sends s bytes) m1 (contents w1) (write_failures w1) f m' (contents w') (write_failures w')
       → IsErrAnd result (λ g. g ≡ f)
       → Served remaining reads read_failures contents write_failures steps password r w m result r' w' m'
-  served_stop_by password bytes count old s r r1 r' w w1 w' m m1 m' f (Ok end) owes st consumed piece few counted even stop is = absurd is
-  served_stop_by password bytes count old s r r1 r' w w1 w' m m1 m' f (Err g) owes st consumed piece few counted even stop is =
+  served_stop_by password bytes count old s r r1 r' w w1 w' m m1 m' f (Ok end) owes st consumed
+      piece few counted even stop is = absurd is
+  served_stop_by password bytes count old s r r1 r' w w1 w' m m1 m' f (Err g) owes st consumed piece
+      few counted even stop is =
       subst (λ (given : ServeFault). Served remaining reads read_failures contents write_failures steps password r w m (Err given) r' w' m') (sym is)
-      (served_stop password bytes count old s r r1 r' w w1 w' m m1 m' f owes st consumed piece few counted even stop)
+      (served_stop password bytes count old s r r1 r' w w1 w' m m1 m' f owes st consumed piece few
+      counted even stop)
 
   -- no byte was left
-  pub served_end : (password : List ℕ) (count : ℕ) (old s : Session) (r r1 r' : R) (w w1 w' : W) (m m1 m' : M) (result : Result SessionEnd ServeFault)
-      → Owes password old → Stands steps as_bytes old m (contents w) (remaining r) count s m1 (contents w1) (remaining r1)
+  pub served_end : (password : List ℕ) (count : ℕ) (old s : Session) (r r1 r' : R) (w w1 w' : W)
+      (m m1 m' : M) (result : Result SessionEnd ServeFault)
+      → Owes password old → Stands steps as_bytes old m (contents w) (remaining r) count s m1
+      (contents w1) (remaining r1)
       → Consumes (remaining r1) (remaining r') [] → IsAtEnd (remaining r')
       → count < most_reads → reads r' ≡ reads r + (count + 1)
       → write_failures w1 ≡ write_failures w
@@ -245,29 +283,37 @@ module _ {R W M : Type 0}
       → IfOk result (λ end. end ≡ still_ends s [])
       → IfErr result (λ f. Stops steps as_bytes (still_asks s []) (still_sends s []) m1 (contents w1) (write_failures w1) f m' (contents w') (write_failures w'))
       → Served remaining reads read_failures contents write_failures steps password r w m result r' w' m'
-  served_end password count old s r r1 r' w w1 w' m m1 m' (Ok end) owes st consumed at_end few counted even all so stop =
+  served_end password count old s r r1 r' w w1 w' m m1 m' (Ok end) owes st consumed at_end few
+      counted even all so stop =
       let far = owed steps as_bytes password st.seen old s m m1 (contents w) (contents w1) owes st.reached in
       record {
         seen = st.seen ++ [];
         read = Consumes-trans (remaining r) (remaining r1) (remaining r') st.seen [] st.read consumed;
         did = (does_all_on st.seen [] s m1 m' (contents w1) (contents w') far all, so ∙ sym (far.ends_rest []), ends_before end (remaining r') at_end);
         stops = stops_after st.seen [] (omega arith)
-            (ends_so_far steps as_bytes password old s m m1 (contents w) (contents w1) (remaining r) (remaining r1) count owes st);
-        pieces = pieces_more st.seen [] count (reads r) (read_failures r) (reads r') (read_failures r')
+            (ends_so_far steps as_bytes password old s m m1 (contents w) (contents w1) (remaining r)
+            (remaining r1) count owes st);
+        pieces = pieces_more st.seen [] count (reads r) (read_failures r) (reads r')
+            (read_failures r')
             st.short (omega arith) few counted;
       }
-  served_end password count old s r r1 r' w w1 w' m m1 m' (Err f) owes st consumed at_end few counted even all so stop =
-      served_stop password [] count old s r r1 r' w w1 w' m m1 m' f owes st consumed (omega arith) few counted even stop
+  served_end password count old s r r1 r' w w1 w' m m1 m' (Err f) owes st consumed at_end few
+      counted even all so stop =
+      served_stop password [] count old s r r1 r' w w1 w' m m1 m' f owes st consumed (omega arith)
+      few counted even stop
 
   -- a wrong header came
-  pub served_over : (password bytes : List ℕ) (count : ℕ) (old s new : Session) (r r1 r' : R) (w w1 w' : W) (m m1 m' : M) (end : SessionEnd)
-      → Owes password old → Stands steps as_bytes old m (contents w) (remaining r) count s m1 (contents w1) (remaining r1)
+  pub served_over : (password bytes : List ℕ) (count : ℕ) (old s new : Session) (r r1 r' : R)
+      (w w1 w' : W) (m m1 m' : M) (end : SessionEnd)
+      → Owes password old → Stands steps as_bytes old m (contents w) (remaining r) count s m1
+      (contents w1) (remaining r1)
       → Consumes (remaining r1) (remaining r') bytes
       → length bytes ≤ longest_piece → count < most_reads → reads r' ≡ reads r + (count + 1)
       → Settled steps as_bytes s m1 (contents w1) bytes (Some end) new m' (contents w')
       → EndsBefore end (remaining r')
       → Served remaining reads read_failures contents write_failures steps password r w m (Ok end) r' w' m'
-  served_over password bytes count old s new r r1 r' w w1 w' m m1 m' end owes st consumed piece few counted settled before =
+  served_over password bytes count old s new r r1 r' w w1 w' m m1 m' end owes st consumed piece few
+      counted settled before =
       let far = owed steps as_bytes password (st.seen ++ bytes) old new m m' (contents w) (contents w') owes
       (reached_on st.seen bytes s new m1 m' (contents w1) (contents w') st.reached settled.reached) in
       record {
@@ -281,16 +327,21 @@ module _ {R W M : Type 0}
         );
         stops = subst StopsAtHeader (sym (append-nil (st.seen ++ bytes)))
             (stops_after st.seen bytes piece
-            (ends_so_far steps as_bytes password old s m m1 (contents w) (contents w1) (remaining r) (remaining r1) count owes st));
-        pieces = subst (λ (all : List ℕ). Pieces all (reads r) (read_failures r) (reads r') (read_failures r'))
+            (ends_so_far steps as_bytes password old s m m1 (contents w) (contents w1) (remaining r)
+            (remaining r1) count owes st));
+        pieces = subst (λ (all : List ℕ). Pieces all (reads r) (read_failures r) (reads r')
+            (read_failures r'))
             (sym (append-nil (st.seen ++ bytes)))
-            (pieces_more st.seen bytes count (reads r) (read_failures r) (reads r') (read_failures r')
+            (pieces_more st.seen bytes count (reads r) (read_failures r) (reads r')
+            (read_failures r')
             st.short piece few counted);
       }
 
   -- a read failed, or it was the last
-  pub served_unread : (password : List ℕ) (count : ℕ) (old s : Session) (r r1 r' : R) (w w' : W) (m m' : M)
-      → Owes password old → Stands steps as_bytes old m (contents w) (remaining r) count s m' (contents w') (remaining r1)
+  pub served_unread : (password : List ℕ) (count : ℕ) (old s : Session) (r r1 r' : R) (w w' : W)
+      (m m' : M)
+      → Owes password old → Stands steps as_bytes old m (contents w) (remaining r) count s m'
+      (contents w') (remaining r1)
       → Consumes (remaining r1) (remaining r') [] → count ≤ most_reads
       → (reads r' ≡ reads r + count) ⊎ (read_failures r < read_failures r')
       → (read_failures r < read_failures r') ⊎ (reads r + most_reads ≤ reads r')
@@ -305,7 +356,9 @@ module _ {R W M : Type 0}
           cause,
         );
         stops = stops_after st.seen [] (omega arith)
-            (ends_so_far steps as_bytes password old s m m' (contents w) (contents w') (remaining r) (remaining r1) count owes st);
-        pieces = pieces_so_far st.seen count (reads r) (read_failures r) (reads r') (read_failures r')
+            (ends_so_far steps as_bytes password old s m m' (contents w) (contents w') (remaining r)
+            (remaining r1) count owes st);
+        pieces = pieces_so_far st.seen count (reads r) (read_failures r) (reads r')
+            (read_failures r')
             st.short most counted;
       }

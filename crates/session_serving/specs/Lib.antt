@@ -2,5 +2,6 @@ pub mod Answering
 pub mod Hexadecimal
 pub mod Meters
 pub mod Numbers
+pub mod Order
 pub mod Served
 pub mod Settling

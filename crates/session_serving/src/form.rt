@@ -2,9 +2,11 @@ ghost use Rattle.std.specs.Prelude.{◌≡◌, ℕ, List, IfErr, IfOk, OnOk, str
 ghost use Rattle.std.specs.Io.KnownBytes.{Appends};
 ghost use Rattle.session_serving.specs.Hexadecimal.{hex_line};
 ghost use Rattle.session_serving.specs.Served.{as_bytes};
+ghost use Rattle.session_serving.specs.Order.{Passes, FailsToPass, writes};
 ghost use Rattle.session_serving.specs.Settling.{FailsToWrite};
 
 use crate::fault::ServeFault;
+use crate::watch::Watch;
 use byte_streams::Writer;
 use std::alloc::{AllocError, Global};
 
@@ -14,12 +16,23 @@ pub(crate) trait Form {
     ghost written_as: { List ℕ → List ℕ };
 
     /// Writes a frame.
-    fn write<W: Writer>(alloc: Global, writer: &mut W, frame: &[u8]) -> Result<(), ServeFault>
+    fn write<V: Watch, W: Writer>(
+        alloc: Global,
+        watch: &mut V,
+        writer: &mut W,
+        frame: &[u8],
+    ) -> Result<(), ServeFault>
         requires { W.can_write writer.now }
         ensures bytes { OnOk result (Appends (W.contents writer.old) (W.contents writer.new) (written_as frame.now)) }
         ensures ready { OnOk result (W.can_write writer.new) }
         ensures even { OnOk result (W.failures writer.new ≡ W.failures writer.old) }
-        ensures err { IfErr result (λ fault. FailsToWrite (W.contents writer.old) (W.failures writer.old) fault (W.contents writer.new) (W.failures writer.new)) };
+        ensures err { IfErr result
+            (λ fault. FailsToWrite (W.contents writer.old) (W.failures writer.old) fault
+            (W.contents writer.new) (W.failures writer.new)) }
+        ensures passes { OnOk result
+            (Passes (V.passed watch.old) (writes (written_as frame.now)) (V.passed watch.new)) }
+        ensures fails_to_pass { IfErr result
+            (λ fault. FailsToPass (V.passed watch.old) fault (V.passed watch.new)) };
 }
 
 /// As the bytes that it has.
@@ -28,8 +41,13 @@ pub(crate) struct AsBytes;
 impl Form for AsBytes {
     ghost written_as = { as_bytes };
 
-    fn write<W: Writer>(_alloc: Global, writer: &mut W, frame: &[u8]) -> Result<(), ServeFault> {
-        match writer.write_all(frame) {
+    fn write<V: Watch, W: Writer>(
+        _alloc: Global,
+        watch: &mut V,
+        writer: &mut W,
+        frame: &[u8],
+    ) -> Result<(), ServeFault> {
+        match watch.write_all(writer, frame) {
             Ok(()) => Ok(()),
             Err(_) => Err(ServeFault::Write),
         }
@@ -42,9 +60,14 @@ pub(crate) struct AsHexLine;
 impl Form for AsHexLine {
     ghost written_as = { hex_line };
 
-    fn write<W: Writer>(alloc: Global, writer: &mut W, frame: &[u8]) -> Result<(), ServeFault> {
+    fn write<V: Watch, W: Writer>(
+        alloc: Global,
+        watch: &mut V,
+        writer: &mut W,
+        frame: &[u8],
+    ) -> Result<(), ServeFault> {
         let line = line_of(alloc, frame)?;
-        match writer.write_all(line.as_bytes()) {
+        match watch.write_all(writer, line.as_bytes()) {
             Ok(()) => Ok(()),
             Err(_) => Err(ServeFault::Write),
         }

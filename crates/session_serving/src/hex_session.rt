@@ -6,6 +6,7 @@ use crate::fault::{HexFault, ServeFault};
 use crate::form::AsHexLine;
 use crate::hex_text::{decode, read_text};
 use crate::serving::end_input;
+use crate::watch::Unwatched;
 use byte_streams::{Reader, Writer};
 use cosem_axdr::Octets;
 use relay_core::RelayCore;
@@ -32,7 +33,14 @@ fn play_on<W: Writer>(
             return Err(HexFault::Memory);
         }
     }
-    let ended = end_input::<AsHexLine, W, RelayCore>(alloc, &mut session, writer, core);
+    let mut watch = Unwatched;
+    let ended = end_input::<AsHexLine, Unwatched, W, RelayCore>(
+        alloc,
+        &mut session,
+        &mut watch,
+        writer,
+        core,
+    );
     drop(session);
     match ended {
         Ok(_) => Ok(()),

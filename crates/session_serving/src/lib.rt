@@ -8,9 +8,11 @@ mod hex_session;
 mod hex_text;
 mod meter;
 mod serving;
+mod watch;
 
 pub use answering::answer_apdu;
 pub use fault::{HexFault, ServeFault};
 pub use hex_session::{play_hex, run_hex};
 pub use meter::Meter;
-pub use serving::serve_session;
+pub use serving::{serve_session, watch_session};
+pub use watch::Watch;

@@ -1,6 +1,8 @@
-ghost use Rattle.std.specs.Prelude.{◌≡◌, ℕ, List, [], false, Some, IfSome, IfNone, IfOk, IfErr, OnOk};
+ghost use Rattle.std.specs.Prelude.{◌≡◌, ℕ, List, [], ◌++◌, false, Some, IfSome, IfNone, IfOk, IfErr, OnOk};
 ghost use Rattle.acse_ber.specs.Password.{IsPassword};
 ghost use Rattle.session_serving.specs.Served.{Served, DoesAll, Stops, as_bytes};
+ghost use Rattle.session_serving.specs.Order.{Happening, IsAt, Orders, StopsInOrder, IsInOrder};
+ghost use Rattle.relay_events.specs.declared.reply.Reply.{Reply};
 ghost use Rattle.session_serving.specs.Settling.{Settled, IsSettled, MayContinue, IsWrongHeader};
 ghost use Rattle.session_core.specs.Ends.{EndsWithInput};
 ghost use Rattle.session_core.specs.Progress.{Owes};
@@ -9,6 +11,7 @@ ghost use Rattle.session_core.specs.Remaining.{still_asks, still_sends, still_en
 use crate::fault::ServeFault;
 use crate::form::{AsBytes, Form};
 use crate::meter::Meter;
+use crate::watch::{Unwatched, Watch};
 use byte_streams::{Reader, Writer};
 use cosem_axdr::Octets;
 use relay_events::Event;
@@ -22,9 +25,10 @@ const MAX_READ: usize = 1_024;
 const MOST_READS: u32 = 4_294_967_295;
 
 /// Asks the meter, and writes all that is due. It gives the end of a session that is over.
-fn settle<F: Form, W: Writer, M: Meter>(
+fn settle<F: Form, V: Watch, W: Writer, M: Meter>(
     alloc: Global,
     session: &mut Session,
+    watch: &mut V,
     writer: &mut W,
     meter: &mut M,
 ) -> Result<Option<SessionEnd>, ServeFault>
@@ -34,6 +38,11 @@ fn settle<F: Form, W: Writer, M: Meter>(
     ensures writable { OnOk result (W.can_write writer.new) }
     ensures even { OnOk result (W.failures writer.new ≡ W.failures writer.old) }
     ensures err { IfErr result (λ fault. Stops M.steps F.written_as (still_asks session.old []) (still_sends session.old []) meter.old (W.contents writer.old) (W.failures writer.old) fault meter.new (W.contents writer.new) (W.failures writer.new)) }
+    ensures order { (password : List ℕ) (texts_of : List ℕ → List Reply → List (List ℕ))
+        (happened : List Happening)
+        → IsAt F.written_as password texts_of (still_sends session.old) happened
+        → Orders F.written_as password texts_of (still_sends session.new) happened
+        (V.passed watch.old) result (V.passed watch.new) }
 {
     'due: loop {
         match session.next_get() {
@@ -43,23 +52,23 @@ fn settle<F: Form, W: Writer, M: Meter>(
                     attr,
                     selected: false,
                 };
-                let reply = meter.call(alloc, event)?;
+                let reply = watch.call(meter, alloc, event)?;
                 let answered = session.answer_get(alloc, &reply);
                 drop(reply);
                 match answered {
-                    Ok(frame) => F::write(alloc, writer, frame.as_slice())?,
+                    Ok(frame) => F::write(alloc, watch, writer, frame.as_slice())?,
                     Err(_) => return Err(ServeFault::Memory),
                 }
             }
             None => match session.next(alloc)? {
                 Next::Ask(event) => {
-                    let reply = meter.call(alloc, event)?;
+                    let reply = watch.call(meter, alloc, event)?;
                     match session.answer(alloc, reply) {
                         Ok(()) => {}
                         Err(_) => return Err(ServeFault::Memory),
                     }
                 }
-                Next::Send(frame) => F::write(alloc, writer, frame.as_slice())?,
+                Next::Send(frame) => F::write(alloc, watch, writer, frame.as_slice())?,
                 Next::Wait => return Ok(None),
                 Next::End(end) => return Ok(Some(end)),
             },
@@ -68,10 +77,11 @@ fn settle<F: Form, W: Writer, M: Meter>(
 }
 
 /// Takes in bytes that came, and does all that is then due.
-fn take_in<W: Writer, M: Meter>(
+fn take_in<V: Watch, W: Writer, M: Meter>(
     alloc: Global,
     session: &mut Session,
     bytes: &[u8],
+    watch: &mut V,
     writer: &mut W,
     meter: &mut M,
 ) -> Result<Option<SessionEnd>, ServeFault>
@@ -81,18 +91,24 @@ fn take_in<W: Writer, M: Meter>(
     ensures writable { OnOk result (W.can_write writer.new) }
     ensures even { OnOk result (W.failures writer.new ≡ W.failures writer.old) }
     ensures err { IfErr result (λ fault. Stops M.steps as_bytes (still_asks session.old bytes.now) (still_sends session.old bytes.now) meter.old (W.contents writer.old) (W.failures writer.old) fault meter.new (W.contents writer.new) (W.failures writer.new)) }
+    ensures order { (password : List ℕ) (texts_of : List ℕ → List Reply → List (List ℕ))
+        (happened : List Happening)
+        → IsAt as_bytes password texts_of (λ more. still_sends session.old (bytes.now ++ more))
+        happened → Orders as_bytes password texts_of (still_sends session.new) happened
+        (V.passed watch.old) result (V.passed watch.new) }
 {
     session.feed(bytes)?;
     if session.is_idle() {
         return Ok(None);
     }
-    settle::<AsBytes, W, M>(alloc, session, writer, meter)
+    settle::<AsBytes, V, W, M>(alloc, session, watch, writer, meter)
 }
 
 /// Ends the input, and does all that is then due.
-pub(crate) fn end_input<F: Form, W: Writer, M: Meter>(
+pub(crate) fn end_input<F: Form, V: Watch, W: Writer, M: Meter>(
     alloc: Global,
     session: &mut Session,
+    watch: &mut V,
     writer: &mut W,
     meter: &mut M,
 ) -> Result<SessionEnd, ServeFault>
@@ -101,9 +117,13 @@ pub(crate) fn end_input<F: Form, W: Writer, M: Meter>(
     ensures ok { OnOk result (DoesAll M.steps F.written_as (still_asks session.old []) (still_sends session.old []) meter.old (W.contents writer.old) meter.new (W.contents writer.new)) }
     ensures end { IfOk result (λ end. end ≡ still_ends session.old []) }
     ensures err { IfErr result (λ fault. Stops M.steps F.written_as (still_asks session.old []) (still_sends session.old []) meter.old (W.contents writer.old) (W.failures writer.old) fault meter.new (W.contents writer.new) (W.failures writer.new)) }
+    ensures order { (password : List ℕ) (texts_of : List ℕ → List Reply → List (List ℕ))
+        (happened : List Happening)
+        → IsAt F.written_as password texts_of (still_sends session.old) happened
+        → StopsInOrder F.written_as password happened (V.passed watch.old) (V.passed watch.new) }
 {
     session.finish();
-    match settle::<F, W, M>(alloc, session, writer, meter)? {
+    match settle::<F, V, W, M>(alloc, session, watch, writer, meter)? {
         Some(end) => Ok(end),
         None => unreachable!(),
     }
@@ -123,9 +143,10 @@ fn wrong_header(end: Option<SessionEnd>) -> Option<SessionEnd>
 }
 
 /// Serves a session of which no byte has come.
-fn serve<R: Reader, W: Writer, M: Meter>(
+fn serve<V: Watch, R: Reader, W: Writer, M: Meter>(
     alloc: Global,
     session: &mut Session,
+    watch: &mut V,
     reader: &mut R,
     writer: &mut W,
     meter: &mut M,
@@ -135,24 +156,55 @@ fn serve<R: Reader, W: Writer, M: Meter>(
     requires settled { IsSettled session.now }
     requires ends { EndsWithInput (still_ends session.now []) }
     requires silent { is_asking session.now ≡ false }
-    ensures { (password : List ℕ) → Owes password session.old → Served R.remaining R.reads R.failures W.contents W.failures M.steps password reader.old writer.old meter.old result reader.new writer.new meter.new }
+    ensures served { (password : List ℕ) → Owes password session.old
+        → Served R.remaining R.reads R.failures W.contents W.failures M.steps password reader.old
+        writer.old meter.old result reader.new writer.new meter.new }
+    ensures order { (password : List ℕ) → Owes password session.old
+        → IsInOrder as_bytes password (V.passed watch.old) (V.passed watch.new)
+        (R.remaining reader.old) (R.remaining reader.new) }
 {
     let mut buffer = [0; MAX_READ];
     'reads: for _ in 0..MOST_READS {
-        let count = match reader.read(&mut buffer) {
+        let count = match watch.read(reader, &mut buffer) {
             Ok(count) => count,
             Err(_) => return Err(ServeFault::Read),
         };
         if count == 0 {
-            return end_input::<AsBytes, W, M>(alloc, session, writer, meter);
+            return end_input::<AsBytes, V, W, M>(alloc, session, watch, writer, meter);
         }
-        let end = take_in(alloc, session, &buffer[..count], writer, meter)?;
+        let end = take_in(alloc, session, &buffer[..count], watch, writer, meter)?;
         match wrong_header(end) {
             Some(end) => return Ok(end),
             None => {}
         }
     }
     Err(ServeFault::Read)
+}
+
+/// Serves one session as `serve_session` does, and passes each read, write and call through `watch`.
+///
+/// If the list of what passed is known, it states the order in time: before each read and each call all
+/// answers to what was read and replied so far were written, and nothing follows a failure.
+pub fn watch_session<V: Watch, R: Reader, W: Writer, M: Meter>(
+    alloc: Global,
+    watch: &mut V,
+    reader: &mut R,
+    writer: &mut W,
+    meter: &mut M,
+    password: &Octets,
+) -> Result<SessionEnd, ServeFault>
+    requires readable { R.can_read reader.now }
+    requires writable { W.can_write writer.now }
+    requires password { IsPassword password.now }
+    ensures served { Served R.remaining R.reads R.failures W.contents W.failures M.steps
+        password.now reader.old writer.old meter.old result reader.new writer.new meter.new }
+    ensures order { IsInOrder as_bytes password.now (V.passed watch.old) (V.passed watch.new)
+        (R.remaining reader.old) (R.remaining reader.new) }
+{
+    let mut session = Session::new(alloc, password)?;
+    let end = serve(alloc, &mut session, watch, reader, writer, meter);
+    drop(session);
+    end
 }
 
 /// Serves one session: reads what the client sends, asks the meter and writes the answers, up to the
@@ -175,10 +227,9 @@ pub fn serve_session<R: Reader, W: Writer, M: Meter>(
     requires readable { R.can_read reader.now }
     requires writable { W.can_write writer.now }
     requires password { IsPassword password.now }
-    ensures { Served R.remaining R.reads R.failures W.contents W.failures M.steps password.now reader.old writer.old meter.old result reader.new writer.new meter.new }
+    ensures { Served R.remaining R.reads R.failures W.contents W.failures M.steps password.now
+        reader.old writer.old meter.old result reader.new writer.new meter.new }
 {
-    let mut session = Session::new(alloc, password)?;
-    let end = serve(alloc, &mut session, reader, writer, meter);
-    drop(session);
-    end
+    let mut watch = Unwatched;
+    watch_session(alloc, &mut watch, reader, writer, meter, password)
 }

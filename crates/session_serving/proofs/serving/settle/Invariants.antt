@@ -1,5 +1,7 @@
 -- What was done so far, and that the session owes the rest. Each task is work done.
-use Rattle.std.proofs.Common.{◌≡◌, [], false}
+use Rattle.std.proofs.Common.{◌≡◌, ℕ, List, [], false}
+use Rattle.session_serving.specs.Order.{Happening, IsAt, ComesOn}
+use Rattle.relay_events.specs.declared.reply.Reply.{Reply}
 use Rattle.session_serving.specs.Settling.{Reached}
 use Rattle.session_core.specs.Remaining.{still_asks, still_sends, still_ends, is_asking, is_finished, load}
 use Rattle.session_serving.proofs.serving.settle.Given as goal
@@ -12,6 +14,11 @@ invariant-due g l = record {
   finished : is_finished l.session ≡ is_finished l.initial.session;
   writable : g.W.Writer.can_write l.writer;
   even : g.W.Writer.failures l.writer ≡ g.W.Writer.failures l.initial.writer;
+  order : (password : List ℕ) (texts_of : List ℕ → List Reply → List (List ℕ))
+      (happened : List Happening)
+      → IsAt g.F.Form.written_as password texts_of (still_sends l.initial.session) happened
+      → ComesOn g.F.Form.written_as password texts_of (still_sends l.session) happened
+      (g.V.Watch.passed l.initial.watch) (g.V.Watch.passed l.watch);
 }
 
 abbrev pub decreases-due : goal.decreases-due

@@ -1,4 +1,7 @@
-use Rattle.std.proofs.Common.{refl, []}
+use Rattle.session_core.specs.Remaining.{still_sends}
+use Rattle.session_serving.specs.declared.fault.ServeFault.TheVariants as fault
+use Rattle.session_serving.proofs.Ordering.{nothing_passed, comes_new, at_fed, orders_stop}
+use Rattle.std.proofs.Common.{◌≡◌, refl, []}
 use Rattle.session_serving.proofs.Reaching.{reached_none, settled_by_feeding, steps_none, starved_by}
 use Rattle.session_serving.proofs.serving.take_in.Goals as goal
 
@@ -14,3 +17,27 @@ pub returns-then-is_idle-clause-ok : goal.returns-then-is_idle-clause-ok
 returns-then-is_idle-clause-ok g c =
     settled_by_feeding g.M.Meter.steps _ c.args.session.now c.feed.new.self c.args.bytes.now c.args.meter.now (g.W.Writer.contents c.args.writer.now)
     c.in_ok-feed.ensures.ok (c.if-is_idle.ensures.quiet refl)
+
+pub returns-in_err-feed-clause-order : goal.returns-in_err-feed-clause-order
+returns-in_err-feed-clause-order g c = λ password texts_of happened at.
+    orders_stop (λ f. f ≡ fault.Memory) texts_of (still_sends c.feed.new.self) happened
+    (g.V.Watch.passed c.args.watch.now) (g.V.Watch.passed c.args.watch.now)
+    c.from_residual.result c.from_residual.ensures.1
+    (record {
+      new = [];
+      passed = nothing_passed (g.V.Watch.passed c.args.watch.now);
+      unread = refl;
+      ordered = at.ordered;
+    })
+
+pub returns-then-is_idle-clause-order : goal.returns-then-is_idle-clause-order
+returns-then-is_idle-clause-order g c = λ password texts_of happened at.
+    comes_new happened (g.V.Watch.passed c.args.watch.now)
+    (at_fed happened c.args.session.now c.feed.new.self c.args.bytes.now c.in_ok-feed.ensures.ok
+    at)
+
+pub returns-clause-order : goal.returns-clause-order
+returns-clause-order g c = λ password texts_of happened at.
+    c.settle.ensures.order password texts_of happened
+    (at_fed happened c.args.session.now c.feed.new.self c.args.bytes.now c.in_ok-feed.ensures.ok
+    at)

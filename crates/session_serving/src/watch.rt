@@ -1,0 +1,81 @@
+ghost use Rattle.std.specs.Prelude.{◌≡◌, ◌<◌, ◌+◌, List, Option, None, IfOk, OnOk, OnErr};
+ghost use Rattle.std.specs.Io.{ReadsAtMost};
+ghost use Rattle.std.specs.Io.KnownBytes.{ReadConsumes, Appends};
+ghost use Rattle.session_serving.specs.Order.{Happening, Passes, read_by, written_by, called_by};
+ghost use Rattle.relay_events.specs.Kinds.{Fits};
+
+use crate::meter::Meter;
+use byte_streams::{Reader, StreamFault, Writer};
+use call_fault::CallFault;
+use relay_events::{Event, Reply};
+use std::alloc::Global;
+
+/// Passes on the reads, the writes and the calls of a session, in the order in which they are made.
+///
+/// Reader, writer and meter are three values with no common history. A watch has one: a list of all that
+/// passed, so that the contract of `watch_session` can state what came before what.
+pub trait Watch {
+    // What passed so far, the last first, if that is known.
+    ghost passed: { Self → Option (List Happening) };
+
+    /// Reads from the reader into the buffer, and returns the reader's result.
+    fn read<R: Reader>(&mut self, reader: &mut R, buffer: &mut [u8]) -> Result<usize, StreamFault>
+        requires { R.can_read reader.now }
+        ensures bound { ReadsAtMost result buffer.new }
+        ensures bytes { ReadConsumes (R.remaining reader.old) (R.remaining reader.new) result
+            buffer.new }
+        ensures ready { OnOk result (R.can_read reader.new) }
+        ensures counted { OnOk result (R.reads reader.new ≡ R.reads reader.old + 1) }
+        ensures even { OnOk result (R.failures reader.new ≡ R.failures reader.old) }
+        ensures cause { OnErr result (R.failures reader.old < R.failures reader.new) }
+        ensures passes { Passes (passed self.old) (read_by result buffer.new) (passed self.new) };
+
+    /// Writes all the bytes to the writer, and returns the writer's result.
+    fn write_all<W: Writer>(&mut self, writer: &mut W, bytes: &[u8]) -> Result<(), StreamFault>
+        requires { W.can_write writer.now }
+        ensures bytes { OnOk result
+            (Appends (W.contents writer.old) (W.contents writer.new) bytes.now) }
+        ensures ready { OnOk result (W.can_write writer.new) }
+        ensures even { OnOk result (W.failures writer.new ≡ W.failures writer.old) }
+        ensures cause { OnErr result (W.failures writer.old < W.failures writer.new) }
+        ensures passes { Passes (passed self.old) (written_by result bytes.now) (passed self.new) };
+
+    /// Calls the meter, and returns its result.
+    fn call<M: Meter>(
+        &mut self,
+        meter: &mut M,
+        alloc: Global,
+        event: Event,
+    ) -> Result<Reply, CallFault>
+        ensures step { M.steps meter.old event result meter.new }
+        ensures fits { IfOk result (Fits event) }
+        ensures passes { Passes (passed self.old) (called_by event result) (passed self.new) };
+}
+
+/// Records nothing.
+#[derive(Drop)]
+pub(crate) struct Unwatched;
+
+impl Watch for Unwatched {
+    ghost passed = { λ _. None };
+
+    #[inline(always)]
+    fn read<R: Reader>(&mut self, reader: &mut R, buffer: &mut [u8]) -> Result<usize, StreamFault> {
+        reader.read(buffer)
+    }
+
+    #[inline(always)]
+    fn write_all<W: Writer>(&mut self, writer: &mut W, bytes: &[u8]) -> Result<(), StreamFault> {
+        writer.write_all(bytes)
+    }
+
+    #[inline(always)]
+    fn call<M: Meter>(
+        &mut self,
+        meter: &mut M,
+        alloc: Global,
+        event: Event,
+    ) -> Result<Reply, CallFault> {
+        meter.call(alloc, event)
+    }
+}
