@@ -296,6 +296,45 @@ fn another_client_and_another_port_are_not_heard(rt: HostRuntime) {
     );
 }
 
+/// Appends a public client's AARQ of 537 bytes. Its calling AP title is an OCTET STRING of 496 bytes.
+fn add_long_opening(alloc: Global, input: &mut Octets) -> Result<(), AllocError> {
+    add_hex(
+        alloc,
+        input,
+        "000100100001021960820215A109060760857405080101A68201F4048201F0",
+    )?;
+    input.extend_from_slice(&[0; 496])?;
+    add_hex(alloc, input, "BE10040E01000000065F1F0400007E1F04B0")
+}
+
+/// Whether a long AARQ has the usual AARE, and the state is read after it.
+fn is_long_opening_answered(alloc: Global) -> Result<bool, AllocError> {
+    let mut input = Octets::new(alloc);
+    let mut expected = Octets::new(alloc);
+    let opened = add_long_opening(alloc, &mut input);
+    let asked = add_hex(alloc, &mut input, STATE_READ[1].0);
+    let answered = add_hex(alloc, &mut expected, PUBLIC.1);
+    let read = add_hex(alloc, &mut expected, STATE_READ[1].1);
+    let is_so = is_answered_so(
+        alloc,
+        input.as_slice(),
+        expected.as_slice(),
+        SessionEnd::Closed,
+    );
+    drop(input);
+    drop(expected);
+    opened?;
+    asked?;
+    answered?;
+    read?;
+    is_so
+}
+
+#[test]
+fn an_opening_of_537_bytes_is_answered(rt: HostRuntime) {
+    assert!(rt; matches!(is_long_opening_answered(rt.alloc()), Ok(true)));
+}
+
 const WRONG_PASSWORD: Frames = &[
     (
         "00010001000100386036A1090607608574050801018A0207808B0760857405080201AC0A80083132333435363739BE10040E01000000065F1F0400001C190400",
