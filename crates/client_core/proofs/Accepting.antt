@@ -35,7 +35,7 @@ goes_accepting : (verb : Verb) (outcome : Option Outcome) (bytes : List ℕ)
 unfolding goes
 goes_accepting verb outcome bytes =
     ended_accepting (after_all verb (accepting outcome) (heard (frames_of bytes))) (head_of
-        (rest_of bytes))
+    (rest_of bytes))
     ∙ all_accepting verb outcome (heard (frames_of bytes))
 
 accepted_goes : (verb : Verb) (progress : Progress) (bytes : List ℕ) → progress.accepted ≡ true
@@ -43,9 +43,9 @@ accepted_goes : (verb : Verb) (progress : Progress) (bytes : List ℕ) → progr
 accepted_goes verb progress bytes is =
     let same : accepting progress.outcome ≡ progress =
     ap (λ (b : Bool). let p : Progress = record
-        { accepted = b; outcome = progress.outcome } in p) (sym is) in
+    { accepted = b; outcome = progress.outcome } in p) (sym is) in
     subst (λ (p : Progress). (goes verb p bytes).accepted ≡ true) same
-        (goes_accepting verb progress.outcome bytes)
+    (goes_accepting verb progress.outcome bytes)
 
 pub accepted_stays : (verb : Verb) (password fed more : List ℕ) (given : ℕ) (over : Bool)
     (c : Client) → Stands verb password fed given over c
