@@ -19,15 +19,24 @@ pub(crate) fn standing(meter: &SupplyMeter) -> Standing {
     )
 }
 
-/// A new meter RELAY1 with the password 12345678.
-pub(crate) fn new_meter(rt: &impl Abort, alloc: Global) -> Result<SupplyMeter, AllocError> {
+/// A new meter RELAY1 with this password.
+fn new_meter_of(
+    rt: &impl Abort,
+    alloc: Global,
+    password: &[u8; 8],
+) -> Result<SupplyMeter, AllocError> {
     let device = Octets::from_slice(alloc, b"RELAY1")?;
-    let password = Octets::from_slice(alloc, b"12345678")?;
+    let password = Octets::from_slice(alloc, password)?;
     assert!(rt; device.len() == 6 && password.len() == 8);
     let meter = SupplyMeter::new(alloc, &device, &password, KEPT_EVENTS);
     drop(device);
     drop(password);
     meter
+}
+
+/// A new meter RELAY1 with the password 12345678.
+pub(crate) fn new_meter(rt: &impl Abort, alloc: Global) -> Result<SupplyMeter, AllocError> {
+    new_meter_of(rt, alloc, b"12345678")
 }
 
 /// A meter that goes on from the text of a trace.
@@ -41,4 +50,29 @@ pub(crate) fn resumed(
     let meter = SupplyMeter::resume(alloc, trace, &password, KEPT_EVENTS);
     drop(password);
     meter
+}
+
+/// Whether Debug writes the same of two meters.
+fn are_shown_alike(
+    alloc: Global,
+    one: &SupplyMeter,
+    other: &SupplyMeter,
+) -> Result<bool, AllocError> {
+    let text = format!(in alloc; "{one:?}")?;
+    let again = format!(in alloc; "{other:?}")?;
+    let are_alike = text.as_str().starts_with("SupplyMeter { ") && text.as_str() == again.as_str();
+    drop(text);
+    drop(again);
+    Ok(are_alike)
+}
+
+#[test]
+fn a_meter_does_not_show_its_password(rt: HostRuntime) -> Result<(), Fail> {
+    let meter = new_meter(&rt, rt.alloc())?;
+    let other = new_meter_of(&rt, rt.alloc(), b"87654321")?;
+    let are_alike = are_shown_alike(rt.alloc(), &meter, &other);
+    drop(meter);
+    drop(other);
+    assert!(rt; are_alike == Ok(true));
+    Ok(())
 }

@@ -296,6 +296,25 @@ fn another_client_and_another_port_are_not_heard(rt: HostRuntime) {
     );
 }
 
+/// Requests from the ports 65534 and 32768.
+const HIGH_PORTS: Frames = &[
+    (
+        "0001FFFE0001000DC001C10046000060030AFF0300",
+        "00010001FFFE0003D80101",
+    ),
+    ("0001800000010001CA", "0001000180000003D80202"),
+];
+
+#[test]
+fn answers_go_to_ports_above_32767(rt: HostRuntime) {
+    assert!(rt;
+        matches!(
+            are_answered(rt.alloc(), HIGH_PORTS, SessionEnd::Closed),
+            Ok(true)
+        )
+    );
+}
+
 /// Appends a public client's AARQ of 537 bytes. Its calling AP title is an OCTET STRING of 496 bytes.
 fn add_long_opening(alloc: Global, input: &mut Octets) -> Result<(), AllocError> {
     add_hex(
