@@ -11,6 +11,7 @@ import pty
 import re
 import resource
 import shutil
+import signal
 import socket
 import subprocess
 import sys
@@ -291,7 +292,8 @@ def counted(expected):
 def run_campaign(path, *words):
     """The status, standard output and standard error of bin/campaign, and how many seconds it took. What parallel keeps goes into the folder of the jobs."""
     begun = time.monotonic()
-    made = subprocess.run([str(CAMPAIGN), "--program", str(HEAD_END), "--workers", "8", *words, str(path)], stdin=subprocess.DEVNULL, capture_output=True,
+    program = [] if "--program" in words else ["--program", str(HEAD_END)]
+    made = subprocess.run([str(CAMPAIGN), *program, "--workers", "8", *words, str(path)], stdin=subprocess.DEVNULL, capture_output=True,
                           timeout=LONGEST, env={**os.environ, "METER_PASSWORD": PASSWORD, "PARALLEL_HOME": str(path.parent)})
     return made.returncode, made.stdout.decode(), made.stderr.decode(), time.monotonic() - begun
 
@@ -313,16 +315,84 @@ def campaigns_side_by_side(name, crowd, folder, count):
         check_campaign(f"{name}: {side} side by side", crowd, path, wanted, expected, "--jobs", side)
 
 
+def program_that_fails(folder):
+    """A head end that fails for each part in which a job is named fails1."""
+    path = folder / "failing"
+    path.write_text(f"""#!/bin/sh
+[ "$1" = run ] || exec {HEAD_END} "$@"
+jobs=$(mktemp) && trap 'rm -f "$jobs"' EXIT && cat > "$jobs"
+if grep -q '^fails1 ' "$jobs"; then exit 4; fi
+{HEAD_END} "$@" < "$jobs"
+""")
+    path.chmod(0o700)
+    return path
+
+
+def own_lines(errors):
+    return [line for line in errors.splitlines() if line.startswith("campaign:")]
+
+
 def a_part_that_fails_is_named(name, crowd, folder):
     jobs, wanted, expected = crowd_jobs(crowd, 1000)
     path = folder / "part"
-    path.write_text("wrong1 127.0.0.1:1 close\nwrong2 127.0.0.1:1 state\n" + "\n" * 998 + jobs)
-    status, text, errors, _ = run_campaign(path, "--jobs", "2")
+    path.write_text("fails1 127.0.0.1:1 state\nfails2 127.0.0.1:1 state\n" + "\n" * 998 + jobs)
+    status, text, errors, _ = run_campaign(path, "--jobs", "2", "--program", str(program_that_fails(folder)))
     check(f"{name}: the other part's report", (status, text) == (1, wanted), status, differing(wanted, text))
-    told = ["campaign: part 1 failed (status and signal: 2 0); nothing of it is known, and nothing is sent again. Its jobs:", "campaign:     wrong1",
-            "campaign:     wrong2"]
-    check(f"{name}: its jobs", [line for line in errors.splitlines() if line.startswith("campaign:")] == told, errors)
+    told = ["campaign: part 1 failed (status and signal: 4 0); nothing of it is known, and nothing is sent again. Its jobs:", "campaign:     fails1",
+            "campaign:     fails2"]
+    check(f"{name}: its jobs", own_lines(errors) == told, errors)
     check(f"{name}: each command once", crowd.counts() == counted(expected))
+
+
+def a_wrong_list_sends_nothing(name, crowd, folder):
+    jobs, _, _ = crowd_jobs(crowd, 1001)
+    _, _, none = crowd_jobs(crowd, 0)
+    path = folder / "wrong"
+    path.write_text(jobs + "wrong1 127.0.0.1:1 close\nwrong2 127.0.0.1:1 open\n" + "\n" * 997 + "\nwrong3 127.0.0.1:1\n")
+    status, text, errors, _ = run_campaign(path, "--jobs", "2")
+    check(f"{name}: status", (status, text) == (2, ""), status, text)
+    lines = [line.split(":")[1] for line in own_lines(errors)]
+    check(f"{name}: the first wrong line of each part", lines == [" line 1002", " line 2002", " nothing was sent"], errors)
+    check(f"{name}: no command", crowd.counts() == counted(none))
+
+
+def is_running(program):
+    """Whether a process runs this executable."""
+    for it in pathlib.Path("/proc").iterdir():
+        try:
+            if it.name.isdigit() and os.readlink(it / "exe") == str(program):
+                return True
+        except OSError:
+            pass
+    return False
+
+
+def becomes(wanted, program, seconds=20):
+    end = time.monotonic() + seconds
+    while is_running(program) != wanted and time.monotonic() < end:
+        time.sleep(0.05)
+    return is_running(program) == wanted
+
+
+def a_campaign_is_stopped(name, folder):
+    """A campaign whose meters never answer, ended by a signal."""
+    program = folder / "head_end"
+    shutil.copy(HEAD_END, program)
+    path = folder / "silent"
+    with socket.create_server(("127.0.0.1", 0), backlog=1) as silent:
+        port = silent.getsockname()[1]
+        path.write_text("".join(f"job{number} 127.0.0.1:{port} disconnect\n" for number in range(2_500)))
+        for signal_sent, wanted in (signal.SIGTERM, 143), (signal.SIGINT, 130):
+            made = subprocess.Popen([str(CAMPAIGN), "--program", str(program), "--jobs", "2", str(path)], stdin=subprocess.DEVNULL, stdout=subprocess.PIPE,
+                                    stderr=subprocess.PIPE, text=True, env={**os.environ, "METER_PASSWORD": PASSWORD, "PARALLEL_HOME": str(folder)})
+            begun = becomes(True, program)
+            time.sleep(1)
+            made.send_signal(signal_sent)
+            text, errors = made.communicate(timeout=60)
+            named = [line.split(" failed")[0] for line in own_lines(errors) if " failed" in line]
+            check(f"{name}: {signal_sent.name}", (begun, made.returncode, text) == (True, wanted, ""), made.returncode, text, errors[:500])
+            check(f"{name}: {signal_sent.name}, its parts", named == ["campaign: part 1", "campaign: part 2", "campaign: part 3"], errors[:500])
+            check(f"{name}: {signal_sent.name}, no head end goes on", becomes(False, program))
 
 
 class Shell:
@@ -418,6 +488,8 @@ def campaigns_of_a_crowd(name, count):
             folder = pathlib.Path(folder)
             campaigns_side_by_side(name, crowd, folder, count)
             a_part_that_fails_is_named(f"{name}: a part fails", crowd, folder)
+            a_wrong_list_sends_nothing(f"{name}: a wrong list", crowd, folder)
+            a_campaign_is_stopped(f"{name}: a signal", folder)
             campaigns_by_ssh(f"{name}: by ssh", crowd, folder, count)
     finally:
         crowd.stop()
