@@ -691,3 +691,39 @@ fn an_aares_fields_come_in_any_order(rt: HostRuntime) {
     };
     assert!(rt; read_aare(rt.alloc(), &REORDERED_AARE[..35]) == Ok(expected));
 }
+
+// An AARQ whose application context has `length` bytes, at most 100, with the user information of the public client.
+fn aarq_with_context(alloc: Global, length: u8) -> Result<Vec<u8>, AllocError> {
+    let mut text = Vec::from_slice(alloc, &[0x60, length.saturating_add(22)])?;
+    text.extend_from_slice(&[0xA1, length.saturating_add(2), 0x06, length])?;
+    for _ in 0..length {
+        text.push(0x2A)?;
+    }
+    text.extend_from_slice(&PUBLIC_AARQ[13..])?;
+    Ok(text)
+}
+
+// Whether that AARQ is read, with a context of so many bytes.
+fn is_context_read(alloc: Global, length: u8) -> Result<bool, AllocError> {
+    let text = aarq_with_context(alloc, length)?;
+    let read = read_aarq(alloc, text.as_slice());
+    drop(text);
+    match read {
+        Ok(aarq) => {
+            let is_so = aarq.context.len() == usize::from(length);
+            drop(aarq);
+            Ok(is_so)
+        }
+        Err(_) => Ok(false),
+    }
+}
+
+#[test]
+fn each_length_of_a_context_is_read(rt: HostRuntime) {
+    for length in 0..101 {
+        assert!(rt;
+            is_context_read(rt.alloc(), length) == Ok(true),
+            "{length} bytes"
+        );
+    }
+}

@@ -727,3 +727,50 @@ fn a_response_that_ends_too_early_is_unreadable(rt: HostRuntime) {
 fn a_response_that_ends_too_late_is_unreadable(rt: HostRuntime) {
     assert_all_well(&rt, try_responses(rt.alloc(), Trial::EndsLate));
 }
+
+// The text of a request that reads the same attribute `count` times.
+fn list_text(alloc: Global, count: u8) -> Result<Vec<u8>, AllocError> {
+    let mut text = Vec::from_slice(alloc, &[0xC0, 0x03, 0xC1, count])?;
+    for _ in 0..count {
+        text.extend_from_slice(&[0x00, 0x46, 0x00, 0x00, 0x60, 0x03, 0x0A, 0xFF, 0x03, 0x00])?;
+    }
+    Ok(text)
+}
+
+// That request.
+fn list_request(alloc: Global, count: u8) -> Result<Request, AllocError> {
+    let mut targets = Vec::new(alloc);
+    for _ in 0..count {
+        targets.push(control(10, 3, false))?;
+    }
+    Ok(Request::GetList {
+        id: ID,
+        targets: Listed::from_vec(targets),
+    })
+}
+
+// Whether a text is the one of that request.
+fn is_list(alloc: Global, text: &[u8], count: u8) -> Result<bool, AllocError> {
+    let request = list_request(alloc, count)?;
+    let is_so = spells_request(alloc, text, &request);
+    drop(request);
+    Ok(is_so)
+}
+
+// Whether that request is read from its text and written as it.
+fn is_list_spelled(alloc: Global, count: u8) -> Result<bool, AllocError> {
+    let text = list_text(alloc, count)?;
+    let is_so = is_list(alloc, text.as_slice(), count);
+    drop(text);
+    is_so
+}
+
+#[test]
+fn each_length_of_a_list_is_read_and_written(rt: HostRuntime) {
+    for count in 0..103 {
+        assert!(rt;
+            is_list_spelled(rt.alloc(), count) == Ok(true),
+            "{count} attributes"
+        );
+    }
+}

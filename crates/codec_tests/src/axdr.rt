@@ -389,6 +389,37 @@ fn the_widest_values_are_read_and_written(rt: HostRuntime) {
     }
 }
 
+// The number of bytes of a length or count in its shortest form, of at most 65,535.
+fn length_size(length: usize) -> u64 {
+    match length {
+        0..=127 => 1,
+        128..=255 => 2,
+        _ => 3,
+    }
+}
+
+#[test]
+fn each_count_of_items_is_read_and_written(rt: HostRuntime) {
+    for count in 0..256 {
+        let len = 1 + length_size(count) + count as u64;
+        assert!(rt;
+            is_widest(rt.alloc(), Wide::Nulls(count), len),
+            "{count} items"
+        );
+    }
+}
+
+#[test]
+fn each_length_of_a_string_is_read_and_written(rt: HostRuntime) {
+    for length in 0..8_189 {
+        let len = 1 + length_size(length) + length as u64;
+        assert!(rt;
+            is_widest(rt.alloc(), Wide::String(length), len),
+            "{length} bytes"
+        );
+    }
+}
+
 #[test]
 fn wider_values_are_too_long(rt: HostRuntime) {
     for (form, len) in [(Wide::Nulls(256), 260), (Wide::String(8189), 8193)] {

@@ -309,3 +309,44 @@ fn a_call_that_found_no_memory_can_be_repeated(rt: HostRuntime) -> Result<(), Fa
     drop(joined);
     checked
 }
+
+/// Wants a text to go out in blocks of 52 bytes, numbered from 1.
+fn check_blocks(rt: &impl Abort, alloc: Global, text: &[u8]) -> Result<(), Fail> {
+    let mut sent = GetBlocks::new(Octets::from_slice(alloc, text)?, 52);
+    let mut number = 0u32;
+    for raw in text.chunks(52) {
+        let after = number;
+        number = number.saturating_add(1);
+        let block = (after, Ok((number == 158, number, raw)));
+        assert!(*rt; sends(alloc, &mut sent, &block)?, "block {number}");
+    }
+    drop(sent);
+    Ok(())
+}
+
+#[test]
+fn a_text_of_8192_bytes_has_158_blocks(rt: HostRuntime) -> Result<(), Fail> {
+    let text: [u8; 8192] = counted();
+    check_blocks(&rt, rt.alloc(), &text)
+}
+
+/// Wants a text to come back whole from its blocks of 52 bytes.
+fn check_joined(rt: &impl Abort, alloc: Global, text: &[u8]) -> Result<(), BlockFault> {
+    let mut joined = JoinBlocks::new(alloc);
+    let mut number = 0u32;
+    for raw in text.chunks(52) {
+        number = number.saturating_add(1);
+        let whole = if number == 158 { Some(text) } else { None };
+        let joining = ((number == 158, number, raw), Ok(whole));
+        assert!(*rt; joins(&mut joined, &joining)?, "block {number}");
+    }
+    drop(joined);
+    Ok(())
+}
+
+#[test]
+fn a_text_of_8192_bytes_comes_back_from_158_blocks(rt: HostRuntime) -> Result<(), Fail> {
+    let text: [u8; 8192] = counted();
+    check_joined(&rt, rt.alloc(), &text)?;
+    Ok(())
+}

@@ -355,3 +355,51 @@ fn a_call_that_found_no_memory_can_be_repeated(rt: HostRuntime) -> Result<(), Fa
     drop(deframer);
     checked
 }
+
+/// Whether a payload has a text of 8 bytes more, out of which it is taken.
+fn is_framed(alloc: Global, payload: &[u8]) -> Result<bool, WrapperFault> {
+    let text = frame(alloc, 16, 1, payload)?;
+    let is_so = text.as_slice().len() == payload.len() + 8;
+    let taken = is_taken(alloc, text.as_slice(), payload);
+    drop(text);
+    Ok(taken? && is_so)
+}
+
+#[test]
+fn each_length_of_a_payload_is_written_and_taken(rt: HostRuntime) -> Result<(), Fail> {
+    let payload = [0xAB; 1024];
+    for len in 0..1025 {
+        assert!(rt; is_framed(rt.alloc(), &payload[..len])?, "{len} bytes");
+    }
+    Ok(())
+}
+
+/// Whether a frame is taken that comes in two pieces, and not before the second.
+fn is_taken_in_two(alloc: Global, text: &[u8], cut: usize, payload: &[u8]) -> Result<bool, Fail> {
+    let (first, second) = text.split_at(cut.min(text.len()));
+    let mut deframer = Deframer::new(alloc);
+    let is_early = deframer.feed(first).is_err() || !takes_none(&mut deframer, alloc)?;
+    let taken = match deframer.feed(second) {
+        Ok(()) => is_of(deframer.take(alloc), payload),
+        Err(fault) => Err(fault),
+    };
+    drop(deframer);
+    Ok(taken? && !is_early)
+}
+
+/// Wants the longest frame to be taken wherever it is cut in two.
+fn check_cuts(rt: &impl Abort, alloc: Global, text: &[u8], payload: &[u8]) -> Result<(), Fail> {
+    for cut in 1..1032 {
+        assert!(*rt; is_taken_in_two(alloc, text, cut, payload)?, "cut at {cut}");
+    }
+    Ok(())
+}
+
+#[test]
+fn the_longest_frame_is_taken_from_any_two_pieces(rt: HostRuntime) -> Result<(), Fail> {
+    let payload = [0xAB; 1024];
+    let text = frame(rt.alloc(), 16, 1, &payload)?;
+    let checked = check_cuts(&rt, rt.alloc(), text.as_slice(), &payload);
+    drop(text);
+    checked
+}

@@ -5,6 +5,7 @@ mod advance;
 mod opening;
 mod running;
 mod scan;
+mod sizes;
 
 use cosem_axdr::{Data, Octets, read as read_data};
 use cosem_names::{AttrRef, ClassId, Level, MethodRef, Obis};
@@ -136,6 +137,8 @@ enum Scenario {
     Running,
     /// A list is read.
     ListReading,
+    /// Lists of each length are read.
+    LongListReading,
     /// A firing raises the threshold within a block, scanned at this threshold if there is one.
     Firing(Option<u32>),
 }
@@ -147,6 +150,7 @@ fn does(core: &mut RelayCore, alloc: Global, scenario: Scenario) -> Result<bool,
         Scenario::WritingDown => opening::is_told(core, alloc),
         Scenario::Running => running::runs_in_mode_1(core, alloc),
         Scenario::ListReading => running::reads_a_list(core, alloc),
+        Scenario::LongListReading => sizes::reads_each_list(core, alloc),
         Scenario::Firing(scan) => scan::fires_with(core, alloc, scan),
     }
 }

@@ -217,6 +217,18 @@ static LENGTHS: [(&[u32], &[u32], Result<usize, BlockMade>); 5] = [
 ];
 
 #[test]
+fn a_block_may_have_each_length(rt: HostRuntime) {
+    for len in 0..257 {
+        let values = &LONG[..len];
+        assert!(rt; made(rt.alloc(), values) == Ok(len), "{len} values");
+        assert!(rt;
+            made_of_pairs(rt.alloc(), values, values) == Ok(len),
+            "{len} pairs"
+        );
+    }
+}
+
+#[test]
 fn a_block_is_refused_by_its_lengths(rt: HostRuntime) {
     assert!(rt; made(rt.alloc(), &LONG) == Err(BlockMade::TooLong));
     assert!(rt; made(rt.alloc(), &LONG[..256]) == Ok(256));

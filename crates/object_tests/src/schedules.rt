@@ -492,10 +492,12 @@ fn check_due(rt: &impl Abort, alloc: Global, entries: &str) {
 }
 
 #[test]
-fn sixteen_entries_are_taken(rt: HostRuntime) -> Result<(), Fail> {
-    let text = midnights(rt.alloc(), 16, MIDNIGHT)?;
-    check_due(&rt, rt.alloc(), text.as_str());
-    drop(text);
+fn up_to_sixteen_entries_are_taken(rt: HostRuntime) -> Result<(), Fail> {
+    for count in 1..17 {
+        let text = midnights(rt.alloc(), count, MIDNIGHT)?;
+        check_due(&rt, rt.alloc(), text.as_str());
+        drop(text);
+    }
     Ok(())
 }
 

@@ -239,6 +239,37 @@ fn a_full_table_is_read_and_written_back(rt: HostRuntime) -> Result<(), Fail> {
     Ok(())
 }
 
+/// Whether a table of so many scripts of so many steps is read and written back.
+fn is_read_back(alloc: Global, counts: (u8, u8)) -> Result<bool, AllocError> {
+    let text = long_text(alloc, counts, (DISCONNECT, DISCONNECT))?;
+    let is_so = match table(alloc, text.as_str()) {
+        Some(table) => {
+            let is_so = is_written(alloc, &table, text.as_str());
+            drop(table);
+            is_so
+        }
+        None => false,
+    };
+    drop(text);
+    Ok(is_so)
+}
+
+#[test]
+fn a_table_may_have_each_size(rt: HostRuntime) {
+    for scripts in 1..17 {
+        assert!(rt;
+            is_read_back(rt.alloc(), (scripts, 8)) == Ok(true),
+            "{scripts} scripts"
+        );
+    }
+    for steps in 1..9 {
+        assert!(rt;
+            is_read_back(rt.alloc(), (16, steps)) == Ok(true),
+            "{steps} steps"
+        );
+    }
+}
+
 /// How many scripts of how many steps, the last of which is another, and the fault.
 static TOO_LONG: [(u8, u8, &str, ScriptFault); 3] = [
     (17, 1, DISCONNECT, ScriptFault::Value),
