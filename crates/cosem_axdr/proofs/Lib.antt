@@ -1,4 +1,5 @@
 pub mod Again
+pub mod Appending
 pub mod BigEndian
 pub mod OneTree
 pub mod Steps

@@ -1,3 +1,4 @@
+pub mod Appending
 pub mod Equality
 pub mod EqualityLaws
 pub mod Falls

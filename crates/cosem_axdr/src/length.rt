@@ -1,5 +1,5 @@
 //! Lengths and counts (IEC 62056-5-3, A-XDR encoding; for the association's APDUs ISO/IEC 8825-1): below 80 as they are, else 81 to 84 and that many bytes.
-ghost use Rattle.std.specs.Prelude.{◌≡◌, ◌≤◌, ◌∷◌, ◌++◌, length, OnOk};
+ghost use Rattle.std.specs.Prelude.{◌≡◌, ◌≤◌, ◌++◌, length, OnOk, OnErr};
 ghost use Rattle.cosem_axdr.specs.Reading.{big_endian};
 ghost use Rattle.cosem_axdr.specs.Spelling.{length_text};
 
@@ -18,25 +18,18 @@ pub fn number_of(bytes: &[u8]) -> usize
     number
 }
 
-/// Writes a length or count behind what is there, in its shortest form; of one of 2^32 or more its lowest four bytes. Where memory runs out a part of it may have been
-/// written.
+/// Appends a length or count in its shortest form; of one of 2^32 or more its lowest four bytes. Out of
+/// memory nothing is appended.
 pub fn append_length(length: usize, out: &mut Octets) -> Result<(), AllocError>
-    ensures { OnOk result (out.new ≡ out.old ++ length_text length) }
+    ensures ok { OnOk result (out.new ≡ out.old ++ length_text length) }
+    ensures unchanged_on_error { OnErr result (out.new ≡ out.old) }
 {
-    let bytes = length.to_be_bytes();
+    let [.., b4, b5, b6, b7] = length.to_be_bytes();
     match length {
-        0..=0x7F => out.push(length as u8),
-        0x80..=0xFF => append_long(0x81, &bytes[7..], out),
-        0x100..=0xFFFF => append_long(0x82, &bytes[6..], out),
-        0x1_0000..=0xFF_FFFF => append_long(0x83, &bytes[5..], out),
-        _ => append_long(0x84, &bytes[4..], out),
+        0..=0x7F => out.push(b7),
+        0x80..=0xFF => out.extend_from_slice(&[0x81, b7]),
+        0x100..=0xFFFF => out.extend_from_slice(&[0x82, b6, b7]),
+        0x1_0000..=0xFF_FFFF => out.extend_from_slice(&[0x83, b5, b6, b7]),
+        _ => out.extend_from_slice(&[0x84, b4, b5, b6, b7]),
     }
-}
-
-// Writes a length in a long form: how many bytes it has, and those.
-fn append_long(form: u8, bytes: &[u8], out: &mut Octets) -> Result<(), AllocError>
-    ensures { OnOk result (out.new ≡ out.old ++ form ∷ bytes.now) }
-{
-    out.push(form)?;
-    out.extend_from_slice(bytes)
 }

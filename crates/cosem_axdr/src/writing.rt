@@ -1,4 +1,5 @@
 ghost use Rattle.std.specs.Prelude.{◌≡◌, ◌++◌, OnOk, OnErr};
+ghost use Rattle.cosem_axdr.specs.Appending.{Extends};
 ghost use Rattle.cosem_axdr.specs.Tree.{trees_of, count_of};
 ghost use Rattle.cosem_axdr.specs.View.{tree_of, all_trees};
 ghost use Rattle.cosem_axdr.specs.Spelling.{text, texts, contents_text, length_text, string_text};
@@ -21,17 +22,27 @@ pub fn write(alloc: Global, value: &Data, out: &mut Octets) -> Result<(), AllocE
     out.extend_from_slice(text.as_slice())
 }
 
-/// Writes the same text, where it comes to lie: it takes no memory but what is put behind `out`. Where memory runs out a part of it may have been written.
+/// Appends the text that [`write`] writes, in place: it allocates nothing but the growth of `out`. Out of
+/// memory nothing is appended.
+#[tactic(auto, using(crate::proofs::Appending::earlier_again))]
 pub fn append(value: &Data, out: &mut Octets) -> Result<(), AllocError>
-    ensures { OnOk result (out.new ≡ out.old ++ text (tree_of value.now)) }
+    ensures ok { OnOk result (out.new ≡ out.old ++ text (tree_of value.now)) }
+    ensures unchanged_on_error { OnErr result (out.new ≡ out.old) }
 {
-    put_value(value, out)
+    let before = out.len();
+    let done = put_value(value, out);
+    if done.is_err() {
+        out.truncate(before);
+    }
+    done
 }
 
 // Writes a value: its tag and what stands behind it.
 #[cycle(writing)]
+#[tactic(auto, using(crate::proofs::Appending::extends_same, crate::proofs::Appending::extends_more))]
 fn put_value(value: &Data, out: &mut Octets) -> Result<(), AllocError>
-    ensures { OnOk result (out.new ≡ out.old ++ text (tree_of value.now)) }
+    ensures ok { OnOk result (out.new ≡ out.old ++ text (tree_of value.now)) }
+    ensures extends { OnErr result (Extends out.old out.new) }
 {
     out.push(tag_of(value))?;
     put_contents(value, out)
@@ -39,8 +50,10 @@ fn put_value(value: &Data, out: &mut Octets) -> Result<(), AllocError>
 
 // Writes what stands behind the tag of a value.
 #[cycle(writing)]
+#[tactic(auto, using(crate::proofs::Appending::extends_same, crate::proofs::Appending::extends_more))]
 fn put_contents(value: &Data, out: &mut Octets) -> Result<(), AllocError>
-    ensures { OnOk result (out.new ≡ out.old ++ contents_text (tree_of value.now)) }
+    ensures ok { OnOk result (out.new ≡ out.old ++ contents_text (tree_of value.now)) }
+    ensures extends { OnErr result (Extends out.old out.new) }
 {
     match value {
         Data::Null => Ok(()),
@@ -71,8 +84,10 @@ fn put_contents(value: &Data, out: &mut Octets) -> Result<(), AllocError>
 
 // Writes the count of items and the items.
 #[cycle(writing)]
+#[tactic(auto, using(crate::proofs::Appending::extends_same, crate::proofs::Appending::extends_more))]
 fn put_counted(items: &[Data], out: &mut Octets) -> Result<(), AllocError>
-    ensures { let ts = trees_of (all_trees items.now) in OnOk result (out.new ≡ out.old ++ (length_text (count_of ts) ++ texts ts)) }
+    ensures ok { let ts = trees_of (all_trees items.now) in OnOk result (out.new ≡ out.old ++ (length_text (count_of ts) ++ texts ts)) }
+    ensures extends { OnErr result (Extends out.old out.new) }
 {
     append_length(items.len(), out)?;
     for item in items {
@@ -82,8 +97,10 @@ fn put_counted(items: &[Data], out: &mut Octets) -> Result<(), AllocError>
 }
 
 // Writes a string behind its length.
+#[tactic(auto, using(crate::proofs::Appending::extends_same, crate::proofs::Appending::extends_more))]
 fn put_string(bytes: &Octets, out: &mut Octets) -> Result<(), AllocError>
-    ensures { OnOk result (out.new ≡ out.old ++ string_text bytes.now) }
+    ensures ok { OnOk result (out.new ≡ out.old ++ string_text bytes.now) }
+    ensures extends { OnErr result (Extends out.old out.new) }
 {
     append_length(bytes.len(), out)?;
     out.extend_from_slice(bytes.as_slice())

@@ -1,5 +1,6 @@
 //! The parts of the services.
-ghost use Rattle.std.specs.Prelude.{◌≡◌, ◌∷◌, ◌++◌, OnOk};
+ghost use Rattle.std.specs.Prelude.{◌≡◌, ◌∷◌, ◌++◌, OnOk, OnErr};
+ghost use Rattle.cosem_axdr.specs.Appending.{Extends};
 ghost use Rattle.cosem_axdr.specs.Spelling.{string_text};
 ghost use Rattle.xdlms_apdu.specs.Heads.{head};
 ghost use Rattle.xdlms_apdu.specs.Text.{flag_text, number_text, descriptor_text, attribute_text, method_text, selection_text, target_text, parameter_text, block_text, result_text};
@@ -13,28 +14,33 @@ use std::alloc::AllocError;
 
 /// How an APDU begins: its tag, its form and the invoke-id-and-priority.
 pub(crate) fn put_head(tag: u8, form: u8, id: InvokeId, out: &mut Octets) -> Result<(), AllocError>
-    ensures { OnOk result (out.new ≡ out.old ++ head tag form id) }
+    ensures ok { OnOk result (out.new ≡ out.old ++ head tag form id) }
+    ensures unchanged_on_error { OnErr result (out.new ≡ out.old) }
 {
     out.extend_from_slice(&[tag, form, id.0])
 }
 
 /// Yes or no.
 pub(crate) fn put_flag(flag: bool, out: &mut Octets) -> Result<(), AllocError>
-    ensures { OnOk result (out.new ≡ out.old ++ flag_text flag) }
+    ensures ok { OnOk result (out.new ≡ out.old ++ flag_text flag) }
+    ensures unchanged_on_error { OnErr result (out.new ≡ out.old) }
 {
     out.push(u8::from(flag))
 }
 
 /// The number of a block.
 pub(crate) fn put_number(number: u32, out: &mut Octets) -> Result<(), AllocError>
-    ensures { OnOk result (out.new ≡ out.old ++ number_text number) }
+    ensures ok { OnOk result (out.new ≡ out.old ++ number_text number) }
+    ensures unchanged_on_error { OnErr result (out.new ≡ out.old) }
 {
     out.extend_from_slice(&number.to_be_bytes())
 }
 
 /// Bytes behind their length.
+#[tactic(auto, using(cosem_axdr::proofs::Appending::extends_same, cosem_axdr::proofs::Appending::extends_more))]
 pub(crate) fn put_raw(raw: &Octets, out: &mut Octets) -> Result<(), AllocError>
-    ensures { OnOk result (out.new ≡ out.old ++ string_text raw.now) }
+    ensures ok { OnOk result (out.new ≡ out.old ++ string_text raw.now) }
+    ensures extends { OnErr result (Extends out.old out.new) }
 {
     append_length(raw.len(), out)?;
     out.extend_from_slice(raw.as_slice())
@@ -114,8 +120,10 @@ pub(crate) fn put_block(block: &Block, out: &mut Octets) -> Result<(), AllocErro
 }
 
 /// Get-Data-Result.
+#[tactic(auto, using(cosem_axdr::proofs::Appending::extends_same, cosem_axdr::proofs::Appending::extends_more))]
 pub(crate) fn put_result(outcome: &GetResult, out: &mut Octets) -> Result<(), AllocError>
-    ensures { OnOk result (out.new ≡ out.old ++ result_text outcome.now) }
+    ensures ok { OnOk result (out.new ≡ out.old ++ result_text outcome.now) }
+    ensures extends { OnErr result (Extends out.old out.new) }
 {
     match outcome {
         GetResult::Value(value) => {

@@ -1,5 +1,6 @@
 //! Lists of the parts of the services.
-ghost use Rattle.std.specs.Prelude.{◌≡◌, ◌++◌, OnOk};
+ghost use Rattle.std.specs.Prelude.{◌≡◌, ◌++◌, OnOk, OnErr};
+ghost use Rattle.cosem_axdr.specs.Appending.{Extends};
 ghost use Rattle.xdlms_apdu.specs.Text.{target_text, result_text, list_text};
 
 use crate::field_writing::{put_result, put_target};
@@ -22,8 +23,10 @@ pub(crate) fn put_targets(
 }
 
 /// How many results there are, and the results.
+#[tactic(auto, using(cosem_axdr::proofs::Appending::extends_same, cosem_axdr::proofs::Appending::extends_more))]
 pub(crate) fn put_results(results: &[GetResult], out: &mut Octets) -> Result<(), AllocError>
-    ensures { OnOk result (out.new ≡ out.old ++ list_text result_text results.now) }
+    ensures ok { OnOk result (out.new ≡ out.old ++ list_text result_text results.now) }
+    ensures extends { OnErr result (Extends out.old out.new) }
 {
     append_length(results.len(), out)?;
     for outcome in results {

@@ -1,4 +1,5 @@
-ghost use Rattle.std.specs.Prelude.{◌≡◌, [], ◌∷◌, ◌++◌, IfOk, OnOk};
+ghost use Rattle.std.specs.Prelude.{◌≡◌, [], ◌∷◌, ◌++◌, IfOk, OnOk, OnErr};
+ghost use Rattle.cosem_axdr.specs.Appending.{Extends};
 ghost use Rattle.cosem_axdr.specs.Spelling.{string_text};
 ghost use Rattle.cosem_names.specs.ResultCode.{code_of};
 ghost use Rattle.xdlms_apdu.specs.Heads.{response_head};
@@ -27,10 +28,25 @@ pub fn write_response(alloc: Global, response: &Response) -> Result<Octets, Allo
     Ok(out)
 }
 
-/// Writes the same text behind what is there. Where memory runs out a part of it may have been written.
-#[tactic(auto, unfolding(crate::specs::Text::response_text))]
+/// Appends the text that [`write_response`] writes. Out of memory nothing is appended.
+#[tactic(auto, using(cosem_axdr::proofs::Appending::earlier_again))]
 pub fn append_response(response: &Response, out: &mut Octets) -> Result<(), AllocError>
-    ensures { OnOk result (out.new ≡ out.old ++ response_text response.now) }
+    ensures ok { OnOk result (out.new ≡ out.old ++ response_text response.now) }
+    ensures unchanged_on_error { OnErr result (out.new ≡ out.old) }
+{
+    let before = out.len();
+    let done = put_response(response, out);
+    if done.is_err() {
+        out.truncate(before);
+    }
+    done
+}
+
+// The first bytes of a response and its body.
+#[tactic(auto, unfolding(crate::specs::Text::response_text), using(cosem_axdr::proofs::Appending::extends_same, cosem_axdr::proofs::Appending::extends_more))]
+fn put_response(response: &Response, out: &mut Octets) -> Result<(), AllocError>
+    ensures ok { OnOk result (out.new ≡ out.old ++ response_text response.now) }
+    ensures extends { OnErr result (Extends out.old out.new) }
 {
     put_response_head(response, out)?;
     put_response_body(response, out)
@@ -38,7 +54,8 @@ pub fn append_response(response: &Response, out: &mut Octets) -> Result<(), Allo
 
 // The first bytes of a response.
 fn put_response_head(response: &Response, out: &mut Octets) -> Result<(), AllocError>
-    ensures { OnOk result (out.new ≡ out.old ++ response_head response.now) }
+    ensures ok { OnOk result (out.new ≡ out.old ++ response_head response.now) }
+    ensures unchanged_on_error { OnErr result (out.new ≡ out.old) }
 {
     let (tag, form, id) = match response {
         Response::Get { id, .. } => (GET_RESPONSE, get_response::NORMAL, *id),
@@ -57,8 +74,10 @@ fn put_response_head(response: &Response, out: &mut Octets) -> Result<(), AllocE
 }
 
 // What stands behind the first bytes of a response.
+#[tactic(auto, using(cosem_axdr::proofs::Appending::extends_same, cosem_axdr::proofs::Appending::extends_more))]
 fn put_response_body(response: &Response, out: &mut Octets) -> Result<(), AllocError>
-    ensures { OnOk result (out.new ≡ out.old ++ response_body response.now) }
+    ensures ok { OnOk result (out.new ≡ out.old ++ response_body response.now) }
+    ensures extends { OnErr result (Extends out.old out.new) }
 {
     match response {
         Response::Get {
@@ -84,8 +103,10 @@ fn put_response_body(response: &Response, out: &mut Octets) -> Result<(), AllocE
 }
 
 // DataBlock-G with raw data.
+#[tactic(auto, using(cosem_axdr::proofs::Appending::extends_same, cosem_axdr::proofs::Appending::extends_more))]
 fn put_get_block(block: &Block, out: &mut Octets) -> Result<(), AllocError>
-    ensures { OnOk result (out.new ≡ out.old ++ (flag_text block.now.last ++ (number_text block.now.number ++ 0x00 ∷ string_text block.now.raw))) }
+    ensures ok { OnOk result (out.new ≡ out.old ++ (flag_text block.now.last ++ (number_text block.now.number ++ 0x00 ∷ string_text block.now.raw))) }
+    ensures extends { OnErr result (Extends out.old out.new) }
 {
     put_flag(block.last, out)?;
     put_number(block.number, out)?;
@@ -94,13 +115,15 @@ fn put_get_block(block: &Block, out: &mut Octets) -> Result<(), AllocError>
 }
 
 // DataBlock-G with a result.
+#[tactic(auto, using(cosem_axdr::proofs::Appending::extends_same, cosem_axdr::proofs::Appending::extends_more))]
 fn put_refusal(
     last: bool,
     number: u32,
     code: ResultCode,
     out: &mut Octets,
 ) -> Result<(), AllocError>
-    ensures { OnOk result (out.new ≡ out.old ++ (flag_text last ++ (number_text number ++ 0x01 ∷ code_of code ∷ []))) }
+    ensures ok { OnOk result (out.new ≡ out.old ++ (flag_text last ++ (number_text number ++ 0x01 ∷ code_of code ∷ []))) }
+    ensures extends { OnErr result (Extends out.old out.new) }
 {
     put_flag(last, out)?;
     put_number(number, out)?;
@@ -109,16 +132,20 @@ fn put_refusal(
 }
 
 // The result of a SET that came in blocks, and the number of its last block.
+#[tactic(auto, using(cosem_axdr::proofs::Appending::extends_same, cosem_axdr::proofs::Appending::extends_more))]
 fn put_last(code: ResultCode, number: u32, out: &mut Octets) -> Result<(), AllocError>
-    ensures { OnOk result (out.new ≡ out.old ++ code_of code ∷ number_text number) }
+    ensures ok { OnOk result (out.new ≡ out.old ++ code_of code ∷ number_text number) }
+    ensures extends { OnErr result (Extends out.old out.new) }
 {
     put_code(code, out)?;
     put_number(number, out)
 }
 
 // The result of an ACTION, which has no return parameters.
+#[tactic(auto, using(cosem_axdr::proofs::Appending::extends_same, cosem_axdr::proofs::Appending::extends_more))]
 fn put_action(code: ResultCode, out: &mut Octets) -> Result<(), AllocError>
-    ensures { OnOk result (out.new ≡ out.old ++ code_of code ∷ 0x00 ∷ []) }
+    ensures ok { OnOk result (out.new ≡ out.old ++ code_of code ∷ 0x00 ∷ []) }
+    ensures extends { OnErr result (Extends out.old out.new) }
 {
     put_code(code, out)?;
     out.push(ABSENT)
@@ -126,14 +153,16 @@ fn put_action(code: ResultCode, out: &mut Octets) -> Result<(), AllocError>
 
 // Data-Access-Result or Action-Result.
 fn put_code(code: ResultCode, out: &mut Octets) -> Result<(), AllocError>
-    ensures { OnOk result (out.new ≡ out.old ++ code_of code ∷ []) }
+    ensures ok { OnOk result (out.new ≡ out.old ++ code_of code ∷ []) }
+    ensures unchanged_on_error { OnErr result (out.new ≡ out.old) }
 {
     out.push(code.code())
 }
 
 // The state-error and the service-error of an ExceptionResponse.
 fn put_exception(exception: Exception, out: &mut Octets) -> Result<(), AllocError>
-    ensures { OnOk result (out.new ≡ out.old ++ exception_text exception) }
+    ensures ok { OnOk result (out.new ≡ out.old ++ exception_text exception) }
+    ensures unchanged_on_error { OnErr result (out.new ≡ out.old) }
 {
     let (state, service) = match exception {
         Exception::NotAllowed => (
