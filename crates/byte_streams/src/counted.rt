@@ -1,4 +1,4 @@
-ghost use Rattle.std.specs.Prelude.{◌≡◌};
+ghost use Rattle.std.specs.Prelude.{◌≡◌, ◌↔◌, IsTrue};
 ghost use Rattle.byte_streams.specs.Counted.{stream_of, reads_of, has_failed, failures_of, IsWhole};
 
 use crate::fault::StreamFault;
@@ -7,6 +7,13 @@ use std::io::{ErrorKind, Read, Write};
 
 /// How often a read that a signal interrupts is tried.
 const MOST_TRIES: u32 = 1_000;
+
+// Whether a read that failed like this is tried again: if a signal interrupted it.
+fn is_tried_again(kind: ErrorKind) -> bool
+    ensures { IsTrue result ↔ (kind ≡ ErrorKind.Interrupted) }
+{
+    kind == ErrorKind::Interrupted
+}
 
 /// A stream of std as a [`Reader`] or a [`Writer`]. It is used up at its first failure, and a read past the 18,446,744,073,709,551,615th fails.
 #[derive(Debug, Drop)]
@@ -73,11 +80,8 @@ impl<T: Read> Reader for Counted<T> {
                     self.reads = reads;
                     return Ok(count);
                 }
-                Err(error) => {
-                    if error.kind() != ErrorKind::Interrupted {
-                        break;
-                    }
-                }
+                Err(error) if is_tried_again(error.kind()) => {}
+                Err(_) => break,
             }
         }
         self.has_failed = true;

@@ -25,6 +25,7 @@ pub trait Reader {
         ensures bytes { ReadConsumes (remaining self.old) (remaining self.new) result buffer.new }
         ensures ready { OnOk result (can_read self.new) }
         ensures counted { OnOk result (reads self.new ≡ reads self.old + 1) }
+        ensures uncounted { OnErr result (reads self.new ≡ reads self.old) }
         ensures even { OnOk result (failures self.new ≡ failures self.old) }
         ensures cause { OnErr result (failures self.old < failures self.new) };
 }

@@ -1,10 +1,10 @@
 -- How the order of a session's reads, writes and calls comes on.
-use Rattle.std.proofs.Common.{◌≡◌, IsErrAnd, ℕ, Bool, true, false, Option, Some, None, List, [], ◌∷◌, ◌++◌, Result, Ok, Err, refl, sym, ap, ◌∙◌, subst, append_assoc, append-nil}
+use Rattle.std.proofs.Common.{◌≡◌, IsErrAnd, ℕ, Option, Some, None, List, [], ◌∷◌, ◌++◌, Result, Ok, Err, refl, sym, ap, ◌∙◌, subst, append_assoc, append-nil}
 use Rattle.std.specs.List.{flat_map}
 use Rattle.std.specs.Io.KnownBytes.{Consumes}
 use Rattle.std.proofs.KnownBytes.{Consumes-nil, Consumes-trans}
 use Rattle.std.proofs.lemmas.Grind.{flat_map-append}
-use Rattle.session_serving.specs.Order.{Happening, reads, fails_to_read, writes, fails_to_write, calls, refuses, after_all, Passes, FailsToPass, bytes_read, bytes_written, replies_in, has_failed, IsAnswered, IsOrdered, IsInOrder, IsAt, ComesOn, StopsInOrder, Orders}
+use Rattle.session_serving.specs.Order.{Happening, reads, fails_to_read, writes, fails_to_write, calls, refuses, after_all, Passes, FailsToPass, bytes_read, replies_in, IsAnswered, IsInOrder, IsAt, ComesOn, StopsInOrder, Orders}
 use Rattle.session_serving.specs.Served.{as_bytes}
 use Rattle.session_serving.specs.Settling.{IsSettled}
 use Rattle.session_serving.specs.declared.fault.ServeFault.{ServeFault}
@@ -12,7 +12,7 @@ use Rattle.session_serving.specs.declared.fault.ServeFault.TheVariants as fault
 use Rattle.relay_events.specs.declared.event.Event.{Event}
 use Rattle.relay_events.specs.declared.reply.Reply.{Reply}
 use Rattle.session_core.specs.Backwards.{Answers}
-use Rattle.session_core.specs.Progress.{Owes, Feeds, Finishes, Steps, Takes, AnswersBy, IsAwaiting}
+use Rattle.session_core.specs.Progress.{Owes, Feeds, Finishes, Steps, Takes, IsAwaiting}
 use Rattle.session_core.specs.Remaining.{still_sends}
 use Rattle.session_core.specs.declared.session.Session.{Session}
 

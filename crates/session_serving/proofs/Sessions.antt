@@ -1,5 +1,5 @@
 -- A session from its first read to its last.
-use Rattle.std.proofs.Common.{◌≡◌, ◌≤◌, ◌<◌, ◌+◌, ◌*◌, ◌⊎◌, ℕ, Option, Some, None, List, [], ◌++◌, length, Result, Ok, Err, IfOk, IfErr, OnOk, IsErrAnd, refl, sym, ap, ◌∙◌, subst, inl, inr, append-nil, arith, false, take}
+use Rattle.std.proofs.Common.{◌≡◌, ◌≤◌, ◌<◌, ◌+◌, ◌*◌, ◌⊎◌, ℕ, Option, Some, None, List, [], ◌++◌, length, Result, Ok, Err, IfOk, IfErr, OnOk, IsErrAnd, refl, sym, ap, ◌∙◌, subst, inl, append-nil, arith, false, take}
 use Rattle.std.proofs.lemmas.List.{length-append, length-take-le}
 use Rattle.std.specs.Io.KnownBytes.{Consumes, IsAtEnd}
 use Rattle.std.proofs.KnownBytes.{Appends-nil, Consumes-nil, Consumes-trans}
@@ -77,25 +77,25 @@ more_is_short : (seen bytes : List ℕ) (count : ℕ) → length seen ≤ count 
 more_is_short seen bytes count short piece =
     let same = length-append seen bytes in omega (arith, short, piece, same)
 
-pieces_more : (seen bytes : List ℕ) (count made failed made' failed' : ℕ)
+pieces_more : (seen bytes : List ℕ) (count made made' : ℕ)
     → length seen ≤ count * longest_piece → length bytes ≤ longest_piece → count < most_reads
-    → made' ≡ made + (count + 1) → Pieces (seen ++ bytes) made failed made' failed'
-pieces_more seen bytes count made failed made' failed' short piece few counted = record {
+    → made' ≡ made + (count + 1) → Pieces (seen ++ bytes) made made'
+pieces_more seen bytes count made made' short piece few counted = record {
   count = count + 1;
   most = omega (arith, few);
   short = more_is_short seen bytes count short piece;
-  made_so = inl counted;
+  counted = counted;
 }
 
-pieces_so_far : (seen : List ℕ) (count made failed made' failed' : ℕ)
+pieces_so_far : (seen : List ℕ) (count made made' : ℕ)
     → length seen ≤ count * longest_piece → count ≤ most_reads
-    → (made' ≡ made + count) ⊎ (failed < failed') → Pieces (seen ++ []) made failed made' failed'
-pieces_so_far seen count made failed made' failed' short most so = record {
+    → made' ≡ made + count → Pieces (seen ++ []) made made'
+pieces_so_far seen count made made' short most counted = record {
   count = count;
   most = most;
   short = subst (λ (all : List ℕ). length all ≤ count * longest_piece) (sym (append-nil seen))
       short;
-  made_so = so;
+  counted = counted;
 }
 
 module _ {M : Type 0} (steps : M → Event → Result Reply CallFault → M → Type 0) (written_as : List ℕ → List ℕ) where
@@ -208,8 +208,7 @@ module _ {R W M : Type 0}
       count = 0;
       most = omega arith;
       short = omega arith;
-      made_so = inl
-          (omega arith);
+      counted = omega arith;
     };
     did = did_stop password [] r r w w m m f
         (subst (λ (g : ServeFault). Stops steps as_bytes (Asks password []) (Answers password []) m (contents w) (write_failures w) g m (contents w) (write_failures w)) (sym is)
@@ -247,8 +246,7 @@ module _ {R W M : Type 0}
         stops = stops_after st.seen bytes piece
             (ends_so_far steps as_bytes password old s m m1 (contents w) (contents w1) (remaining r)
             (remaining r1) count owes st);
-        pieces = pieces_more st.seen bytes count (reads r) (read_failures r) (reads r')
-            (read_failures r')
+        pieces = pieces_more st.seen bytes count (reads r) (reads r')
             st.short piece few counted;
       }
 
@@ -293,8 +291,7 @@ module _ {R W M : Type 0}
         stops = stops_after st.seen [] (omega arith)
             (ends_so_far steps as_bytes password old s m m1 (contents w) (contents w1) (remaining r)
             (remaining r1) count owes st);
-        pieces = pieces_more st.seen [] count (reads r) (read_failures r) (reads r')
-            (read_failures r')
+        pieces = pieces_more st.seen [] count (reads r) (reads r')
             st.short (omega arith) few counted;
       }
   served_end password count old s r r1 r' w w1 w' m m1 m' (Err f) owes st consumed at_end few
@@ -329,11 +326,9 @@ module _ {R W M : Type 0}
             (stops_after st.seen bytes piece
             (ends_so_far steps as_bytes password old s m m1 (contents w) (contents w1) (remaining r)
             (remaining r1) count owes st));
-        pieces = subst (λ (all : List ℕ). Pieces all (reads r) (read_failures r) (reads r')
-            (read_failures r'))
+        pieces = subst (λ (all : List ℕ). Pieces all (reads r) (reads r'))
             (sym (append-nil (st.seen ++ bytes)))
-            (pieces_more st.seen bytes count (reads r) (read_failures r) (reads r')
-            (read_failures r')
+            (pieces_more st.seen bytes count (reads r) (reads r')
             st.short piece few counted);
       }
 
@@ -343,7 +338,7 @@ module _ {R W M : Type 0}
       → Owes password old → Stands steps as_bytes old m (contents w) (remaining r) count s m'
       (contents w') (remaining r1)
       → Consumes (remaining r1) (remaining r') [] → count ≤ most_reads
-      → (reads r' ≡ reads r + count) ⊎ (read_failures r < read_failures r')
+      → reads r' ≡ reads r + count
       → (read_failures r < read_failures r') ⊎ (reads r + most_reads ≤ reads r')
       → Served remaining reads read_failures contents write_failures steps password r w m (Err fault.Read) r' w' m'
   served_unread password count old s r r1 r' w w' m m' owes st consumed most counted cause =
@@ -358,7 +353,6 @@ module _ {R W M : Type 0}
         stops = stops_after st.seen [] (omega arith)
             (ends_so_far steps as_bytes password old s m m' (contents w) (contents w') (remaining r)
             (remaining r1) count owes st);
-        pieces = pieces_so_far st.seen count (reads r) (read_failures r) (reads r')
-            (read_failures r')
+        pieces = pieces_so_far st.seen count (reads r) (reads r')
             st.short most counted;
       }

@@ -89,13 +89,13 @@ pub record StopsAtHeader (seen : List ℕ) : Type 0 where
   pub short : length last ≤ longest_piece
   pub ends : EndsWithInput (end_of earlier)
 
--- The bytes came in pieces. The numbers are those of the reads that succeeded and that failed, before
--- and after; after a failure the reader's own count of successes is not known.
-pub record Pieces (seen : List ℕ) (made failed made' failed' : ℕ) : Type 0 where
+-- The bytes came in pieces. The numbers are those of the reads that succeeded, before and after: what
+-- they rose by is how many pieces there were, with the one at the end of the input, which has no byte.
+pub record Pieces (seen : List ℕ) (made made' : ℕ) : Type 0 where
   pub count : ℕ
   pub most : count ≤ most_reads
   pub short : length seen ≤ count * longest_piece
-  pub made_so : (made' ≡ made + count) ⊎ (failed < failed')
+  pub counted : made' ≡ made + count
 
 -- a session ends so, where these bytes are left: the input must have ended where no header ends the session
 abbrev pub EndsBefore : SessionEnd → Option (List ℕ) → Type 0
@@ -130,4 +130,4 @@ module _ {R W M : Type 0}
     pub read : Consumes (remaining r) (remaining r') seen
     pub did : Did password seen r w m result r' w' m'
     pub stops : StopsAtHeader seen
-    pub pieces : Pieces seen (reads r) (read_failures r) (reads r') (read_failures r')
+    pub pieces : Pieces seen (reads r) (reads r')

@@ -26,6 +26,7 @@ pub trait Watch {
             buffer.new }
         ensures ready { OnOk result (R.can_read reader.new) }
         ensures counted { OnOk result (R.reads reader.new ≡ R.reads reader.old + 1) }
+        ensures uncounted { OnErr result (R.reads reader.new ≡ R.reads reader.old) }
         ensures even { OnOk result (R.failures reader.new ≡ R.failures reader.old) }
         ensures cause { OnErr result (R.failures reader.old < R.failures reader.new) }
         ensures passes { Passes (passed self.old) (read_by result buffer.new) (passed self.new) };

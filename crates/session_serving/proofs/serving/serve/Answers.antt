@@ -30,8 +30,7 @@ returns-in-Err-clause-served g c = λ password owes.
     (Consumes-kept left left (g.R.Reader.remaining c.read.new.reader) [] (Consumes-nil left)
     c.in-Err.ensures.bytes)
     (omega (arith, c.reads-test.true))
-    (inr (subst (λ (n : ℕ). n < g.R.Reader.failures c.read.new.reader) c.reads.invariant.read_even
-    c.in-Err.ensures.cause))
+    (c.in-Err.ensures.uncounted ∙ c.reads.invariant.counted)
     (inl (subst (λ (n : ℕ). n < g.R.Reader.failures c.read.new.reader) c.reads.invariant.read_even
     c.in-Err.ensures.cause))
 
@@ -117,7 +116,7 @@ returns-clause-served g c = λ password owes.
     g.W.Writer.failures g.M.Meter.steps password c.reads.counter
     c.args.session.now c.reads.session c.args.reader.now c.reads.reader c.reads.reader c.args.writer.now c.reads.writer c.args.meter.now c.reads.meter
     owes c.reads.invariant.stands (Consumes-nil (g.R.Reader.remaining c.reads.reader))
-    (omega (arith, c.reads-test.false, c.reads.auto.counter-end)) (inl c.reads.invariant.counted)
+    (omega (arith, c.reads-test.false, c.reads.auto.counter-end)) c.reads.invariant.counted
     (inr (omega (arith, c.reads.invariant.counted, c.reads-test.false)))
 
 -- ---- the order
