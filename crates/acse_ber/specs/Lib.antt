@@ -5,3 +5,4 @@ pub mod Reading
 pub mod Spelling
 pub mod Text
 pub mod Verdict
+pub mod Numbers

@@ -1,4 +1,5 @@
 ghost use Rattle.std.specs.Prelude.{◌≡◌};
+ghost use Rattle.acse_ber.specs.Numbers.{fault_number};
 ghost use Rattle.acse_ber.specs.declared.fault.AcseFault.TheVariants.{Memory};
 
 use std::alloc::AllocError;
@@ -9,10 +10,19 @@ use thiserror::Error;
 pub enum AcseFault {
     /// A length, a tag or a field is not as it has to be.
     #[error("the bytes are not those of the APDU")]
-    Unreadable,
+    Unreadable = 1,
     /// Memory ran out.
     #[error("out of memory")]
-    Memory,
+    Memory = 2,
+}
+
+/// The number of the fault, 1 to 2.
+impl From<AcseFault> for u8 {
+    ghost from_gives = { λ fault number. number ≡ fault_number fault };
+
+    fn from(fault: AcseFault) -> u8 {
+        fault as u8
+    }
 }
 
 impl From<AllocError> for AcseFault {

@@ -10,3 +10,4 @@ pub mod Stored
 pub mod Tree
 pub mod View
 pub mod ViewLaws
+pub mod Numbers

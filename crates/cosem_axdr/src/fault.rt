@@ -1,4 +1,5 @@
 ghost use Rattle.std.specs.Prelude.{◌≡◌};
+ghost use Rattle.cosem_axdr.specs.Numbers.{fault_number};
 ghost use Rattle.cosem_axdr.specs.declared.fault.DataFault.TheVariants.{Memory};
 
 use std::alloc::{AllocError, AllocFailed};
@@ -9,19 +10,28 @@ use thiserror::Error;
 pub enum DataFault {
     /// A byte past the end is wanted.
     #[error("the bytes end within a Data")]
-    Truncated,
+    Truncated = 1,
     /// The tag is none of the twenty.
     #[error("a tag of no type")]
-    UnknownTag,
+    UnknownTag = 2,
     /// An array or structure lies within eight others: judged at its tag, before its count is read.
     #[error("arrays and structures nested more than eight deep")]
-    TooDeep,
+    TooDeep = 3,
     /// A byte past the 8,192nd is wanted, an array or structure has more than 255 items, or a length begins with 80 or with 85 or more.
     #[error("a Data past its limits of length")]
-    TooLong,
+    TooLong = 4,
     /// Memory ran out.
     #[error("out of memory")]
-    Memory,
+    Memory = 5,
+}
+
+/// The number of the fault, 1 to 5.
+impl From<DataFault> for u8 {
+    ghost from_gives = { λ fault number. number ≡ fault_number fault };
+
+    fn from(fault: DataFault) -> u8 {
+        fault as u8
+    }
 }
 
 impl From<AllocError> for DataFault {

@@ -4,3 +4,4 @@ pub mod Calendar
 pub mod Matching
 pub mod First
 pub mod Moment
+pub mod Numbers

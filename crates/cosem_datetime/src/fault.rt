@@ -1,3 +1,6 @@
+ghost use Rattle.std.specs.Prelude.{◌≡◌};
+ghost use Rattle.cosem_datetime.specs.Numbers.{fault_number};
+
 use thiserror::Error;
 
 /// Why bytes are no date, time or date-time: the first fault, the length before the fields, and these from left to right.
@@ -12,4 +15,13 @@ pub enum PatternFault {
     /// The month is the begin or the end of daylight saving (`FE`, `FD`), which are not offered.
     #[error("a month that stands for a change of daylight saving")]
     SeasonMonth = 3,
+}
+
+/// The number of the fault, 1 to 3.
+impl From<PatternFault> for u8 {
+    ghost from_gives = { λ fault number. number ≡ fault_number fault };
+
+    fn from(fault: PatternFault) -> u8 {
+        fault as u8
+    }
 }

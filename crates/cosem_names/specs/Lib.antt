@@ -6,3 +6,4 @@ pub mod ResultCode
 pub mod Scripts
 pub mod Table
 pub mod WriteFault
+pub mod Numbers

@@ -1,4 +1,5 @@
 ghost use Rattle.std.specs.Prelude.{◌≡◌};
+ghost use Rattle.cosem_names.specs.Numbers.{fault_number};
 ghost use Rattle.cosem_names.specs.WriteFault.{fault_code};
 ghost use Rattle.cosem_names.specs.declared.write_fault.WriteFault.TheVariants.{Memory};
 
@@ -19,6 +20,15 @@ pub enum WriteFault {
     /// Memory ran out.
     #[error("out of memory")]
     Memory = 3,
+}
+
+/// The number of the fault, 1 to 3.
+impl From<WriteFault> for u8 {
+    ghost from_gives = { λ fault number. number ≡ fault_number fault };
+
+    fn from(fault: WriteFault) -> u8 {
+        fault as u8
+    }
 }
 
 impl WriteFault {

@@ -8,3 +8,4 @@ pub mod Campaigns
 pub mod Reports
 pub mod Jobs
 pub mod Laws
+pub mod Numbers

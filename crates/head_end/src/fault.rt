@@ -1,4 +1,5 @@
 ghost use Rattle.std.specs.Prelude.{◌≡◌};
+ghost use Rattle.head_end.specs.Numbers.{fault_number};
 ghost use Rattle.head_end.specs.declared.fault.JobsFault.TheVariants.{Memory};
 
 use std::alloc::AllocError;
@@ -16,6 +17,19 @@ pub enum JobsFault {
     /// Memory ran out.
     #[error("no memory")]
     Memory,
+}
+
+/// The number of the fault, 1 to 3.
+impl From<JobsFault> for u8 {
+    ghost from_gives = { λ fault number. number ≡ fault_number fault };
+
+    fn from(fault: JobsFault) -> u8 {
+        match fault {
+            JobsFault::Line(_) => 1,
+            JobsFault::TooMany => 2,
+            JobsFault::Memory => 3,
+        }
+    }
 }
 
 impl From<AllocError> for JobsFault {

@@ -3,3 +3,4 @@ pub mod Masks
 pub mod Runs
 pub mod Samples
 pub mod Scans
+pub mod Numbers

@@ -1,6 +1,7 @@
 //! Blocks of power samples, and the scans that were made of them ahead of their use.
 
 ghost use Rattle.std.specs.Prelude.{◌≡◌, ◌≢◌, ◌<◌, ◌≤◌, ◌↔◌, length, IfOk, IfSome, IsErrOf};
+ghost use Rattle.lane_sampler.specs.Numbers.{fault_number};
 ghost use Rattle.std.specs.Option.{option_copied};
 ghost use Rattle.lane_sampler.specs.Samples.{AreEven, most_values, pairs_of, values_alone};
 ghost use Rattle.lane_sampler.specs.Scans.{AreRightScans, IsRightScan};
@@ -18,13 +19,22 @@ pub const MAX_VALUES: usize = 256;
 pub enum BlockMade {
     /// More than 256 values.
     #[error("more than 256 values")]
-    TooLong,
+    TooLong = 1,
     /// No memory for the values.
     #[error("out of memory")]
-    Memory,
+    Memory = 2,
     /// Import and export values differ in number.
     #[error("import and export values differ in number")]
-    Uneven,
+    Uneven = 3,
+}
+
+/// The number of the fault, 1 to 3.
+impl From<BlockMade> for u8 {
+    ghost from_gives = { λ fault number. number ≡ fault_number fault };
+
+    fn from(fault: BlockMade) -> u8 {
+        fault as u8
+    }
 }
 
 /// The masks of some values at one threshold.

@@ -19,3 +19,4 @@ pub mod Switch
 pub mod Taking
 pub mod World
 pub mod Writing
+pub mod Numbers

@@ -1,4 +1,5 @@
 ghost use Rattle.std.specs.Prelude.{◌≡◌, ◌↔◌, IfOk, IsErrOf, IfSome, IsSome, IsTrue};
+ghost use Rattle.relay_core.specs.Numbers.{fault_number};
 ghost use Rattle.limiter_core.specs.State.{IsFit};
 ghost use Rattle.relay_core.specs.Agreeing.{Agree, AreInRange, IsWorld};
 ghost use Rattle.relay_core.specs.Opening.{limiter_opening_of, opening_of, opened_limiter, opened, IsFitLimiterOpening, IsFitOpening};
@@ -57,6 +58,15 @@ pub enum OpeningFault {
     /// Memory ran out.
     #[error("out of memory")]
     Memory = 2,
+}
+
+/// The number of the fault, 1 to 2.
+impl From<OpeningFault> for u8 {
+    ghost from_gives = { λ fault number. number ≡ fault_number fault };
+
+    fn from(fault: OpeningFault) -> u8 {
+        fault as u8
+    }
 }
 
 impl From<AllocError> for OpeningFault {

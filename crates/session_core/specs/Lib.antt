@@ -15,3 +15,4 @@ pub mod Unframed
 pub mod Remaining
 pub mod Ends
 pub mod Progress
+pub mod Numbers

@@ -5,3 +5,4 @@ pub mod Plays
 pub mod Traces
 pub mod Versions
 pub mod Written
+pub mod Numbers

@@ -1,4 +1,5 @@
 ghost use Rattle.std.specs.Prelude.{◌≡◌};
+ghost use Rattle.trace_player.specs.Numbers.{fault_number};
 ghost use Rattle.trace_player.specs.Faults.{fault_of};
 ghost use Rattle.trace_player.specs.declared.fault.PlayFault.TheVariants as play_fault;
 
@@ -24,6 +25,21 @@ pub enum PlayFault {
     /// Memory ran out.
     #[error("no memory")]
     Memory,
+}
+
+/// The number of the fault, 1 to 5.
+impl From<PlayFault> for u8 {
+    ghost from_gives = { λ fault number. number ≡ fault_number fault };
+
+    fn from(fault: PlayFault) -> u8 {
+        match fault {
+            PlayFault::Line(_) => 1,
+            PlayFault::TooLong => 2,
+            PlayFault::Read => 3,
+            PlayFault::Write => 4,
+            PlayFault::Memory => 5,
+        }
+    }
 }
 
 impl From<AllocError> for PlayFault {

@@ -3,3 +3,4 @@ pub mod Places
 pub mod Reading
 pub mod Rows
 pub mod Writing
+pub mod Numbers

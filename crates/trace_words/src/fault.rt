@@ -1,4 +1,5 @@
 ghost use Rattle.std.specs.Prelude.{◌≡◌};
+ghost use Rattle.trace_words.specs.Numbers.{fault_number};
 ghost use Rattle.trace_words.specs.declared.fault.RowFault.TheVariants.{Memory};
 ghost use Rattle.trace_words.specs.declared.fault.TraceFault.TheVariants as trace_fault;
 
@@ -44,6 +45,19 @@ pub enum TraceFault {
     /// Memory ran out.
     #[error("out of memory")]
     Memory,
+}
+
+/// The number of the fault, 1 to 3.
+impl From<TraceFault> for u8 {
+    ghost from_gives = { λ fault number. number ≡ fault_number fault };
+
+    fn from(fault: TraceFault) -> u8 {
+        match fault {
+            TraceFault::Line(_) => 1,
+            TraceFault::TooLong => 2,
+            TraceFault::Memory => 3,
+        }
+    }
 }
 
 impl From<AllocError> for TraceFault {

@@ -3,3 +3,4 @@ pub mod Text
 pub mod Messages
 pub mod Stream
 pub mod Law
+pub mod Numbers

@@ -1,4 +1,5 @@
 ghost use Rattle.std.specs.Prelude.{◌≡◌};
+ghost use Rattle.wrapper_frame.specs.Numbers.{fault_number};
 ghost use Rattle.wrapper_frame.specs.declared.fault.WrapperFault.TheVariants.{Memory};
 
 use std::alloc::AllocError;
@@ -9,13 +10,22 @@ use thiserror::Error;
 pub enum WrapperFault {
     /// A header of another version than 0001.
     #[error("a header of another version")]
-    Version,
+    Version = 1,
     /// A payload of more than 1,024 bytes.
     #[error("a payload of more than 1,024 bytes")]
-    TooLong,
+    TooLong = 2,
     /// Memory ran out.
     #[error("out of memory")]
-    Memory,
+    Memory = 3,
+}
+
+/// The number of the fault, 1 to 3.
+impl From<WrapperFault> for u8 {
+    ghost from_gives = { λ fault number. number ≡ fault_number fault };
+
+    fn from(fault: WrapperFault) -> u8 {
+        fault as u8
+    }
 }
 
 impl From<AllocError> for WrapperFault {

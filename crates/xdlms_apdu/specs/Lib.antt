@@ -3,3 +3,4 @@ pub mod Heads
 pub mod Reading
 pub mod Spelling
 pub mod Text
+pub mod Numbers

@@ -1,4 +1,5 @@
 ghost use Rattle.std.specs.Prelude.{◌≡◌};
+ghost use Rattle.xdlms_apdu.specs.Numbers.{fault_number};
 ghost use Rattle.xdlms_apdu.specs.declared.fault.ApduFault.TheVariants.{Memory};
 
 use std::alloc::{AllocError, AllocFailed};
@@ -9,16 +10,25 @@ use thiserror::Error;
 pub enum ApduFault {
     /// There is no byte, or the first is no tag of a service.
     #[error("no service that is known")]
-    UnknownTag,
+    UnknownTag = 1,
     /// The second byte is no form of the service.
     #[error("no form of the service that is known")]
-    UnknownForm,
+    UnknownForm = 2,
     /// The bytes end too early or too late, or one of them can't stand where it does.
     #[error("the bytes are not those of the service")]
-    Unreadable,
+    Unreadable = 3,
     /// Memory ran out.
     #[error("out of memory")]
-    Memory,
+    Memory = 4,
+}
+
+/// The number of the fault, 1 to 4.
+impl From<ApduFault> for u8 {
+    ghost from_gives = { λ fault number. number ≡ fault_number fault };
+
+    fn from(fault: ApduFault) -> u8 {
+        fault as u8
+    }
 }
 
 impl From<AllocError> for ApduFault {

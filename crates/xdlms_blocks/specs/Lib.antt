@@ -4,3 +4,4 @@ pub mod Sending
 pub mod Joining
 pub mod Blocks
 pub mod Law
+pub mod Numbers

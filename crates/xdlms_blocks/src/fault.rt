@@ -1,4 +1,5 @@
 ghost use Rattle.std.specs.Prelude.{◌≡◌};
+ghost use Rattle.xdlms_blocks.specs.Numbers.{fault_number};
 ghost use Rattle.xdlms_blocks.specs.declared.fault.BlockFault.TheVariants.{Memory};
 
 use std::alloc::AllocError;
@@ -9,16 +10,25 @@ use thiserror::Error;
 pub enum BlockFault {
     /// The transfer is over.
     #[error("no transfer goes on")]
-    NoTransfer,
+    NoTransfer = 1,
     /// The number is not that of the block that is due.
     #[error("the number of another block")]
-    WrongNumber,
+    WrongNumber = 2,
     /// The joined text would be longer than 8,192 bytes.
     #[error("blocks of more than 8,192 bytes")]
-    TooLong,
+    TooLong = 3,
     /// Memory ran out.
     #[error("out of memory")]
-    Memory,
+    Memory = 4,
+}
+
+/// The number of the fault, 1 to 4.
+impl From<BlockFault> for u8 {
+    ghost from_gives = { λ fault number. number ≡ fault_number fault };
+
+    fn from(fault: BlockFault) -> u8 {
+        fault as u8
+    }
 }
 
 impl From<AllocError> for BlockFault {

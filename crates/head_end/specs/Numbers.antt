@@ -1,0 +1,10 @@
+-- The number of each fault.
+use Rattle.std.specs.Prelude.{ℕ}
+use Rattle.head_end.specs.declared.fault.JobsFault.{JobsFault}
+use Rattle.head_end.specs.declared.fault.JobsFault.TheVariants as fault
+
+-- the number of a fault
+abbrev pub fault_number : JobsFault → ℕ
+fault_number (fault.Line line) = 1
+fault_number fault.TooMany = 2
+fault_number fault.Memory = 3

@@ -1,0 +1,10 @@
+-- The number of each fault.
+use Rattle.std.specs.Prelude.{ℕ}
+use Rattle.lane_sampler.specs.declared.samples.BlockMade.{BlockMade}
+use Rattle.lane_sampler.specs.declared.samples.BlockMade.TheVariants as fault
+
+-- the number of a fault
+abbrev pub fault_number : BlockMade → ℕ
+fault_number fault.TooLong = 1
+fault_number fault.Memory = 2
+fault_number fault.Uneven = 3

@@ -1,0 +1,9 @@
+-- The number of each fault.
+use Rattle.std.specs.Prelude.{ℕ}
+use Rattle.relay_core.specs.declared.opening.OpeningFault.{OpeningFault}
+use Rattle.relay_core.specs.declared.opening.OpeningFault.TheVariants as fault
+
+-- the number of a fault
+abbrev pub fault_number : OpeningFault → ℕ
+fault_number fault.Unfit = 1
+fault_number fault.Memory = 2

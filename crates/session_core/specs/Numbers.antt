@@ -1,0 +1,11 @@
+-- The number of each end.
+use Rattle.std.specs.Prelude.{ℕ}
+use Rattle.session_core.specs.declared.end.SessionEnd.{SessionEnd}
+use Rattle.session_core.specs.declared.end.SessionEnd.TheVariants as end
+
+-- the number of an end
+abbrev pub end_number : SessionEnd → ℕ
+end_number end.Closed = 1
+end_number end.Cut = 2
+end_number end.BadVersion = 3
+end_number end.TooLong = 4

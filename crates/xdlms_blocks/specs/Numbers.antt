@@ -1,0 +1,11 @@
+-- The number of each fault.
+use Rattle.std.specs.Prelude.{ℕ}
+use Rattle.xdlms_blocks.specs.declared.fault.BlockFault.{BlockFault}
+use Rattle.xdlms_blocks.specs.declared.fault.BlockFault.TheVariants as fault
+
+-- the number of a fault
+abbrev pub fault_number : BlockFault → ℕ
+fault_number fault.NoTransfer = 1
+fault_number fault.WrongNumber = 2
+fault_number fault.TooLong = 3
+fault_number fault.Memory = 4
