@@ -126,3 +126,9 @@ fn there_are_limits(rt: HostRuntime) -> Result<(), Fail> {
     assert!(rt; count_of_a_long_text(alloc)? == Some(0));
     Ok(())
 }
+
+#[test]
+fn faults_of_jobs_have_numbers(rt: HostRuntime) {
+    assert!(rt; u8::from(JobsFault::Line(7)) == 1 && u8::from(JobsFault::TooMany) == 2);
+    assert!(rt; u8::from(JobsFault::Memory) == 3);
+}

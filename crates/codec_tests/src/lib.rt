@@ -23,6 +23,8 @@ mod frames;
 #[cfg(test)]
 mod lists;
 #[cfg(test)]
+mod numbers;
+#[cfg(test)]
 mod reader;
 #[cfg(test)]
 mod words;

@@ -3,7 +3,7 @@ ghost use Rattle.std.specs.Prelude.{◌≡◌, true};
 ghost use Rattle.session_core.specs.Remaining.{is_asking};
 
 use cosem_axdr::Octets;
-use relay_core::{Event, RelayCore, Reply};
+use relay_core::{Event, OpeningFault, RelayCore, Reply};
 use session_core::{Next, Session, SessionEnd};
 use std::alloc::{AllocError, Global};
 use std::test::Fail;
@@ -674,4 +674,11 @@ fn a_get_of_one_attribute_takes_the_short_way(rt: HostRuntime) {
             "{request}"
         );
     }
+}
+
+#[test]
+fn ends_and_faults_have_numbers(rt: HostRuntime) {
+    assert!(rt; u8::from(SessionEnd::Closed) == 1 && u8::from(SessionEnd::Cut) == 2);
+    assert!(rt; u8::from(SessionEnd::BadVersion) == 3 && u8::from(SessionEnd::TooLong) == 4);
+    assert!(rt; u8::from(OpeningFault::Unfit) == 1 && u8::from(OpeningFault::Memory) == 2);
 }

@@ -19,6 +19,8 @@ mod limiters;
 #[cfg(test)]
 mod names;
 #[cfg(test)]
+mod numbers;
+#[cfg(test)]
 mod schedules;
 #[cfg(test)]
 mod scripts;

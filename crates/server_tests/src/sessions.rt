@@ -739,3 +739,11 @@ fn the_meter_takes_two_events(rt: HostRuntime) -> Result<(), Fail> {
     checked?;
     Ok(())
 }
+
+#[test]
+fn faults_have_numbers(rt: HostRuntime) {
+    assert!(rt; u8::from(ServeFault::Read) == 1 && u8::from(ServeFault::Write) == 2);
+    assert!(rt; u8::from(ServeFault::Memory) == 3 && u8::from(ServeFault::Exhausted) == 4);
+    assert!(rt; u8::from(ServeFault::Listen) == 5);
+    assert!(rt; u8::from(CallFault::Memory) == 1 && u8::from(CallFault::Exhausted) == 2);
+}

@@ -4,7 +4,7 @@ use cosem_axdr::Octets;
 use std::alloc::{AllocError, Global};
 use std::io;
 use std::io::{ErrorKind, Read, Write};
-use trace_player::{PlayFault, play, read_trace, write_trace};
+use trace_player::{PlayFault, TraceFault, play, read_trace, write_trace};
 use trace_text::{Lines, end_line};
 
 // A switch that is cut and reconnected remotely, the button pressed between, a read, samples and moments.
@@ -426,4 +426,13 @@ fn a_stream_that_fails_is_told(rt: HostRuntime) {
     assert!(rt; fault_of(alloc, Scripted::new(3)) == Some(PlayFault::Read));
     assert!(rt; fault_of_writer(alloc, 1) == Some(PlayFault::Write));
     assert!(rt; fault_of_writer(alloc, 3) == Some(PlayFault::Write));
+}
+
+#[test]
+fn faults_have_numbers(rt: HostRuntime) {
+    assert!(rt; u8::from(PlayFault::Line(7)) == 1 && u8::from(PlayFault::TooLong) == 2);
+    assert!(rt; u8::from(PlayFault::Read) == 3 && u8::from(PlayFault::Write) == 4);
+    assert!(rt; u8::from(PlayFault::Memory) == 5);
+    assert!(rt; u8::from(TraceFault::Line(7)) == 1 && u8::from(TraceFault::TooLong) == 2);
+    assert!(rt; u8::from(TraceFault::Memory) == 3);
 }
