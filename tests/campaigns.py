@@ -173,10 +173,15 @@ def report_of(rows):
     return "".join(f"{name} {row}\n" for name, row in rows)
 
 
+def without_warnings(errors):
+    """What standard error was told but for warnings: the jobs of these campaigns share names and addresses."""
+    return "".join(line + "\n" for line in errors.splitlines() if ": warning: " not in line)
+
+
 def run_head_end(jobs, *words):
     """The status, standard output and standard error of a campaign."""
     made = subprocess.run([str(HEAD_END), "run", "--password", PASSWORD, *words], input=jobs.encode(), capture_output=True, timeout=LONGEST)
-    return made.returncode, made.stdout.decode(), made.stderr.decode()
+    return made.returncode, made.stdout.decode(), without_warnings(made.stderr.decode())
 
 
 def differing(wanted, got):
@@ -261,7 +266,7 @@ def progress_is_told(name):
     os.close(standard_error)
     told = os.read(terminal, 4_096).decode().replace("\r\n", "\n")
     os.close(terminal)
-    check(f"{name}, at a terminal", (ran.returncode, ran.stdout) == (0, "m1 done 0\nm2 done 0\n") and re.fullmatch(PROGRESS, told), ran, told)
+    check(f"{name}, at a terminal", (ran.returncode, ran.stdout) == (0, "m1 done 0\nm2 done 0\n") and re.fullmatch(PROGRESS, without_warnings(told)), ran, told)
     meter.stop()
 
 
@@ -295,7 +300,7 @@ def run_campaign(path, *words):
     program = [] if "--program" in words else ["--program", str(HEAD_END)]
     made = subprocess.run([str(CAMPAIGN), *program, "--workers", "8", *words, str(path)], stdin=subprocess.DEVNULL, capture_output=True,
                           timeout=LONGEST, env={**os.environ, "METER_PASSWORD": PASSWORD, "PARALLEL_HOME": str(path.parent)})
-    return made.returncode, made.stdout.decode(), made.stderr.decode(), time.monotonic() - begun
+    return made.returncode, made.stdout.decode(), without_warnings(made.stderr.decode()), time.monotonic() - begun
 
 
 def check_campaign(name, crowd, path, wanted, expected, *words):
@@ -356,6 +361,20 @@ def a_wrong_list_sends_nothing(name, crowd, folder):
     check(f"{name}: no command", crowd.counts() == counted(none))
 
 
+def a_list_is_warned_of(name, crowd, folder):
+    """Warnings of the parts and of the whole list, by the numbers of its lines. The list is run all the same."""
+    path = folder / "odd"
+    path.write_text(f"#m1 127.0.0.1:{crowd.ports[0]} state\n" + "\n" * 999 + "m2 127.0.0.1:0 state\n" + f"#m1 127.0.0.1:{crowd.ports[0]} state\n")
+    made = subprocess.run([str(CAMPAIGN), "--program", str(HEAD_END), str(path)], stdin=subprocess.DEVNULL, capture_output=True, text=True, timeout=LONGEST,
+                          env={**os.environ, "METER_PASSWORD": PASSWORD, "PARALLEL_HOME": str(folder)})
+    crowd.counts()
+    check(f"{name}: names of the report", [line.split()[0] for line in made.stdout.splitlines()] == ["#m1", "m2", "#m1"], made)
+    wanted = [f"campaign: line {line}" for line in ("1: warning: the name begins with `#`", "1001: warning: the address is not HOST:PORT",
+              "1002: warning: the name begins with `#`", "1002: warning: line 1 has the same name", "1002: warning: line 1 has the same address")]
+    lines = made.stderr.splitlines()
+    check(f"{name}: lines", len(lines) == len(wanted) and all(line.startswith(it) for line, it in zip(lines, wanted)), made.stderr)
+
+
 def is_running(program):
     """Whether a process runs this executable."""
     for it in pathlib.Path("/proc").iterdir():
@@ -389,6 +408,7 @@ def a_campaign_is_stopped(name, folder):
             time.sleep(1)
             made.send_signal(signal_sent)
             text, errors = made.communicate(timeout=60)
+            errors = without_warnings(errors)
             named = [line.split(" failed")[0] for line in own_lines(errors) if " failed" in line]
             check(f"{name}: {signal_sent.name}", (begun, made.returncode, text) == (True, wanted, ""), made.returncode, text, errors[:500])
             check(f"{name}: {signal_sent.name}, its parts", named == ["campaign: part 1", "campaign: part 2", "campaign: part 3"], errors[:500])
@@ -489,6 +509,7 @@ def campaigns_of_a_crowd(name, count):
             campaigns_side_by_side(name, crowd, folder, count)
             a_part_that_fails_is_named(f"{name}: a part fails", crowd, folder)
             a_wrong_list_sends_nothing(f"{name}: a wrong list", crowd, folder)
+            a_list_is_warned_of(f"{name}: warnings", crowd, folder)
             a_campaign_is_stopped(f"{name}: a signal", folder)
             campaigns_by_ssh(f"{name}: by ssh", crowd, folder, count)
     finally:

@@ -232,7 +232,7 @@ CASES = [
     ("another verb", "head_end_cli", ["check"], b"m1 127.0.0.1:4059 close\n", b"", FAULT_INPUT, 2),
     ("two blanks in a job", "head_end_cli", ["check"], b"m1  127.0.0.1:4059 state\n", b"", FAULT_INPUT, 2),
     ("a name of 33 bytes", "head_end_cli", ["check"], b"n" * 33 + b" 127.0.0.1:4059 state\n", b"", FAULT_INPUT, 2),
-    ("1,000 jobs", "head_end_cli", ["check"], b"m 127.0.0.1:4059 state\n" * 1000, b"jobs 1000\n", b"", 0),
+    ("1,000 jobs", "head_end_cli", ["check"], b"m 127.0.0.1:4059 state\n" * 1000, b"jobs 1000\n", None, 0),
     ("1,001 jobs", "head_end_cli", ["check"], b"m 127.0.0.1:4059 state\n" * 1001, b"", FAULT_INPUT, 2),
     ("1,048,577 bytes of jobs", "head_end_cli", ["check"], b"\n" * 1048577, b"", FAULT_INPUT, 2),
     ("where a verb is wrong", "head_end_cli", ["check", "--verbose"], b"m1 127.0.0.1:4059 state\n\nm2 127.0.0.1:4059 close\n", b"",
@@ -248,9 +248,22 @@ CASES = [
     ("where jobs are too long", "head_end_cli", ["check", "--verbose"], b"\n" * 1048577, b"", b"byte 1048577: more than 1,048,576 bytes\n" + FAULT_INPUT, 2),
     ("where a campaign has no password", "head_end_cli", ["run", "--verbose"], b"", b"", b"password: none that has 1 to 32 bytes\n" + FAULT_INPUT, 2),
     ("jobs that are right have nothing to tell", "head_end_cli", ["check", "--verbose"], b"m1 127.0.0.1:4059 state\n", b"jobs 1\n", b"", 0),
+    ("jobs that their writer may not mean", "head_end_cli", ["check"],
+     b"#m1 127.0.0.1:4059 disconnect\n\nm2 127.77.0.1 state\nm3 127.77.0.999:4059 state\nm4 [::1]:4059 state\nm5 ::1:4059 state\nm2 meter.example:4059 state\n"
+     b"m6 [::1]:4059 reconnect\nm7 10.0.0.1:0 state\nm8 10.0.0.2:65536 state\nm9 :4059 state\n", b"jobs 10\n",
+     b"line 1: warning: the name begins with `#`, and the job counts: a list has no comments\n"
+     b"line 3: warning: the address is not HOST:PORT with a port from 1 to 65535\n"
+     b"line 4: warning: the address is not HOST:PORT with a port from 1 to 65535\n"
+     b"line 6: warning: the address is not HOST:PORT with a port from 1 to 65535\n"
+     b"line 7: warning: line 3 has the same name\n"
+     b"line 8: warning: line 5 has the same address: which of both jobs runs first is not fixed\n"
+     b"line 9: warning: the address is not HOST:PORT with a port from 1 to 65535\n"
+     b"line 10: warning: the address is not HOST:PORT with a port from 1 to 65535\n"
+     b"line 11: warning: the address is not HOST:PORT with a port from 1 to 65535\n", 0),
     ("a campaign without jobs", "head_end_cli", ["run", "--password", "12345678"], b"", b"", b"", 0),
     ("a closed port and a text that is no address", "head_end_cli", ["run", "--password", "12345678", "--connect-timeout", "2"],
-     b"m1 127.0.0.1:1 disconnect\nm2 nowhere state\n", b"m1 unknown\nm2 unknown\n", b"", 0),
+     b"m1 127.0.0.1:1 disconnect\nm2 nowhere state\n", b"m1 unknown\nm2 unknown\n",
+     b"line 2: warning: the address is not HOST:PORT with a port from 1 to 65535\n", 0),
     ("no worker", "head_end_cli", ["run", "--password", "12345678", "--workers", "0"], b"", b"", None, 2),
     ("17 workers", "head_end_cli", ["run", "--password", "12345678", "--workers", "17"], b"", b"", None, 2),
     ("a campaign without a password", "head_end_cli", ["run"], b"", b"", FAULT_INPUT, 2),

@@ -7,10 +7,12 @@ mod arguments;
 mod campaign;
 mod progress;
 mod telling;
+mod warnings;
 
 use crate::arguments::command_line;
 use crate::campaign::{Plan, print};
 use crate::telling::{input_fault, jobs_fault, tell_input, tell_jobs};
+use crate::warnings::warn;
 use byte_streams::{Counted, read_to_end_within};
 use clap::ArgMatches;
 use client_core::Job;
@@ -56,14 +58,26 @@ pub(crate) fn jobs_of<I: Read + Drop>(
 ) -> Result<Listed<Job>, Fault> {
     let text = text_of(rt, input, is_verbose)?;
     match read_jobs(rt.alloc(), text.as_slice()) {
-        Ok(jobs) => Ok(jobs),
+        Ok(jobs) => {
+            warn(rt, text.as_slice(), &jobs);
+            Ok(jobs)
+        }
         Err(fault) => Err(told_fault(rt, text.as_slice(), fault, is_verbose)),
+    }
+}
+
+/// Writes the warnings about the jobs of a text, if it is a list of jobs.
+fn warn_of_text(rt: &HostRuntime, text: &[u8]) {
+    if let Ok(jobs) = read_jobs(rt.alloc(), text) {
+        warn(rt, text, &jobs);
+        drop(jobs);
     }
 }
 
 /// Counts the jobs on standard input.
 fn check(rt: &HostRuntime, is_verbose: bool) -> Result<(), Fault> {
     let text = text_of(rt, rt.stdin(), is_verbose)?;
+    warn_of_text(rt, text.as_slice());
     match count_jobs(rt.alloc(), text.as_slice()) {
         Ok(line) => print(rt, line.as_slice()),
         Err(fault) => Err(told_fault(rt, text.as_slice(), fault, is_verbose)),
