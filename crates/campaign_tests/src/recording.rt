@@ -1,14 +1,16 @@
 //! A connection that keeps its log.
-ghost use Rattle.std.specs.Prelude.{◌≡◌, ◌==◌, ◌++◌, ◌∷◌, [], length, map, Some, if◌then◌else◌, IsTrue};
+ghost use Rattle.std.specs.Prelude.{◌≡◌, ◌==◌, ◌++◌, ◌∷◌, [], length, map, Some, if◌then◌else◌, IfOk, IsTrue};
 ghost use Rattle.acse_ber.specs.Password.{IsPassword};
 ghost use Rattle.head_end.specs.Attempts.{unused, IsTried};
-ghost use Rattle.head_end.specs.Logs.{heard, heard_nothing, sent};
+ghost use Rattle.client_core.specs.Texts.{aarq_frame, request_frame, release_frame};
+ghost use Rattle.head_end.specs.Logs.{heard, heard_nothing, sent, sent_in, IsFront};
+ghost use Rattle.head_end.specs.Wires.{HasConversed};
 
-use crate::meters::{DONE, REJECTED, job, password};
+use crate::meters::{DONE, OPENED, REJECTED, SENT, job, password};
 use byte_streams::StreamFault;
-use client_core::{Job, Outcome};
+use client_core::{Client, Job, Outcome};
 use cosem_axdr::Octets;
-use head_end::{Attempt, ConnectFault, Connection, Connector, Row, run_job};
+use head_end::{Attempt, ConnectFault, Connection, Connector, Row, converse, run_job};
 use std::alloc::{AllocError, Global};
 use std::process::Abort;
 use std::test::Fail;
@@ -82,6 +84,32 @@ impl<'a, R: Abort + Sync> Connector for Recorder<'a, R> {
     }
 }
 
+/// The conversation of a new client over a connection that nothing has been sent over. Whatever
+/// comes of it, no more is sent than the AARQ, the request and the release, in this order and each
+/// at most once. If there is an outcome, each read and each write was in its turn, and the outcome
+/// is that of the bytes heard.
+#[tactic(auto, using(crate::proofs::SentLemmas::nothing_sent, crate::proofs::SentLemmas::sent_in_order))]
+fn talk<R: Abort>(
+    alloc: Global,
+    job: &Job,
+    password: &Octets,
+    connection: &mut Recording<'_, R>,
+) -> Result<Outcome, AllocError>
+    requires new { connection.old.entries.items ≡ [] }
+    requires password { IsPassword password.now }
+    ensures order { let log = map (λ e. if e.is_read then
+        (if length e.bytes == 0 then heard_nothing else heard e.bytes) else sent e.bytes)
+        connection.new.entries.items in
+        IsFront (sent_in log) (aarq_frame password.now ++ (request_frame job.now.verb ++ release_frame)) }
+    ensures outcome { let log = map (λ e. if e.is_read then
+        (if length e.bytes == 0 then heard_nothing else heard e.bytes) else sent e.bytes)
+        connection.new.entries.items in
+        IfOk result (λ outcome. HasConversed job.now.verb password.now (Some outcome) (Some log)) }
+{
+    let mut client = Client::start(alloc, job, password)?;
+    converse(alloc, &mut client, connection)
+}
+
 /// Whether a job is done. Then its attempt is closed, after a conversation with that outcome.
 fn is_done<C: Connector>(
     alloc: Global,
@@ -123,5 +151,51 @@ fn a_connection_that_keeps_its_log_is_closed(rt: HostRuntime) -> Result<(), Fail
     let alloc = rt.alloc();
     assert!(rt; is_done_at(&rt, alloc, &DONE)?);
     assert!(rt; !is_done_at(&rt, alloc, &REJECTED)?);
+    Ok(())
+}
+
+/// A new connection that gives these bytes.
+fn new_recording<'a, R: Abort>(rt: &'a R, alloc: Global, bytes: &'static [u8]) -> Recording<'a, R>
+    ensures { result.entries.items ≡ [] }
+{
+    Recording {
+        rt,
+        alloc,
+        bytes,
+        entries: Vec::new(alloc),
+    }
+}
+
+/// The outcome of a disconnect job at a meter that gives these bytes, and whether these were sent,
+/// in this number of writes.
+fn sends<R: Abort>(
+    rt: &R,
+    alloc: Global,
+    bytes: &'static [u8],
+    expected: &[u8],
+    writes: usize,
+) -> Result<(Outcome, bool), AllocError> {
+    let job = job(alloc, b"m1", b"anywhere")?;
+    let password = password(alloc)?;
+    let mut recording = new_recording(rt, alloc, bytes);
+    let outcome = talk(alloc, &job, &password, &mut recording)?;
+    let mut sent = Vec::new(alloc);
+    let mut count: usize = 0;
+    for entry in recording.entries.iter() {
+        if !entry.is_read {
+            sent.extend_from_slice(entry.bytes.as_slice())?;
+            count = count.saturating_add(1);
+        }
+    }
+    Ok((outcome, sent.as_slice() == expected && count == writes))
+}
+
+// The AARQ has 64 bytes, the request 23.
+#[test]
+fn what_is_sent_is_kept_in_order(rt: HostRuntime) -> Result<(), Fail> {
+    let alloc = rt.alloc();
+    assert!(rt; sends(&rt, alloc, &DONE, &SENT, 3)? == (Outcome::Done(0), true));
+    assert!(rt; sends(&rt, alloc, &OPENED, &SENT[..87], 2)? == (Outcome::Unknown, true));
+    assert!(rt; sends(&rt, alloc, &REJECTED, &SENT[..64], 1)? == (Outcome::Rejected(13), true));
     Ok(())
 }
