@@ -1,8 +1,9 @@
-ghost use Rattle.std.specs.Prelude.{◌≡◌, ◌⊎◌, [], IfOk, IfErr};
+ghost use Rattle.std.specs.Prelude.{◌≡◌, ◌⊎◌, ⊤, ◌+◌, [], IfOk, IfErr};
 ghost use Rattle.acse_ber.specs.Password.{IsPassword};
 ghost use Rattle.meter_run.specs.Runs.{IsRun, ServesAll, Traces};
-ghost use Rattle.meter_server.specs.ServingAll.{IsLimit};
+ghost use Rattle.meter_server.specs.ServingAll.{IsLimit, StopsFor};
 ghost use Rattle.relay_core.specs.Opening.{opening_of};
+ghost use Rattle.session_threads.specs.Listening.{IsCounted};
 ghost use Rattle.turn_lock.specs.Rule.{opened};
 ghost use Rattle.program_fault.specs.declared.Fault.TheVariants.{Memory, Turns};
 
@@ -76,6 +77,9 @@ fn serve<
     ensures serves { ServesAll (record { blocks = B.told sources.blocks; moments = M.told sources.moments; presses = U.told sources.buttons; password = password.now })
         port result.0 result.1 }
     ensures limit { IfOk result.1 (IsLimit limit) }
+    ensures counted { IfOk result.1 (λ served. IsCounted (L.accepted listener.old)
+        (served.served + served.turned_away) (L.accepted listener.new)) }
+    ensures fault { IfErr result.1 (StopsFor ⊤ (L.has_failed listener.new)) }
 {
     let Sources {
         blocks,
@@ -118,6 +122,9 @@ fn trace_text(alloc: Global, shared: Shared<Kept>, port: Port<Kept>) -> Result<O
 ///
 /// Both results are independent: the trace is written whatever ended the serving. If there is no memory for the lock, both are
 /// `Memory`, and no connection was accepted.
+///
+/// If the serving ended without a fault, the listener accepted as many clients as are counted, unless the count reached
+/// `u64::MAX`. The fault `Listen` means that the listener failed; the serving never ends with `Read` or `Write`.
 pub fn run_meter<
     L: Listener,
     B: BlockSource + Send + 'static,
@@ -139,6 +146,9 @@ pub fn run_meter<
         (record { blocks = B.told sources.blocks; moments = M.told sources.moments; presses = U.told sources.buttons; password = password.now })
         result.served) }
     ensures limit { IfOk result.served (IsLimit limit) }
+    ensures counted { IfOk result.served (λ served. IsCounted (L.accepted listener.old)
+        (served.served + served.turned_away) (L.accepted listener.new)) }
+    ensures fault { IfErr result.served (StopsFor ⊤ (L.has_failed listener.new)) }
     ensures err { IfErr result.trace (λ fault. (fault ≡ Turns) ⊎ (fault ≡ Memory)) }
 {
     match lock(alloc, recorder) {
