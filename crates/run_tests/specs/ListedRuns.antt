@@ -1,0 +1,43 @@
+-- A run whose sources are lists.
+--     Lists           what the sources list, and the password of the management client
+--     AreListedCalls  the calls of such a run
+--     IsListedRun     the run, to the text of its trace
+use Rattle.std.specs.Prelude.{◌≡◌, ℕ, ◌+◌, ◌<◌, List, [], ◌∷◌, map, replicate}
+use Rattle.kept_meter.specs.Calls.{Calls, IsLegal, Stands}
+use Rattle.kept_meter.specs.KeptRecorder.{KeptRecorder}
+use Rattle.lane_sampler.specs.Samples.{Samples}
+use Rattle.meter_run.specs.Runs.{events_in}
+use Rattle.meter_server.specs.Sessions.{AreAsked}
+use Rattle.meter_serving.specs.Ending.{TellsRun}
+use Rattle.meter_workers.specs.Handed.{unread}
+use Rattle.relay_core.specs.Opening.{opening_of}
+use Rattle.relay_events.specs.declared.event.Event.TheVariants as event
+use Rattle.relay_recorder.specs.Recording.{Recording}
+
+-- what the sources list, and the password of the management client
+pub record Lists : Type 0 where
+  pub blocks : List Samples
+  pub moments : List ℕ
+  pub presses : ℕ
+  pub password : List ℕ
+
+-- The first port's calls are the blocks of the list, with reads between them; the second's are the
+-- moments; the third's are the presses. Each further port's calls, one port for each client
+-- served, are those of a session with this password.
+pub record AreListedCalls (lists : Lists) (clients : ℕ) (calls : Calls) : Type 0 where
+  pub blocks : unread (events_in (0 ∷ []) calls) ≡ map event.Samples lists.blocks
+  pub moments : events_in (1 ∷ []) calls ≡ map event.Moment lists.moments
+  pub presses : events_in (2 ∷ []) calls ≡ replicate lists.presses event.Button
+  pub sessions : (client : ℕ) → client < clients
+      → AreAsked lists.password (events_in ((3 + client) ∷ []) calls)
+
+-- There is one list of calls, answered by the written rules from where the recorder began. The
+-- meter at the end stands for it, and the text is the trace of that meter.
+pub record IsListedRun (recorder : Recording) (lists : Lists) (clients : ℕ) (text : List ℕ) : Type 0
+  where
+    pub calls : Calls
+    pub listed : AreListedCalls lists clients calls
+    pub lawful : IsLegal (opening_of recorder.core) calls
+    pub kept : KeptRecorder
+    pub stands : Stands kept calls
+    pub traced : TellsRun kept.recorder text

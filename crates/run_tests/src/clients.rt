@@ -1,0 +1,147 @@
+//! Clients in memory, and a listener that accepts them in order and then fails.
+ghost use Rattle.std.specs.Prelude.{◌≡◌, ◌+◌, ◌^◌, ◌<◌, IsTrue, Some, false};
+ghost use Rattle.std.specs.VecDeque.{deque_len};
+
+use meter_server::{ListenFault, Listener, Observer, ServeFault, SessionEnd};
+use std::alloc::{AllocError, Global};
+use std::collections::VecDeque;
+use std::io;
+use std::io::{Cursor, Write};
+use std::sync::Arc;
+use std::sync::atomic::{AtomicU64, Ordering};
+
+/// What clients were sent, and how their sessions ended.
+#[derive(Drop)]
+pub(crate) struct Line {
+    right: AtomicU64,
+    wrong: AtomicU64,
+    closed: AtomicU64,
+}
+
+impl Line {
+    pub(crate) fn new() -> Line {
+        Line {
+            right: AtomicU64::new(0),
+            wrong: AtomicU64::new(0),
+            closed: AtomicU64::new(0),
+        }
+    }
+
+    /// Returns the number of bytes that were sent as expected, that of all others, and that of
+    /// sessions whose input ended between two frames.
+    pub(crate) fn counts(&self) -> (u64, u64, u64) {
+        (
+            self.right.load(Ordering::SeqCst),
+            self.wrong.load(Ordering::SeqCst),
+            self.closed.load(Ordering::SeqCst),
+        )
+    }
+}
+
+/// What a client is sent: each byte is compared with the one expected in its place.
+#[derive(Drop)]
+pub(crate) struct Answered {
+    line: Arc<Line, Global>,
+    expected: Vec<u8>,
+    at: usize,
+}
+
+impl Write for Answered {
+    fn write(&mut self, bytes: &[u8]) -> io::Result<usize> {
+        for byte in bytes {
+            let is_right = self.expected.as_slice().get(self.at) == Some(byte);
+            let count = if is_right {
+                &self.line.right
+            } else {
+                &self.line.wrong
+            };
+            count.fetch_add(1, Ordering::SeqCst);
+            self.at = self.at.saturating_add(1);
+        }
+        Ok(bytes.len())
+    }
+
+    fn flush(&mut self) -> io::Result<()> {
+        Ok(())
+    }
+}
+
+/// Counts the sessions that were closed between two frames.
+#[derive(Drop)]
+pub(crate) struct Watcher {
+    line: Arc<Line, Global>,
+}
+
+impl Observer for Watcher {
+    fn ended(&self, end: &Result<SessionEnd, ServeFault>) {
+        if *end == Ok(SessionEnd::Closed) {
+            self.line.closed.fetch_add(1, Ordering::SeqCst);
+        }
+    }
+}
+
+/// A client: what it sends, what it is to be sent, and the observer of its session.
+pub(crate) type Client = (Cursor<Vec<u8>>, Answered, Watcher);
+
+/// Returns a client that sends the first text, and expects the second one.
+pub(crate) fn client(
+    line: &Arc<Line, Global>,
+    asked: Vec<u8>,
+    expected: Vec<u8>,
+) -> Result<Client, AllocError> {
+    let answered = Answered {
+        line: Arc::try_clone(line)?,
+        expected,
+        at: 0,
+    };
+    let watcher = Watcher {
+        line: Arc::try_clone(line)?,
+    };
+    Ok((Cursor::new(asked), answered, watcher))
+}
+
+/// Accepts the clients of a list, in order, and then fails.
+#[derive(Drop)]
+pub(crate) struct Door {
+    clients: VecDeque<Client>,
+    pub(crate) accepted: u64,
+    pub(crate) has_failed: bool,
+    ghost fits: { accepted + deque_len clients < 2 ^ 64 },
+}
+
+impl Door {
+    pub(crate) fn new(clients: VecDeque<Client>) -> Door
+        ensures { (result.accepted ≡ 0) × (result.has_failed ≡ false) }
+    {
+        Door {
+            clients,
+            accepted: 0,
+            has_failed: false,
+        }
+    }
+}
+
+impl Listener for Door {
+    type Input = Cursor<Vec<u8>>;
+
+    type Output = Answered;
+
+    type Observer = Watcher;
+
+    ghost has_failed = { λ door. IsTrue door.has_failed };
+
+    ghost accepted = { λ door. Some door.accepted };
+
+    fn accept(&mut self) -> Result<Client, ListenFault> {
+        match self.clients.pop_front() {
+            Some(client) => {
+                self.accepted += 1;
+                Ok(client)
+            }
+            None => {
+                self.has_failed = true;
+                Err(ListenFault)
+            }
+        }
+    }
+}

@@ -1,0 +1,16 @@
+//! Tests of whole runs: a meter whose sources are lists, with clients in memory, and what its
+//! sampler does.
+//!
+//! Tests are in a crate of their own because a check of tests proves their whole crate again.
+#![tactic(auto)]
+
+#[cfg(test)]
+mod clients;
+#[cfg(test)]
+mod runs;
+#[cfg(test)]
+mod sampling;
+#[cfg(test)]
+mod sources;
+#[cfg(test)]
+mod traces;

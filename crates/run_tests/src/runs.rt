@@ -1,0 +1,272 @@
+//! Whole runs whose sources are lists.
+ghost use Rattle.std.specs.Prelude.{◌≡◌, ◌+◌, ◌<◌, [], IfOk, IsErrOf, IsTrue};
+ghost use Rattle.acse_ber.specs.Password.{IsPassword};
+ghost use Rattle.run_tests.specs.ListedRuns.{IsListedRun};
+ghost use Rattle.session_serving.specs.declared.fault.ServeFault.TheVariants.{Listen};
+
+use crate::clients::{Client, Door, Line, client};
+use crate::sources::{ListedBlocks, ListedMoments, ListedPresses};
+use crate::traces::{Lines, is_merged};
+use cosem_axdr::Octets;
+use lane_sampler::{Block, BlockMade};
+use meter_run::{MeterRun, Sources, run_meter};
+use meter_server::{ServeFault, Served};
+use relay_recorder::Recorder;
+use std::alloc::{AllocError, Global};
+use std::collections::VecDeque;
+use std::process::Abort;
+use std::sync::{Arc, Wait};
+use std::test::Fail;
+use std::thread::Threads;
+
+/// Sources that are lists.
+type Lists = Sources<ListedBlocks, ListedMoments, ListedPresses>;
+
+/// Runs a meter until `limit` clients came or the listener failed. If a trace is written and
+/// the listener did not fail, there is one list of calls, which the text tells: the blocks, the
+/// moments and the presses of the lists, each by a port of its own, and for each client served
+/// what a session asks.
+fn run_lists<R: Threads + Wait + Copy + Send + 'static>(
+    rt: &R,
+    alloc: Global,
+    recorder: Recorder,
+    door: &mut Door,
+    lists: Lists,
+    password: &Octets,
+    limit: u32,
+) -> MeterRun
+    requires unused { recorder.events ≡ [] }
+    requires password { IsPassword password.now }
+    requires limited { 0 < limit }
+    ensures run { IfOk result.served (λ served. IfOk result.trace (IsListedRun recorder
+        (record {
+          blocks = lists.blocks.left.items;
+          moments = lists.moments.left.items;
+          presses = lists.buttons.left;
+          password = password.now;
+        }) served.served)) }
+    ensures limit { IfOk result.served (λ served. served.served + served.turned_away ≡ limit) }
+    ensures counted { IfOk result.served (λ served.
+        door.new.accepted ≡ door.old.accepted + (served.served + served.turned_away)) }
+    ensures failed { IsErrOf result.served Listen → IsTrue door.new.has_failed }
+{
+    run_meter(rt, alloc, recorder, door, lists, password, u64::from(limit))
+}
+
+/// A recorder of a new meter RELAY1, to which no event has come.
+pub(crate) fn new_recorder(rt: &impl Abort, alloc: Global) -> Result<Recorder, AllocError>
+    ensures { IfOk result (λ recorder. recorder.events ≡ []) }
+{
+    let device = Octets::from_slice(alloc, b"RELAY1")?;
+    assert!(*rt; device.len() == 6);
+    let recorder = Recorder::new(alloc, &device, 256);
+    drop(device);
+    recorder
+}
+
+/// How a run ended, and whether its trace has the lines of these lists.
+type Ended = (Result<Served, ServeFault>, bool);
+
+fn ended(run: MeterRun, expected: &[Lines; 6]) -> Ended {
+    let MeterRun { served, trace } = run;
+    match trace {
+        Ok(text) => {
+            let is_traced = is_merged(text.as_slice(), expected);
+            drop(text);
+            (served, is_traced)
+        }
+        Err(_) => (served, false),
+    }
+}
+
+/// Runs a new meter whose management client has the password 12345678.
+fn run<R: Threads + Wait + Abort + Copy + Send + 'static>(
+    rt: &R,
+    alloc: Global,
+    door: &mut Door,
+    lists: Lists,
+    limit: u32,
+    expected: &[Lines; 6],
+) -> Result<Ended, AllocError>
+    requires { 0 < limit }
+{
+    match (
+        new_recorder(rt, alloc),
+        Octets::from_slice(alloc, b"12345678"),
+    ) {
+        (Ok(recorder), Ok(password)) => {
+            assert!(*rt; password.len() == 8);
+            let run = run_lists(rt, alloc, recorder, door, lists, &password, limit);
+            drop(password);
+            Ok(ended(run, expected))
+        }
+        (recorder, password) => {
+            drop(recorder);
+            drop(password);
+            drop(lists);
+            Err(AllocError)
+        }
+    }
+}
+
+/// No blocks, no moments and no presses.
+fn no_lists(alloc: Global) -> Lists {
+    Sources {
+        blocks: ListedBlocks {
+            left: VecDeque::new(alloc),
+        },
+        moments: ListedMoments {
+            left: VecDeque::new(alloc),
+        },
+        buttons: ListedPresses { left: 0 },
+    }
+}
+
+fn add_block(lists: &mut Lists, block: Block) -> Result<(), AllocError> {
+    match lists.blocks.left.push_back(block) {
+        Ok(()) => Ok(()),
+        Err(refused) => {
+            drop(refused);
+            Err(AllocError)
+        }
+    }
+}
+
+/// Three blocks, one of them of pairs and one empty; two moments; two presses.
+fn fill(alloc: Global, lists: &mut Lists) -> Result<(), Fail> {
+    add_block(lists, Block::from_slice(alloc, &[10, 20])?)?;
+    add_block(lists, Block::from_pairs(alloc, &[30], &[40])?)?;
+    add_block(lists, Block::from_slice(alloc, &[])?)?;
+    lists.moments.left.push_back(5)?;
+    lists.moments.left.push_back(6)?;
+    lists.buttons.left = 2;
+    Ok(())
+}
+
+/// Bytes in hexadecimal, one text after the other.
+type Texts = &'static [&'static str];
+
+/// The management client opens an association with the password 12345678 and writes mode 2 of the
+/// switch.
+static WRITES_MODE: Texts = &[
+    "00010001000100386036A1090607608574050801018A0207808B0760857405080201",
+    "AC0A80083132333435363738BE10040E01000000065F1F0400001C190400",
+    "000100010001000FC101C10046000060030AFF04001602",
+];
+
+/// The association is accepted, and the write succeeds.
+static MODE_WRITTEN: Texts = &[
+    "000100010001002B6129A109060760857405080101A203020100A305A103020100",
+    "BE10040E0800065F1F0400001C1904000007",
+    "0001000100010004C501C100",
+];
+
+/// The public client opens an association and reads the state of the switch.
+static READS_STATE: Texts = &[
+    "000100100001001F601DA109060760857405080101",
+    "BE10040E01000000065F1F0400007E1F04B0",
+    "000100100001000DC001C10046000060030AFF0300",
+];
+
+/// The association is accepted, and the state is 1: connected.
+static STATE_READ: Texts = &[
+    "000100010010002B6129A109060760857405080101A203020100A305A103020100",
+    "BE10040E0800065F1F0400001E1904000007",
+    "0001000100100006C401C1001601",
+];
+
+/// The bytes of texts in hexadecimal.
+fn bytes_of(alloc: Global, texts: Texts) -> Result<Vec<u8>, Fail> {
+    let mut bytes = Vec::new(alloc);
+    for text in texts {
+        let decoded = hex::decode(alloc, text)?;
+        bytes.extend_from_slice(decoded.as_slice())?;
+    }
+    Ok(bytes)
+}
+
+fn add_client(
+    alloc: Global,
+    clients: &mut VecDeque<Client>,
+    line: &Arc<Line, Global>,
+    asked: Texts,
+    expected: Texts,
+) -> Result<(), Fail> {
+    let expected = bytes_of(alloc, expected)?;
+    let client = client(line, bytes_of(alloc, asked)?, expected)?;
+    clients.push_back(client)?;
+    Ok(())
+}
+
+/// A listener of the management client, and then of the public one.
+fn door_of_two(alloc: Global, line: &Arc<Line, Global>) -> Result<Door, Fail> {
+    let mut clients = VecDeque::new(alloc);
+    add_client(alloc, &mut clients, line, WRITES_MODE, MODE_WRITTEN)?;
+    add_client(alloc, &mut clients, line, READS_STATE, STATE_READ)?;
+    Ok(Door::new(clients))
+}
+
+/// What the trace has of the run: the head of the events, and what each port did.
+static ALL_LINES: [Lines; 6] = [
+    &["events 10"],
+    &[
+        "getlist 1 2 71 0000110000FF 3 0 71 0001110000FF 3 0",
+        "samples 10 20",
+        "pairs 30 40",
+        "samples",
+    ],
+    &["moment 5", "moment 6"],
+    &["button", "button"],
+    &["set 1 70 000060030AFF 4 0 1602"],
+    &["get 16 70 000060030AFF 3 0"],
+];
+
+/// Serves two clients, while all that the lists give is handed in.
+fn run_two<R: Threads + Wait + Abort + Copy + Send + 'static>(
+    rt: &R,
+    alloc: Global,
+    door: &mut Door,
+    limit: u32,
+) -> Result<Ended, Fail>
+    requires { 0 < limit }
+{
+    let mut lists = no_lists(alloc);
+    match fill(alloc, &mut lists) {
+        Ok(()) => Ok(run(rt, alloc, door, lists, limit, &ALL_LINES)?),
+        Err(fail) => {
+            drop(lists);
+            Err(fail)
+        }
+    }
+}
+
+#[test]
+fn lists_are_handed_in_whole(rt: HostRuntime) -> Result<(), Fail> {
+    let alloc = rt.alloc();
+    let line = Arc::new(alloc, Line::new())?;
+    let mut door = door_of_two(alloc, &line)?;
+    let (served, is_traced) = run_two(&rt, alloc, &mut door, 2)?;
+    let all = Served {
+        served: 2,
+        turned_away: 0,
+    };
+    assert!(rt; served == Ok(all));
+    assert!(rt; is_traced);
+    assert!(rt; (door.accepted, door.has_failed) == (2, false));
+    // Both answers to an AARQ have 51 bytes, those to the requests 12 and 14.
+    assert!(rt; line.counts() == (51 + 12 + 51 + 14, 0, 2));
+    Ok(())
+}
+
+#[test]
+fn a_listener_that_fails_ends_the_run(rt: HostRuntime) -> Result<(), Fail> {
+    let alloc = rt.alloc();
+    let line = Arc::new(alloc, Line::new())?;
+    let mut door = door_of_two(alloc, &line)?;
+    let (served, is_traced) = run_two(&rt, alloc, &mut door, 3)?;
+    assert!(rt; served == Err(ServeFault::Listen));
+    assert!(rt; is_traced);
+    assert!(rt; (door.accepted, door.has_failed) == (2, true));
+    assert!(rt; line.counts() == (51 + 12 + 51 + 14, 0, 2));
+    Ok(())
+}
