@@ -1,6 +1,6 @@
 #!/usr/bin/env python3
 """Refuses each allocation in turn, over the executables that the gate left: in the tests of `refusal_tests` (the recorder's `apply`, a port's `call`, `serve_session`,
-`play`), in the programs, in a campaign, and in a meter that serves two clients; of that meter each thread too. Prints how many were refused in each and what stood afterwards.
+`play`), in a test of the sampler, in the programs, in a campaign, and in a meter that serves two clients; of that meter each thread too. Prints how many were refused in each and what stood afterwards.
 
 usage: tests/refused_memory.py [--long]     (--long: every allocation, in place of the first, the last and some between)"""
 
@@ -21,6 +21,9 @@ from serving import DISCONNECT, MODE, PASSWORD, PLAYER, SERVER, STATE, TOP, Clie
 from campaigns import HEAD_END
 
 CALLS = os.environ.get("REFUSAL_TESTS") or TOP / "crates" / "refusal_tests" / "out" / "refusal_tests_tests"
+RUNS = os.environ.get("RUN_TESTS") or TOP / "crates" / "run_tests" / "out" / "run_tests_tests"
+# Its test of the sampler, which looks at the scan of each block.
+SAMPLER = "sampling::blocks_are_scanned_with_the_thresholds_read_last"
 
 MEMORY = b"fault: memory\n"
 GET_OBJECTS = b"000100100001000DC001C1000F0000280000FF0200"
@@ -58,6 +61,15 @@ def calls_are_refused_memory(name):
         told(one, found)
         check(f"{name}: {one}: ample memory", ample.status == 0, ample)
         check(f"{name}: {one}", found["in the call, and all stood"] > 0 and not found["WRONG"], found)
+
+
+def a_read_of_thresholds_is_refused_memory(name):
+    ample = refusing.run([RUNS, SAMPLER])
+    # (each allocation in turn, also in the short form: a read makes few of them)
+    found = collections.Counter(verdict(refusing.run([RUNS, SAMPLER], refuse_memory=number)) for number in range(1, ample.allocations + 1))
+    told("a sampler that reads the thresholds", found)
+    check(f"{name}: ample memory", ample.status == 0, ample)
+    check(name, found["in the call, and all stood"] > 0 and not found["WRONG"], found)
 
 
 # A program, its words, its input, and whether it may have written the first of its lines where it was refused memory; else it has written nothing.
@@ -206,13 +218,13 @@ def main():
     parser = argparse.ArgumentParser()
     parser.add_argument("--long", action="store_true", help="every allocation")
     is_long = parser.parse_args().long
-    for executable in (CALLS, SERVER, PLAYER, HEAD_END):
+    for executable in (CALLS, RUNS, SERVER, PLAYER, HEAD_END):
         if not os.access(executable, os.X_OK):
             print(f"{executable} is not there: run the gate, or `rt run` in its crate")
             print("0 passed, 1 failed")
             return 1
     refusing = Refusing()
-    for function in (calls_are_refused_memory, programs_are_refused_memory, a_campaign_is_refused_memory, a_meter_that_serves_is_refused_memory,
+    for function in (calls_are_refused_memory, a_read_of_thresholds_is_refused_memory, programs_are_refused_memory, a_campaign_is_refused_memory, a_meter_that_serves_is_refused_memory,
                      a_meter_that_serves_is_refused_threads, a_press_is_not_made_without_its_thread):
         test(function)
     refusing.stop()
