@@ -3,7 +3,7 @@ ghost use Rattle.action_schedule.specs.Attributes.{is_plain};
 ghost use Rattle.cosem_names.specs.declared.write_fault.WriteFault.TheVariants.{Unmatched, Value};
 ghost use Rattle.action_schedule.specs.Fitting.{fits, is_due, IsDue};
 ghost use Rattle.action_schedule.specs.Reading.{selector_of, kind_of, entries_of};
-ghost use Rattle.action_schedule.specs.Schedule.{new_schedule, answer_of, with_selector, with_kind, with_entries};
+ghost use Rattle.action_schedule.specs.Schedule.{AreEntries, new_schedule, answer_of, with_selector, with_kind, with_entries};
 ghost use Rattle.action_schedule.specs.Writing.{data_at, ReadsBack};
 
 use crate::attribute::ScheduleAttribute;
@@ -135,6 +135,14 @@ impl ActionSchedule {
         ensures { result ≡ self.now.kind }
     {
         self.kind
+    }
+
+    /// Its entries, in order.
+    pub fn entries(&self) -> &[EntryPattern]
+        ensures entries { result.now ≡ self.now.entries }
+        ensures fit { AreEntries self.now.entries }
+    {
+        self.entries.as_slice()
     }
 
     /// Whether its entries are such as its type wants.

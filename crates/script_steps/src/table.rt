@@ -94,6 +94,14 @@ impl ScriptTable {
         write_scripts(alloc, self.scripts.as_slice())
     }
 
+    /// The scripts, in order.
+    pub fn scripts(&self) -> &[Script]
+        ensures scripts { result.now ≡ self.now }
+        ensures fit { IsTable self.now }
+    {
+        self.scripts.as_slice()
+    }
+
     /// The script with this identifier.
     #[tactic(auto, using(crate::proofs::Tables::found_fits))]
     fn script(&self, identifier: u16) -> Option<&Script>
