@@ -1,2 +1,4 @@
 pub mod Counted
 pub mod Input
+pub mod Lines
+pub mod Monitored

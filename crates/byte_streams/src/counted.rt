@@ -1,8 +1,11 @@
 ghost use Rattle.std.specs.Prelude.{◌≡◌, ◌↔◌, IsTrue};
+ghost use Rattle.std.specs.Io.{ReadsAtMost};
+ghost use Rattle.std.specs.Io.KnownBytes.{ReadConsumes};
 ghost use Rattle.byte_streams.specs.Counted.{stream_of, reads_of, has_failed, failures_of, IsWhole};
 
 use crate::fault::StreamFault;
 use crate::streams::{Reader, Writer};
+use std::io;
 use std::io::{ErrorKind, Read, Write};
 
 /// How often a read that a signal interrupts is tried.
@@ -60,6 +63,20 @@ impl<T> Counted<T> {
     }
 }
 
+/// Reads from a stream. A read that a signal interrupts is tried again, up to 1,000 times.
+pub(crate) fn read_stream<T: Read>(stream: &mut T, buffer: &mut [u8]) -> io::Result<usize>
+    ensures bound { ReadsAtMost result buffer.new }
+    ensures bytes { ReadConsumes (T.remaining stream.old) (T.remaining stream.new) result buffer.new }
+{
+    'tries: for _ in 1..MOST_TRIES {
+        match stream.read(buffer) {
+            Err(error) if is_tried_again(error.kind()) => {}
+            read => return read,
+        }
+    }
+    stream.read(buffer)
+}
+
 impl<T: Read> Reader for Counted<T> {
     ghost remaining = { λ c. T.remaining (stream_of c) };
 
@@ -74,18 +91,16 @@ impl<T: Read> Reader for Counted<T> {
             self.has_failed = true;
             return Err(StreamFault);
         };
-        'tries: for _ in 0..MOST_TRIES {
-            match self.stream.read(buffer) {
-                Ok(count) => {
-                    self.reads = reads;
-                    return Ok(count);
-                }
-                Err(error) if is_tried_again(error.kind()) => {}
-                Err(_) => break,
+        match read_stream(&mut self.stream, buffer) {
+            Ok(count) => {
+                self.reads = reads;
+                Ok(count)
+            }
+            Err(_) => {
+                self.has_failed = true;
+                Err(StreamFault)
             }
         }
-        self.has_failed = true;
-        Err(StreamFault)
     }
 }
 
