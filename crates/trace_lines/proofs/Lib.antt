@@ -3,3 +3,4 @@ pub mod EventRows
 pub mod EventsBack
 pub mod ItemsWritten
 pub mod SampleSteps
+pub mod Ranges

@@ -1,6 +1,7 @@
 -- The events that a trace can hold: of the ranges of their types, and within the limits of a line.
 --     IsNamed      a class of 16 bits, a name of six bytes, a number of 8 bits
 --     IsTraced     an event whose line is read again
+--     FitsLine     an event within the limits of a line, which then is one of these
 use Rattle.std.specs.Prelude.{◌≡◌, ℕ, ◌≤◌, List, [], ◌∷◌, length, Option, Some, None, IfSome}
 use Rattle.hex.specs.Hex.{IsBytes}
 use Rattle.cosem_names.specs.declared.service.AttributeSelection.{AttributeSelection}
@@ -39,3 +40,10 @@ IsTraced (Execute level method parameter) = IsNamed method.class.0 method.name.0
 IsTraced Button = Unit {0}
 IsTraced (Samples block) = (length block.import ≤ 256) × AreSamples block.import × AreExports block.import block.export
 IsTraced (Moment now) = now ≤ 4294967295
+
+-- an event within the limits of a line: a list of at most 102 attributes, and a value or a parameter within the limits of a written Data
+abbrev pub FitsLine : Event → Type 0
+FitsLine (GetList level items) = length items ≤ 102
+FitsLine (Set level attr selected value) = IsHeld value
+FitsLine (Execute level method parameter) = IfSome parameter IsHeld
+FitsLine _ = Unit {0}

@@ -5,7 +5,7 @@
 //!
 //! `read_event_count` reads the count and `next_event` each event from the lines that are left of a trace (`trace_words::TraceLines`), `next_held_event` from lines that hold their text (`HeldLines`); `write_event_count` and
 //! `write_event` write these lines, in version 2, and `write_line` the line of a reply; `read_event` reads the line of an event by itself. What is written is read
-//! again.
+//! again if `fits_line` accepts the event.
 #![tactic(auto)]
 
 mod event_counts;
@@ -14,6 +14,7 @@ mod event_places;
 mod events;
 mod items;
 mod laws;
+mod limits;
 mod reply_lines;
 mod samples;
 mod verb;
@@ -29,4 +30,5 @@ pub use laws::{
     read_event_count_is_written, read_event_is_written, written_event_count_is_read,
     written_event_is_read,
 };
+pub use limits::{event_is_traced, fits_line};
 pub use reply_lines::write_line;

@@ -1,0 +1,95 @@
+//! Which events fit a line, and that each that does is read again. These functions only look at an event, and allocate nothing.
+ghost use Rattle.std.specs.Prelude.{◌≡◌, ◌↔◌, ◌≤◌, IfSome, IsTrue, length};
+ghost use Rattle.trace_lines.specs.Traced.{AreExports, AreNamed, AreSamples, FitsLine, IsNamed, IsTraced};
+ghost use Rattle.trace_words.specs.Writing.{IsHeld};
+
+use crate::items::MAX_ITEMS;
+use cosem_axdr::{Data, fits};
+use cosem_names::{AttrRef, AttributeSelection, MethodRef};
+use lane_sampler::Block;
+use relay_events::Event;
+
+/// Whether an event is within the limits of a line: a list of at most 102 attributes, and a value or a parameter that
+/// [`cosem_axdr::fits`] accepts. Every other event is.
+pub fn fits_line(event: &Event) -> bool
+    ensures { IsTrue result ↔ FitsLine event.now }
+{
+    match event {
+        Event::GetList { items, .. } => items.len() <= MAX_ITEMS,
+        Event::Set { value, .. } => is_held(value),
+        Event::Execute { parameter, .. } => is_parameter_held(parameter),
+        Event::Get { .. } | Event::Button | Event::Samples(_) | Event::Moment(_) => true,
+    }
+}
+
+fn is_held(value: &Data) -> bool
+    ensures { IsTrue result ↔ IsHeld value.now }
+{
+    fits(value)
+}
+
+fn is_parameter_held(parameter: &Option<Data>) -> bool
+    ensures { IsTrue result ↔ IfSome parameter.now IsHeld }
+{
+    match parameter {
+        Some(value) => is_held(value),
+        None => true,
+    }
+}
+
+/// The numbers of an event are of their types, so an event that fits its line is read again from it.
+pub fn event_is_traced(event: &Event)
+    ensures { FitsLine event.now → IsTraced event.now }
+{
+    match event {
+        Event::Get { attr, .. } => attribute_is_named(attr),
+        Event::GetList { items, .. } => attributes_are_named(items.as_slice()),
+        Event::Set { attr, .. } => attribute_is_named(attr),
+        Event::Execute { method, .. } => method_is_named(method),
+        Event::Button => {}
+        Event::Samples(block) => block_is_traced(block),
+        Event::Moment(now) => look_at(*now),
+    }
+}
+
+// A read makes known that a referenced number is of its type.
+fn look_at(_number: u32) {}
+
+fn is_named(_class: u16, _name: [u8; 6], _number: u8)
+    ensures { IsNamed _class _name _number }
+{}
+
+fn attribute_is_named(attr: &AttrRef)
+    ensures { IsNamed attr.now.class.0 attr.now.name.0 attr.now.number }
+{
+    is_named(attr.class.0, attr.name.0, attr.number);
+}
+
+fn method_is_named(method: &MethodRef)
+    ensures { IsNamed method.now.class.0 method.now.name.0 method.now.number }
+{
+    is_named(method.class.0, method.name.0, method.number);
+}
+
+fn attributes_are_named(items: &[AttributeSelection])
+    ensures { AreNamed items.now }
+{
+    'items: for item in items {
+        attribute_is_named(&item.attr);
+    }
+}
+
+#[tactic(auto, using(crate::proofs::Ranges::samples_in_range))]
+fn are_samples(_values: &[u32])
+    ensures { AreSamples _values.now }
+{}
+
+fn block_is_traced(block: &Block)
+    ensures { (length block.now.import ≤ 256) × AreSamples block.now.import × AreExports block.now.import block.now.export }
+{
+    are_samples(block.values());
+    match block.export() {
+        Some(values) => are_samples(values),
+        None => {}
+    }
+}
