@@ -10,3 +10,4 @@ pub mod OpeningTables
 pub mod OpeningTakes
 pub mod OpeningText
 pub mod OpeningWordsBack
+pub mod RangeLemmas

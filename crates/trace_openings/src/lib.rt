@@ -14,7 +14,9 @@ mod limiter_writing;
 mod opening_fields;
 mod opening_lines;
 mod opening_writing;
+mod ranges;
 
 pub use laws::{read_opening_is_written, written_opening_is_read};
 pub use opening_lines::read_opening;
 pub use opening_writing::write_opening;
+pub use ranges::opening_is_writable;

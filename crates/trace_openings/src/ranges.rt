@@ -1,0 +1,123 @@
+//! The numbers of every opening are of their types. These functions only look at an opening, and allocate nothing.
+ghost use Rattle.std.specs.Prelude.{◌≡◌, ◌≤◌, IfSome, IsTrue};
+ghost use Rattle.std.specs.List.{All};
+ghost use Rattle.hex.specs.Hex.{IsBytes};
+ghost use Rattle.cosem_datetime.specs.Fields.{IsDateTimeFields};
+ghost use Rattle.relay_core.specs.Opening.{IsFitOpening};
+ghost use Rattle.trace_openings.specs.OpeningTraced.{AreIds, IsTracedLimiter, IsTracedSchedule, IsTracedScript, IsTracedStep, IsWritable};
+
+use action_schedule::ActionSchedule;
+use limiter_core::Profile;
+use relay_core::{LimiterOpening, Opening, Schedules};
+use script_steps::{Script, Step};
+
+/// The numbers of an opening are of their types, so one that a core can open with is read again from its lines.
+pub fn opening_is_writable(opening: &Opening)
+    ensures { IsFitOpening opening.now → IsWritable opening.now }
+{
+    are_bytes(opening.device.as_slice());
+    moment_is_traced(opening.moment);
+    limiter_is_traced(&opening.import);
+    limiter_is_traced(&opening.export);
+    scripts_are_traced(opening.scripts.scripts());
+    let Schedules {
+        first,
+        second,
+        third,
+        fourth,
+    } = &opening.schedules;
+    schedule_is_traced(first);
+    schedule_is_traced(second);
+    schedule_is_traced(third);
+    schedule_is_traced(fourth);
+}
+
+// A read makes known that a referenced number is of its type.
+fn look_at<T: Drop>(_number: T) {}
+
+fn are_bytes(_bytes: &[u8])
+    ensures { IsBytes _bytes.now }
+{}
+
+#[tactic(auto, using(crate::proofs::RangeLemmas::ids_in_range))]
+fn are_ids(_ids: &[u16])
+    ensures { AreIds _ids.now }
+{}
+
+fn moment_is_traced(moment: Option<u32>)
+    ensures { IfSome moment (λ moment. moment ≤ 4294967295) }
+{
+    match moment {
+        Some(moment) => look_at(moment),
+        None => {}
+    }
+}
+
+fn profile_is_traced(profile: &Profile)
+    ensures id { profile.now.id ≤ 65535 }
+    ensures start { IsDateTimeFields profile.now.start }
+    ensures duration { profile.now.duration ≤ 4294967295 }
+{
+    look_at(profile.id);
+    look_at(profile.start.bytes());
+    look_at(profile.duration);
+}
+
+fn limiter_is_traced(limiter: &LimiterOpening)
+    ensures { IsTracedLimiter limiter.now }
+{
+    let settings = &limiter.settings;
+    look_at(limiter.value);
+    look_at(settings.normal_threshold);
+    look_at(settings.emergency_threshold);
+    look_at(settings.min_over_duration);
+    look_at(settings.min_under_duration);
+    profile_is_traced(&settings.profile);
+    are_ids(settings.groups.as_slice());
+    look_at(settings.actions.over);
+    look_at(settings.actions.under);
+}
+
+fn step_is_traced(step: &Step)
+    ensures { IsTracedStep step.now }
+{
+    match step {
+        Step::WriteNormal(_, watts) | Step::WriteEmergency(_, watts) => look_at(*watts),
+        Step::WriteProfile(_, profile) => profile_is_traced(profile),
+        Step::WriteMode(_)
+        | Step::WriteMinOver(_, _)
+        | Step::WriteMinUnder(_, _)
+        | Step::Disconnect
+        | Step::Reconnect => {}
+    }
+}
+
+fn steps_are_traced(steps: &[Step])
+    ensures { All IsTracedStep steps.now }
+{
+    'steps: for step in steps {
+        step_is_traced(step);
+    }
+}
+
+fn script_is_traced(script: &Script)
+    ensures { IsTracedScript script.now }
+{
+    look_at(script.identifier);
+    steps_are_traced(script.steps.as_slice());
+}
+
+fn scripts_are_traced(scripts: &[Script])
+    ensures { All IsTracedScript scripts.now }
+{
+    'scripts: for script in scripts {
+        script_is_traced(script);
+    }
+}
+
+fn schedule_is_traced(schedule: &ActionSchedule)
+    ensures { IsTracedSchedule schedule.now }
+{
+    look_at(schedule.selector());
+    let _entries = schedule.entries();
+}
