@@ -4,3 +4,4 @@ pub mod EventsBack
 pub mod ItemsWritten
 pub mod SampleSteps
 pub mod Ranges
+pub mod ShortEvents

@@ -11,3 +11,4 @@ pub mod OpeningTakes
 pub mod OpeningText
 pub mod OpeningWordsBack
 pub mod RangeLemmas
+pub mod ShortOpenings

@@ -8,3 +8,4 @@ pub mod Steps
 pub mod TextBytes
 pub mod WordLaws
 pub mod WordsBack
+pub mod ShortRows
