@@ -8,3 +8,5 @@ pub mod Held
 pub mod Outputs
 mod TraceAgain
 pub mod TraceBack
+pub mod RangeLemmas
+pub mod ShortTraces

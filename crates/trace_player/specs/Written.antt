@@ -1,10 +1,14 @@
 -- The traces whose text is read again.
+--     IsWritableTrace    such a trace, by the ranges of its numbers too
+--     FitsText           such a trace, by what a program can test, if its text is short
 use Rattle.std.specs.Prelude.{◌≤◌, List, [], ◌∷◌, length}
+use Rattle.std.specs.List.{All}
+use Rattle.relay_core.specs.Opening.{IsFitOpening}
 use Rattle.relay_events.specs.declared.event.Event.{Event}
 use Rattle.relay_recorder.specs.declared.trace.Trace.{Trace}
 use Rattle.trace_lines.specs.Events.{max_events}
 use Rattle.trace_openings.specs.OpeningTraced.{IsWritable}
-use Rattle.trace_lines.specs.Traced.{IsTraced}
+use Rattle.trace_lines.specs.Traced.{FitsLine, IsTraced}
 use Rattle.trace_player.specs.Traces.{most_bytes, trace_text}
 
 -- events whose lines are read again
@@ -18,3 +22,9 @@ pub record IsWritableTrace (trace : Trace) : Type 0 where
   pub events : AreTraced trace.events
   pub few : length trace.events ≤ max_events
   pub short : length (trace_text trace) ≤ most_bytes
+
+-- an opening that a core can have, and events that fit their lines, not too many of these
+pub record FitsText (trace : Trace) : Type 0 where
+  pub fit : IsFitOpening trace.opening
+  pub events : All FitsLine trace.events
+  pub few : length trace.events ≤ max_events

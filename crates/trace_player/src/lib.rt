@@ -9,6 +9,7 @@ mod laws;
 mod output;
 mod player;
 mod playing;
+mod ranges;
 mod reading;
 mod writing;
 

@@ -1,9 +1,11 @@
-ghost use Rattle.std.specs.Prelude.{◌≡◌, ◌++◌, ◌∷◌, [], map, IfOk, OnOk};
+ghost use Rattle.std.specs.Prelude.{◌≡◌, ◌≤◌, ◌++◌, ◌∷◌, [], length, map, Ok, IfOk, OnOk};
 ghost use Rattle.trace_lines.specs.Writing.{event_row};
-ghost use Rattle.trace_player.specs.Traces.{trace_text};
+ghost use Rattle.trace_player.specs.Traces.{most_bytes, trace_of, trace_text};
+ghost use Rattle.trace_player.specs.Written.{FitsText};
 ghost use Rattle.trace_text.specs.Lines.{rows_text};
 ghost use Rattle.trace_text.specs.Words.{line_of};
 
+use crate::ranges::trace_is_read_again;
 use cosem_axdr::Octets;
 use relay_events::Event;
 use relay_recorder::Trace;
@@ -30,9 +32,9 @@ fn add_events(alloc: Global, out: &mut Vec<u8>, events: &[Event]) -> Result<(), 
     Ok(())
 }
 
-/// The text of a trace, in version 2.
+// Writes the lines of a trace.
 #[tactic(auto, using(crate::proofs::EventsLeft::text_joined))]
-pub fn write_trace(alloc: Global, trace: &Trace) -> Result<Octets, AllocError>
+fn write_lines(alloc: Global, trace: &Trace) -> Result<Octets, AllocError>
     ensures { IfOk result (λ text. text ≡ trace_text trace.now) }
 {
     let mut out = Vec::new(alloc);
@@ -40,4 +42,18 @@ pub fn write_trace(alloc: Global, trace: &Trace) -> Result<Octets, AllocError>
     write_event_count(&mut out, trace.events.len() as u64)?;
     add_events(alloc, &mut out, trace.events.as_slice())?;
     Ok(Octets::from_vec(out))
+}
+
+/// Writes the text of a trace, in version 2. Errors: `AllocError`.
+///
+/// [`read_trace`](crate::read_trace) reads the text back as the same trace if a core can open with the opening, [`fits_line`](trace_lines::fits_line)
+/// accepts each event, there are at most 65,536 events, and the text has at most 33,554,432 bytes. The text of at most
+/// 1,024 such events is never longer.
+pub fn write_trace(alloc: Global, trace: &Trace) -> Result<Octets, AllocError>
+    ensures text { IfOk result (λ text. text ≡ trace_text trace.now) }
+    ensures again { IfOk result (λ text. FitsText trace.now → length text ≤ most_bytes → trace_of text ≡ Ok trace.now) }
+    ensures short { IfOk result (λ text. FitsText trace.now → length trace.now.events ≤ 1024 → length text ≤ most_bytes) }
+{
+    trace_is_read_again(trace);
+    write_lines(alloc, trace)
 }

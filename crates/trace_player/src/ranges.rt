@@ -1,0 +1,32 @@
+//! The numbers of every trace are of their types, so a trace that fits its text is read again. These functions only look at a trace, and allocate nothing.
+ghost use Rattle.std.specs.Prelude.{◌≡◌, ◌≤◌, length, Ok};
+ghost use Rattle.std.specs.List.{All};
+ghost use Rattle.trace_lines.specs.Traced.{FitsLine, IsTraced};
+ghost use Rattle.trace_player.specs.Traces.{most_bytes, trace_of, trace_text};
+ghost use Rattle.trace_player.specs.Written.{FitsText};
+
+use crate::laws::written_trace_is_read;
+use relay_events::Event;
+use relay_recorder::Trace;
+use trace_lines::event_is_traced;
+use trace_openings::opening_is_writable;
+
+// Each event that fits its line is read again from it.
+fn events_are_traced(events: &[Event])
+    ensures { All (λ event. FitsLine event → IsTraced event) events.now }
+{
+    'events: for event in events {
+        event_is_traced(event);
+    }
+}
+
+/// A trace that fits its text is read again from it, if the text has at most 33,554,432 bytes. That of at most 1,024 events has.
+#[tactic(auto, using(crate::proofs::RangeLemmas::is_writable, crate::proofs::RangeLemmas::is_short))]
+pub(crate) fn trace_is_read_again(trace: &Trace)
+    ensures again { FitsText trace.now → length (trace_text trace.now) ≤ most_bytes → trace_of (trace_text trace.now) ≡ Ok trace.now }
+    ensures short { FitsText trace.now → length trace.now.events ≤ 1024 → length (trace_text trace.now) ≤ most_bytes }
+{
+    opening_is_writable(&trace.opening);
+    events_are_traced(trace.events.as_slice());
+    written_trace_is_read();
+}
