@@ -1,6 +1,6 @@
 //! The end of the listening.
 use crate::listening::Stopped;
-use meter_console::Ended;
+use meter_console::{ConsoleEnd, Ended};
 use std::net::{Net, SocketAddr, TcpStream};
 use std::sync::atomic::Ordering;
 use std::thread;
@@ -30,7 +30,7 @@ fn wake<R: Net + Clock>(rt: &R, address: SocketAddr) {
 }
 
 impl<R: Net + Clock> Ended for Closing<R> {
-    fn console_ended(&self) {
+    fn console_ended(&self, _end: ConsoleEnd) {
         if let Some(address) = self.address {
             self.stopped.store(true, Ordering::SeqCst);
             wake(&self.rt, address);

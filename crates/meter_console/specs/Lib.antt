@@ -1,1 +1,4 @@
 pub mod Console
+pub mod Ends
+pub mod Lines
+pub mod Queues

@@ -1,11 +1,21 @@
-//! The console of a meter that serves: the lines of an input, each of whose events is handed to the meter's own worker, read by a thread of their own.
+//! The console of a meter that serves: the lines of an input, each of whose events goes to the meter's own worker.
+//!
+//! [`run_console`] reads the lines and hands their events to an [`EventSink`]; [`start`] runs it in a thread of its own, over the channels of
+//! a [`Console`].
 #![tactic(auto)]
 
+mod channels;
 mod console;
 mod line_event;
 mod lines;
 mod reading;
+mod running;
+mod sink;
 
-pub use console::{Console, ConsoleBlocks, ConsoleMoments, ConsolePresses, Sources};
+pub use channels::{ConsoleBlocks, ConsoleMoments, ConsolePresses, Sources};
+pub use console::Console;
 pub use line_event::console_event;
+pub use lines::LineBuffer;
 pub use reading::{Ended, Reading, start};
+pub use running::{ConsoleEnd, run_console};
+pub use sink::EventSink;

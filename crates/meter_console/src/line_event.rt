@@ -30,7 +30,7 @@ fn is_own_line(line: &[u8]) -> bool
 }
 
 /// The event of a line, which is passed without the byte 0A that ends it: a press, samples, pairs or a moment, written as in a trace of version 2. Any other line
-/// brings none, and one that does not begin as one of these takes no memory.
+/// brings none, and for one that does not begin as one of these nothing is allocated.
 pub fn console_event(alloc: Global, line: &[u8]) -> Result<Option<Event>, AllocError>
     ensures some { IfOk result (λ brought. IfSome brought (λ event. Brings line.now event)) }
     ensures none { IfOk result (λ brought. IfNone brought ((event : Event) → ¬ (Brings line.now event))) }

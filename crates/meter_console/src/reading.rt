@@ -1,48 +1,53 @@
 //! The thread that reads the console.
 use crate::console::Console;
+use crate::running::ConsoleEnd;
 use std::alloc::Global;
-use std::io::{BufReader, Read};
+use std::io::BufRead;
 use std::sync::Wait;
 use std::thread;
 use std::thread::{JoinHandle, Threads};
 
-/// Who is told that the console has ended.
+/// Who is called once the console has ended.
 pub trait Ended {
-    /// No further line comes.
-    fn console_ended(&self);
+    /// The console has ended: no further line is read.
+    fn console_ended(&self, end: ConsoleEnd);
 }
 
-/// What the console's thread reads, where it hands that, and who is told of its end.
+/// What the console's thread reads, where it hands the events, and who is called at its end.
 #[derive(Drop)]
-pub struct Reading<I, E> {
-    pub input: BufReader<I>,
-    pub console: Console,
-    pub ended: E,
+pub struct Reading<R, B, E, N> {
+    pub input: B,
+    pub console: Console<R>,
+    /// Where lost lines and a failed read are reported.
+    pub errors: E,
+    pub ended: N,
 }
 
-/// What the console's thread does: it hands on the lines of its input, and tells of their end.
-fn read<W: Wait + Drop, I: Read + Drop, E: Ended + Drop>(
-    rt: W,
+/// Hands on the events of the input's lines, and then calls `ended`.
+fn read<R: Wait + Copy + Drop, B: BufRead + Drop, E: Eprint + Drop, N: Ended + Drop>(
     alloc: Global,
-    reading: Reading<I, E>,
-) {
+    reading: Reading<R, B, E, N>,
+) -> ConsoleEnd {
     let Reading {
         mut input,
         console,
+        errors,
         ended,
     } = reading;
-    console.run(&rt, alloc, &mut input);
-    ended.console_ended();
+    let end = console.run(alloc, &mut input, &errors);
+    ended.console_ended(end);
+    end
 }
 
-/// Starts the console's thread. `None`: no thread was had, and what it was to read is let go.
+/// Starts the console's thread, whose result is how the console ended. `None` if the thread could not
+/// be started; what it was to read is dropped.
 pub fn start<
     R: Threads + Wait + Copy + Drop + Send + 'static,
-    I: Read + Drop + Send + 'static,
-    E: Ended + Drop + Send + 'static,
->(rt: &R, alloc: Global, reading: Reading<I, E>) -> Option<JoinHandle<()>> {
-    let here = *rt;
-    match thread::spawn(rt, move || read(here, alloc, reading)) {
+    B: BufRead + Drop + Send + 'static,
+    E: Eprint + Drop + Send + 'static,
+    N: Ended + Drop + Send + 'static,
+>(rt: &R, alloc: Global, reading: Reading<R, B, E, N>) -> Option<JoinHandle<ConsoleEnd>> {
+    match thread::spawn(rt, move || read(alloc, reading)) {
         Ok(thread) => Some(thread),
         Err(_) => None,
     }

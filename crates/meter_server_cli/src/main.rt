@@ -5,6 +5,7 @@
 //! them to the standard streams, the threads and the exit status.
 #![tactic(auto)]
 
+mod ending;
 mod serving;
 
 use crate::serving::Server;

@@ -1,12 +1,15 @@
 //! The command `serve`: a meter that clients reach over TCP.
-ghost use Rattle.std.specs.Prelude.{◌≡◌, length};
+ghost use Rattle.std.specs.Prelude.{◌≡◌, None, OnOk, length};
 ghost use Rattle.acse_ber.specs.Password.{IsPassword};
+ghost use Rattle.meter_run.specs.Runs.{IsRun};
+ghost use Rattle.meter_server_cli.specs.Endings.{PrintsText};
 
+use crate::ending::{Ends, print_trace, run_fault};
 use client_sockets::{Closing, Limits, Sockets, Stopped};
 use cosem_axdr::Octets;
-use meter_console::{Console, Reading, Sources as ConsoleSources};
+use meter_console::{Console, ConsoleEnd, Reading, Sources as ConsoleSources};
 use meter_run::{MeterRun, Sources, run_meter};
-use meter_server::ServeFault;
+use meter_server::{ServeFault, Served};
 use program_fault::Fault;
 use relay_recorder::Recorder;
 use serve_plan::{Plan, planned};
@@ -18,23 +21,14 @@ use std::sync::atomic::AtomicBool;
 use std::sync::{Arc, Wait};
 use std::thread::{JoinHandle, Threads};
 
-/// The fault of a server. That no further client was taken is none where the listener did not fail: standard input had ended.
-fn fault_of(fault: ServeFault, has_failed: bool) -> Result<(), Fault> {
-    match fault {
-        ServeFault::Listen if !has_failed => Ok(()),
-        ServeFault::Listen => Err(Fault::Listen),
-        ServeFault::Memory => Err(Fault::Memory),
-        ServeFault::Exhausted => Err(Fault::Turns),
-        ServeFault::Read => Err(Fault::Read),
-        ServeFault::Write => Err(Fault::Write),
-    }
-}
-
-/// Prints a text.
-fn print_text(rt: &HostRuntime, text: &[u8]) -> Result<(), Fault> {
-    let mut output = rt.stdout();
-    output.write_all(text).map_err(|_| Fault::Write)?;
-    output.flush().map_err(|_| Fault::Write)
+/// Who is served.
+#[derive(Drop)]
+struct Meter {
+    /// The password of the management client.
+    password: Octets,
+    /// How many connections are accepted; 0 is no limit.
+    connections: u64,
+    ghost sized: { IsPassword password },
 }
 
 /// Where clients come from, and the flag by which the console ends the listening.
@@ -52,27 +46,21 @@ fn sockets_of(
     Ok((sockets, stopped))
 }
 
-/// Prints the text of a trace, if there is one.
-fn print_trace(rt: &HostRuntime, trace: Result<Octets, Fault>) -> Result<(), Fault> {
-    match trace {
-        Ok(text) => print_text(rt, text.as_slice()),
-        Err(fault) => Err(fault),
-    }
-}
-
-/// Runs the meter, and prints its trace. Returns why the serving ended, and whether the trace was printed.
+/// Runs the meter, and prints its trace. Returns what became of the connections, and whether the trace
+/// was printed.
 #[tactic(auto, using(serve_plan::proofs::Unused::unused))]
-fn run_and_print<R: Threads + Wait + Copy + Drop + Send + 'static>(
-    rt: &HostRuntime,
+fn run_and_print<R: Threads + Wait + Copy + Drop + Send + 'static, W: Write>(
     threads: &R,
+    alloc: Global,
+    output: &mut W,
     sockets: &mut Sockets<HostRuntime>,
     sources: ConsoleSources<R>,
     recorder: Recorder,
-    password: &Octets,
-    connections: u64,
-) -> (Result<(), Fault>, Result<(), Fault>)
-    requires password { IsPassword password.now }
+    meter: &Meter,
+) -> (Result<Served, ServeFault>, Result<(), Fault>)
     requires unused { length recorder.events ≡ 0 }
+    ensures { OnOk result.1 (PrintsText (IsRun recorder (record { blocks = None; moments = None; presses = None; password = meter.now.password }) result.0)
+        (W.contents output.old) (W.contents output.new)) }
 {
     let ConsoleSources {
         blocks,
@@ -86,22 +74,18 @@ fn run_and_print<R: Threads + Wait + Copy + Drop + Send + 'static>(
     };
     let MeterRun { served, trace } = run_meter(
         threads,
-        rt.alloc(),
+        alloc,
         recorder,
         sockets,
         sources,
-        password,
-        connections,
+        &meter.password,
+        meter.connections,
     );
-    let ended = match served {
-        Ok(_) => Ok(()),
-        Err(fault) => fault_of(fault, sockets.has_failed()),
-    };
-    (ended, print_trace(rt, trace))
+    (served, print_trace(output, trace))
 }
 
 /// The sockets, the sources of the meter's own events, and what the console's thread reads.
-fn prepared<R: Wait + Copy>(
+fn prepared<R: Wait + Copy + Drop>(
     rt: &HostRuntime,
     threads: &R,
     bounds: Bounds,
@@ -112,7 +96,7 @@ fn prepared<R: Wait + Copy>(
     (
         Sockets<HostRuntime>,
         ConsoleSources<R>,
-        Reading<Stdin, Closing<HostRuntime>>,
+        Reading<R, BufReader<Stdin>, HostRuntime, Closing<HostRuntime>>,
     ),
     Fault,
 > {
@@ -128,6 +112,7 @@ fn prepared<R: Wait + Copy>(
     let reading = Reading {
         input,
         console,
+        errors: *rt,
         ended: Closing {
             rt: *rt,
             stopped,
@@ -145,7 +130,14 @@ fn started<R: Threads + Wait + Copy + Drop + Send + 'static>(
     input: BufReader<Stdin>,
     listener: TcpListener,
     address: SocketAddr,
-) -> Result<(Sockets<HostRuntime>, ConsoleSources<R>, JoinHandle<()>), Fault> {
+) -> Result<
+    (
+        Sockets<HostRuntime>,
+        ConsoleSources<R>,
+        JoinHandle<ConsoleEnd>,
+    ),
+    Fault,
+> {
     let (sockets, sources, reading) = prepared(rt, threads, bounds, input, listener, address)?;
     match meter_console::start(threads, rt.alloc(), reading) {
         Some(console) => Ok((sockets, sources, console)),
@@ -175,7 +167,8 @@ fn listening(
     Ok((listener, address))
 }
 
-/// Does all that is done before the first client comes: judges the options, reads the trace to go on from, and listens.
+/// Does all that is done before the first client is accepted: judges the options, reads the trace to
+/// resume from, and listens.
 pub(crate) fn begun(rt: &HostRuntime, options: &ServeOptions) -> Result<Server, Fault> {
     let plan = planned(rt.alloc(), rt.stdin(), options)?;
     match listening(rt, options.address.as_str(), options.bounds.is_verbose) {
@@ -210,21 +203,32 @@ pub(crate) fn run<R: Threads + Wait + Copy + Drop + Send + 'static>(
     } = plan;
     match started(rt, threads, bounds, input, listener, address) {
         Ok((mut sockets, sources, console)) => {
-            let connections = bounds.connections;
+            let meter = Meter {
+                password,
+                connections: bounds.connections,
+            };
             let (served, printed) = run_and_print(
-                rt,
                 threads,
+                rt.alloc(),
+                &mut rt.stdout(),
                 &mut sockets,
                 sources,
                 recorder,
-                &password,
-                connections,
+                &meter,
             );
-            // (the sources have ended where no fault came, so the console has)
-            if served.is_ok() {
-                console.join(threads);
+            let served = run_fault(served, sockets.has_failed());
+            // (the sources have ended if no fault came, and the console with them)
+            let console = if served.is_ok() {
+                Some(console.join(threads))
+            } else {
+                None
+            };
+            Ends {
+                served,
+                console,
+                printed,
             }
-            served.and(printed)
+            .first_fault()
         }
         Err(fault) => {
             drop(recorder);

@@ -1,10 +1,10 @@
 -- How a program begins and ends.
-use Rattle.std.specs.Prelude.{ℕ, Bool, true, false, Result, Ok, Err}
+use Rattle.std.specs.Prelude.{ℕ, Bool, true, false, codes, List, ◌++◌, Result, Ok, Err}
 use Rattle.clap.specs.declared.error.kind.ErrorKind.{ErrorKind}
 use Rattle.clap.specs.declared.error.kind.ErrorKind.TheVariants.{DisplayHelp, DisplayVersion}
 use Rattle.program_fault.specs.Statuses.{status_of}
 use Rattle.program_fault.specs.declared.Fault.{Fault}
-use Rattle.program_fault.specs.declared.Fault.TheVariants.{Input, Write, Memory}
+use Rattle.program_fault.specs.declared.Fault.TheVariants.{Input, Read, Write, Listen, Memory, Turns}
 
 -- a command line can't be had: for want of memory, or a word of it is no text
 abbrev pub is_of_words : Fault → Bool
@@ -28,3 +28,21 @@ status_without_work _ = 2
 abbrev pub status_by : Result ℕ Fault → ℕ
 status_by (Ok status) = status
 status_by (Err fault) = status_of fault
+
+-- the word of a fault
+abbrev pub word_of : Fault → List ℕ
+word_of Input = codes "input"
+word_of Read = codes "read"
+word_of Write = codes "write"
+word_of Listen = codes "listen"
+word_of Memory = codes "memory"
+word_of Turns = codes "turns"
+
+-- the line that reports a fault
+abbrev pub fault_line : Fault → List ℕ
+fault_line fault = codes "fault: " ++ word_of fault
+
+-- the first fault of two parts of the work
+abbrev pub first_of : Result (Unit {0}) Fault → Result (Unit {0}) Fault → Result (Unit {0}) Fault
+first_of (Err fault) second = Err fault
+first_of (Ok done) second = second

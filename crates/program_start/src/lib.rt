@@ -1,15 +1,18 @@
 //! How each program begins and ends: the words of its command line, what comes of one that asks for no work, and the exit status.
 #![tactic(auto)]
 
-ghost use Rattle.std.specs.Prelude.{◌≡◌, true, IfOk, IfErr, IsOk};
+ghost use Rattle.std.specs.Prelude.{◌≡◌, true, IfOk, IfErr, IsOk, OnOk};
+ghost use Rattle.std.specs.Io.KnownBytes.{Appends};
 ghost use Rattle.std.specs.Process.{exit_status};
 ghost use Rattle.clap.specs.Words.{AddsArg, AddsSubcommand, kind_of};
-ghost use Rattle.program_start.specs.Ends.{is_of_words, is_of_texts, status_without_work, status_by};
+ghost use Rattle.program_start.specs.Ends.{is_of_words, is_of_texts, status_without_work, status_by, fault_line, first_of};
+ghost use Rattle.program_fault.specs.declared.Fault.TheVariants.{Write};
 
 use clap::error::ErrorKind;
 use clap::{Arg, Command, Error};
 use program_fault::Fault;
 use std::alloc::{AllocError, AllocGlobal};
+use std::io::Write;
 use std::process::ExitCode;
 use std::rt::Env;
 use std::{env, io};
@@ -105,14 +108,52 @@ pub fn without_work<R: Print + Eprint>(rt: &R, error: &Error) -> Result<u8, Faul
     }
 }
 
-/// The exit status of what was done. A fault is told in a line on standard error.
+/// Writes a whole text and flushes the output. Error: `Write`; some of the text may be written then.
+pub fn print_text<W: Write>(output: &mut W, text: &[u8]) -> Result<(), Fault>
+    ensures ok { OnOk result (Appends (W.contents output.old) (W.contents output.new) text.now) }
+    ensures err { IfErr result (λ fault. fault ≡ Write) }
+{
+    if output.write_all(text).is_err() {
+        return Err(Fault::Write);
+    }
+    match output.flush() {
+        Ok(()) => Ok(()),
+        Err(_) => Err(Fault::Write),
+    }
+}
+
+/// The first fault of two parts of the work, in this order.
+pub fn first_fault(first: Result<(), Fault>, second: Result<(), Fault>) -> Result<(), Fault>
+    ensures { result ≡ first_of first second }
+{
+    match first {
+        Ok(()) => second,
+        Err(fault) => Err(fault),
+    }
+}
+
+/// The line that reports a fault, without its end.
+fn fault_line(fault: Fault) -> &'static str
+    ensures { result.now ≡ fault_line fault }
+{
+    match fault {
+        Fault::Input => "fault: input",
+        Fault::Read => "fault: read",
+        Fault::Write => "fault: write",
+        Fault::Listen => "fault: listen",
+        Fault::Memory => "fault: memory",
+        Fault::Turns => "fault: turns",
+    }
+}
+
+/// The exit status of what was done. A fault is reported in a line on standard error.
 pub fn ended<R: Eprint>(rt: &R, done: Result<u8, Fault>) -> ExitCode
     ensures { exit_status result ≡ status_by done }
 {
     match done {
         Ok(status) => ExitCode::from(status),
         Err(fault) => {
-            let _ = eprintln!(rt; "fault: {fault}");
+            let _ = eprintln!(rt; "{}", fault_line(fault));
             ExitCode::from(fault.status())
         }
     }

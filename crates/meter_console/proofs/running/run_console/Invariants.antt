@@ -1,0 +1,12 @@
+-- The events of the lines so far were handed on, and at most one line in each turn was lost.
+use Rattle.std.proofs.Common.{◌<◌, ◌≤◌}
+use Rattle.std.specs.Prelude.{vec_capacity}
+use Rattle.meter_console.specs.Ends.{Hands}
+use Rattle.meter_console.proofs.running.run_console.Given as goal
+
+abbrev pub invariant-lines : goal.invariant-lines
+invariant-lines g l = record {
+  room : 8192 ≤ vec_capacity l.line;
+  few : l.lost < l.number;
+  hands : Hands (g.B.Read.remaining l.initial.input) (g.S.EventSink.taken l.initial.sink) l.lost (g.B.Read.remaining l.input) (g.S.EventSink.taken l.sink);
+}

@@ -1,0 +1,60 @@
+-- What becomes of the console's lines.
+--     Brought      the events that lines bring, and how many lines were lost
+--     TakesFrom    a sink took what one line brings
+--     HandsOn      the events of the first lines of an input were handed on
+--     has_failed, lost_lines    what a console's end says
+--     EndsSo       the console ended
+use Rattle.std.specs.Prelude.{◌≡◌, ◌⊎◌, ℕ, suc, Bool, false, List, [], ◌∷◌, ◌++◌, Option, Some}
+use Rattle.relay_events.specs.declared.event.Event.{Event}
+use Rattle.meter_console.specs.Console.{Brings, IsOwnLine}
+use Rattle.meter_console.specs.Lines.{lines_in}
+use Rattle.meter_console.specs.declared.running.ConsoleEnd.{ConsoleEnd}
+
+-- each line in turn brings the next of the events, or brings none, or is lost; so many are lost
+abbrev pub Brought : List (List ℕ) → List Event → ℕ → Type 0
+Brought [] events lost = (events ≡ []) × (lost ≡ 0)
+Brought (line ∷ lines) events lost =
+    ((event : Event) × (later : List Event) × Brings line event × (events ≡ event ∷ later) × Brought lines later lost)
+    ⊎ (((event : Event) → ¬ (Brings line event)) × Brought lines events lost)
+    ⊎ ((others : ℕ) × IsOwnLine line × (lost ≡ suc others) × Brought lines events others)
+
+-- a sink took what one line brings, or the line was lost
+abbrev pub TakesFrom : List ℕ → ℕ → Option (List Event) → Option (List Event) → Type 0
+TakesFrom line lost listed taken = (before : List Event) → listed ≡ Some before
+    → (events : List Event) × Brought (line ∷ []) events lost × (taken ≡ Some (before ++ events))
+
+-- what the first lines of an input bring was handed on, in order, each event once; so many of these lines were lost
+pub record HandsOn (input : List ℕ) (before : List Event) (lost : ℕ) (left : Option (List ℕ)) (taken : Option (List Event)) : Type 0 where
+  pub read : List (List ℕ)
+  pub rest : List ℕ
+  pub events : List Event
+  pub left_is : left ≡ Some rest
+  pub lines : lines_in input ≡ read ++ lines_in rest
+  pub brought : Brought read events lost
+  pub taken_is : taken ≡ Some (before ++ events)
+
+-- the same of a reader whose bytes are known, and a sink that lists its events
+abbrev pub Hands : Option (List ℕ) → Option (List Event) → ℕ → Option (List ℕ) → Option (List Event) → Type 0
+Hands known listed lost left taken = (input : List ℕ) (before : List Event) → known ≡ Some input → listed ≡ Some before → HandsOn input before lost left taken
+
+-- a read failed
+abbrev pub has_failed : ConsoleEnd → Bool
+has_failed end = end.has_failed
+
+-- how many lines were lost
+abbrev pub lost_lines : ConsoleEnd → ℕ
+lost_lines end = end.lost
+
+-- the console ended: what its lines bring was handed on, in order, each event once; at a failed read the last lines are not among them
+pub record EndsSo (input : List ℕ) (before : List Event) (end : ConsoleEnd) (taken : Option (List Event)) : Type 0 where
+  pub read : List (List ℕ)
+  pub unread : List (List ℕ)
+  pub events : List Event
+  pub lines : lines_in input ≡ read ++ unread
+  pub all : end.has_failed ≡ false → unread ≡ []
+  pub brought : Brought read events end.lost
+  pub taken_is : taken ≡ Some (before ++ events)
+
+-- the same of a reader whose bytes are known, and a sink that lists its events
+abbrev pub Ends : Option (List ℕ) → Option (List Event) → ConsoleEnd → Option (List Event) → Type 0
+Ends known listed end taken = (input : List ℕ) (before : List Event) → known ≡ Some input → listed ≡ Some before → EndsSo input before end taken

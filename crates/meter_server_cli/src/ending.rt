@@ -1,0 +1,84 @@
+//! How `serve` ends: what it prints, and the fault that it reports.
+ghost use Rattle.std.specs.Prelude.{◌≡◌, false, true, Ok, Err, OnOk};
+ghost use Rattle.program_start.specs.Ends.{first_of};
+ghost use Rattle.meter_server_cli.specs.Endings.{end_of_console, Prints};
+
+use cosem_axdr::Octets;
+use meter_console::ConsoleEnd;
+use meter_server::{ServeFault, Served};
+use program_fault::Fault;
+use program_start::{first_fault, print_text};
+use std::io::Write;
+
+/// The fault of a run, by what became of its connections and whether the listener failed. That no
+/// further client was accepted is none if the listener did not fail: standard input had ended.
+pub(crate) fn run_fault(served: Result<Served, ServeFault>, has_failed: bool) -> Result<(), Fault>
+    ensures served { OnOk served (result ≡ Ok tt) }
+    ensures ended { served ≡ Err ServeFault.Listen → has_failed ≡ false → result ≡ Ok tt }
+    ensures listen { served ≡ Err ServeFault.Listen → has_failed ≡ true → result ≡ Err Fault.Listen }
+    ensures memory { served ≡ Err ServeFault.Memory → result ≡ Err Fault.Memory }
+    ensures turns { served ≡ Err ServeFault.Exhausted → result ≡ Err Fault.Turns }
+    ensures read { served ≡ Err ServeFault.Read → result ≡ Err Fault.Read }
+    ensures write { served ≡ Err ServeFault.Write → result ≡ Err Fault.Write }
+{
+    match served {
+        Ok(_) => Ok(()),
+        Err(ServeFault::Listen) => {
+            if has_failed {
+                Err(Fault::Listen)
+            } else {
+                Ok(())
+            }
+        }
+        Err(ServeFault::Memory) => Err(Fault::Memory),
+        Err(ServeFault::Exhausted) => Err(Fault::Turns),
+        Err(ServeFault::Read) => Err(Fault::Read),
+        Err(ServeFault::Write) => Err(Fault::Write),
+    }
+}
+
+/// The fault of the console, if its end is known: `Memory` if lines were lost, else `Read` if a read
+/// failed.
+fn console_fault(end: Option<ConsoleEnd>) -> Result<(), Fault>
+    ensures { result ≡ end_of_console end }
+{
+    match end {
+        Some(end) if end.lost() > 0 => Err(Fault::Memory),
+        Some(end) if end.has_failed() => Err(Fault::Read),
+        _ => Ok(()),
+    }
+}
+
+/// How the parts of `serve` ended.
+#[derive(Drop)]
+pub(crate) struct Ends {
+    /// The serving of clients.
+    pub(crate) served: Result<(), Fault>,
+    /// The console, if its thread was waited for.
+    pub(crate) console: Option<ConsoleEnd>,
+    /// The printing of the trace.
+    pub(crate) printed: Result<(), Fault>,
+}
+
+impl Ends {
+    /// The first fault: that of the serving, else that of the console, else that of the trace.
+    pub(crate) fn first_fault(self) -> Result<(), Fault>
+        ensures { result ≡ first_of self.served (first_of (end_of_console self.console) self.printed) }
+    {
+        let later = first_fault(console_fault(self.console), self.printed);
+        first_fault(self.served, later)
+    }
+}
+
+/// Prints the text of a trace, if there is one.
+pub(crate) fn print_trace<W: Write>(
+    output: &mut W,
+    trace: Result<Octets, Fault>,
+) -> Result<(), Fault>
+    ensures { Prints trace (W.contents output.old) result (W.contents output.new) }
+{
+    match trace {
+        Ok(text) => print_text(output, text.as_slice()),
+        Err(fault) => Err(fault),
+    }
+}
