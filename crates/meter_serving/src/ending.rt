@@ -25,7 +25,8 @@ pub fn closed_meter(shared: Shared<Kept>, port: Port<Kept>) -> Result<Kept, (Fau
     }
 }
 
-/// The text of the trace that tells what came to a meter. Played, it prints the lines of the events that it keeps, with the replies that were given.
+/// The text of a meter's trace: its opening and the events that it keeps. Played, it prints the lines of these events, with the
+/// replies that were given. It is read back as that trace if [`fits_line`](trace_lines::fits_line) accepts each of these events.
 pub fn meter_trace(alloc: Global, kept: &Kept) -> Result<Octets, AllocError>
     ensures { IfOk result (TellsRun kept.now.recorder) }
 {
