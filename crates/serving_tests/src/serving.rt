@@ -3,6 +3,7 @@ ghost use Rattle.std.specs.Prelude.{◌≡◌, IfOk};
 ghost use Rattle.acse_ber.specs.Password.{IsPassword};
 
 mod callers;
+mod ends;
 mod loopback;
 mod sources;
 
