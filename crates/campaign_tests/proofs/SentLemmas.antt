@@ -16,7 +16,7 @@ use Rattle.head_end.specs.Wires.{due_text, IsDueNext, GoesOn, HasConversed}
 abbrev all_texts : Verb → List ℕ → List ℕ
 all_texts verb password = aarq_frame password ++ (request_frame verb ++ release_frame)
 
--- the texts that are due, by what has come
+-- the texts to be sent, by what was accepted and served
 abbrev due_by : Verb → List ℕ → (accepted served : Bool) → List (List ℕ)
 due_by verb password accepted served =
     aarq_frame password ∷ (if accepted then request_frame verb ∷
@@ -25,19 +25,28 @@ due_by verb password accepted served =
 by_front : (verb : Verb) (password : List ℕ) (accepted served : Bool)
     → IsFront (concat (due_by verb password accepted served)) (all_texts verb password)
 by_front verb password true true = record { rest = []; parts = simp append-nil }
-by_front verb password true false = record { rest = release_frame; parts = simp (append-nil, append_assoc) }
-by_front verb password false served = record { rest = request_frame verb ++ release_frame; parts = simp append-nil }
+by_front verb password true false = record {
+  rest = release_frame;
+  parts = simp (append-nil, append_assoc);
+}
+by_front verb password false served = record {
+  rest = request_frame verb ++ release_frame;
+  parts = simp append-nil;
+}
 
 due_front : (verb : Verb) (password bytes : List ℕ)
     → IsFront (due_text verb password bytes) (all_texts verb password)
 unfolding due_text
 due_front verb password bytes =
-    by_front verb password (progress_of verb bytes).accepted (is_served (progress_of verb bytes).outcome)
+    by_front verb password (progress_of verb bytes).accepted
+    (is_served (progress_of verb bytes).outcome)
 
 front_trans : (a b c : List ℕ) → IsFront a b → IsFront b c → IsFront a c
 front_trans a b c one two = record {
   rest = one.rest ++ two.rest;
-  parts = two.parts ∙ ap (λ (t : List ℕ). t ++ two.rest) one.parts ∙ append_assoc a one.rest two.rest;
+  parts =
+      two.parts ∙ ap (λ (t : List ℕ). t ++ two.rest) one.parts
+      ∙ append_assoc a one.rest two.rest;
 }
 
 sent_append : (log next : List Happening) → sent_in (log ++ next) ≡ sent_in log ++ sent_in next
@@ -46,9 +55,11 @@ sent_append [] next = refl
 sent_append (heard bytes ∷ log) next = sent_append log next
 sent_append (heard_nothing ∷ log) next = sent_append log next
 sent_append (sent bytes ∷ log) next =
-    ap (λ (t : List ℕ). bytes ++ t) (sent_append log next) ∙ sym (append_assoc bytes (sent_in log) (sent_in next))
+    ap (λ (t : List ℕ). bytes ++ t) (sent_append log next)
+    ∙ sym (append_assoc bytes (sent_in log) (sent_in next))
 sent_append (cut_off bytes ∷ log) next =
-    ap (λ (t : List ℕ). bytes ++ t) (sent_append log next) ∙ sym (append_assoc bytes (sent_in log) (sent_in next))
+    ap (λ (t : List ℕ). bytes ++ t) (sent_append log next)
+    ∙ sym (append_assoc bytes (sent_in log) (sent_in next))
 
 one_heard : (bytes : List ℕ) → sent_in (heard bytes ∷ []) ≡ []
 unfolding sent_in
@@ -75,18 +86,22 @@ module _ (verb : Verb) (password : List ℕ) where
   IsInOrder log = IsFront (sent_in log) (all_texts verb password)
 
   -- nothing more was sent
-  none_more : (log : List Happening) (one : Happening) → sent_in (one ∷ []) ≡ [] → IsInOrder log → IsInOrder (log ++ one ∷ [])
+  none_more : (log : List Happening) (one : Happening) → sent_in (one ∷ []) ≡ []
+      → IsInOrder log → IsInOrder (log ++ one ∷ [])
   none_more log one none front =
       subst (λ (t : List ℕ). IsFront t (all_texts verb password))
-      (sym (sent_append log (one ∷ []) ∙ ap (λ (t : List ℕ). sent_in log ++ t) none ∙ append-nil (sent_in log))) front
+      (sym (sent_append log (one ∷ []) ∙ ap (λ (t : List ℕ). sent_in log ++ t) none
+      ∙ append-nil (sent_in log))) front
 
-  -- bytes that are due next were sent
-  one_more : (log : List Happening) (one : Happening) (bytes : List ℕ) → sent_in (one ∷ []) ≡ bytes
-      → IsDueNext verb password log bytes → IsInOrder (log ++ one ∷ [])
+  -- the next bytes were sent
+  one_more : (log : List Happening) (one : Happening) (bytes : List ℕ)
+      → sent_in (one ∷ []) ≡ bytes → IsDueNext verb password log bytes
+      → IsInOrder (log ++ one ∷ [])
   one_more log one bytes is due =
       subst (λ (t : List ℕ). IsFront t (all_texts verb password))
       (sym (sent_append log (one ∷ []) ∙ ap (λ (t : List ℕ). sent_in log ++ t) is))
-      (front_trans (sent_in log ++ bytes) (due_text verb password (heard_in log)) (all_texts verb password)
+      (front_trans (sent_in log ++ bytes) (due_text verb password (heard_in log))
+      (all_texts verb password)
       due (due_front verb password (heard_in log)))
 
   -- nothing comes after
@@ -109,11 +124,12 @@ module _ (verb : Verb) (password : List ℕ) where
       (goes_in_order whole (log ++ sent bytes ∷ []) later goes.1
       (one_more log (sent bytes) bytes (one_sent bytes) goes.0))
   goes_in_order whole log (cut_off bytes ∷ later) goes front =
-      at_end log (cut_off bytes) later goes.1 (one_more log (cut_off bytes) bytes (one_cut bytes) goes.0)
+      at_end log (cut_off bytes) later goes.1
+      (one_more log (cut_off bytes) bytes (one_cut bytes) goes.0)
 
   -- nothing was sent
-  pub nothing_sent : (log : List Happening) → log ≡ [] → IsFront (sent_in log) (aarq_frame password ++
-      (request_frame verb ++ release_frame))
+  pub nothing_sent : (log : List Happening) → log ≡ []
+      → IsFront (sent_in log) (aarq_frame password ++ (request_frame verb ++ release_frame))
   nothing_sent log none = record {
     rest = all_texts verb password;
     parts = ap (λ (t : List ℕ). t ++ all_texts verb password) (sym (ap sent_in none ∙ none_sent));
@@ -127,8 +143,9 @@ module _ (verb : Verb) (password : List ℕ) where
       (goes_in_order (is_some outcome) [] conversed.log conversed.conversation (nothing_sent [] refl))
 
   -- of a new client over a new connection
-  pub sent_in_order : {E : Type 0} (client : Client) (before after : List Happening) (result : Result Outcome E)
-      → Stands verb password [] 0 false client → before ≡ [] → Speaks client (Some before) result (Some after)
+  pub sent_in_order : {E : Type 0} (client : Client) (before after : List Happening)
+      (result : Result Outcome E) → Stands verb password [] 0 false client → before ≡ []
+      → Speaks client (Some before) result (Some after)
       → IsFront (sent_in after) (aarq_frame password ++ (request_frame verb ++ release_frame))
   sent_in_order client before after result stands none speaks =
       conversed_in_order (outcome_in result) after (speaks.on verb password stands (ap Some none))
@@ -136,7 +153,10 @@ module _ (verb : Verb) (password : List ℕ) where
   pub conversed : {E X : Type 0} (f : X → Happening) (client : Client) (items later : List X)
       (result : Result Outcome E) → Stands verb password [] 0 false client → items ≡ []
       → Speaks client (Some (map f items)) result (Some (map f later))
-      → IfOk result (λ (outcome : Outcome). HasConversed verb password (Some outcome) (Some (map f later)))
+      → IfOk result (λ (outcome : Outcome).
+      HasConversed verb password (Some outcome) (Some (map f later)))
   conversed {X = X} f client items later (Ok outcome) stands none speaks =
       speaks.on verb password stands (ap (λ (xs : List X). Some (map f xs)) none)
   conversed f client items later (Err error) stands none speaks = tt
+
+pub ruleset in_order = (nothing_sent, sent_in_order)

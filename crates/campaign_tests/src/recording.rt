@@ -1,5 +1,6 @@
 //! A connection that keeps its log.
-ghost use Rattle.std.specs.Prelude.{◌≡◌, ◌==◌, ◌++◌, ◌∷◌, [], length, map, Some, if◌then◌else◌, IfOk, IsTrue};
+ghost use Rattle.std.specs.Prelude.{◌≡◌, ◌==◌, ◌++◌, ◌∷◌, [], length, map, Some, if◌then◌else◌};
+ghost use Rattle.std.specs.Prelude.{IfOk, IsTrue};
 ghost use Rattle.acse_ber.specs.Password.{IsPassword};
 ghost use Rattle.head_end.specs.Attempts.{unused, IsTried};
 ghost use Rattle.client_core.specs.Texts.{aarq_frame, request_frame, release_frame};
@@ -84,11 +85,11 @@ impl<'a, R: Abort + Sync> Connector for Recorder<'a, R> {
     }
 }
 
-/// The conversation of a new client over a connection that nothing has been sent over. Whatever
-/// comes of it, no more is sent than the AARQ, the request and the release, in this order and each
-/// at most once. If there is an outcome, each read and each write was in its turn, and the outcome
-/// is that of the bytes heard.
-#[tactic(auto, using(crate::proofs::SentLemmas::nothing_sent, crate::proofs::SentLemmas::sent_in_order))]
+/// Has a new client's conversation over an unused connection, and returns its outcome. Whatever
+/// the meter answers, no more is sent than the AARQ, the request and the release, in this order
+/// and each at most once. If there is an outcome, each read and each write was in its turn, and
+/// the outcome is that of the bytes heard.
+#[tactic(auto, using(crate::proofs::SentLemmas::in_order))]
 fn talk<R: Abort>(
     alloc: Global,
     job: &Job,
@@ -100,7 +101,8 @@ fn talk<R: Abort>(
     ensures order { let log = map (λ e. if e.is_read then
         (if length e.bytes == 0 then heard_nothing else heard e.bytes) else sent e.bytes)
         connection.new.entries.items in
-        IsFront (sent_in log) (aarq_frame password.now ++ (request_frame job.now.verb ++ release_frame)) }
+        IsFront (sent_in log)
+        (aarq_frame password.now ++ (request_frame job.now.verb ++ release_frame)) }
     ensures outcome { let log = map (λ e. if e.is_read then
         (if length e.bytes == 0 then heard_nothing else heard e.bytes) else sent e.bytes)
         connection.new.entries.items in
