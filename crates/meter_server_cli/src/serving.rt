@@ -5,6 +5,7 @@ ghost use Rattle.meter_run.specs.Runs.{IsRun};
 ghost use Rattle.meter_server_cli.specs.Endings.{PrintsText};
 
 use crate::ending::{Ends, print_trace, run_fault};
+use byte_streams::Monitored;
 use client_sockets::{Closing, Limits, Sockets, Stopped};
 use cosem_axdr::Octets;
 use meter_console::{Console, ConsoleEnd, Reading, Sources as ConsoleSources};
@@ -89,14 +90,14 @@ fn prepared<R: Wait + Copy + Drop>(
     rt: &HostRuntime,
     threads: &R,
     bounds: Bounds,
-    input: BufReader<Stdin>,
+    input: BufReader<Monitored<Stdin>>,
     listener: TcpListener,
     address: SocketAddr,
 ) -> Result<
     (
         Sockets<HostRuntime>,
         ConsoleSources<R>,
-        Reading<R, BufReader<Stdin>, HostRuntime, Closing<HostRuntime>>,
+        Reading<R, BufReader<Monitored<Stdin>>, HostRuntime, Closing<HostRuntime>>,
     ),
     Fault,
 > {
@@ -127,7 +128,7 @@ fn started<R: Threads + Wait + Copy + Drop + Send + 'static>(
     rt: &HostRuntime,
     threads: &R,
     bounds: Bounds,
-    input: BufReader<Stdin>,
+    input: BufReader<Monitored<Stdin>>,
     listener: TcpListener,
     address: SocketAddr,
 ) -> Result<

@@ -1,11 +1,11 @@
 -- The first line of a text, as a reader of an input takes it.
-use Rattle.std.proofs.Common.{◌≡◌, ℕ, zero, suc, ◌+◌, ◌<◌, ◌≤◌, Bool, true, false, ◌==◌, if◌then◌else◌, cond, List, [], ◌∷◌, ◌++◌, length, length-append, map, drop, get_or, Option, Some, refl, sym, ap, ◌∙◌, subst, arith}
+use Rattle.std.proofs.Common.{◌≡◌, ℕ, zero, suc, ◌+◌, ◌<◌, ◌≤◌, Bool, true, false, ◌==◌, if◌then◌else◌, cond, List, [], ◌∷◌, ◌++◌, length, length-append, map, drop, get_or, Option, Some, None, refl, sym, ap, ◌∙◌, subst, arith}
 use Rattle.std.proofs.lemmas.Bool.{eqb-true}
 use Rattle.std.proofs.lemmas.List.{append_assoc, drop_all, drop_more}
 use Rattle.std.specs.Io.BufRead.{take_through, drop_through, DropsThrough}
-use Rattle.std.specs.Io.KnownBytes.{IsAtEnd}
 use Rattle.std.specs.List.{onto_first}
 use Rattle.std.specs.Prelude.{IfSome}
+use Rattle.byte_streams.specs.Lines.{ReadsLine}
 use Rattle.trace_words.specs.Rows.{Row}
 use Rattle.trace_text.specs.Lines.{all_but_last, last_of, lines_of, unended_of, rows_of}
 use Rattle.trace_text.specs.Parts.{parts_at}
@@ -153,15 +153,37 @@ line_read text rest row rows old new left left' ahead took dropped =
       subst (λ (bytes : List ℕ). IsLine bytes row) (sym (ap (drop (length old)) new_is ∙ added old front)) first.own,
     )
 
--- where a line is still to be read the input is not at its end
-pub line_left : (text rest : List ℕ) (row : Row) (rows : List Row) (old : List ℕ) (left : Option (List ℕ)) → Ahead text rest (row ∷ rows) old left → IsAtEnd left → ⊥
-line_left text rest row rows old left ahead at_end =
+-- a line that was read in pieces
+took : (old new bytes : List ℕ) (left : Option (List ℕ)) → new ≡ old ++ bytes → IfSome left (λ all. bytes ≡ take_through 10 all) → IfSome left (λ all. new ≡ old ++ take_through 10 all)
+took old new bytes None added through = tt
+took old new bytes (Some all) added through = added ∙ ap (λ (more : List ℕ). old ++ more) through
+
+pub line_on : (text rest : List ℕ) (row : Row) (rows : List Row) (old new : List ℕ) (count : ℕ) (left left' : Option (List ℕ)) → Ahead text rest (row ∷ rows) old left
+    → ReadsLine left old count left' new → Ahead text rest rows new left' × IsLine (drop (length old) new) row
+line_on text rest row rows old new count left left' ahead line =
+    line_read text rest row rows old new left left' ahead (took old new line.bytes left line.added line.through) line.rest
+
+-- if a line is still to be read, one of no bytes is not the next
+pub line_left : (text rest : List ℕ) (row : Row) (rows : List Row) (old new : List ℕ) (count : ℕ) (left left' : Option (List ℕ)) → Ahead text rest (row ∷ rows) old left
+    → ReadsLine left old count left' new → count ≡ 0 → ⊥
+line_left text rest row rows old new count left left' ahead line none =
     let first = first_line ahead.still row rows ahead.rows_are in
-    let none : ahead.still ++ rest ≡ [] = subst IsAtEnd ahead.left_is at_end in
-    let empty : take_through 10 (ahead.still ++ rest) ≡ [] = ap (take_through 10) none in
-    let some : take_through 10 (ahead.still ++ rest) ≡ first.own.line ++ 10 ∷ [] = first.taken rest ∙ first.own.ended in
-    let long : 0 ≡ length (first.own.line ++ 10 ∷ []) = ap (λ (bytes : List ℕ). length bytes) (sym empty ∙ some) in
-    absurd (omega (arith, long, length-append first.own.line (10 ∷ [])))
+    let through : line.bytes ≡ take_through 10 (ahead.still ++ rest) = subst (λ (l : Option (List ℕ)). IfSome l (λ all. line.bytes ≡ take_through 10 all)) ahead.left_is line.through in
+    let long : length line.bytes ≡ length (first.own.line ++ 10 ∷ []) = ap (λ (bytes : List ℕ). length bytes) (through ∙ first.taken rest ∙ first.own.ended) in
+    absurd (omega (arith, long, line.counted, none, length-append first.own.line (10 ∷ [])))
+
+-- a line of a text within a limit is not past it
+pub line_fits : (text rest : List ℕ) (row : Row) (rows : List Row) (old : List ℕ) (left : Option (List ℕ)) (limit : ℕ) → Ahead text rest (row ∷ rows) old left
+    → IfSome left (λ all. limit < length old + length (take_through 10 all)) → length text ≤ limit → ⊥
+line_fits text rest row rows old left limit ahead over within =
+    let first = first_line ahead.still row rows ahead.rows_are in
+    let front = take_through 10 ahead.still in
+    let behind = drop_through 10 ahead.still in
+    let past : limit < length old + length (take_through 10 (ahead.still ++ rest)) = subst (λ (l : Option (List ℕ)). IfSome l (λ all. limit < length old + length (take_through 10 all))) ahead.left_is over in
+    let taken : length (take_through 10 (ahead.still ++ rest)) ≡ length front = ap (λ (bytes : List ℕ). length bytes) (first.taken rest) in
+    let whole : length text ≡ length (old ++ ahead.still) = ap (λ (bytes : List ℕ). length bytes) ahead.whole in
+    let cut : length ahead.still ≡ length (front ++ behind) = ap (λ (bytes : List ℕ). length bytes) first.whole in
+    omega (arith, past, taken, whole, cut, within, length-append old ahead.still, length-append front behind)
 
 -- ---- several lines
 
@@ -179,12 +201,12 @@ lines_on text rest front rows i old new left left' lt ahead on =
     let next = next_row i front rows lt in
     (on next.0 (drop (i + 1) front ++ rows) (subst (λ (all : List Row). Ahead text rest all old left) next.1 ahead)).0
 
--- where one of several lines is still to be read the input is not at its end
+-- if one of several lines is still to be read, and no next line can be, nothing is
 pub lines_left : (text rest : List ℕ) (front rows : List Row) (i : ℕ) (old : List ℕ) (left : Option (List ℕ)) → i < length front
-    → Ahead text rest (drop i front ++ rows) old left → IsAtEnd left → ⊥
-lines_left text rest front rows i old left lt ahead at_end =
+    → Ahead text rest (drop i front ++ rows) old left → ((row : Row) (others : List Row) → Ahead text rest (row ∷ others) old left → ⊥) → ⊥
+lines_left text rest front rows i old left lt ahead never =
     let next = next_row i front rows lt in
-    line_left text rest next.0 (drop (i + 1) front ++ rows) old left (subst (λ (all : List Row). Ahead text rest all old left) next.1 ahead) at_end
+    never next.0 (drop (i + 1) front ++ rows) (subst (λ (all : List Row). Ahead text rest all old left) next.1 ahead)
 
 -- behind all of them
 pub lines_over : (text rest : List ℕ) (front rows : List Row) (i : ℕ) (now : List ℕ) (left : Option (List ℕ)) → length front ≤ i

@@ -1,9 +1,9 @@
 -- A text that grows by what is read.
-use Rattle.std.proofs.Common.{ℕ, List, [], ◌++◌, Option, length, drop, ap, sym, ◌∙◌}
-use Rattle.std.proofs.lemmas.List.{append_assoc, append-nil, take-append-drop}
-use Rattle.std.specs.Io.{StartsWith, appended_bytes}
+use Rattle.std.proofs.Common.{ℕ, List, [], ◌++◌, Option, ap, sym, ◌∙◌}
+use Rattle.std.proofs.lemmas.List.{append_assoc, append-nil}
 use Rattle.std.specs.Io.KnownBytes.{Consumes}
 use Rattle.std.proofs.KnownBytes.{Consumes-trans}
+use Rattle.byte_streams.specs.Lines.{ReadsLine}
 use Rattle.meter_serving.specs.Heads.{Grows}
 
 -- one read after another
@@ -18,10 +18,6 @@ grows_on a b c l m n first then = record {
 pub grows_none : (a : List ℕ) (l : Option (List ℕ)) → Consumes l l [] → Grows a l a l
 grows_none a l none = record { bytes = []; read = none; added = sym (append-nil a) }
 
--- what a text grew by stands behind what it was
-pub grows_by : (a b : List ℕ) (l m : Option (List ℕ)) → StartsWith b a → Consumes l m (appended_bytes a b) → Grows a l b m
-grows_by a b l m starts read = record {
-  bytes = appended_bytes a b;
-  read = read;
-  added = sym (take-append-drop (length a) b) ∙ ap (λ (xs : List ℕ). xs ++ drop (length a) b) starts;
-}
+-- a text grew by a line
+pub grows_by : (a b : List ℕ) (count : ℕ) (l m : Option (List ℕ)) → ReadsLine l a count m b → Grows a l b m
+grows_by a b count l m line = record { bytes = line.bytes; read = line.read; added = line.added }

@@ -1,5 +1,5 @@
 -- The lines of a trace, read one after the other from the head of an input.
-use Rattle.std.proofs.Common.{rules, ◌≡◌, ◌⊎◌, ℕ, suc, ◌+◌, ◌<◌, ◌≤◌, ◌^◌, Bool, true, false, ◌==◌, ◌&&◌, ◌||◌, not, nat_lt, nat_le, nat_eq, cond, codes, decimal, List, [], ◌∷◌, ◌++◌, length, take, drop, slice_index, ◌-◌, Option, Some, None, Result, Ok, Err, IfSome, IsErrAnd, inl, inr, ⊎_elim, if◌then◌else◌, refl, sym, ap, ◌∙◌, subst, arith}
+use Rattle.std.proofs.Common.{rules, ◌≡◌, ◌⊎◌, ℕ, suc, ◌+◌, ◌<◌, ◌≤◌, ◌^◌, Bool, true, false, ◌==◌, ◌&&◌, ◌||◌, not, nat_lt, nat_le, nat_eq, cond, codes, decimal, List, [], ◌∷◌, ◌++◌, length, take, drop, slice_index, ◌-◌, Option, Some, None, Result, Ok, Err, IfErr, IfSome, IsErrAnd, inl, inr, ⊎_elim, if◌then◌else◌, refl, sym, ap, ◌∙◌, subst, arith}
 use Rattle.std.specs.Char.{is_ascii_digit}
 use Rattle.std.specs.Cmp.Lexicographic.{pointwise}
 use Rattle.std.specs.List.{list_all}
@@ -19,8 +19,10 @@ use Rattle.trace_words.specs.declared.fault.RowFault.TheVariants.{Wrong}
 use Rattle.trace_words.specs.declared.version.Version.{Version}
 use Rattle.trace_words.specs.declared.version.Version.TheVariants.{One, Two}
 use Rattle.trace_words.specs.declared.fault.TraceFault.{TraceFault}
-use Rattle.trace_words.specs.declared.fault.TraceFault.TheVariants.{Memory}
-use Rattle.trace_player.specs.Traces.{trace_of}
+use Rattle.trace_words.specs.declared.fault.TraceFault.TheVariants.{Memory, TooLong}
+use Rattle.relay_recorder.specs.declared.trace.Trace.{Trace}
+use Rattle.trace_player.specs.Traces.{most_bytes, trace_from, trace_of}
+use Rattle.trace_words.specs.Places.{place_of}
 use Rattle.trace_text.proofs.LinesLemmas.{rows_text-rows_of, rows_text-nil}
 use Rattle.trace_text.proofs.NumbersLemmas.{chosen_some}
 use Rattle.trace_text.proofs.WordsLemmas.{line_of-words_of}
@@ -31,7 +33,7 @@ use Rattle.program_fault.specs.declared.Fault.{Fault}
 use Rattle.program_fault.specs.declared.Fault.TheVariants as program
 use Rattle.program_fault.specs.declared.Fault.TheVariants.{Input}
 use Rattle.meter_serving.proofs.Laid.{laid_out}
-use Rattle.meter_serving.specs.Heads.{Ahead, HasHead, head_fault, IsLaidOut, IsLine, first_line}
+use Rattle.meter_serving.specs.Heads.{Ahead, HasHead, IsHeadFault, head_fault, IsLaidOut, IsLine, first_line}
 
 -- ---- the first line
 
@@ -155,6 +157,11 @@ pub same_fault : {X : Type 0} (result : Result X Fault) (fault given : Fault) �
 same_fault (Ok x) fault given is e = absurd is
 same_fault (Err f) fault given is e = let same : f ≡ given = cc in sym is ∙ same
 
+-- why a head is not read, where the fault of a call is passed on
+pub fault_on : {X : Type 0} (result : Result X Fault) (fault : Fault) (failed : Bool) → IsErrAnd result (λ f. f ≡ fault) → IsHeadFault failed fault → IfErr result (IsHeadFault failed)
+fault_on (Ok x) fault failed is cause = absurd is
+fault_on (Err f) fault failed is cause = subst (IsHeadFault failed) (sym is) cause
+
 -- behind the last line the text is whole
 pub ahead_end : (text rest so_far : List ℕ) (left : Option (List ℕ)) → Ahead text rest [] so_far left → so_far ≡ text
 ahead_end text rest so_far left ahead =
@@ -163,10 +170,19 @@ ahead_end text rest so_far left ahead =
     ∙ ap (λ (bytes : List ℕ). rows_text (rows_of ahead.still) ++ bytes) (sym ahead.ended) ∙ rows_text-rows_of ahead.still in
     sym (ahead.whole ∙ ap (λ (bytes : List ℕ). so_far ++ bytes) (sym none) ∙ append-nil so_far)
 
+-- a text that is read as a trace is not too long
+small_text : (text : List ℕ) (trace : Trace) → trace_of text ≡ Ok trace → length text ≤ most_bytes
+unfolding trace_of
+small_text text trace e = ⊎_elim
+    (λ (long : (nat_lt most_bytes (length text) ≡ true) × (Err TooLong ≡ Ok trace)). let never = long.1 in absurd cc)
+    (λ (short : (nat_lt most_bytes (length text) ≡ false) × (trace_from (place_of text) ≡ Ok trace)). let fits = short.0 in grind (arith, nat_tests))
+    (chosen (nat_lt most_bytes (length text)) (Err TooLong) (trace_from (place_of text)) (Ok trace) e)
+
 -- an input that no trace's lines stand at the head of has no head
-pub no_head : (left : Option (List ℕ)) → ((text rest : List ℕ) → left ≡ Some (text ++ rest) → IsLaidOut text → ⊥) → IfSome left (λ bytes. ¬ (HasHead bytes))
+pub no_head : (left : Option (List ℕ)) → ((text rest : List ℕ) → left ≡ Some (text ++ rest) → length text ≤ most_bytes → IsLaidOut text → ⊥) → IfSome left (λ bytes. ¬ (HasHead bytes))
 no_head None never = tt
-no_head (Some bytes) never = λ head. never head.text head.rest (ap (λ (b : List ℕ). Some b) head.cut) (laid_out head.text head.trace head.told)
+no_head (Some bytes) never = λ head.
+    never head.text head.rest (ap (λ (b : List ℕ). Some b) head.cut) (small_text head.text head.trace head.told) (laid_out head.text head.trace head.told)
 
 -- nor has one whose lines there are no trace
 pub wrong_head : (left : Option (List ℕ)) (read : List ℕ) (fault : TraceFault) → ((text rest : List ℕ) → left ≡ Some (text ++ rest) → IsLaidOut text → read ≡ text)

@@ -6,7 +6,7 @@
 --     IsLine        bytes that are one line
 --     IsLaidOut     the lines of a trace
 --     Ahead         how many of a trace's lines are still to be read
-use Rattle.std.specs.Prelude.{◌≡◌, ℕ, suc, codes, List, [], ◌∷◌, Option, Some, Ok, ◌++◌, length, ⊤}
+use Rattle.std.specs.Prelude.{◌≡◌, ℕ, suc, Bool, true, codes, List, [], ◌∷◌, Option, Some, Ok, ◌++◌, length, ⊤}
 use Rattle.std.specs.Io.KnownBytes.{Consumes}
 use Rattle.program_fault.specs.declared.Fault.{Fault}
 use Rattle.program_fault.specs.declared.Fault.TheVariants as program
@@ -38,14 +38,14 @@ pub record HasHead (bytes : List ℕ) : Type 0 where
   pub trace : Trace
   pub told : trace_of text ≡ Ok trace
 
--- a head is not read because there is none, a read failed or memory ran out
-abbrev pub IsHeadFault : Fault → Type 0
-IsHeadFault program.Input = ⊤
-IsHeadFault program.Read = ⊤
-IsHeadFault program.Write = ⊥
-IsHeadFault program.Listen = ⊥
-IsHeadFault program.Memory = ⊤
-IsHeadFault program.Turns = ⊥
+-- a head is not read: there is none, a read of the stream has failed, or memory ran out
+abbrev pub IsHeadFault : Bool → Fault → Type 0
+IsHeadFault failed program.Input = ⊤
+IsHeadFault failed program.Read = failed ≡ true
+IsHeadFault failed program.Write = ⊥
+IsHeadFault failed program.Listen = ⊥
+IsHeadFault failed program.Memory = ⊤
+IsHeadFault failed program.Turns = ⊥
 
 -- the fault of a text that is not read as a trace
 abbrev pub head_fault : TraceFault → Fault

@@ -1,16 +1,18 @@
 //! The trace of an earlier run, at the head of an input.
-ghost use Rattle.std.specs.Prelude.{◌≡◌, ◌≤◌, ◌++◌, ◌∷◌, [], ℕ, List, length, drop, Some, Ok, IfOk, IfErr, OnOk, IfSome, IsErrOf};
-ghost use Rattle.std.specs.Io.KnownBytes.{IsAtEnd};
+ghost use Rattle.std.specs.Prelude.{◌≡◌, ◌≤◌, ◌++◌, ◌∷◌, [], ℕ, Bool, List, length, drop, Some, Ok, IfOk, IfErr, OnOk, IfSome, IsErrOf};
+ghost use Rattle.byte_streams.specs.Lines.{has_failed_in, left_in};
 ghost use Rattle.meter_serving.specs.Heads.{Grows, TakesHead, HasHead, IsHeadFault, head_fault, IsLine, IsLaidOut, Ahead, first_line, lines_before};
 ghost use Rattle.trace_lines.specs.Events.{events_from};
+ghost use Rattle.trace_player.specs.Traces.{most_bytes};
 ghost use Rattle.trace_words.specs.Rows.{Row};
 ghost use Rattle.trace_words.specs.declared.version.Version.{Version};
 
+use byte_streams::{InputFault, Monitored, read_line_within};
 use program_fault::Fault;
 use std::alloc::Global;
-use std::io::{BufRead, ErrorKind};
+use std::io::{BufReader, Read};
 use trace_lines::read_event_count;
-use trace_player::{Trace, read_trace};
+use trace_player::{MAX_BYTES, Trace, read_trace};
 use trace_words::{TraceFault, TraceLines};
 
 /// How many lines stand before the number of events, in version 1 of the text.
@@ -19,32 +21,37 @@ const LINES_OF_VERSION_1: u32 = 20;
 /// The same, in version 2.
 const LINES_OF_VERSION_2: u32 = 30;
 
-/// Reads one line more. Errors: `Input` at the end of the input, `Read`, `Memory`.
-#[tactic(auto, using(crate::proofs::Heads::grows_by))]
-fn add_line<B: BufRead>(input: &mut B, text: &mut Vec<u8>) -> Result<(), Fault>
-    ensures grows { OnOk result (Grows text.old.items (B.remaining input.old) text.new.items (B.remaining input.new)) }
-    ensures ahead { (whole rest : List ℕ) (row : Row) (rows : List Row) → Ahead whole rest (row ∷ rows) text.old.items (B.remaining input.old)
-        → OnOk result (Ahead whole rest rows text.new.items (B.remaining input.new) × IsLine (drop (length text.old.items) text.new.items) row) }
-    ensures input { IsErrOf result Fault.Input → IsAtEnd (B.remaining input.old) }
-    ensures err { IfErr result (λ fault. IsHeadFault fault) }
+/// Reads one more line of a text of at most 33,554,432 bytes. Errors: `Input` at the end of the input and past that limit, `Read`, `Memory`.
+fn add_line<I: Read>(input: &mut BufReader<Monitored<I>>, text: &mut Vec<u8>) -> Result<(), Fault>
+    ensures grows { OnOk result (Grows text.old.items (left_in I.remaining input.old) text.new.items (left_in I.remaining input.new)) }
+    ensures ahead { (whole rest : List ℕ) (row : Row) (rows : List Row) → Ahead whole rest (row ∷ rows) text.old.items (left_in I.remaining input.old)
+        → OnOk result (Ahead whole rest rows text.new.items (left_in I.remaining input.new) × IsLine (drop (length text.old.items) text.new.items) row) }
+    ensures input { IsErrOf result Fault.Input → (whole rest : List ℕ) (row : Row) (rows : List Row) → length whole ≤ most_bytes
+        → ¬ (Ahead whole rest (row ∷ rows) text.old.items (left_in I.remaining input.old)) }
+    ensures err { IfErr result (IsHeadFault (has_failed_in input.new)) }
 {
-    match input.read_until(b'\n', text) {
+    match read_line_within(input, text, MAX_BYTES) {
         Ok(0) => Err(Fault::Input),
         Ok(_) => Ok(()),
-        Err(error) if error.kind() == ErrorKind::OutOfMemory => Err(Fault::Memory),
-        Err(_) => Err(Fault::Read),
+        Err(InputFault::TooLong) => Err(Fault::Input),
+        Err(InputFault::Read) => Err(Fault::Read),
+        Err(InputFault::Memory) => Err(Fault::Memory),
     }
 }
 
-/// Reads so many lines more.
+/// Reads `count` more lines.
 #[tactic(auto, using(crate::proofs::Heads::grows_on, crate::proofs::Heads::grows_none))]
-fn add_lines<B: BufRead>(input: &mut B, text: &mut Vec<u8>, count: u32) -> Result<(), Fault>
-    ensures grows { OnOk result (Grows text.old.items (B.remaining input.old) text.new.items (B.remaining input.new)) }
-    ensures ahead { (whole rest : List ℕ) (front rows : List Row) → length front ≡ count → Ahead whole rest (front ++ rows) text.old.items (B.remaining input.old)
-        → OnOk result (Ahead whole rest rows text.new.items (B.remaining input.new)) }
-    ensures input { IsErrOf result Fault.Input → (whole rest : List ℕ) (front rows : List Row) → length front ≡ count
-        → ¬ (Ahead whole rest (front ++ rows) text.old.items (B.remaining input.old)) }
-    ensures err { IfErr result (λ fault. IsHeadFault fault) }
+fn add_lines<I: Read>(
+    input: &mut BufReader<Monitored<I>>,
+    text: &mut Vec<u8>,
+    count: u32,
+) -> Result<(), Fault>
+    ensures grows { OnOk result (Grows text.old.items (left_in I.remaining input.old) text.new.items (left_in I.remaining input.new)) }
+    ensures ahead { (whole rest : List ℕ) (front rows : List Row) → length front ≡ count → Ahead whole rest (front ++ rows) text.old.items (left_in I.remaining input.old)
+        → OnOk result (Ahead whole rest rows text.new.items (left_in I.remaining input.new)) }
+    ensures input { IsErrOf result Fault.Input → (whole rest : List ℕ) (front rows : List Row) → length front ≡ count → length whole ≤ most_bytes
+        → ¬ (Ahead whole rest (front ++ rows) text.old.items (left_in I.remaining input.old)) }
+    ensures err { IfErr result (IsHeadFault (has_failed_in input.new)) }
 {
     'lines: for _ in 0..count {
         add_line(input, text)?;
@@ -56,7 +63,7 @@ fn add_lines<B: BufRead>(input: &mut B, text: &mut Vec<u8>, count: u32) -> Resul
 fn opening_lines(first: &[u8]) -> Result<u32, Fault>
     ensures some { IfOk result (λ count. 1 ≤ count) }
     ensures told { (version : Version) → first.now ≡ first_line version → result ≡ Ok (lines_before version) }
-    ensures err { IfErr result (λ fault. IsHeadFault fault) }
+    ensures err { (failed : Bool) → IfErr result (IsHeadFault failed) }
 {
     if first == b"RELAYTRACE 1\n".as_slice() {
         Ok(LINES_OF_VERSION_1)
@@ -67,12 +74,12 @@ fn opening_lines(first: &[u8]) -> Result<u32, Fault>
     }
 }
 
-/// How many events a line tells of. Errors: `Input` of any other line, `Memory`.
+/// The number of events by the line that has it. Errors: `Input` of any other line, `Memory`.
 #[tactic(auto, unfolding(trace_words::specs::Places::line_as))]
 fn event_count(line: &[u8]) -> Result<u32, Fault>
     ensures told { (row : Row) (count : ℕ) → IsLine line.now row → events_from row ≡ Ok count → IfOk result (λ events. events ≡ count) }
     ensures input { IsErrOf result Fault.Input → (row : Row) (count : ℕ) → IsLine line.now row → ¬ (events_from row ≡ Ok count) }
-    ensures err { IfErr result (λ fault. IsHeadFault fault) }
+    ensures err { (failed : Bool) → IfErr result (IsHeadFault failed) }
 {
     let mut lines = TraceLines::new(line);
     match read_event_count(&mut lines) {
@@ -83,13 +90,14 @@ fn event_count(line: &[u8]) -> Result<u32, Fault>
     }
 }
 
-/// Reads the text of the trace that stands at the head of an input.
+/// Reads the text of the trace at the head of an input.
 #[tactic(auto, using(crate::proofs::Heads::grows_on, crate::proofs::Heads::grows_none))]
-fn head_text<B: BufRead>(alloc: Global, input: &mut B) -> Result<Vec<u8>, Fault>
-    ensures grows { IfOk result (λ text. Grows [] (B.remaining input.old) text.items (B.remaining input.new)) }
-    ensures whole { (whole rest : List ℕ) → B.remaining input.old ≡ Some (whole ++ rest) → IsLaidOut whole → IfOk result (λ text. text.items ≡ whole) }
-    ensures input { IsErrOf result Fault.Input → (whole rest : List ℕ) → B.remaining input.old ≡ Some (whole ++ rest) → ¬ (IsLaidOut whole) }
-    ensures err { IfErr result (λ fault. IsHeadFault fault) }
+fn head_text<I: Read>(alloc: Global, input: &mut BufReader<Monitored<I>>) -> Result<Vec<u8>, Fault>
+    ensures grows { IfOk result (λ text. Grows [] (left_in I.remaining input.old) text.items (left_in I.remaining input.new)) }
+    ensures whole { (whole rest : List ℕ) → left_in I.remaining input.old ≡ Some (whole ++ rest) → IsLaidOut whole → IfOk result (λ text. text.items ≡ whole) }
+    ensures input { IsErrOf result Fault.Input → (whole rest : List ℕ) → left_in I.remaining input.old ≡ Some (whole ++ rest) → length whole ≤ most_bytes
+        → ¬ (IsLaidOut whole) }
+    ensures err { IfErr result (IsHeadFault (has_failed_in input.new)) }
 {
     let mut text = Vec::new(alloc);
     add_line(input, &mut text)?;
@@ -105,7 +113,7 @@ fn head_text<B: BufRead>(alloc: Global, input: &mut B) -> Result<Vec<u8>, Fault>
 /// Why a head is not read whose text is not read as a trace.
 fn head_fault(fault: TraceFault) -> Fault
     ensures told { result ≡ head_fault fault }
-    ensures err { IsHeadFault result }
+    ensures err { (failed : Bool) → IsHeadFault failed result }
 {
     match fault {
         TraceFault::Memory => Fault::Memory,
@@ -113,12 +121,16 @@ fn head_fault(fault: TraceFault) -> Fault
     }
 }
 
-/// Reads the trace that stands at the head of an input, up to the last event's line; what stands behind it is still to be read. Errors: `Input` where no trace
-/// stands there, `Read`, `Memory`; some of the input was read then.
-pub fn read_head<B: BufRead>(alloc: Global, input: &mut B) -> Result<Trace, Fault>
-    ensures ok { IfOk result (λ trace. TakesHead (B.remaining input.old) trace (B.remaining input.new)) }
-    ensures input { IsErrOf result Fault.Input → IfSome (B.remaining input.old) (λ bytes. ¬ (HasHead bytes)) }
-    ensures err { IfErr result (λ fault. IsHeadFault fault) }
+/// Reads the trace at the head of an input, up to the line of its last event. What follows it is still to be read.
+///
+/// Errors: `Input` if the input does not begin with a trace of at most 33,554,432 bytes, `Read` if a read fails, `Memory`. After an error a part of the input is read.
+pub fn read_head<I: Read>(
+    alloc: Global,
+    input: &mut BufReader<Monitored<I>>,
+) -> Result<Trace, Fault>
+    ensures ok { IfOk result (λ trace. TakesHead (left_in I.remaining input.old) trace (left_in I.remaining input.new)) }
+    ensures input { IsErrOf result Fault.Input → IfSome (left_in I.remaining input.old) (λ bytes. ¬ (HasHead bytes)) }
+    ensures err { IfErr result (IsHeadFault (has_failed_in input.new)) }
 {
     let text = head_text(alloc, input)?;
     match read_trace(alloc, text.as_slice()) {

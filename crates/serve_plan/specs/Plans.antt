@@ -1,8 +1,8 @@
 -- What a meter begins with, and why it can't begin.
 --     Resumes        the recorder of a meter that resumes from a trace
 --     IsPlanFault    why there is no plan
-use Rattle.std.specs.Prelude.{◌≡◌, ◌⊎◌, ◌<◌, ℕ, true, List, ◌++◌, length, take, Option, IfSome, Ok, ⊤}
-use Rattle.meter_serving.specs.Heads.{HasHead}
+use Rattle.std.specs.Prelude.{◌≡◌, ◌⊎◌, ◌<◌, ℕ, Bool, true, false, List, length, Option, IfSome, ⊤}
+use Rattle.meter_serving.specs.Heads.{HasHead, TakesHead}
 use Rattle.meter_serving.specs.Resuming.{GoesOn, world_of}
 use Rattle.program_fault.specs.declared.Fault.{Fault}
 use Rattle.program_fault.specs.declared.Fault.TheVariants as fault
@@ -10,45 +10,37 @@ use Rattle.relay_core.specs.Stands.{StandsFor}
 use Rattle.relay_recorder.specs.Recording.{Recording}
 use Rattle.relay_recorder.specs.declared.trace.Trace.{Trace}
 use Rattle.server_options.specs.declared.options.Bounds.{Bounds}
-use Rattle.trace_player.specs.Traces.{trace_of}
 
--- the bytes begin with the text of this trace
-pub record BeginsWith (bytes : List ℕ) (trace : Trace) : Type 0 where
-  pub text : List ℕ
-  pub rest : List ℕ
-  pub cut : bytes ≡ text ++ rest
-  pub read : trace_of text ≡ Ok trace
-
--- The recorder of a meter that resumes from the trace with which its input begins, if the input is known: its core stands
--- for the world after the trace's run, and whatever comes next it answers as the meter that wrote the trace
-pub record Resumes (left : Option (List ℕ)) (recorder : Recording) : Type 0 where
+-- The recorder of a meter that resumes from the trace with which its input begins: the input has left what follows the trace,
+-- the recorder's core stands for the world after the trace's run, and whatever comes next it answers as the meter that wrote it
+pub record Resumes (left left' : Option (List ℕ)) (recorder : Recording) : Type 0 where
   pub trace : Trace
-  pub begins : IfSome left (λ bytes. BeginsWith bytes trace)
+  pub takes : TakesHead left trace left'
   pub stands : StandsFor recorder.core (world_of trace)
   pub goes_on : GoesOn trace (world_of trace)
 
--- no trace of at most 33,554,432 bytes is at the head of the input
+-- no trace is at the head of the input
 abbrev pub HasNoTrace : Option (List ℕ) → Type 0
-HasNoTrace left = IfSome left (λ bytes. ¬ (HasHead (take 33554432 bytes)))
+HasNoTrace left = IfSome left (λ bytes. ¬ (HasHead bytes))
 
 -- a number of events that no trace may hold
 abbrev pub IsWrongDepth : ℕ → Type 0
 IsWrongDepth depth = (depth ≡ 0) ⊎ (1024 < depth)
 
--- why the recorder of a meter is not made
-abbrev pub IsRecorderFault : Bounds → Option (List ℕ) → Fault → Type 0
-IsRecorderFault bounds left fault.Input = IsWrongDepth bounds.depth ⊎ ((bounds.resumes ≡ true) × HasNoTrace left)
-IsRecorderFault bounds left fault.Read = bounds.resumes ≡ true
-IsRecorderFault bounds left fault.Memory = ⊤
-IsRecorderFault bounds left fault.Write = ⊥
-IsRecorderFault bounds left fault.Listen = ⊥
-IsRecorderFault bounds left fault.Turns = ⊥
+-- why the recorder of a meter is not made, where a read of its input has failed or not
+abbrev pub IsRecorderFault : Bounds → Option (List ℕ) → Bool → Fault → Type 0
+IsRecorderFault bounds left failed fault.Input = IsWrongDepth bounds.depth ⊎ ((bounds.resumes ≡ true) × HasNoTrace left)
+IsRecorderFault bounds left failed fault.Read = (bounds.resumes ≡ true) × (failed ≡ true)
+IsRecorderFault bounds left failed fault.Memory = ⊤
+IsRecorderFault bounds left failed fault.Write = ⊥
+IsRecorderFault bounds left failed fault.Listen = ⊥
+IsRecorderFault bounds left failed fault.Turns = ⊥
 
 -- why there is no plan: a password or a device name of a wrong length, or no recorder
 abbrev pub IsPlanFault : List ℕ → List ℕ → Bounds → Option (List ℕ) → Fault → Type 0
 IsPlanFault password device bounds left fault.Input =
-    ((length password ≡ 0) ⊎ (32 < length password)) ⊎ ((length device ≡ 0) ⊎ (16 < length device)) ⊎ IsRecorderFault bounds left fault.Input
-IsPlanFault password device bounds left fault.Read = IsRecorderFault bounds left fault.Read
+    ((length password ≡ 0) ⊎ (32 < length password)) ⊎ ((length device ≡ 0) ⊎ (16 < length device)) ⊎ IsRecorderFault bounds left false fault.Input
+IsPlanFault password device bounds left fault.Read = bounds.resumes ≡ true
 IsPlanFault password device bounds left fault.Memory = ⊤
 IsPlanFault password device bounds left fault.Write = ⊥
 IsPlanFault password device bounds left fault.Listen = ⊥

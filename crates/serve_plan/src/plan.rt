@@ -4,10 +4,12 @@ ghost use Rattle.acse_ber.specs.Password.{IsPassword};
 ghost use Rattle.program_fault.specs.declared.Fault.TheVariants.{Memory};
 ghost use Rattle.relay_core.specs.World.{IsDeviceName, new_world};
 ghost use Rattle.relay_recorder.specs.Histories.{StandsForHistory};
+ghost use Rattle.byte_streams.specs.Lines.{has_failed_in, left_in};
 ghost use Rattle.meter_serving.specs.Heads.{IsHeadFault};
 ghost use Rattle.serve_plan.specs.Plans.{HasNoTrace, IsPlanFault, IsRecorderFault, Resumes};
 
 use acse_ber::MAX_PASSWORD;
+use byte_streams::Monitored;
 use cosem_axdr::Octets;
 use meter_serving::{read_head, resumed_recorder};
 use program_fault::Fault;
@@ -15,22 +17,22 @@ use relay_core::MAX_DEVICE_NAME;
 use relay_recorder::Recorder;
 use server_options::{Bounds, ServeOptions, octets_of};
 use std::alloc::Global;
-use std::io::{BufRead, BufReader, Read};
+use std::io::{BufReader, Read};
 
-/// The longest trace of an earlier run, in bytes.
-const MAX_TRACE: u64 = 33_554_432;
-
-/// The recorder of a meter that resumes from the trace at the head of an input.
-fn recorder_of_head<B: BufRead>(alloc: Global, input: &mut B, depth: u16) -> Result<Recorder, Fault>
+/// The recorder of a meter that resumes from the trace at the head of an input. What follows the trace is still to be read.
+fn recorder_of_head<I: Read>(
+    alloc: Global,
+    input: &mut BufReader<Monitored<I>>,
+    depth: u16,
+) -> Result<Recorder, Fault>
     requires { (1 ≤ depth) × (depth ≤ 1024) }
     ensures unused { IfOk result (λ recorder. recorder.events ≡ []) }
     ensures capacity { IfOk result (λ recorder. recorder.capacity ≡ depth) }
-    ensures resumed { IfOk result (Resumes (B.remaining input.old)) }
-    ensures input { IsErrOf result Fault.Input → HasNoTrace (B.remaining input.old) }
-    ensures err { IfErr result IsHeadFault }
+    ensures resumed { IfOk result (Resumes (left_in I.remaining input.old) (left_in I.remaining input.new)) }
+    ensures input { IsErrOf result Fault.Input → HasNoTrace (left_in I.remaining input.old) }
+    ensures err { IfErr result (IsHeadFault (has_failed_in input.new)) }
 {
-    let mut head = (&mut *input).take(MAX_TRACE);
-    let trace = match read_head(alloc, &mut head) {
+    let trace = match read_head(alloc, input) {
         Ok(trace) => trace,
         Err(fault) => return Err(fault),
     };
@@ -58,18 +60,19 @@ fn new_recorder(alloc: Global, device: &Octets, depth: u16) -> Result<Recorder, 
 }
 
 /// The recorder that the meter begins with: a new meter's, or that of one that resumes from the trace at the head of an input.
-fn first_recorder<B: BufRead>(
+fn first_recorder<I: Read>(
     alloc: Global,
     device: &Octets,
     bounds: Bounds,
-    input: &mut B,
+    input: &mut BufReader<Monitored<I>>,
 ) -> Result<Recorder, Fault>
     requires { IsDeviceName device.now }
     ensures unused { IfOk result (λ recorder. recorder.events ≡ []) }
     ensures capacity { IfOk result (λ recorder. recorder.capacity ≡ bounds.depth) }
     ensures begun { bounds.resumes ≡ false → IfOk result (λ recorder. StandsForHistory recorder [] (new_world device.now)) }
-    ensures resumed { bounds.resumes ≡ true → IfOk result (Resumes (B.remaining input.old)) }
-    ensures err { IfErr result (IsRecorderFault bounds (B.remaining input.old)) }
+    ensures unread { bounds.resumes ≡ false → left_in I.remaining input.new ≡ left_in I.remaining input.old }
+    ensures resumed { bounds.resumes ≡ true → IfOk result (Resumes (left_in I.remaining input.old) (left_in I.remaining input.new)) }
+    ensures err { IfErr result (IsRecorderFault bounds (left_in I.remaining input.old) (has_failed_in input.new)) }
 {
     let depth = bounds.depth;
     if depth < 1 || depth > 1024 {
@@ -91,8 +94,8 @@ pub struct Plan<I> {
     pub password: Octets,
     /// The recorder that the meter begins with; no event has come to it.
     pub recorder: Recorder,
-    /// The lines of the console, after the trace that was read.
-    pub input: BufReader<I>,
+    /// The lines of the console: all of the input, or what follows the trace that was read.
+    pub input: BufReader<Monitored<I>>,
     ghost sized: { IsPassword password },
     ghost unused: { length recorder.events ≡ 0 },
 }
@@ -112,13 +115,14 @@ pub fn planned<I: Read + Drop>(
     ensures password { IfOk result (λ plan. plan.password ≡ string_bytes options.now.password) }
     ensures capacity { IfOk result (λ plan. plan.recorder.capacity ≡ options.now.bounds.depth) }
     ensures begun { options.now.bounds.resumes ≡ false → IfOk result (λ plan. StandsForHistory plan.recorder [] (new_world (string_bytes options.now.device))) }
-    ensures resumed { options.now.bounds.resumes ≡ true → IfOk result (λ plan. Resumes (I.remaining input) plan.recorder) }
+    ensures unread { options.now.bounds.resumes ≡ false → IfOk result (λ plan. left_in I.remaining plan.input ≡ I.remaining input) }
+    ensures resumed { options.now.bounds.resumes ≡ true → IfOk result (λ plan. Resumes (I.remaining input) (left_in I.remaining plan.input) plan.recorder) }
     ensures err { IfErr result (IsPlanFault (string_bytes options.now.password) (string_bytes options.now.device) options.now.bounds (I.remaining input)) }
 {
     let bounds = options.bounds;
     let password = octets_of(alloc, options.password.as_str(), MAX_PASSWORD)?;
     let device = octets_of(alloc, options.device.as_str(), MAX_DEVICE_NAME)?;
-    let Ok(mut input) = BufReader::new(alloc, input) else {
+    let Ok(mut input) = BufReader::new(alloc, Monitored::new(input)) else {
         return Err(Fault::Memory);
     };
     match first_recorder(alloc, &device, bounds, &mut input) {

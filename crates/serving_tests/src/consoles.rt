@@ -1,12 +1,15 @@
 //! What no clause says: that there is an answer where there is memory.
 ghost use Rattle.relay_core.specs.Opening.{IsFitOpening};
 
+use byte_streams::Monitored;
 use meter_console::console_event;
 use meter_serving::{read_head, resumed_recorder};
 use program_fault::Fault;
 use relay_core::{Event, Reply};
 use relay_recorder::{Recorder, Trace};
 use std::alloc::{AllocError, Global};
+use std::io;
+use std::io::BufReader;
 use std::test::Fail;
 
 // A switch that is cut remotely, samples and a moment; and a line that stands behind them.
@@ -113,8 +116,16 @@ fn resumed_from(alloc: Global, trace: &Trace) -> Result<Seen, AllocError>
     seen
 }
 
+/// An input in memory, as the console's.
+type Input<'a> = BufReader<Monitored<&'a [u8]>>;
+
+/// The input of these bytes.
+fn input_of(alloc: Global, bytes: &[u8]) -> io::Result<Input<'_>> {
+    BufReader::new(alloc, Monitored::new(bytes))
+}
+
 /// The same of the trace at the head of an input.
-fn resumed(alloc: Global, input: &mut &[u8]) -> Result<Seen, Fault> {
+fn resumed(alloc: Global, input: &mut Input) -> Result<Seen, Fault> {
     let trace = read_head(alloc, input)?;
     let seen = resumed_from(alloc, &trace);
     drop(trace);
@@ -126,21 +137,22 @@ fn resumed(alloc: Global, input: &mut &[u8]) -> Result<Seen, Fault> {
 
 #[test]
 fn a_meter_goes_on_from_a_trace(rt: HostRuntime) -> Result<(), Fail> {
-    let mut input = TRACE;
+    let mut input = input_of(rt.alloc(), TRACE)?;
     let seen = resumed(rt.alloc(), &mut input).map_err(|_| "no meter")?;
-    assert!(rt; input == b"moment 4\n".as_slice());
+    assert!(rt; input.buffer() == b"moment 4\n".as_slice());
     assert!(rt; seen.kept == 0 && seen.last == 5);
     Ok(())
 }
 
 #[test]
 fn another_head_is_wrong(rt: HostRuntime) -> Result<(), Fail> {
-    for mut input in [
+    for bytes in [
         b"".as_slice(),
         b"button\n",
         b"RELAYTRACE 1\nbutton\n",
         &TRACE[..300],
     ] {
+        let mut input = input_of(rt.alloc(), bytes)?;
         assert!(rt; matches!(resumed(rt.alloc(), &mut input), Err(Fault::Input)));
     }
     Ok(())
