@@ -1,6 +1,9 @@
 //! `head_end run`.
-ghost use Rattle.std.specs.Prelude.{◌≤◌, IfOk};
+ghost use Rattle.std.specs.Prelude.{◌≤◌, codes, IfOk, OnOk};
 ghost use Rattle.acse_ber.specs.Password.{IsPassword};
+ghost use Rattle.clap.specs.Matches.{found_of};
+ghost use Rattle.head_end_cli.specs.Options.{AreLimits, AreWorkers, IsLimit, IsNumber};
+ghost use Rattle.head_end_cli.specs.Printed.{PrintsReport};
 
 use crate::jobs_of;
 use crate::progress::{Progress, Watch};
@@ -11,6 +14,7 @@ use cosem_axdr::Octets;
 use head_end::{Connector, Limits, places_for, report_jobs};
 use listed::Listed;
 use program_fault::Fault;
+use program_start::print_text;
 use std::alloc::Global;
 use std::env;
 use std::io::{IsTerminal, Write};
@@ -30,19 +34,44 @@ pub(crate) struct Plan {
     ghost few: { workers ≤ 16 },
 }
 
-/// A limit of time; 0 seconds stand for none, which is as long as 32 bits of seconds are.
-fn limit(matches: &ArgMatches<'_>, name: &str) -> Duration {
-    let seconds: u32 = matches.get_one::<u32>(name).unwrap_or(0);
+/// The seconds of an option.
+fn seconds_of(matches: &ArgMatches<'_>, name: &str) -> u32
+    ensures { IsNumber 32 (found_of matches.now) name.now result }
+{
+    matches.get_one::<u32>(name).unwrap_or(0)
+}
+
+/// The limit of time of an option; 0 seconds stand for none, which is as long as 32 bits of seconds
+/// are.
+fn limit(matches: &ArgMatches<'_>, name: &str) -> Duration
+    ensures { IsLimit (found_of matches.now) name.now result }
+{
+    let seconds = seconds_of(matches, name);
     Duration::from_secs(u64::from(if seconds == 0 { u32::MAX } else { seconds }))
+}
+
+/// The limit of a connect, and that of a connection as a whole.
+fn limits_of(matches: &ArgMatches<'_>) -> Limits
+    ensures { AreLimits (found_of matches.now) result }
+{
+    Limits {
+        connect: limit(matches, "connect-timeout"),
+        answer: limit(matches, "timeout"),
+    }
+}
+
+/// The number of the option `--workers`.
+fn number_of_workers(matches: &ArgMatches<'_>) -> u8
+    ensures { IsNumber 8 (found_of matches.now) (codes "workers") result }
+{
+    matches.get_one::<u8>("workers").unwrap_or(4)
 }
 
 /// How many workers there are to be, 1 to 16.
 fn workers(matches: &ArgMatches<'_>) -> u8
-    ensures some { 1 ≤ result }
-    ensures few { result ≤ 16 }
+    ensures { AreWorkers (found_of matches.now) result }
 {
-    let workers: u8 = matches.get_one::<u8>("workers").unwrap_or(4);
-    workers.clamp(1, 16)
+    number_of_workers(matches).clamp(1, 16)
 }
 
 /// A password of 1 to 32 bytes.
@@ -73,7 +102,10 @@ fn password(rt: &HostRuntime, matches: &ArgMatches<'_>) -> Result<Octets, Fault>
 }
 
 /// What the command line asks for, with the jobs on standard input.
-pub(crate) fn planned(rt: &HostRuntime, matches: &ArgMatches<'_>) -> Result<Plan, Fault> {
+pub(crate) fn planned(rt: &HostRuntime, matches: &ArgMatches<'_>) -> Result<Plan, Fault>
+    ensures limits { IfOk result (λ plan. AreLimits (found_of matches.now) plan.limits) }
+    ensures workers { IfOk result (λ plan. AreWorkers (found_of matches.now) plan.workers) }
+{
     let is_verbose = matches.get_flag("verbose");
     let password = match password(rt, matches) {
         Ok(password) => password,
@@ -89,21 +121,21 @@ pub(crate) fn planned(rt: &HostRuntime, matches: &ArgMatches<'_>) -> Result<Plan
         jobs,
         password,
         workers: workers(matches),
-        limits: Limits {
-            connect: limit(matches, "connect-timeout"),
-            answer: limit(matches, "timeout"),
-        },
+        limits: limits_of(matches),
         is_shown: matches.get_flag("progress") || rt.stderr().is_terminal(),
     })
 }
 
 /// Runs the jobs and prints the report.
-pub(crate) fn run<R: Threads + Sync, C: Connector>(
+pub(crate) fn run<R: Threads + Sync, C: Connector, W: Write>(
     rt: &HostRuntime,
     threads: &R,
     connector: &C,
     plan: &Plan,
-) -> Result<(), Fault> {
+    output: &mut W,
+) -> Result<(), Fault>
+    ensures { OnOk result (PrintsReport (C.tells connector.now) plan.now.workers plan.now.jobs plan.now.password (W.contents output.old) (W.contents output.new)) }
+{
     let progress = Progress::new(rt, plan.jobs.len());
     let watch = Watch {
         rt,
@@ -122,13 +154,8 @@ pub(crate) fn run<R: Threads + Sync, C: Connector>(
         &watch,
     );
     drop(places);
-    let text = report.map_err(|_| Fault::Memory)?;
-    print(rt, text.as_slice())
-}
-
-/// Writes all to standard output.
-pub(crate) fn print(rt: &HostRuntime, text: &[u8]) -> Result<(), Fault> {
-    let mut out = rt.stdout();
-    out.write_all(text).map_err(|_| Fault::Write)?;
-    out.flush().map_err(|_| Fault::Write)
+    match report {
+        Ok(text) => print_text(output, text.as_slice()),
+        Err(_) => Err(Fault::Memory),
+    }
 }

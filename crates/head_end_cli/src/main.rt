@@ -10,7 +10,7 @@ mod telling;
 mod warnings;
 
 use crate::arguments::command_line;
-use crate::campaign::{Plan, print};
+use crate::campaign::Plan;
 use crate::telling::{input_fault, jobs_fault, tell_input, tell_jobs};
 use crate::warnings::warn;
 use byte_streams::{Counted, read_to_end_within};
@@ -19,11 +19,11 @@ use client_core::Job;
 use head_end::{JobsFault, TcpConnector, count_jobs, read_jobs};
 use listed::Listed;
 use program_fault::Fault;
-use program_start::{ended, without_work, words};
+use program_start::{ended, print_text, without_work, words};
 use std::io::Read;
 use std::process::ExitCode;
 
-/// A list of jobs has at most so many bytes.
+/// The greatest number of bytes of a list of jobs.
 const MAX_INPUT: usize = 1_048_576;
 
 /// Returns the text on standard input. On an error, if `is_verbose`, a line on standard error says
@@ -79,7 +79,7 @@ fn check(rt: &HostRuntime, is_verbose: bool) -> Result<(), Fault> {
     let text = text_of(rt, rt.stdin(), is_verbose)?;
     warn_of_text(rt, text.as_slice());
     match count_jobs(rt.alloc(), text.as_slice()) {
-        Ok(line) => print(rt, line.as_slice()),
+        Ok(line) => print_text(&mut rt.stdout(), line.as_slice()),
         Err(fault) => Err(told_fault(rt, text.as_slice(), fault, is_verbose)),
     }
 }
@@ -121,7 +121,7 @@ fn main(rt: HostRuntime) -> ExitCode {
         Ok(Next::Ended(status)) => ExitCode::from(status),
         Ok(Next::Campaign(plan)) => {
             let connector = TcpConnector::new(rt, plan.limits);
-            let done = campaign::run(&rt, &rt, &connector, &plan).map(|_| 0);
+            let done = campaign::run(&rt, &rt, &connector, &plan, &mut rt.stdout()).map(|_| 0);
             ended(&rt, done)
         }
         Err(fault) => ended(&rt, Err(fault)),

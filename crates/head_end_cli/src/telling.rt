@@ -1,10 +1,15 @@
 //! Where and why standard input is no list of jobs.
+ghost use Rattle.std.specs.Prelude.{◌≡◌};
+ghost use Rattle.head_end_cli.specs.Faults.{input_fault, jobs_fault};
+
 use byte_streams::InputFault;
 use head_end::{JobsFault, MAX_ADDRESS, MAX_ID};
 use program_fault::Fault;
 
 /// The fault of the program where standard input is not read.
-pub(crate) fn input_fault(fault: InputFault) -> Fault {
+pub(crate) fn input_fault(fault: InputFault) -> Fault
+    ensures { result ≡ input_fault fault }
+{
     match fault {
         InputFault::TooLong => Fault::Input,
         InputFault::Read => Fault::Read,
@@ -13,7 +18,9 @@ pub(crate) fn input_fault(fault: InputFault) -> Fault {
 }
 
 /// The fault of the program where a text is no list of jobs.
-pub(crate) fn jobs_fault(fault: JobsFault) -> Fault {
+pub(crate) fn jobs_fault(fault: JobsFault) -> Fault
+    ensures { result ≡ jobs_fault fault }
+{
     match fault {
         JobsFault::Line(_) | JobsFault::TooMany => Fault::Input,
         JobsFault::Memory => Fault::Memory,

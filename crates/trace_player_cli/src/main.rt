@@ -3,6 +3,9 @@
 //! What it prints is that of `trace_player::play`; this crate has the command line, the standard streams and the exit status.
 #![tactic(auto)]
 
+ghost use Rattle.std.specs.Prelude.{◌≡◌};
+ghost use Rattle.trace_player_cli.specs.Faults.{fault_of};
+
 mod telling;
 
 use crate::telling::tell;
@@ -38,7 +41,9 @@ fn command_line<'a>(alloc: Global) -> Result<Command<'a>, AllocError> {
 }
 
 /// The fault of the program where a trace is not played.
-fn fault_of(fault: PlayFault) -> Fault {
+fn fault_of(fault: PlayFault) -> Fault
+    ensures { result ≡ fault_of fault }
+{
     match fault {
         PlayFault::Line(_) | PlayFault::TooLong => Fault::Input,
         PlayFault::Read => Fault::Read,

@@ -1,0 +1,41 @@
+-- What the options of `run` say.
+--     IsNumber     the number of an option
+--     IsLimit      the limit of time of an option
+--     AreLimits    both limits of time
+--     AreWorkers   the number of workers
+use Rattle.std.specs.Prelude.{◌≡◌, ◌<◌, ◌≤◌, ◌^◌, ◌*◌, ◌==◌, ℕ, codes, List, Some, if◌then◌else◌}
+use Rattle.std.specs.Duration.{as_nanos}
+use Rattle.std.specs.Str.Parse.{IsNumeral, digits_value, without_leading_plus}
+use Rattle.std.specs.declared.time.Duration.{Duration}
+use Rattle.clap.specs.Matches.{one_text}
+use Rattle.clap.specs.declared.parser.matches.Found.{Found}
+use Rattle.head_end.specs.declared.tcp.Limits.{Limits}
+
+-- the number of the option of this name, which is written in decimal and fits this number of bits
+abbrev pub IsNumber : ℕ → Found → List ℕ → ℕ → Type 0
+IsNumber bits found name number = (text : List ℕ) → one_text found name ≡ Some text
+    → IsNumeral 10 (without_leading_plus text) → digits_value 10 (without_leading_plus text) < 2 ^ bits
+    → number ≡ digits_value 10 (without_leading_plus text)
+
+-- the seconds of a limit; 0 stands for the most that there are, 2^32 - 1
+abbrev pub limit_seconds : ℕ → ℕ
+limit_seconds number = if number == 0 then 4_294_967_295 else number
+
+-- the limit of time of the option of this name, in seconds
+pub record IsLimit (found : Found) (name : List ℕ) (limit : Duration) : Type 0 where
+  pub number : ℕ
+  pub number_is : IsNumber 32 found name number
+  pub limit_is : as_nanos limit ≡ limit_seconds number * 1_000_000_000
+
+-- the limit of a connect, and that of a connection as a whole
+pub record AreLimits (found : Found) (limits : Limits) : Type 0 where
+  pub connect : IsLimit found (codes "connect-timeout") limits.connect
+  pub answer : IsLimit found (codes "timeout") limits.answer
+
+-- the number of workers, 1 to 16
+pub record AreWorkers (found : Found) (workers : ℕ) : Type 0 where
+  pub number : ℕ
+  pub number_is : IsNumber 8 found (codes "workers") number
+  pub workers_are : 1 ≤ number → number ≤ 16 → workers ≡ number
+  pub some : 1 ≤ workers
+  pub few : workers ≤ 16

@@ -1,0 +1,18 @@
+-- The report that `run` prints.
+use Rattle.std.specs.Prelude.{ℕ, List, length, Option}
+use Rattle.std.specs.Io.KnownBytes.{Appends}
+use Rattle.client_core.specs.declared.job.Job.{Job}
+use Rattle.head_end.specs.Attempts.{State}
+use Rattle.head_end.specs.Campaigns.{turns_for, AreTried}
+use Rattle.head_end.specs.Connections.{Told}
+use Rattle.head_end.specs.Reports.{report_text}
+use Rattle.head_end.specs.Rows.{AreLines}
+use Rattle.head_end.specs.declared.row.Line.{Line}
+
+-- the jobs were run, and the lines of all of them were printed
+pub record PrintsReport (tells : List ℕ → Option Told) (workers : ℕ) (jobs : List Job) (password : List ℕ) (written written' : Option (List ℕ)) : Type 0 where
+  pub lines : List Line
+  pub stages : List State
+  pub lines_are : AreLines tells jobs lines
+  pub tried : AreTried (turns_for (length jobs) workers) workers jobs password lines stages
+  pub printed : Appends written written' (report_text lines)
