@@ -167,18 +167,18 @@ class Client:
 class Server:
     """A running `meter_server serve`, with its console."""
 
-    def __init__(self, *options, password=PASSWORD, environment=None, port=None, console=b""):
+    def __init__(self, *options, password=PASSWORD, environment=None, port=None, console=b"", console_file=subprocess.PIPE):
         self.port = port or free_port()
         words = [str(SERVER), "serve", "--listen", f"127.0.0.1:{self.port}", "--verbose", *options]
         if password is not None:
             words += ["--password", password]
-        self.start(words, environment)
+        self.start(words, environment, console_file)
         if console:
             self.say_bytes(console)
         self.wait_for(b"listening on")
 
-    def start(self, words, environment=None):
-        self.process = subprocess.Popen(words, stdin=subprocess.PIPE, stdout=subprocess.PIPE, stderr=subprocess.PIPE,
+    def start(self, words, environment=None, console=subprocess.PIPE):
+        self.process = subprocess.Popen(words, stdin=console, stdout=subprocess.PIPE, stderr=subprocess.PIPE,
                                         env={**os.environ, **(environment or {})})
         self.errors = b""
         self.reader = threading.Thread(target=self.read_errors, daemon=True)
@@ -216,7 +216,7 @@ class Server:
     def ended(self):
         """Ends the console, and gives the status, standard output and standard error once the server has ended."""
         try:
-            if not self.process.stdin.closed:
+            if self.process.stdin and not self.process.stdin.closed:
                 self.end_input()
             end = time.monotonic() + PATIENCE
             output = b""
@@ -400,6 +400,23 @@ def console_lines_act_beside_clients(name):
     check(f"{name}: played", status == 0 and stands_in(client.seen, history))
 
 
+def a_console_that_is_not_read_is_a_fault(name):
+    """A folder is no console: each read of it fails. The clients are served all the same, and the trace is printed."""
+    folder = os.open(TOP, os.O_RDONLY)
+    try:
+        server = Server("--connections", "1", console_file=folder)
+    finally:
+        os.close(folder)
+    reported = server.wait_for(b"console: reading failed, no further line is read\n")
+    check(f"{name}: reported as it happens", reported, server.errors)
+    client = server.client(PUBLIC)
+    client.get(STATE)
+    client.close()
+    status, trace, errors = server.ended()
+    check(f"{name}", status == 3 and errors.endswith("fault: read\n") and errors.count("console:") == 1, status, errors)
+    check(f"{name}: the trace is printed", stands_in(client.seen, played(trace)), trace)
+
+
 def a_limit_of_connections_ends_the_server(name):
     server = Server("--connections", "2")
     server.end_input()
@@ -553,7 +570,7 @@ def main():
             print(f"{executable} is not there: run the gate, or `rt run` in its crate")
             return 1
     for function in (requests_of_every_kind, a_long_answer_comes_in_blocks, clients_interleave, a_ninth_client_is_turned_away,
-                     console_lines_act_beside_clients, a_limit_of_connections_ends_the_server, the_end_of_input_ends_the_server,
+                     console_lines_act_beside_clients, a_console_that_is_not_read_is_a_fault, a_limit_of_connections_ends_the_server, the_end_of_input_ends_the_server,
                      an_address_in_use_is_a_fault, a_meter_goes_on_from_its_trace, a_wrong_trace_is_not_gone_on_from, wrong_passwords_are_refused,
                      the_environment_has_the_password, a_client_may_vanish_in_mid_frame, a_silent_client_is_closed):
         test(function)
