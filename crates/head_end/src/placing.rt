@@ -1,5 +1,5 @@
 //! The attempts of a campaign.
-ghost use Rattle.std.specs.Prelude.{◌≡◌, ◌+◌, ◌*◌, ◌/◌, ◌^◌, ◌<◌, ◌≤◌, length, IfOk, IfSome};
+ghost use Rattle.std.specs.Prelude.{◌≡◌, ◌+◌, ◌*◌, ◌/◌, ◌^◌, ◌<◌, ◌≤◌, length, IfOk, IfSome, IfNone};
 ghost use Rattle.std.specs.List.{All};
 ghost use Rattle.head_end.specs.Attempts.{unused};
 ghost use Rattle.head_end.specs.Campaigns.{turns_for, slots_for};
@@ -49,6 +49,7 @@ pub fn turns_for(jobs: usize, workers: usize) -> Option<usize>
     requires { 0 < workers }
     ensures turns { IfSome result (λ turns. turns ≡ turns_for jobs workers) }
     ensures fits { IfSome result (λ turns. turns * workers < 2 ^ 64) }
+    ensures too_many { IfNone result (2 ^ 64 ≤ turns_for jobs workers * workers) }
 {
     let turns = (jobs / workers).checked_add(1)?;
     let _places = turns.checked_mul(workers)?;
