@@ -100,14 +100,15 @@ fn gives_the_place_of_an_ended_session_to_the_next(rt: HostRuntime) -> Result<()
     Ok(())
 }
 
-/// An evening of three guests, the last of whom comes after the first has left, and the second waits for the last.
+/// An evening of guests, the last of whom comes after the first has left; all but the first wait for the last.
 fn relay_evening<R: Threads + Wait + Copy + Send + 'static>(
     rt: &R,
     alloc: Global,
+    guests: u64,
 ) -> Result<Evening, AllocError> {
     let hall = Arc::new(alloc, Hall::new(1))?;
-    let mut door = Door::after_the_first(Arc::try_clone(&hall)?);
-    let served = serve(rt, alloc, &mut door, 3);
+    let mut door = Door::after_the_first(Arc::try_clone(&hall)?, guests);
+    let served = serve(rt, alloc, &mut door, guests);
     drop(door);
     let (accepted, count) = served?;
     let content = hall.content();
@@ -117,8 +118,17 @@ fn relay_evening<R: Threads + Wait + Copy + Send + 'static>(
 
 #[test]
 fn waits_for_no_session_but_those_that_ended(rt: HostRuntime) -> Result<(), Fail> {
-    let spent = relay_evening(&rt, rt.alloc())?;
+    let spent = relay_evening(&rt, rt.alloc(), 3)?;
     assert!(rt; spent == (told(3, 0, false, false), 3, Some(3)));
+    Ok(())
+}
+
+// Every place is taken when the first guest leaves, and those at the other places wait for the
+// ninth: an end that is noted at another place is waited for in vain.
+#[test]
+fn a_ninth_takes_the_place_of_the_one_that_left(rt: HostRuntime) -> Result<(), Fail> {
+    let spent = relay_evening(&rt, rt.alloc(), 9)?;
+    assert!(rt; spent == (told(9, 0, false, false), 9, Some(9)));
     Ok(())
 }
 

@@ -112,7 +112,7 @@ enum Pace {
     Together,
     /// Each after the one before has left.
     OneByOne,
-    /// The first waits for the second alone; the last comes after the first has left, and the others wait for it.
+    /// The last comes after the first has left; the first waits for all but the last, and the others for all.
     AfterTheFirst,
 }
 
@@ -149,6 +149,7 @@ pub(super) struct Door {
     guests: u64,
     hungry: u64,
     given: u64,
+    all: u64,
     pace: Pace,
 }
 
@@ -160,6 +161,7 @@ impl Door {
             guests,
             hungry,
             given: 0,
+            all: guests,
             pace: Pace::Together,
         }
     }
@@ -171,9 +173,9 @@ impl Door {
         door
     }
 
-    /// A listener of three guests. The last comes after the first has left, and the second waits for it.
-    pub(super) fn after_the_first(hall: Arc<Hall, Global>) -> Door {
-        let mut door = Door::new(hall, 3, 0);
+    /// A listener of this number of guests. The last comes after the first has left, and all but the first wait for it.
+    pub(super) fn after_the_first(hall: Arc<Hall, Global>, guests: u64) -> Door {
+        let mut door = Door::new(hall, guests, 0);
         door.pace = Pace::AfterTheFirst;
         door
     }
@@ -193,8 +195,8 @@ impl Door {
     // What the next guest waits for.
     fn patience(&self) -> Patience {
         match self.pace {
-            Pace::AfterTheFirst if self.given == 0 => Patience::ForAll(2),
-            Pace::AfterTheFirst => Patience::ForAll(3),
+            Pace::AfterTheFirst if self.given == 0 => Patience::ForAll(self.all.saturating_sub(1)),
+            Pace::AfterTheFirst => Patience::ForAll(self.all),
             _ => Patience::UntilClosed,
         }
     }
