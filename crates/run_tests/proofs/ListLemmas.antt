@@ -5,10 +5,12 @@ use Rattle.meter_workers.specs.Sources.{Gives, Presses}
 
 -- what is taken from the front of a list is what it gives next
 pub gives_front : {X : Type 0} (before after : List X) (given : Option X)
-    → before ≡ option_to_list given ++ after → after ≡ drop 1 before → Gives (Some before) given (Some after)
+    → before ≡ option_to_list given ++ after → after ≡ drop 1 before
+    → Gives (Some before) given (Some after)
 gives_front [] after None items rest = (refl, ap Some (sym items))
 gives_front [] after (Some x) items rest = absurd (omega (arith, ap length items))
-gives_front (y ∷ ys) after None items rest = absurd (omega (arith, ap length items, ap length rest))
+gives_front (y ∷ ys) after None items rest =
+    absurd (omega (arith, ap length items, ap length rest))
 gives_front (y ∷ ys) after (Some x) items rest = (cc, cc)
 
 -- no press is left
@@ -20,3 +22,5 @@ no_press (suc left) none = absurd (omega arith)
 pub one_press : (left : ℕ) → 0 < left → Presses (Some left) true (Some (left - 1))
 one_press zero some = absurd (omega arith)
 one_press (suc left) some = let less : suc left - 1 ≡ left = omega arith in (refl, ap Some less)
+
+pub ruleset presses = (no_press, one_press)

@@ -10,7 +10,12 @@ use Rattle.session_serving.specs.declared.fault.ServeFault.{ServeFault}
 
 -- the same, as `IsRun` takes it
 abbrev given_by : Lists → Given
-given_by lists = record { blocks = Some lists.blocks; moments = Some lists.moments; presses = Some lists.presses; password = lists.password }
+given_by lists = record {
+  blocks = Some lists.blocks;
+  moments = Some lists.moments;
+  presses = Some lists.presses;
+  password = lists.password;
+}
 
 listed : (recorder : Recording) (lists : Lists) (served : Served) (text : List ℕ)
     → IsRun recorder (given_by lists) (Ok served) text → IsListedRun recorder lists served.served text
@@ -30,13 +35,15 @@ listed recorder lists served text run = record {
   traced = run.traced;
 }
 
-if_traced : {E : Type 0} (recorder : Recording) (lists : Lists) (served : Served) (trace : Result (List ℕ) E)
-    → IfOk trace (IsRun recorder (given_by lists) (Ok served)) → IfOk trace (IsListedRun recorder lists served.served)
+if_traced : {E : Type 0} (recorder : Recording) (lists : Lists) (served : Served)
+    (trace : Result (List ℕ) E) → IfOk trace (IsRun recorder (given_by lists) (Ok served))
+    → IfOk trace (IsListedRun recorder lists served.served)
 if_traced recorder lists served (Ok text) run = listed recorder lists served text run
 if_traced recorder lists served (Err fault) run = tt
 
 -- a run that nothing stopped
-pub listed_if : {E : Type 0} (recorder : Recording) (lists : Lists) (served : Result Served ServeFault) (trace : Result (List ℕ) E)
+pub listed_if : {E : Type 0} (recorder : Recording) (lists : Lists)
+    (served : Result Served ServeFault) (trace : Result (List ℕ) E)
     → IfOk trace (IsRun recorder (given_by lists) served)
     → IfOk served (λ (all : Served). IfOk trace (IsListedRun recorder lists all.served))
 listed_if recorder lists (Ok all) trace run = if_traced recorder lists all trace run

@@ -33,11 +33,11 @@ pub record AreListedCalls (lists : Lists) (clients : ℕ) (calls : Calls) : Type
 
 -- There is one list of calls, answered by the written rules from where the recorder began. The
 -- meter at the end stands for it, and the text is the trace of that meter.
-pub record IsListedRun (recorder : Recording) (lists : Lists) (clients : ℕ) (text : List ℕ) : Type 0
-  where
-    pub calls : Calls
-    pub listed : AreListedCalls lists clients calls
-    pub lawful : IsLegal (opening_of recorder.core) calls
-    pub kept : KeptRecorder
-    pub stands : Stands kept calls
-    pub traced : TellsRun kept.recorder text
+pub record IsListedRun (recorder : Recording) (lists : Lists) (clients : ℕ) (text : List ℕ)
+    : Type 0 where
+  pub calls : Calls
+  pub listed : AreListedCalls lists clients calls
+  pub lawful : IsLegal (opening_of recorder.core) calls
+  pub kept : KeptRecorder
+  pub stands : Stands kept calls
+  pub traced : TellsRun kept.recorder text

@@ -44,7 +44,7 @@ pub(crate) struct ListedPresses {
 impl ButtonSource for ListedPresses {
     ghost told = { λ source. Some source.left };
 
-    #[tactic(auto, using(crate::proofs::ListLemmas::no_press, crate::proofs::ListLemmas::one_press))]
+    #[tactic(auto, using(crate::proofs::ListLemmas::presses))]
     fn pressed(&mut self) -> bool {
         if self.left == 0 {
             return false;
