@@ -21,6 +21,8 @@ mod faults;
 #[cfg(test)]
 mod frames;
 #[cfg(test)]
+mod input_lines;
+#[cfg(test)]
 mod lists;
 #[cfg(test)]
 mod numbers;
