@@ -6,6 +6,8 @@ mod closing;
 mod lasting;
 mod limits;
 mod listening;
+#[cfg(test)]
+mod tests;
 
 pub use client_log::ClientLog;
 pub use closing::Closing;

@@ -1,0 +1,94 @@
+//! What no contract sees: how long a client's stream waits, and how the listening ends.
+use crate::limits::Limits;
+use crate::listening::Sockets;
+use meter_server::Listener;
+use std::io::Read;
+use std::net::{SocketAddr, TcpListener, TcpStream};
+use std::sync::Arc;
+use std::sync::atomic::AtomicBool;
+use std::test::Fail;
+use std::time::{Duration, Instant};
+
+/// No limits.
+const NO_LIMITS: Limits = Limits {
+    call: None,
+    session: None,
+};
+
+/// Sockets on a free port of the loopback interface, and their address.
+fn listening(
+    rt: HostRuntime,
+    limits: Limits,
+    is_stopped: bool,
+) -> Result<(Sockets<HostRuntime>, SocketAddr), Fail> {
+    let listener = TcpListener::bind(&rt, "127.0.0.1:0")?;
+    let address = listener.local_addr()?;
+    let stopped = Arc::new(rt.alloc(), AtomicBool::new(is_stopped))?;
+    let sockets = Sockets::new(rt, listener, limits, stopped, false);
+    Ok((sockets, address))
+}
+
+/// How long a first read of a silent client takes, which has to fail, and whether a second one fails.
+fn failed_reads(rt: HostRuntime, limits: Limits) -> Result<(Duration, bool), Fail> {
+    let (mut sockets, address) = listening(rt, limits, false)?;
+    let client = TcpStream::connect(&rt, address)?;
+    let (mut input, output, log) = sockets.accept().map_err(|_| "no client")?;
+    let began = Instant::now(&rt)?;
+    let mut buffer = [0; 8];
+    let first = input.read(&mut buffer);
+    let lasted = began.elapsed(&rt)?;
+    let second = input.read(&mut buffer);
+    drop(client);
+    drop(output);
+    drop(log);
+    if first.is_ok() {
+        return Err(Fail::from("a read of a silent client succeeds"));
+    }
+    Ok((lasted, second.is_err()))
+}
+
+#[test]
+fn a_read_takes_as_long_as_a_call_may(rt: HostRuntime) -> Result<(), Fail> {
+    let limits = Limits {
+        call: Some(Duration::from_millis(200)),
+        session: Some(Duration::from_secs(20)),
+    };
+    let (lasted, fails_again) = failed_reads(rt, limits)?;
+    assert!(rt; lasted < Duration::from_secs(10));
+    assert!(rt; fails_again);
+    Ok(())
+}
+
+#[test]
+fn a_session_has_an_end(rt: HostRuntime) -> Result<(), Fail> {
+    let limits = Limits {
+        call: Some(Duration::from_secs(20)),
+        session: Some(Duration::from_millis(200)),
+    };
+    let (lasted, fails_again) = failed_reads(rt, limits)?;
+    assert!(rt; lasted < Duration::from_secs(10));
+    assert!(rt; fails_again);
+    Ok(())
+}
+
+#[test]
+fn no_client_is_accepted_after_the_end_of_the_input(rt: HostRuntime) -> Result<(), Fail> {
+    let (mut sockets, address) = listening(rt, NO_LIMITS, true)?;
+    let client = TcpStream::connect(&rt, address)?;
+    assert!(rt; sockets.accept().is_err());
+    assert!(rt; !sockets.has_failed());
+    drop(client);
+    Ok(())
+}
+
+#[test]
+fn a_listener_that_fails_has_failed(rt: HostRuntime) -> Result<(), Fail> {
+    let listener = TcpListener::bind(&rt, "127.0.0.1:0")?;
+    // (no client is there, so that the next call fails instead of waiting)
+    listener.set_nonblocking(true)?;
+    let stopped = Arc::new(rt.alloc(), AtomicBool::new(false))?;
+    let mut sockets = Sockets::new(rt, listener, NO_LIMITS, stopped, false);
+    assert!(rt; sockets.accept().is_err());
+    assert!(rt; sockets.has_failed());
+    Ok(())
+}
