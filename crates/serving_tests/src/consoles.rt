@@ -1,15 +1,22 @@
 //! What no clause says: that there is an answer where there is memory.
+ghost use Rattle.std.specs.Prelude.{◌≡◌, [], Some};
+ghost use Rattle.meter_console.specs.Ends.{EndsSo};
 ghost use Rattle.relay_core.specs.Opening.{IsFitOpening};
 
 use byte_streams::Monitored;
-use meter_console::console_event;
+use meter_console::{
+    Console, ConsoleEnd, Ended, EventSink, LineBuffer, Reading, Sources, console_event,
+    run_console, start,
+};
+use meter_server::{BlockSource, ButtonSource, MomentSource};
 use meter_serving::{read_head, resumed_recorder};
 use program_fault::Fault;
 use relay_core::{Event, Reply};
 use relay_recorder::{Recorder, Trace};
 use std::alloc::{AllocError, Global};
 use std::io;
-use std::io::BufReader;
+use std::io::{BufReader, ErrorKind, Read};
+use std::sync::Wait;
 use std::test::Fail;
 
 // A switch that is cut remotely, samples and a moment; and a line that stands behind them.
@@ -79,6 +86,183 @@ fn lines_bring_events(rt: HostRuntime) -> Result<(), Fail> {
     for (line, letter) in &LINES {
         assert!(rt; brought(rt.alloc(), line)? == *letter, "{line:?}");
     }
+    Ok(())
+}
+
+/// A sink that lists its events.
+#[derive(Drop)]
+struct Listing<R> {
+    rt: R,
+    events: Vec<Event>,
+}
+
+impl<R: Wait> EventSink for Listing<R> {
+    ghost use Rattle.std.specs.Prelude.{Some};
+
+    ghost taken = { λ listing. Some listing.events.items };
+
+    fn take(&mut self, event: Event) {
+        // (out of memory: the test does not go on)
+        if self.events.push(event).is_err() {
+            for _ in self.rt.forever() {}
+        }
+    }
+}
+
+impl<R> Listing<R> {
+    fn new(rt: R, alloc: Global) -> Listing<R>
+        ensures { result.events.items ≡ [] }
+    {
+        Listing {
+            rt,
+            events: Vec::new(alloc),
+        }
+    }
+
+    /// Whether the events have these letters.
+    fn has(&self, letters: &str) -> bool {
+        let mut wanted = letters.chars();
+        for event in &self.events {
+            if wanted.next() != Some(letter(event)) {
+                return false;
+            }
+        }
+        wanted.next().is_none()
+    }
+}
+
+/// Hands the events of a text to a sink that lists them: each of them, in order, if none is lost.
+fn handed<R: Wait + Eprint + Copy>(
+    alloc: Global,
+    text: &[u8],
+    buffer: LineBuffer,
+    sink: &mut Listing<R>,
+) -> ConsoleEnd
+    ensures { EndsSo text.now sink.old.events.items result (Some sink.new.events.items) }
+{
+    let mut input = text;
+    let errors = sink.rt;
+    run_console(alloc, &mut input, buffer, sink, &errors)
+}
+
+/// A text, and the letters of the events that are handed on.
+const TEXTS: [(&[u8], &str); 5] = [
+    (b"button\nsamples 1 2\nmoment 5\npairs 1 2\n", "bsms"),
+    (b"get 16 70 000060030AFF 3 0\nbuton\n\nbutton\n", "b"),
+    (b"moment 5\r\nsamples\nbutton \nbutton\n", "sb"),
+    (b"button\nmoment 5", "b"),
+    (b"", ""),
+];
+
+#[test]
+fn a_console_hands_on_the_events_of_its_lines(rt: HostRuntime) -> Result<(), Fail> {
+    for (text, letters) in &TEXTS {
+        let mut sink = Listing::new(rt, rt.alloc());
+        let end = handed(rt.alloc(), text, LineBuffer::new(rt.alloc())?, &mut sink);
+        assert!(rt; sink.has(letters), "{letters}");
+        assert!(rt; !end.has_failed() && end.lost() == 0);
+    }
+    Ok(())
+}
+
+/// Whether a line of this many bytes before its end is skipped whole, and the line after it is read.
+fn is_skipped<R: Wait + Eprint + Copy + Drop>(
+    rt: R,
+    alloc: Global,
+    count: usize,
+) -> Result<bool, AllocError> {
+    let mut text = Vec::new(alloc);
+    text.resize(count, b'x')?;
+    text.extend_from_slice(b"button\nmoment 5\n")?;
+    let mut sink = Listing::new(rt, alloc);
+    let end = handed(alloc, text.as_slice(), LineBuffer::new(alloc)?, &mut sink);
+    Ok(sink.has("m") && !end.has_failed())
+}
+
+#[test]
+fn a_long_line_is_skipped_whole(rt: HostRuntime) -> Result<(), Fail> {
+    // (with `button` and its end: 8,191, 8,192 and 8,193 bytes; and one whose 8,193rd byte begins the word)
+    for count in [8_184, 8_185, 8_186, 8_192, 100_000] {
+        assert!(rt; is_skipped(rt, rt.alloc(), count)?, "{count}");
+    }
+    Ok(())
+}
+
+/// Gives bytes, and then fails; each other read is interrupted by a signal.
+#[derive(Drop)]
+struct Failing {
+    rest: &'static [u8],
+    is_interrupted: bool,
+}
+
+impl Read for Failing {
+    fn read(&mut self, buffer: &mut [u8]) -> io::Result<usize> {
+        self.is_interrupted = !self.is_interrupted;
+        if self.is_interrupted {
+            return Err(io::Error::from(ErrorKind::Interrupted));
+        }
+        if self.rest.is_empty() {
+            return Err(io::Error::from(ErrorKind::Other));
+        }
+        self.rest.read(buffer)
+    }
+}
+
+#[test]
+fn a_failed_read_ends_the_console(rt: HostRuntime) -> Result<(), Fail> {
+    let failing = Failing {
+        rest: b"button\nmoment 5\nbut",
+        is_interrupted: false,
+    };
+    let mut input = BufReader::new(rt.alloc(), failing)?;
+    let mut sink = Listing::new(rt, rt.alloc());
+    let buffer = LineBuffer::new(rt.alloc())?;
+    let end = run_console(rt.alloc(), &mut input, buffer, &mut sink, &rt);
+    assert!(rt; sink.has("bm"));
+    assert!(rt; end.has_failed() && end.lost() == 0);
+    Ok(())
+}
+
+/// Does nothing at the end of the console.
+#[derive(Drop)]
+struct Silent;
+
+impl Ended for Silent {
+    fn console_ended(&self, _end: ConsoleEnd) {}
+}
+
+/// Whether each source gives what the three lines have, and ends.
+fn are_right<R: Wait + Drop + Send>(sources: Sources<R>) -> bool {
+    let Sources {
+        mut blocks,
+        mut moments,
+        mut presses,
+    } = sources;
+    let block = match blocks.next_block() {
+        Some(block) => block.values() == [10, 20].as_slice(),
+        None => false,
+    };
+    block
+        && blocks.next_block().is_none()
+        && moments.next_moment() == Some(5)
+        && moments.next_moment().is_none()
+        && presses.pressed()
+        && !presses.pressed()
+}
+
+#[test]
+fn each_worker_gets_its_own_events(rt: HostRuntime) -> Result<(), Fail> {
+    let (console, sources) = Console::new(&rt, rt.alloc())?;
+    let reading = Reading {
+        input: b"moment 5\nsamples 10 20\nbutton\n".as_slice(),
+        console,
+        errors: rt,
+        ended: Silent,
+    };
+    let thread = start(&rt, rt.alloc(), reading).ok_or("no thread")?;
+    assert!(rt; are_right(sources));
+    let end = thread.join(&rt);
+    assert!(rt; !end.has_failed() && end.lost() == 0);
     Ok(())
 }
 
