@@ -1,5 +1,5 @@
 use program_fault::Fault;
-use program_start::{ended, words};
+use program_start::{ended, first_fault, print_text, words};
 use std::alloc::{AllocError, Global};
 use std::process::ExitCode;
 use std::test::Fail;
@@ -48,4 +48,27 @@ fn a_program_ends_with_its_status(rt: HostRuntime) {
 #[test]
 fn a_command_line_has_words(rt: HostRuntime) {
     assert!(rt; matches!(words(&rt), Ok(words) if !words.is_empty()));
+}
+
+#[test]
+fn a_text_is_printed_whole(rt: HostRuntime) -> Result<(), Fail> {
+    let mut output = Vec::new(rt.alloc());
+    output.extend_from_slice(b"jobs 1\n")?;
+    assert!(rt; print_text(&mut output, b"jobs 2\n").is_ok());
+    assert!(rt; output.as_slice() == b"jobs 1\njobs 2\n".as_slice());
+    Ok(())
+}
+
+#[test]
+fn a_text_that_is_not_written_is_a_fault(rt: HostRuntime) {
+    let mut room = [0; 6];
+    let mut output = room.as_mut_slice();
+    assert!(rt; print_text(&mut output, b"jobs 2\n") == Err(Fault::Write));
+}
+
+#[test]
+fn the_first_fault_is_the_one(rt: HostRuntime) {
+    assert!(rt; first_fault(Ok(()), Ok(())) == Ok(()));
+    assert!(rt; first_fault(Ok(()), Err(Fault::Write)) == Err(Fault::Write));
+    assert!(rt; first_fault(Err(Fault::Memory), Err(Fault::Write)) == Err(Fault::Memory));
 }
