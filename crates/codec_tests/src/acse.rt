@@ -703,7 +703,7 @@ fn aarq_with_context(alloc: Global, length: u8) -> Result<Vec<u8>, AllocError> {
     Ok(text)
 }
 
-// Whether that AARQ is read, with a context of so many bytes.
+// Whether that AARQ is read, with a context of `length` bytes.
 fn is_context_read(alloc: Global, length: u8) -> Result<bool, AllocError> {
     let text = aarq_with_context(alloc, length)?;
     let read = read_aarq(alloc, text.as_slice());

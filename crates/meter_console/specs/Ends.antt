@@ -10,7 +10,7 @@ use Rattle.meter_console.specs.Console.{Brings, IsOwnLine}
 use Rattle.meter_console.specs.Lines.{lines_in}
 use Rattle.meter_console.specs.declared.running.ConsoleEnd.{ConsoleEnd}
 
--- each line in turn brings the next of the events, or brings none, or is lost; so many are lost
+-- each line in turn brings the next of the events, or brings none, or is lost; `lost` is the number of those
 abbrev pub Brought : List (List ℕ) → List Event → ℕ → Type 0
 Brought [] events lost = (events ≡ []) × (lost ≡ 0)
 Brought (line ∷ lines) events lost =
@@ -23,7 +23,7 @@ abbrev pub TakesFrom : List ℕ → ℕ → Option (List Event) → Option (List
 TakesFrom line lost listed taken = (before : List Event) → listed ≡ Some before
     → (events : List Event) × Brought (line ∷ []) events lost × (taken ≡ Some (before ++ events))
 
--- what the first lines of an input bring was handed on, in order, each event once; so many of these lines were lost
+-- what the first lines of an input bring was handed on, in order, each event once; `lost` of these lines were lost
 pub record HandsOn (input : List ℕ) (before : List Event) (lost : ℕ) (left : Option (List ℕ)) (taken : Option (List Event)) : Type 0 where
   pub read : List (List ℕ)
   pub rest : List ℕ

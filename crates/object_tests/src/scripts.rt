@@ -239,7 +239,7 @@ fn a_full_table_is_read_and_written_back(rt: HostRuntime) -> Result<(), Fail> {
     Ok(())
 }
 
-/// Whether a table of so many scripts of so many steps is read and written back.
+/// Whether a table of that number of scripts, each of that number of steps, is read and written back.
 fn is_read_back(alloc: Global, counts: (u8, u8)) -> Result<bool, AllocError> {
     let text = long_text(alloc, counts, (DISCONNECT, DISCONNECT))?;
     let is_so = match table(alloc, text.as_str()) {
