@@ -19,11 +19,12 @@ fn verbose<'a>(alloc: Global) -> Arg<'a> {
 }
 
 /// The option `--password`.
-fn password<'a>(alloc: Global) -> Arg<'a> {
+fn password<'a>(alloc: Global, is_required: bool) -> Arg<'a> {
     Arg::new(alloc, "password")
         .long("password")
         .value_name("TEXT")
         .help("The password of the management client, 1 to 32 bytes (else METER_PASSWORD)")
+        .required(is_required)
         .action(ArgAction::Set)
 }
 
@@ -67,12 +68,12 @@ fn progress<'a>(alloc: Global) -> Arg<'a> {
         .action(ArgAction::SetTrue)
 }
 
-/// The command that runs a campaign.
-fn run_command<'a>(alloc: Global) -> Result<Command<'a>, AllocError> {
+/// The command that runs a campaign. If the environment has no password, the command line has to give it.
+fn run_command<'a>(alloc: Global, has_password: bool) -> Result<Command<'a>, AllocError> {
     let made = Ok(Command::new(alloc, "run").about(
         "Runs the jobs on standard input, and prints the report: a line for each job, in their order",
     ));
-    let made = with_argument(made, password(alloc));
+    let made = with_argument(made, password(alloc, !has_password));
     let made = with_argument(made, workers(alloc));
     let made = with_argument(made, timeout(alloc));
     let made = with_argument(made, connect_timeout(alloc));
@@ -100,8 +101,8 @@ fn program<'a>(alloc: Global) -> Result<Command<'a>, AllocError> {
     Ok(program)
 }
 
-/// The commands of the program, as its users see them.
-pub fn command_line<'a>(alloc: Global) -> Result<Command<'a>, AllocError> {
+/// The commands of the program, as its users see them. The environment may have the password of `run`.
+pub fn command_line<'a>(alloc: Global, has_password: bool) -> Result<Command<'a>, AllocError> {
     let program = with_subcommand(program(alloc), check_command(alloc));
-    with_subcommand(program, run_command(alloc))
+    with_subcommand(program, run_command(alloc, has_password))
 }

@@ -21,6 +21,9 @@ use std::io::{IsTerminal, Write};
 use std::thread::Threads;
 use std::time::Duration;
 
+/// The variable of the environment that may have the password.
+pub(crate) const PASSWORD_VARIABLE: &str = "METER_PASSWORD";
+
 /// What the command line asks for.
 #[derive(Drop)]
 pub(crate) struct Plan {
@@ -95,7 +98,7 @@ fn password(rt: &HostRuntime, matches: &ArgMatches<'_>) -> Result<Octets, Fault>
     if let Some(text) = matches.get_str("password") {
         return judged(rt.alloc(), text);
     }
-    match env::var(rt, "METER_PASSWORD") {
+    match env::var(rt, PASSWORD_VARIABLE) {
         Ok(text) => judged(rt.alloc(), text.as_str()),
         Err(_) => Err(Fault::Input),
     }

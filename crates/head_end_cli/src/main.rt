@@ -10,7 +10,7 @@ mod telling;
 mod warnings;
 
 use crate::arguments::command_line;
-use crate::campaign::Plan;
+use crate::campaign::{PASSWORD_VARIABLE, Plan};
 use crate::telling::{input_fault, jobs_fault, tell_input, tell_jobs};
 use crate::warnings::warn;
 use byte_streams::{Counted, read_to_end_within};
@@ -20,6 +20,8 @@ use head_end::{JobsFault, TcpConnector, count_jobs, read_jobs};
 use listed::Listed;
 use program_fault::Fault;
 use program_start::{ended, print_text, without_work, words};
+use std::env;
+use std::env::VarError;
 use std::io::Read;
 use std::process::ExitCode;
 
@@ -109,7 +111,8 @@ fn begin_chosen(rt: &HostRuntime, matches: &ArgMatches<'_>) -> Result<Next, Faul
 fn begin(rt: &HostRuntime) -> Result<Next, Fault> {
     let alloc = rt.alloc();
     let words = words(rt)?;
-    let command = command_line(alloc).map_err(|_| Fault::Memory)?;
+    let has_password = !matches!(env::var(rt, PASSWORD_VARIABLE), Err(VarError::NotPresent));
+    let command = command_line(alloc, has_password).map_err(|_| Fault::Memory)?;
     match command.try_get_matches_from(words.as_slice()) {
         Ok(matches) => begin_chosen(rt, &matches),
         Err(error) => Ok(Next::Ended(without_work(rt, &error)?)),
