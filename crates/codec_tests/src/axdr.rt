@@ -401,7 +401,7 @@ fn length_size(length: usize) -> u64 {
 #[test]
 fn each_count_of_items_is_read_and_written(rt: HostRuntime) {
     for count in 0..256 {
-        let len = 1 + length_size(count) + count as u64;
+        let len = length_size(count).saturating_add(1 + count as u64);
         assert!(rt;
             is_widest(rt.alloc(), Wide::Nulls(count), len),
             "{count} items"
@@ -412,7 +412,7 @@ fn each_count_of_items_is_read_and_written(rt: HostRuntime) {
 #[test]
 fn each_length_of_a_string_is_read_and_written(rt: HostRuntime) {
     for length in 0..8_189 {
-        let len = 1 + length_size(length) + length as u64;
+        let len = length_size(length).saturating_add(1 + length as u64);
         assert!(rt;
             is_widest(rt.alloc(), Wide::String(length), len),
             "{length} bytes"

@@ -310,9 +310,15 @@ fn a_call_that_found_no_memory_can_be_repeated(rt: HostRuntime) -> Result<(), Fa
     checked
 }
 
-/// Wants a text to go out in blocks of 52 bytes, numbered from 1.
+/// A text of 8,192 bytes that goes out in blocks of 52.
+fn sending_8192(alloc: Global) -> Result<GetBlocks, AllocError> {
+    let text: [u8; 8192] = counted();
+    Ok(GetBlocks::new(Octets::from_slice(alloc, &text)?, 52))
+}
+
+/// Wants that text to go out in its blocks, numbered from 1.
 fn check_blocks(rt: &impl Abort, alloc: Global, text: &[u8]) -> Result<(), Fail> {
-    let mut sent = GetBlocks::new(Octets::from_slice(alloc, text)?, 52);
+    let mut sent = sending_8192(alloc)?;
     let mut number = 0u32;
     for raw in text.chunks(52) {
         let after = number;
