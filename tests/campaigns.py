@@ -393,26 +393,42 @@ def becomes(wanted, program, seconds=20):
     return is_running(program) == wanted
 
 
+def drain(silent):
+    """Closes the connections that wait to be accepted."""
+    silent.setblocking(False)
+    try:
+        while True:
+            silent.accept()[0].close()
+    except BlockingIOError:
+        silent.settimeout(PATIENCE)
+
+
 def a_campaign_is_stopped(name, folder):
     """A campaign whose meters never answer, ended by a signal."""
     program = folder / "head_end"
     shutil.copy(HEAD_END, program)
     path = folder / "silent"
-    with socket.create_server(("127.0.0.1", 0), backlog=1) as silent:
+    with socket.create_server(("127.0.0.1", 0)) as silent:
+        silent.settimeout(PATIENCE)
         port = silent.getsockname()[1]
         path.write_text("".join(f"job{number} 127.0.0.1:{port} disconnect\n" for number in range(2_500)))
         for signal_sent, wanted in (signal.SIGTERM, 143), (signal.SIGINT, 130):
-            made = subprocess.Popen([str(CAMPAIGN), "--program", str(program), "--jobs", "2", str(path)], stdin=subprocess.DEVNULL, stdout=subprocess.PIPE,
-                                    stderr=subprocess.PIPE, text=True, env={**os.environ, "METER_PASSWORD": PASSWORD, "PARALLEL_HOME": str(folder)})
-            begun = becomes(True, program)
-            time.sleep(1)
+            # (a file takes all warnings, where a pipe that nobody reads would hold up the campaign)
+            told = folder / "told"
+            with told.open("w") as errors:
+                made = subprocess.Popen([str(CAMPAIGN), "--program", str(program), "--jobs", "2", str(path)], stdin=subprocess.DEVNULL, stdout=subprocess.PIPE,
+                                        stderr=errors, text=True, env={**os.environ, "METER_PASSWORD": PASSWORD, "PARALLEL_HOME": str(folder)})
+            # (a part that has connected runs)
+            client, _ = silent.accept()
             made.send_signal(signal_sent)
-            text, errors = made.communicate(timeout=60)
-            errors = without_warnings(errors)
+            text, _ = made.communicate(timeout=60)
+            client.close()
+            errors = without_warnings(told.read_text())
             named = [line.split(" failed")[0] for line in own_lines(errors) if " failed" in line]
-            check(f"{name}: {signal_sent.name}", (begun, made.returncode, text) == (True, wanted, ""), made.returncode, text, errors[:500])
+            check(f"{name}: {signal_sent.name}", (made.returncode, text) == (wanted, ""), made.returncode, text, errors[:500])
             check(f"{name}: {signal_sent.name}, its parts", named == ["campaign: part 1", "campaign: part 2", "campaign: part 3"], errors[:500])
             check(f"{name}: {signal_sent.name}, no head end goes on", becomes(False, program))
+            drain(silent)
 
 
 class Shell:
