@@ -174,7 +174,7 @@ def report_of(rows):
 
 
 def without_warnings(errors):
-    """What standard error was told but for warnings: the jobs of these campaigns share names and addresses."""
+    """Standard error without its warnings: the jobs of these campaigns share names and addresses."""
     return "".join(line + "\n" for line in errors.splitlines() if ": warning: " not in line)
 
 
@@ -362,7 +362,7 @@ def a_wrong_list_sends_nothing(name, crowd, folder):
 
 
 def a_list_is_warned_of(name, crowd, folder):
-    """Warnings of the parts and of the whole list, by the numbers of its lines. The list is run all the same."""
+    """Warnings of the parts and of the whole list, by the numbers of its lines. The list is run nevertheless."""
     path = folder / "odd"
     path.write_text(f"#m1 127.0.0.1:{crowd.ports[0]} state\n" + "\n" * 999 + "m2 127.0.0.1:0 state\n" + f"#m1 127.0.0.1:{crowd.ports[0]} state\n")
     made = subprocess.run([str(CAMPAIGN), "--program", str(HEAD_END), str(path)], stdin=subprocess.DEVNULL, capture_output=True, text=True, timeout=LONGEST,

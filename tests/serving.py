@@ -401,7 +401,7 @@ def console_lines_act_beside_clients(name):
 
 
 def a_console_that_is_not_read_is_a_fault(name):
-    """A folder is no console: each read of it fails. The clients are served all the same, and the trace is printed."""
+    """A folder is no console: each read of it fails. The clients are served nevertheless, and the trace is printed."""
     folder = os.open(TOP, os.O_RDONLY)
     try:
         server = Server("--connections", "1", console_file=folder)

@@ -1,4 +1,4 @@
-//! Warnings about jobs that their writer may not mean. The list is taken as it is all the same.
+//! Warnings about jobs that their writer may not mean. A warning does not change what is run.
 use client_core::Job;
 use listed::Listed;
 use memchr::{memchr, memrchr};
