@@ -4,9 +4,9 @@
 - A link leads to a file, and to a heading or an anchor in it.
 - A path in code or prose (docs/TRACE.md, bin/build, crates/NAME/..) is one of a file or folder.
 - `CRATE::NAME` is declared in that crate's sources; a crate of the toolchain's is not looked into.
-- `CRATE/EDIT` and each name in docs/WRONG_BODIES.md's last column is an edit, or a test; its tables are what bin/wrong_page writes, so each edit stands there.
+- `CRATE/EDIT` and each name in docs/WRONG_BODIES.md's last column is an edit, or a test; its tables are what bin/wrong_page writes, so no edit is missing there.
 - A definition that docs/DEFINITIONS.md names is in a file of its row, and each file of specs/ is linked there.
-- Each crate has a README, whose example is a test that is there, or a file that the gate runs.
+- Each crate has a README, whose example is from a test that is there and has its calls, or is a file that the gate runs.
 """
 import re
 import subprocess
@@ -148,6 +148,16 @@ def examples():
         for test in re.findall(r"[Tt]ests? `(\w+)`", text):
             if test not in TESTS:
                 yield f"{name}: no test {test}"
+            else:
+                yield from (f"{name}: {test} does not call {it}" for it in missing_calls(text, test))
+
+
+def missing_calls(text, test):
+    """The calls of a README's example that the crate of its test does not make."""
+    code = re.sub(r"//.*", "", "".join(re.findall(r"(?ms)^```rust\n(.*?)^```", text)))
+    source = next(it for it in SOURCES.values() if re.search(rf"\bfn {test}\b", it))
+    calls = set(re.findall(r"\b([a-z_]\w+)\(", code)) - {"assert"}
+    return sorted(it for it in calls if not re.search(rf"\b{it}\b", source))
 
 
 def lost():
