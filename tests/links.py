@@ -4,9 +4,9 @@
 - A link leads to a file, and to a heading or an anchor in it.
 - A path in code or prose (docs/TRACE.md, bin/build, crates/NAME/..) is one of a file or folder.
 - `CRATE::NAME` is declared in that crate's sources; a crate of the toolchain's is not looked into.
-- `CRATE/EDIT` and each name in docs/WRONG_BODIES.md's last column is an edit, or a test; its tables are what bin/wrong_page writes, so each edit stands there.
-- A definition that docs/DEFINITIONS.md names stands in a file of its row; each file of specs/ stands in docs/PROMISES.md.
-- Each crate has a README, whose example is a test that is there, or a file that the gate runs.
+- `CRATE/EDIT` and each name in docs/WRONG_BODIES.md's last column is an edit, or a test; its tables are what bin/wrong_page writes, so no edit is missing there.
+- A definition that docs/DEFINITIONS.md names is in a file of its row, and each file of specs/ is linked there.
+- Each crate has a README, whose example is from a test that is there and has its calls, or is a file that the gate runs.
 """
 import re
 import subprocess
@@ -121,38 +121,19 @@ def wrong_bodies(text):
 
 
 def definitions(text):
-    files = []
+    """A row has links to its files of specs/ in the first cell, and names that these define in the second."""
     for row in text.split("\n"):
         cells = row.strip("| ").split(" | ")
-        if not row.startswith("| ") or len(cells) < 2:
+        files = [TOP / "docs" / it for it in LINK.findall(cells[0]) if it.endswith(".antt")]
+        if not row.startswith("| ") or not files:
             continue
-        names = CODE.findall(cells[1])
-        own = files_of_row(names)
-        if own or "the same file" not in cells[1]:
-            files = own
-        told = "\n".join(it.read_text() for it in files)
-        for it in names:
-            if re.fullmatch(r"[\w◌>=]+", it) and not re.search(rf"(?<![\w-]){re.escape(it)}(?![\w-])", told):
-                yield f"no definition {it} in {[str(file.relative_to(TOP)) for file in files]}"
-
-
-def files_of_row(names):
-    """The files that a row names: CRATE/specs/FILE, and FILE alone of the folder named before."""
-    found, folder = [], None
-    for it in names:
-        path = CRATES.get(it.partition("/")[0], TOP) / it.partition("/")[2]
-        if "/" in it and path.exists():
-            folder = path if path.is_dir() else path.parent
-            found += sorted(path.glob("*.antt")) if path.is_dir() else [path]
-        elif it.endswith(".antt") and folder and (folder / it).exists():
-            found.append(folder / it)
-    return found
-
-
-def definitions_back(text):
+        defined = "\n".join(it.read_text() for it in files)
+        for it in CODE.findall(cells[1]):
+            if re.fullmatch(r"[\w◌>=]+", it) and not re.search(rf"(?<![\w-]){re.escape(it)}(?![\w-])", defined):
+                yield f"no definition {it} in {[it.name for it in files]}"
     for it in sorted(TOP.glob("crates/*/specs/*.antt")):
         if it.name != "Lib.antt" and f"../{it.relative_to(TOP)})" not in text:
-            yield f"{it.relative_to(TOP)} serves no promise"
+            yield f"no link to {it.relative_to(TOP)}"
 
 
 def examples():
@@ -167,6 +148,16 @@ def examples():
         for test in re.findall(r"[Tt]ests? `(\w+)`", text):
             if test not in TESTS:
                 yield f"{name}: no test {test}"
+            else:
+                yield from (f"{name}: {test} does not call {it}" for it in missing_calls(text, test))
+
+
+def missing_calls(text, test):
+    """The calls of a README's example that the crate of its test does not make."""
+    code = re.sub(r"//.*", "", "".join(re.findall(r"(?ms)^```rust\n(.*?)^```", text)))
+    source = next(it for it in SOURCES.values() if re.search(rf"\bfn {test}\b", it))
+    calls = set(re.findall(r"\b([a-z_]\w+)\(", code)) - {"assert"}
+    return sorted(it for it in calls if not re.search(rf"\b{it}\b", source))
 
 
 def lost():
@@ -178,7 +169,6 @@ def lost():
     yield from (f"docs/A_GET.md: {it}" for it in steps((TOP / "docs" / "A_GET.md").read_text()))
     yield from (f"docs/WRONG_BODIES.md: {it}" for it in wrong_bodies((TOP / "docs" / "WRONG_BODIES.md").read_text()))
     yield from (f"docs/DEFINITIONS.md: {it}" for it in definitions((TOP / "docs" / "DEFINITIONS.md").read_text()))
-    yield from (f"docs/PROMISES.md: {it}" for it in definitions_back((TOP / "docs" / "PROMISES.md").read_text()))
     yield from examples()
 
 
