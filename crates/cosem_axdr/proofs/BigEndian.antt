@@ -6,7 +6,8 @@ use Rattle.byteorder.specs.Endian.{big_number}
 use Rattle.cosem_axdr.specs.Reading.{big_endian}
 
 -- the number in all of at most four bytes
-pub all_bytes : (bytes : List ℕ) → length bytes ≤ 4 → big_number (length bytes) bytes ≡ big_endian bytes
+pub all_bytes : (bytes : List ℕ) → length bytes ≤ 4
+    → big_number (length bytes) bytes ≡ big_endian bytes
 all_bytes [] le = refl
 all_bytes (a ∷ []) le = omega arith
 all_bytes (a ∷ b ∷ []) le = omega arith

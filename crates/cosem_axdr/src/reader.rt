@@ -1,6 +1,7 @@
 ghost use Rattle.std.specs.Prelude.{◌≡◌, length, IfOk};
 ghost use Rattle.std.specs.Int.{w16, w32, w64};
-ghost use Rattle.cosem_axdr.specs.Reading.{Reads, start, byte_at, bytes_at, length_at, string_at, unsigned_at};
+ghost use Rattle.cosem_axdr.specs.Reading.{Reads, start, byte_at, bytes_at};
+ghost use Rattle.cosem_axdr.specs.Reading.{length_at, string_at, unsigned_at};
 
 use crate::fault::DataFault;
 use crate::length::number_of;

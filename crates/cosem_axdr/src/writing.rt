@@ -1,5 +1,5 @@
 ghost use Rattle.std.specs.Prelude.{◌≡◌, ◌++◌, OnOk, OnErr};
-ghost use Rattle.std.specs.Int.{w16, w32, w64, to_be_bytes};
+ghost use Rattle.byteorder.specs.Endian.{big_bytes};
 ghost use Rattle.cosem_axdr.specs.Appending.{Extends};
 ghost use Rattle.cosem_axdr.specs.Tree.{trees_of, count_of};
 ghost use Rattle.cosem_axdr.specs.View.{tree_of, all_trees};
@@ -110,7 +110,7 @@ fn put_string(bytes: &Octets, out: &mut Octets) -> Result<(), AllocError>
 
 // Appends a number of two bytes, the highest first.
 fn put_u16(number: u16, out: &mut Octets) -> Result<(), AllocError>
-    ensures ok { OnOk result (out.new ≡ out.old ++ to_be_bytes w16 number) }
+    ensures ok { OnOk result (out.new ≡ out.old ++ big_bytes 2 number) }
     ensures unchanged_on_error { OnErr result (out.new ≡ out.old) }
 {
     let mut text = [0; 2];
@@ -120,7 +120,7 @@ fn put_u16(number: u16, out: &mut Octets) -> Result<(), AllocError>
 
 // Appends a number of four bytes, the highest first.
 fn put_u32(number: u32, out: &mut Octets) -> Result<(), AllocError>
-    ensures ok { OnOk result (out.new ≡ out.old ++ to_be_bytes w32 number) }
+    ensures ok { OnOk result (out.new ≡ out.old ++ big_bytes 4 number) }
     ensures unchanged_on_error { OnErr result (out.new ≡ out.old) }
 {
     let mut text = [0; 4];
@@ -130,7 +130,7 @@ fn put_u32(number: u32, out: &mut Octets) -> Result<(), AllocError>
 
 // Appends a number of eight bytes, the highest first.
 fn put_u64(number: u64, out: &mut Octets) -> Result<(), AllocError>
-    ensures ok { OnOk result (out.new ≡ out.old ++ to_be_bytes w64 number) }
+    ensures ok { OnOk result (out.new ≡ out.old ++ big_bytes 8 number) }
     ensures unchanged_on_error { OnErr result (out.new ≡ out.old) }
 {
     let mut text = [0; 8];
