@@ -3,19 +3,20 @@ ghost use Rattle.std.specs.Prelude.{◌≡◌, ◌≤◌, ◌++◌, length, OnOk
 ghost use Rattle.cosem_axdr.specs.Reading.{big_endian};
 ghost use Rattle.cosem_axdr.specs.Spelling.{length_text};
 
+use byteorder::{BigEndian, ByteOrder};
 use octets::Octets;
 use std::alloc::AllocError;
 
 /// The number whose bytes these are, at most four of them, the highest first.
+#[tactic(auto, using(crate::proofs::BigEndian::all_bytes))]
 pub fn number_of(bytes: &[u8]) -> usize
     requires { length bytes.now ≤ 4 }
     ensures { result ≡ big_endian bytes.now }
 {
-    let mut number = 0;
-    for byte in bytes {
-        number = number * 256 + usize::from(*byte);
+    if bytes.is_empty() {
+        return 0;
     }
-    number
+    BigEndian::read_uint(bytes, bytes.len()) as usize
 }
 
 /// Appends a length or count in its shortest form; of one of 2^32 or more its lowest four bytes. Out of
@@ -24,12 +25,23 @@ pub fn append_length(length: usize, out: &mut Octets) -> Result<(), AllocError>
     ensures ok { OnOk result (out.new ≡ out.old ++ length_text length) }
     ensures unchanged_on_error { OnErr result (out.new ≡ out.old) }
 {
-    let [.., b4, b5, b6, b7] = length.to_be_bytes();
     match length {
-        0..=0x7F => out.push(b7),
-        0x80..=0xFF => out.extend_from_slice(&[0x81, b7]),
-        0x100..=0xFFFF => out.extend_from_slice(&[0x82, b6, b7]),
-        0x1_0000..=0xFF_FFFF => out.extend_from_slice(&[0x83, b5, b6, b7]),
-        _ => out.extend_from_slice(&[0x84, b4, b5, b6, b7]),
+        0..=0x7F => out.push(length as u8),
+        0x80..=0xFF => out.extend_from_slice(&[0x81, length as u8]),
+        0x100..=0xFFFF => {
+            let mut text = [0x82, 0, 0];
+            BigEndian::write_u16(&mut text[1..], length as u16);
+            out.extend_from_slice(&text)
+        }
+        0x1_0000..=0xFF_FFFF => {
+            let mut text = [0x83, 0, 0, 0];
+            BigEndian::write_u24(&mut text[1..], length as u32);
+            out.extend_from_slice(&text)
+        }
+        _ => {
+            let mut text = [0x84, 0, 0, 0, 0];
+            BigEndian::write_u32(&mut text[1..], (length & 0xFFFF_FFFF) as u32);
+            out.extend_from_slice(&text)
+        }
     }
 }

@@ -1,9 +1,12 @@
 ghost use Rattle.std.specs.Prelude.{◌≡◌, length, IfOk};
-ghost use Rattle.cosem_axdr.specs.Reading.{Reads, start, byte_at, bytes_at, length_at, string_at};
+ghost use Rattle.std.specs.Int.{w16, w32, w64};
+ghost use Rattle.cosem_axdr.specs.Reading.{Reads, start, byte_at, bytes_at};
+ghost use Rattle.cosem_axdr.specs.Reading.{length_at, string_at, unsigned_at};
 
 use crate::fault::DataFault;
 use crate::length::number_of;
 use crate::limits::MAX_TEXT;
+use byteorder::{BigEndian, ByteOrder};
 use std::marker::Model;
 
 /// A place in bytes that are read from left to right: what is left of them, and how many of them a Data may still take.
@@ -70,6 +73,30 @@ impl<'a> Reader<'a> {
         let mut array = [0; N];
         array.copy_from_slice(self.bytes(N)?);
         Ok(array)
+    }
+
+    /// The next number of two bytes, the highest first.
+    #[tactic(auto, using(crate::proofs::BigEndian::two_bytes))]
+    pub(crate) fn read_u16(&mut self) -> Result<u16, DataFault>
+        ensures { Reads (λ number. number) result self.new (unsigned_at w16 self.old) }
+    {
+        Ok(BigEndian::read_u16(self.bytes(2)?))
+    }
+
+    /// The next number of four bytes, the highest first.
+    #[tactic(auto, using(crate::proofs::BigEndian::four_bytes))]
+    pub(crate) fn read_u32(&mut self) -> Result<u32, DataFault>
+        ensures { Reads (λ number. number) result self.new (unsigned_at w32 self.old) }
+    {
+        Ok(BigEndian::read_u32(self.bytes(4)?))
+    }
+
+    /// The next number of eight bytes, the highest first.
+    #[tactic(auto, using(crate::proofs::BigEndian::eight_bytes))]
+    pub(crate) fn read_u64(&mut self) -> Result<u64, DataFault>
+        ensures { Reads (λ number. number) result self.new (unsigned_at w64 self.old) }
+    {
+        Ok(BigEndian::read_u64(self.bytes(8)?))
     }
 
     /// A length or count: below 80 as it is, or 81 to 84 and that many bytes of it.

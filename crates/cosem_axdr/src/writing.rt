@@ -1,4 +1,5 @@
 ghost use Rattle.std.specs.Prelude.{◌≡◌, ◌++◌, OnOk, OnErr};
+ghost use Rattle.byteorder.specs.Endian.{big_bytes};
 ghost use Rattle.cosem_axdr.specs.Appending.{Extends};
 ghost use Rattle.cosem_axdr.specs.Tree.{trees_of, count_of};
 ghost use Rattle.cosem_axdr.specs.View.{tree_of, all_trees};
@@ -7,6 +8,7 @@ ghost use Rattle.cosem_axdr.specs.Spelling.{text, texts, contents_text, length_t
 use crate::length::append_length;
 use crate::tag::tag_of;
 use crate::value::Data;
+use byteorder::{BigEndian, ByteOrder};
 use octets::Octets;
 use std::alloc::{AllocError, Global};
 
@@ -64,18 +66,18 @@ fn put_contents(value: &Data, out: &mut Octets) -> Result<(), AllocError>
             append_length(*bits, out)?;
             out.extend_from_slice(bytes.as_slice())
         }
-        Data::DoubleLong(value) => out.extend_from_slice(&value.to_be_bytes()),
-        Data::DoubleLongUnsigned(value) => out.extend_from_slice(&value.to_be_bytes()),
+        Data::DoubleLong(value) => put_u32(value.cast_unsigned(), out),
+        Data::DoubleLongUnsigned(value) => put_u32(*value, out),
         Data::OctetString(bytes) => put_string(bytes, out),
         Data::VisibleString(bytes) => put_string(bytes, out),
         Data::Utf8String(bytes) => put_string(bytes, out),
-        Data::Integer(value) => out.extend_from_slice(&value.to_be_bytes()),
-        Data::Long(value) => out.extend_from_slice(&value.to_be_bytes()),
-        Data::Unsigned(value) => out.extend_from_slice(&value.to_be_bytes()),
-        Data::LongUnsigned(value) => out.extend_from_slice(&value.to_be_bytes()),
-        Data::Long64(value) => out.extend_from_slice(&value.to_be_bytes()),
-        Data::Long64Unsigned(value) => out.extend_from_slice(&value.to_be_bytes()),
-        Data::Enum(value) => out.extend_from_slice(&value.to_be_bytes()),
+        Data::Integer(value) => out.push(value.cast_unsigned()),
+        Data::Long(value) => put_u16(value.cast_unsigned(), out),
+        Data::Unsigned(value) => out.push(*value),
+        Data::LongUnsigned(value) => put_u16(*value, out),
+        Data::Long64(value) => put_u64(value.cast_unsigned(), out),
+        Data::Long64Unsigned(value) => put_u64(*value, out),
+        Data::Enum(value) => out.push(*value),
         Data::DateTime(bytes) => out.extend_from_slice(bytes),
         Data::Date(bytes) => out.extend_from_slice(bytes),
         Data::Time(bytes) => out.extend_from_slice(bytes),
@@ -104,4 +106,34 @@ fn put_string(bytes: &Octets, out: &mut Octets) -> Result<(), AllocError>
 {
     append_length(bytes.len(), out)?;
     out.extend_from_slice(bytes.as_slice())
+}
+
+// Appends a number of two bytes, the highest first.
+fn put_u16(number: u16, out: &mut Octets) -> Result<(), AllocError>
+    ensures ok { OnOk result (out.new ≡ out.old ++ big_bytes 2 number) }
+    ensures unchanged_on_error { OnErr result (out.new ≡ out.old) }
+{
+    let mut text = [0; 2];
+    BigEndian::write_u16(&mut text, number);
+    out.extend_from_slice(&text)
+}
+
+// Appends a number of four bytes, the highest first.
+fn put_u32(number: u32, out: &mut Octets) -> Result<(), AllocError>
+    ensures ok { OnOk result (out.new ≡ out.old ++ big_bytes 4 number) }
+    ensures unchanged_on_error { OnErr result (out.new ≡ out.old) }
+{
+    let mut text = [0; 4];
+    BigEndian::write_u32(&mut text, number);
+    out.extend_from_slice(&text)
+}
+
+// Appends a number of eight bytes, the highest first.
+fn put_u64(number: u64, out: &mut Octets) -> Result<(), AllocError>
+    ensures ok { OnOk result (out.new ≡ out.old ++ big_bytes 8 number) }
+    ensures unchanged_on_error { OnErr result (out.new ≡ out.old) }
+{
+    let mut text = [0; 8];
+    BigEndian::write_u64(&mut text, number);
+    out.extend_from_slice(&text)
 }

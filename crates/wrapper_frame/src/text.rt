@@ -3,7 +3,8 @@ ghost use Rattle.wrapper_frame.specs.Header.{header_size, max_payload};
 ghost use Rattle.wrapper_frame.specs.Text.{header_text, frame_text};
 
 use crate::fault::WrapperFault;
-use crate::header::{HEADER_SIZE, MAX_PAYLOAD, VERSION};
+use crate::header::{DST_AT, HEADER_SIZE, LENGTH_AT, MAX_PAYLOAD, SRC_AT, VERSION};
+use byteorder::{BigEndian, ByteOrder};
 use octets::Octets;
 use std::alloc::Global;
 
@@ -18,15 +19,13 @@ pub fn frame(alloc: Global, src: u16, dst: u16, payload: &[u8]) -> Result<Octets
         return Err(WrapperFault::TooLong);
     }
     let mut text = Vec::with_capacity(alloc, HEADER_SIZE + payload.len())?;
-    text.extend_from_slice(&VERSION.to_be_bytes())?;
-    text.extend_from_slice(&src.to_be_bytes())?;
-    text.extend_from_slice(&dst.to_be_bytes())?;
-    text.extend_from_slice(&(payload.len() as u16).to_be_bytes())?;
+    text.extend_from_slice(&header(src, dst, payload.len() as u16))?;
     text.extend_from_slice(payload)?;
     Ok(Octets::from_vec(text))
 }
 
-/// Makes a text a frame: its payload, at most 1,024 bytes, is what stands behind the first eight bytes, and its header is put in their place. It takes no memory.
+/// Turns a text into a frame: overwrites its first eight bytes with the header. The payload is the
+/// rest of the text, at most 1,024 bytes. Does not allocate.
 #[tactic(auto, unfolding(crate::specs::Text::frame_text))]
 pub fn framed(src: u16, dst: u16, text: Octets) -> Octets
     requires header { header_size ≤ length text }
@@ -47,22 +46,14 @@ fn put_header(bytes: &mut [u8], header: &[u8; HEADER_SIZE])
     bytes[..HEADER_SIZE].copy_from_slice(header);
 }
 
-// The header of a frame whose payload has so many bytes.
+// The header of a frame with a payload of `size` bytes.
 fn header(src: u16, dst: u16, size: u16) -> [u8; HEADER_SIZE]
     ensures { result ≡ header_text src dst size }
 {
-    let [version_high, version_low] = VERSION.to_be_bytes();
-    let [src_high, src_low] = src.to_be_bytes();
-    let [dst_high, dst_low] = dst.to_be_bytes();
-    let [size_high, size_low] = size.to_be_bytes();
-    [
-        version_high,
-        version_low,
-        src_high,
-        src_low,
-        dst_high,
-        dst_low,
-        size_high,
-        size_low,
-    ]
+    let mut header = [0; HEADER_SIZE];
+    BigEndian::write_u16(&mut header, VERSION);
+    BigEndian::write_u16(&mut header[SRC_AT..], src);
+    BigEndian::write_u16(&mut header[DST_AT..], dst);
+    BigEndian::write_u16(&mut header[LENGTH_AT..], size);
+    header
 }

@@ -3,10 +3,11 @@ ghost use Rattle.std.specs.Prelude.{◌≡◌};
 ghost use Rattle.xdlms_apdu.specs.Reading.{Reads, flag_at, number_at, length_at, raw_at, data_at, invoke_id_at, code_at, class_at, name_at, attribute_at, method_at, selection_at, target_at, parameter_at, block_at, result_at};
 
 use crate::block::Block;
+use crate::choice;
 use crate::fault::ApduFault;
 use crate::invoke_id::InvokeId;
-use crate::tag::choice;
 use byte_reading::Reader;
+use byteorder::{BigEndian, ByteOrder};
 use cosem_axdr::{Data, DataFault, Octets, number_of};
 use cosem_names::{AttrRef, AttributeSelection, ClassId, GetResult, MethodRef, Obis, ResultCode};
 use std::alloc::Global;
@@ -22,7 +23,7 @@ pub(crate) fn read_flag(reader: &mut Reader) -> Result<bool, ApduFault>
 pub(crate) fn read_block_number(reader: &mut Reader) -> Result<u32, ApduFault>
     ensures { Reads (λ number. number) result reader.new (number_at reader.old) }
 {
-    Ok(u32::from_be_bytes(reader.array(ApduFault::Unreadable)?))
+    Ok(BigEndian::read_u32(reader.bytes(4, ApduFault::Unreadable)?))
 }
 
 /// A length or count: below 80 as it is, or 81 to 84 and that many bytes of it.
@@ -81,7 +82,7 @@ pub(crate) fn read_code(reader: &mut Reader) -> Result<ResultCode, ApduFault>
 fn read_class(reader: &mut Reader) -> Result<ClassId, ApduFault>
     ensures { Reads (λ class. class) result reader.new (class_at reader.old) }
 {
-    Ok(ClassId(u16::from_be_bytes(reader.array(ApduFault::Unreadable)?)))
+    Ok(ClassId(BigEndian::read_u16(reader.bytes(2, ApduFault::Unreadable)?)))
 }
 
 fn read_name(reader: &mut Reader) -> Result<Obis, ApduFault>

@@ -6,8 +6,10 @@ ghost use Rattle.xdlms_apdu.specs.Heads.{head};
 ghost use Rattle.xdlms_apdu.specs.Text.{flag_text, number_text, descriptor_text, attribute_text, method_text, selection_text, target_text, parameter_text, block_text, result_text};
 
 use crate::block::Block;
+use crate::choice;
+use crate::field_value::{ABSENT, PRESENT};
 use crate::invoke_id::InvokeId;
-use crate::tag::{ABSENT, PRESENT, choice};
+use byteorder::{BigEndian, ByteOrder};
 use cosem_axdr::{Data, Octets, append_length};
 use cosem_names::{AttrRef, AttributeSelection, ClassId, GetResult, MethodRef, Obis};
 use std::alloc::AllocError;
@@ -33,7 +35,9 @@ pub(crate) fn put_number(number: u32, out: &mut Octets) -> Result<(), AllocError
     ensures ok { OnOk result (out.new ≡ out.old ++ number_text number) }
     ensures unchanged_on_error { OnErr result (out.new ≡ out.old) }
 {
-    out.extend_from_slice(&number.to_be_bytes())
+    let mut text = [0; 4];
+    BigEndian::write_u32(&mut text, number);
+    out.extend_from_slice(&text)
 }
 
 /// Bytes behind their length.
@@ -69,7 +73,9 @@ fn put_descriptor(
 ) -> Result<(), AllocError>
     ensures { OnOk result (out.new ≡ out.old ++ descriptor_text class name number) }
 {
-    out.extend_from_slice(&class.0.to_be_bytes())?;
+    let mut class_text = [0; 2];
+    BigEndian::write_u16(&mut class_text, class.0);
+    out.extend_from_slice(&class_text)?;
     out.extend_from_slice(&name.0)?;
     out.push(number)
 }
