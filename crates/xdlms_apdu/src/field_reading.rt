@@ -3,9 +3,9 @@ ghost use Rattle.std.specs.Prelude.{◌≡◌};
 ghost use Rattle.xdlms_apdu.specs.Reading.{Reads, flag_at, number_at, length_at, raw_at, data_at, invoke_id_at, code_at, class_at, name_at, attribute_at, method_at, selection_at, target_at, parameter_at, block_at, result_at};
 
 use crate::block::Block;
+use crate::choice;
 use crate::fault::ApduFault;
 use crate::invoke_id::InvokeId;
-use crate::tag::choice;
 use byte_reading::Reader;
 use cosem_axdr::{Data, DataFault, Octets, number_of};
 use cosem_names::{AttrRef, AttributeSelection, ClassId, GetResult, MethodRef, Obis, ResultCode};

@@ -6,8 +6,9 @@ ghost use Rattle.xdlms_apdu.specs.Heads.{head};
 ghost use Rattle.xdlms_apdu.specs.Text.{flag_text, number_text, descriptor_text, attribute_text, method_text, selection_text, target_text, parameter_text, block_text, result_text};
 
 use crate::block::Block;
+use crate::choice;
+use crate::field_value::{ABSENT, PRESENT};
 use crate::invoke_id::InvokeId;
-use crate::tag::{ABSENT, PRESENT, choice};
 use cosem_axdr::{Data, Octets, append_length};
 use cosem_names::{AttrRef, AttributeSelection, ClassId, GetResult, MethodRef, Obis};
 use std::alloc::AllocError;

@@ -2,9 +2,12 @@
 #![tactic(auto)]
 
 mod block;
+pub mod choice;
 mod fault;
 mod field_reading;
+mod field_value;
 mod field_writing;
+pub mod form;
 mod invoke_id;
 mod laws;
 mod list_reading;
@@ -15,7 +18,7 @@ mod request_writing;
 mod response;
 mod response_reading;
 mod response_writing;
-mod tag;
+pub mod tag;
 
 pub use block::Block;
 pub use fault::ApduFault;

@@ -11,7 +11,7 @@ use crate::field_reading::{
 };
 use crate::list_reading::read_targets;
 use crate::request::Request;
-use crate::tag;
+use crate::{form, tag};
 use byte_reading::Reader;
 use std::alloc::Global;
 
@@ -63,9 +63,9 @@ fn read_get(alloc: Global, reader: &mut Reader) -> Result<Request, ApduFault>
     ensures { Reads (λ request. request) result reader.new (get_request_at reader.old) }
 {
     match reader.byte(ApduFault::Unreadable)? {
-        tag::get_request::NORMAL => read_get_normal(alloc, reader),
-        tag::get_request::NEXT => read_get_next(reader),
-        tag::get_request::WITH_LIST => read_get_list(alloc, reader),
+        form::NORMAL => read_get_normal(alloc, reader),
+        form::get_request::NEXT => read_get_next(reader),
+        form::get_request::WITH_LIST => read_get_list(alloc, reader),
         _ => Err(ApduFault::UnknownForm),
     }
 }
@@ -103,9 +103,9 @@ fn read_set(alloc: Global, reader: &mut Reader) -> Result<Request, ApduFault>
     ensures { Reads (λ request. request) result reader.new (set_request_at reader.old) }
 {
     match reader.byte(ApduFault::Unreadable)? {
-        tag::set_request::NORMAL => read_set_normal(alloc, reader),
-        tag::set_request::WITH_FIRST_DATABLOCK => read_set_first(alloc, reader),
-        tag::set_request::WITH_DATABLOCK => read_set_next(alloc, reader),
+        form::NORMAL => read_set_normal(alloc, reader),
+        form::set_request::WITH_FIRST_DATABLOCK => read_set_first(alloc, reader),
+        form::set_request::WITH_DATABLOCK => read_set_next(alloc, reader),
         _ => Err(ApduFault::UnknownForm),
     }
 }
@@ -145,9 +145,9 @@ fn read_action(alloc: Global, reader: &mut Reader) -> Result<Request, ApduFault>
     ensures { Reads (λ request. request) result reader.new (action_request_at reader.old) }
 {
     match reader.byte(ApduFault::Unreadable)? {
-        tag::action_request::NORMAL => read_action_normal(alloc, reader),
-        tag::action_request::WITH_FIRST_PBLOCK => read_action_first(alloc, reader),
-        tag::action_request::WITH_PBLOCK => read_action_next(alloc, reader),
+        form::NORMAL => read_action_normal(alloc, reader),
+        form::action_request::WITH_FIRST_PBLOCK => read_action_first(alloc, reader),
+        form::action_request::WITH_PBLOCK => read_action_next(alloc, reader),
         _ => Err(ApduFault::UnknownForm),
     }
 }

@@ -5,11 +5,11 @@ ghost use Rattle.xdlms_apdu.specs.Text.{request_body, request_text};
 use crate::field_writing::{
     put_block, put_head, put_method, put_number, put_parameter, put_target,
 };
+use crate::form;
+use crate::form::{action_request, get_request, set_request};
 use crate::list_writing::put_targets;
 use crate::request::Request;
-use crate::tag::{
-    ACTION_REQUEST, GET_REQUEST, SET_REQUEST, action_request, get_request, set_request,
-};
+use crate::tag::{ACTION_REQUEST, GET_REQUEST, SET_REQUEST};
 use cosem_axdr::Octets;
 use std::alloc::{AllocError, Global};
 
@@ -31,13 +31,13 @@ fn put_request_head(request: &Request, out: &mut Octets) -> Result<(), AllocErro
     ensures { OnOk result (out.new ≡ out.old ++ request_head request.now) }
 {
     let (tag, form, id) = match request {
-        Request::Get { id, .. } => (GET_REQUEST, get_request::NORMAL, *id),
+        Request::Get { id, .. } => (GET_REQUEST, form::NORMAL, *id),
         Request::GetNext { id, .. } => (GET_REQUEST, get_request::NEXT, *id),
         Request::GetList { id, .. } => (GET_REQUEST, get_request::WITH_LIST, *id),
-        Request::Set { id, .. } => (SET_REQUEST, set_request::NORMAL, *id),
+        Request::Set { id, .. } => (SET_REQUEST, form::NORMAL, *id),
         Request::SetFirst { id, .. } => (SET_REQUEST, set_request::WITH_FIRST_DATABLOCK, *id),
         Request::SetNext { id, .. } => (SET_REQUEST, set_request::WITH_DATABLOCK, *id),
-        Request::Action { id, .. } => (ACTION_REQUEST, action_request::NORMAL, *id),
+        Request::Action { id, .. } => (ACTION_REQUEST, form::NORMAL, *id),
         Request::ActionFirst { id, .. } => (ACTION_REQUEST, action_request::WITH_FIRST_PBLOCK, *id),
         Request::ActionNext { id, .. } => (ACTION_REQUEST, action_request::WITH_PBLOCK, *id),
     };

@@ -9,11 +9,11 @@ use crate::fault::ApduFault;
 use crate::field_reading::{
     read_block_number, read_code, read_flag, read_invoke_id, read_raw, read_result,
 };
+use crate::field_value::{ABSENT, service_error, state_error};
 use crate::invoke_id::InvokeId;
 use crate::list_reading::read_results;
 use crate::response::{Exception, Response};
-use crate::tag;
-use crate::tag::{choice, service_error, state_error};
+use crate::{choice, form, tag};
 use byte_reading::Reader;
 use std::alloc::Global;
 
@@ -66,9 +66,9 @@ fn read_get(alloc: Global, reader: &mut Reader) -> Result<Response, ApduFault>
     ensures { Reads (λ response. response) result reader.new (get_response_at reader.old) }
 {
     match reader.byte(ApduFault::Unreadable)? {
-        tag::get_response::NORMAL => read_get_normal(alloc, reader),
-        tag::get_response::WITH_DATABLOCK => read_get_block(alloc, reader),
-        tag::get_response::WITH_LIST => read_get_list(alloc, reader),
+        form::NORMAL => read_get_normal(alloc, reader),
+        form::get_response::WITH_DATABLOCK => read_get_block(alloc, reader),
+        form::get_response::WITH_LIST => read_get_list(alloc, reader),
         _ => Err(ApduFault::UnknownForm),
     }
 }
@@ -147,9 +147,9 @@ fn read_set(reader: &mut Reader) -> Result<Response, ApduFault>
     ensures { Reads (λ response. response) result reader.new (set_response_at reader.old) }
 {
     match reader.byte(ApduFault::Unreadable)? {
-        tag::set_response::NORMAL => read_set_normal(reader),
-        tag::set_response::DATABLOCK => read_set_block(reader),
-        tag::set_response::LAST_DATABLOCK => read_set_last(reader),
+        form::NORMAL => read_set_normal(reader),
+        form::set_response::DATABLOCK => read_set_block(reader),
+        form::set_response::LAST_DATABLOCK => read_set_last(reader),
         _ => Err(ApduFault::UnknownForm),
     }
 }
@@ -188,8 +188,8 @@ fn read_action(reader: &mut Reader) -> Result<Response, ApduFault>
     ensures { Reads (λ response. response) result reader.new (action_response_at reader.old) }
 {
     match reader.byte(ApduFault::Unreadable)? {
-        tag::action_response::NORMAL => read_action_normal(reader),
-        tag::action_response::NEXT_PBLOCK => read_action_block(reader),
+        form::NORMAL => read_action_normal(reader),
+        form::action_response::NEXT_PBLOCK => read_action_block(reader),
         _ => Err(ApduFault::UnknownForm),
     }
 }
@@ -217,7 +217,7 @@ fn read_action_block(reader: &mut Reader) -> Result<Response, ApduFault>
 fn read_nothing(reader: &mut Reader) -> Result<(), ApduFault>
     ensures { Reads (λ nothing. nothing) result reader.new (nothing_at reader.old) }
 {
-    if reader.byte(ApduFault::Unreadable)? != tag::ABSENT {
+    if reader.byte(ApduFault::Unreadable)? != ABSENT {
         return Err(ApduFault::Unreadable);
     }
     Ok(())

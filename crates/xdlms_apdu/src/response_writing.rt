@@ -6,13 +6,13 @@ ghost use Rattle.xdlms_apdu.specs.Heads.{response_head};
 ghost use Rattle.xdlms_apdu.specs.Text.{exception_text, flag_text, number_text, response_body, response_text};
 
 use crate::block::Block;
+use crate::field_value::{ABSENT, service_error, state_error};
 use crate::field_writing::{put_flag, put_head, put_number, put_raw, put_result};
+use crate::form::{action_response, get_response, set_response};
 use crate::list_writing::put_results;
 use crate::response::{Exception, Response};
-use crate::tag::{
-    ABSENT, ACTION_RESPONSE, EXCEPTION_RESPONSE, GET_RESPONSE, SET_RESPONSE, action_response,
-    choice, get_response, service_error, set_response, state_error,
-};
+use crate::tag::{ACTION_RESPONSE, EXCEPTION_RESPONSE, GET_RESPONSE, SET_RESPONSE};
+use crate::{choice, form};
 use cosem_axdr::Octets;
 use cosem_names::ResultCode;
 use std::alloc::{AllocError, Global};
@@ -58,15 +58,15 @@ fn put_response_head(response: &Response, out: &mut Octets) -> Result<(), AllocE
     ensures unchanged_on_error { OnErr result (out.new ≡ out.old) }
 {
     let (tag, form, id) = match response {
-        Response::Get { id, .. } => (GET_RESPONSE, get_response::NORMAL, *id),
+        Response::Get { id, .. } => (GET_RESPONSE, form::NORMAL, *id),
         Response::GetBlock { id, .. } | Response::GetBlockRefused { id, .. } => {
             (GET_RESPONSE, get_response::WITH_DATABLOCK, *id)
         }
         Response::GetList { id, .. } => (GET_RESPONSE, get_response::WITH_LIST, *id),
-        Response::Set { id, .. } => (SET_RESPONSE, set_response::NORMAL, *id),
+        Response::Set { id, .. } => (SET_RESPONSE, form::NORMAL, *id),
         Response::SetBlock { id, .. } => (SET_RESPONSE, set_response::DATABLOCK, *id),
         Response::SetLastBlock { id, .. } => (SET_RESPONSE, set_response::LAST_DATABLOCK, *id),
-        Response::Action { id, .. } => (ACTION_RESPONSE, action_response::NORMAL, *id),
+        Response::Action { id, .. } => (ACTION_RESPONSE, form::NORMAL, *id),
         Response::ActionBlock { id, .. } => (ACTION_RESPONSE, action_response::NEXT_PBLOCK, *id),
         Response::Exception(_) => return out.push(EXCEPTION_RESPONSE),
     };
