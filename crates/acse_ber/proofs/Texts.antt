@@ -1,5 +1,5 @@
 -- The written text of an APDU that fits spells it.
-use Rattle.std.proofs.Common.{◌≡◌, ℕ, ◌+◌, ◌^◌, ◌<◌, ◌≤◌, true, Option, Some, None, List, [], ◌∷◌, ◌++◌, length, refl, sym, ap, append-nil, arith, inl, inr}
+use Rattle.std.proofs.Common.{◌≡◌, ℕ, ◌+◌, ◌/◌, ◌%◌, ◌^◌, ◌<◌, ◌≤◌, true, Option, Some, None, List, [], ◌∷◌, ◌++◌, length, refl, sym, ap, append-nil, arith, inl, inr}
 use Rattle.std.specs.Int.{w16, w32, to_be_bytes, from_be_bytes, bytes_high_first}
 use Rattle.std.proofs.lemmas.Bool.{cases_lt, lt-ltb, le-ltb}
 use Rattle.std.proofs.lemmas.List.{length-append}
@@ -154,6 +154,16 @@ aarq_spells aarq fit =
         holds = tagged_spells 0x04 aarq.user (outer_short 0x04 aarq.user (2 ^ 16) user);
       };
     }
+
+-- ---- the conformance block
+
+-- the lowest 24 bits alone count
+pub low_24_bits : (bits : ℕ) → bytes_high_first 3 (bits % 2 ^ 24) ≡ bytes_high_first 3 bits
+low_24_bits bits =
+    let high : bits % 2 ^ 24 / 65536 % 256 ≡ bits / 65536 % 256 = omega arith in
+    let middle : bits % 2 ^ 24 / 256 % 256 ≡ bits / 256 % 256 = omega arith in
+    let low : bits % 2 ^ 24 % 256 ≡ bits % 256 = omega arith in
+    rw (high, middle, low) refl
 
 -- ---- AARE
 

@@ -55,9 +55,9 @@ agreed_refuses : (level : Level) (proposal : Proposal) → Refuses (agreed level
 unfolding agreed
 agreed_refuses level proposal =
     let new = nat_le 6 proposal.version in
-    let some = not (bit_and offered proposal.conformance == 0) in
+    let some = not (bit_and offered proposal.conformance.0 == 0) in
     let long = proposal.size == 0 || nat_le 64 proposal.size in
-    let last : Result Verdict Verdict = Ok (Accepted level (bit_and offered proposal.conformance) proposal.size) in
+    let last : Result Verdict Verdict = Ok (Accepted level (bit_and offered proposal.conformance.0) proposal.size) in
     guard_refuses new (InitiateError 1) (guard some (InitiateError 2) >> (guard long (InitiateError 3) >> last)) tt
     (guard_refuses some (InitiateError 2) (guard long (InitiateError 3) >> last) tt (guard_refuses long (InitiateError 3) last tt tt))
 
@@ -94,9 +94,9 @@ agreed_level : (level : Level) (proposal : Proposal) (verdict : Verdict) → agr
 unfolding agreed
 agreed_level level proposal verdict e =
     let a = guard_ok (nat_le 6 proposal.version) (InitiateError 1) _ verdict e in
-    let b = guard_ok (not (bit_and offered proposal.conformance == 0)) (InitiateError 2) _ verdict a.1 in
+    let b = guard_ok (not (bit_and offered proposal.conformance.0 == 0)) (InitiateError 2) _ verdict a.1 in
     let c = guard_ok (proposal.size == 0 || nat_le 64 proposal.size) (InitiateError 3) _ verdict b.1 in
-    ap level_in (ok_is {F = Verdict} (Accepted level (bit_and offered proposal.conformance) proposal.size) verdict c.1)
+    ap level_in (ok_is {F = Verdict} (Accepted level (bit_and offered proposal.conformance.0) proposal.size) verdict c.1)
 
 -- the checks that an accepted one passed
 passed : (aarq : Aarq) (sap : ℕ) (password : List ℕ) (level : Level) (bits limit : ℕ) → verdict_of aarq sap password ≡ Accepted level bits limit → (level_of sap ≡ Ok level) × (authenticated level aarq password ≡ Ok tt)
@@ -155,7 +155,7 @@ only_public aarq sap password bits limit e = public_port sap (passed aarq sap pa
 -- ---- a client with the password
 
 abbrev proposed : ℕ → ℕ → Result Proposal AcseFault
-proposed bits limit = Ok (record { version = 6; conformance = bits; size = limit })
+proposed bits limit = Ok (record { version = 6; conformance = record { 0 = bits }; size = limit })
 
 proposal_is : (bits limit : ℕ) → bits < 2 ^ 24 → limit < 2 ^ 16 → proposal_of (request_text bits limit) ≡ proposed bits limit
 unfolding proposal_of proposal_at proposed_at optional_byte_at conformance_at
@@ -166,7 +166,7 @@ long_enough : (limit : ℕ) → (limit ≡ 0) ⊎ (64 ≤ limit) → (limit == 0
 long_enough limit (inl h) = rw (eq-eqb limit 0 h) refl
 long_enough limit (inr h) = rw (le-leb 64 limit h) (elim (limit == 0) as (λ b. (b || true) ≡ true) [ true ↦ refl | false ↦ refl ])
 
-agreed_is : (bits limit : ℕ) → bit_and offered bits ≢ 0 → (limit ≡ 0) ⊎ (64 ≤ limit) → agreed Management (record { version = 6; conformance = bits; size = limit }) ≡ Ok (Accepted Management (bit_and offered bits) limit)
+agreed_is : (bits limit : ℕ) → bit_and offered bits ≢ 0 → (limit ≡ 0) ⊎ (64 ≤ limit) → agreed Management (record { version = 6; conformance = record { 0 = bits }; size = limit }) ≡ Ok (Accepted Management (bit_and offered bits) limit)
 unfolding agreed
 agreed_is bits limit some long = rw (ne_eqb (bit_and offered bits) 0 some, long_enough limit long) refl
 

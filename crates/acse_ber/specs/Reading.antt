@@ -173,7 +173,7 @@ proposed_at bytes = do
   version ← byte_at bytes
   conformance ← conformance_at version.1
   size ← size_at conformance.1
-  Ok (record { version = version.0; conformance = conformance.0; size = size.0 }, size.1)
+  Ok (record { version = version.0; conformance = record { 0 = conformance.0 }; size = size.0 }, size.1)
 
 -- an InitiateRequest without a dedicated key
 unfoldable pub proposal_at : List ℕ → Read Proposal

@@ -50,9 +50,9 @@ offered = get_in_blocks + set_in_blocks + action_in_blocks + multiple_references
 unfoldable pub agreed : Level → Proposal → Result Verdict Verdict
 agreed level proposal = do
   guard (nat_le 6 proposal.version) (InitiateError 1)
-  guard (not (bit_and offered proposal.conformance == 0)) (InitiateError 2)
+  guard (not (bit_and offered proposal.conformance.0 == 0)) (InitiateError 2)
   guard (proposal.size == 0 || nat_le 64 proposal.size) (InitiateError 3)
-  Ok (Accepted level (bit_and offered proposal.conformance) proposal.size)
+  Ok (Accepted level (bit_and offered proposal.conformance.0) proposal.size)
 
 -- the checks of a client's authentication
 unfoldable pub authenticated : Level → Aarq → List ℕ → Result (Unit {0}) Verdict

@@ -10,6 +10,7 @@ use crate::field::{find_inner, find_needed, read_tagged};
 use crate::initiate::{INITIATE_ERROR_HEAD, RESPONSE_TAG, read_conformance, skip_optional_byte};
 use crate::length::{read_literal, read_size};
 use crate::tag;
+use bitflags::Flags;
 use byte_reading::Reader;
 use std::alloc::Global;
 
@@ -141,9 +142,10 @@ fn read_response(bytes: &[u8]) -> Result<Info, AcseFault>
     read_literal(&[RESPONSE_TAG], &mut reader)?;
     skip_optional_byte(&mut reader)?;
     let _version = reader.byte(AcseFault::Unreadable)?;
-    let bits = read_conformance(&mut reader)?;
+    let conformance = read_conformance(&mut reader)?;
     let limit = read_size(&mut reader)?;
     let _name = reader.bytes(2, AcseFault::Unreadable)?;
+    let bits = conformance.bits();
     reader.finish(Info::Response { bits, limit }, AcseFault::Unreadable)
 }
 

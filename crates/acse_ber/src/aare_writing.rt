@@ -5,7 +5,7 @@ use crate::aare::{Aare, Info};
 use crate::field_writing::{put_context, put_tagged, put_user};
 use crate::identifier::LN_WITHOUT_CIPHERING;
 use crate::initiate::{
-    ABSENT, CONFORMANCE_HEAD, INITIATE_ERROR_HEAD, RESPONSE_TAG, VAA_NAME, VERSION,
+    ABSENT, INITIATE_ERROR_HEAD, RESPONSE_TAG, VAA_NAME, VERSION, put_negotiated,
 };
 use crate::tag;
 use cosem_axdr::Octets;
@@ -67,9 +67,7 @@ fn put_response(alloc: Global, bits: u32, limit: u16, out: &mut Octets) -> Resul
 {
     let mut response = Octets::new(alloc);
     response.extend_from_slice(&[RESPONSE_TAG, ABSENT, VERSION])?;
-    response.extend_from_slice(&CONFORMANCE_HEAD)?;
-    response.extend_from_slice(&bits.to_be_bytes()[1..])?;
-    response.extend_from_slice(&limit.to_be_bytes())?;
+    put_negotiated(bits, limit, &mut response)?;
     response.extend_from_slice(&VAA_NAME)?;
     put_user(alloc, response.as_slice(), out)
 }

@@ -5,7 +5,7 @@ ghost use Rattle.acse_ber.specs.Text.{request_text, low_level_aarq};
 
 use crate::aarq::Aarq;
 use crate::identifier::{LN_WITHOUT_CIPHERING, LOW_LEVEL_SECURITY};
-use crate::initiate::{ABSENT, CONFORMANCE_HEAD, REQUEST_HEAD, VERSION};
+use crate::initiate::{ABSENT, REQUEST_HEAD, VERSION, put_negotiated};
 use cosem_axdr::Octets;
 use std::alloc::{AllocError, Global};
 
@@ -37,8 +37,6 @@ fn initiate_request(alloc: Global, bits: u32, limit: u16) -> Result<Octets, Allo
     let mut request = Octets::new(alloc);
     request.extend_from_slice(&REQUEST_HEAD)?;
     request.extend_from_slice(&[ABSENT, ABSENT, VERSION])?;
-    request.extend_from_slice(&CONFORMANCE_HEAD)?;
-    request.extend_from_slice(&bits.to_be_bytes()[1..])?;
-    request.extend_from_slice(&limit.to_be_bytes())?;
+    put_negotiated(bits, limit, &mut request)?;
     Ok(request)
 }

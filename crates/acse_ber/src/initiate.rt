@@ -1,11 +1,17 @@
 //! The user information of an AARQ, an InitiateRequest, and its parts that an InitiateResponse has too (IEC 62056-5-3).
-ghost use Rattle.std.specs.Prelude.{◌≡◌};
+ghost use Rattle.std.specs.Prelude.{◌≡◌, [], ◌∷◌, ◌++◌, OnOk};
+ghost use Rattle.std.specs.Int.{w16, to_be_bytes, bytes_high_first};
 ghost use Rattle.byte_reading.specs.Reading.{Reads};
 ghost use Rattle.acse_ber.specs.Reading.{Yields, optional_byte_at, conformance_at, proposed_at, proposal_of};
 
+use crate::conformance::Conformance;
 use crate::fault::AcseFault;
 use crate::length::{read_literal, read_size};
+use bitflags::Flags;
 use byte_reading::Reader;
+use byteorder::{BigEndian, ByteOrder};
+use cosem_axdr::Octets;
+use std::alloc::AllocError;
 
 /// The tag of an InitiateRequest, and no dedicated key.
 pub(crate) const REQUEST_HEAD: [u8; 2] = [0x01, 0x00];
@@ -17,7 +23,10 @@ pub(crate) const RESPONSE_TAG: u8 = 0x08;
 pub(crate) const INITIATE_ERROR_HEAD: [u8; 3] = [0x0E, 0x01, 0x06];
 
 /// The tag of a conformance block, the length of what follows and the number of its unused bits.
-pub(crate) const CONFORMANCE_HEAD: [u8; 4] = [0x5F, 0x1F, 0x04, 0x00];
+const CONFORMANCE_HEAD: [u8; 4] = [0x5F, 0x1F, 0x04, 0x00];
+
+/// How many values the 24 bits of a conformance block have.
+const CONFORMANCE_VALUES: u32 = 1 << 24;
 
 /// The DLMS version.
 pub(crate) const VERSION: u8 = 6;
@@ -35,8 +44,8 @@ const PRESENT: u8 = 1;
 pub(crate) struct Proposal {
     /// The DLMS version.
     pub(crate) version: u8,
-    /// The conformance, its first bit the highest of 24.
-    pub(crate) conformance: u32,
+    /// The conformance.
+    pub(crate) conformance: Conformance,
     /// The longest APDU that the client takes, in bytes; 0 is no limit.
     pub(crate) size: u16,
 }
@@ -86,11 +95,22 @@ pub(crate) fn skip_optional_byte(reader: &mut Reader) -> Result<(), AcseFault>
 
 /// Reads the 24 bits of a conformance block.
 #[tactic(auto, unfolding(crate::specs::Reading::conformance_at))]
-pub(crate) fn read_conformance(reader: &mut Reader) -> Result<u32, AcseFault>
-    ensures { Reads (λ bits. bits) result reader.new (conformance_at reader.old) }
+pub(crate) fn read_conformance(reader: &mut Reader) -> Result<Conformance, AcseFault>
+    ensures { Reads (λ conformance. conformance.0) result reader.new (conformance_at reader.old) }
 {
     read_literal(&CONFORMANCE_HEAD, reader)?;
-    let mut bits = [0; 4];
-    bits[1..].copy_from_slice(reader.bytes(3, AcseFault::Unreadable)?);
-    Ok(u32::from_be_bytes(bits))
+    let bits = BigEndian::read_u24(reader.bytes(3, AcseFault::Unreadable)?);
+    Ok(Conformance::from_bits_retain(bits))
+}
+
+/// Appends a conformance block and a PDU size. Of the bits the lowest 24 are written.
+#[tactic(auto, using(crate::proofs::Texts::low_24_bits))]
+pub(crate) fn put_negotiated(bits: u32, limit: u16, out: &mut Octets) -> Result<(), AllocError>
+    ensures { OnOk result (out.new ≡ out.old ++ (0x5F ∷ 0x1F ∷ 0x04 ∷ 0x00 ∷ []) ++ (bytes_high_first 3 bits ++ to_be_bytes w16 limit)) }
+{
+    let mut fields = [0; 5];
+    BigEndian::write_u24(&mut fields, bits % CONFORMANCE_VALUES);
+    BigEndian::write_u16(&mut fields[3..], limit);
+    out.extend_from_slice(&CONFORMANCE_HEAD)?;
+    out.extend_from_slice(&fields)
 }

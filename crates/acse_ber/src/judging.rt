@@ -4,9 +4,11 @@ ghost use Rattle.acse_ber.specs.Password.{IsPassword};
 ghost use Rattle.acse_ber.specs.Verdict.{is_no_mechanism, is_password, agreed, authenticated, judged, verdict_of};
 
 use crate::aarq::Aarq;
+use crate::conformance::Conformance;
 use crate::identifier::{LN_WITHOUT_CIPHERING, LOW_LEVEL_SECURITY, LOWEST_LEVEL_SECURITY};
 use crate::initiate::{Proposal, read_proposal};
 use crate::verdict::Verdict;
+use bitflags::Flags;
 use cosem_axdr::Octets;
 use cosem_names::Level;
 
@@ -40,7 +42,15 @@ mod initiate_error {
 const LOWEST_VERSION: u8 = 6;
 
 /// Block transfer with GET, SET and ACTION, multiple references, GET, SET and ACTION.
-pub const OFFERED_CONFORMANCE: u32 = 0x00_1E19;
+pub const OFFERED_CONFORMANCE: Conformance = Conformance(
+    Conformance::BLOCK_TRANSFER_WITH_GET_OR_READ.0
+        | Conformance::BLOCK_TRANSFER_WITH_SET_OR_WRITE.0
+        | Conformance::BLOCK_TRANSFER_WITH_ACTION.0
+        | Conformance::MULTIPLE_REFERENCES.0
+        | Conformance::GET.0
+        | Conformance::SET.0
+        | Conformance::ACTION.0,
+);
 
 /// The most bytes that a password, the secret of low-level security, has here.
 pub const MAX_PASSWORD: usize = 32;
@@ -144,13 +154,17 @@ fn agree(level: Level, proposal: Proposal) -> Result<Verdict, Verdict>
     if proposal.version < LOWEST_VERSION {
         return Err(Verdict::InitiateError(initiate_error::DLMS_VERSION_TOO_LOW));
     }
-    let bits = OFFERED_CONFORMANCE & proposal.conformance;
-    if bits == 0 {
+    let negotiated = OFFERED_CONFORMANCE.intersection(proposal.conformance);
+    if negotiated.is_empty() {
         return Err(Verdict::InitiateError(initiate_error::INCOMPATIBLE_CONFORMANCE));
     }
     let limit = proposal.size;
     if limit != NO_SIZE_LIMIT && limit < SHORTEST_PDU_SIZE {
         return Err(Verdict::InitiateError(initiate_error::PDU_SIZE_TOO_SHORT));
     }
-    Ok(Verdict::Accepted { level, bits, limit })
+    Ok(Verdict::Accepted {
+        level,
+        bits: negotiated.bits(),
+        limit,
+    })
 }

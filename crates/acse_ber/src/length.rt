@@ -5,12 +5,13 @@ ghost use Rattle.acse_ber.specs.Reading.{size_at, literal_at, length_at, content
 
 use crate::fault::AcseFault;
 use byte_reading::Reader;
+use byteorder::{BigEndian, ByteOrder};
 
 /// A number of two bytes.
 pub(crate) fn read_size(reader: &mut Reader) -> Result<u16, AcseFault>
     ensures { Reads (λ size. size) result reader.new (size_at reader.old) }
 {
-    Ok(u16::from_be_bytes(reader.array(AcseFault::Unreadable)?))
+    Ok(BigEndian::read_u16(reader.bytes(2, AcseFault::Unreadable)?))
 }
 
 /// These very bytes.

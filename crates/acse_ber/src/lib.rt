@@ -8,6 +8,7 @@ mod aarq;
 mod aarq_making;
 mod aarq_reading;
 mod aarq_writing;
+mod conformance;
 mod fault;
 mod field;
 mod field_writing;
@@ -27,6 +28,7 @@ pub use aarq::Aarq;
 pub use aarq_making::low_level_aarq;
 pub use aarq_reading::read_aarq;
 pub use aarq_writing::write_aarq;
+pub use conformance::Conformance;
 pub use fault::AcseFault;
 pub use judging::{MAX_PASSWORD, OFFERED_CONFORMANCE, judge};
 pub use laws::{

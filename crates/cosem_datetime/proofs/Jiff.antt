@@ -3,13 +3,13 @@ use Rattle.std.proofs.Common.{◌≡◌, ℕ, zero, suc, ◌+◌, ◌-◌, ◌<�
 use Rattle.std.proofs.lemmas.Bool.Decides.{nat_tests}
 use mir.Val.{hbits}
 use Rattle.jiff_core.specs.declared.civil.date.Date.{Date}
-use Rattle.jiff_core.specs.Date.{epoch_day, IsYmd}
+use Rattle.jiff_core.specs.Date.{epoch_day, weekday_of, IsYmd}
 use Rattle.jiff_core.proofs.DateLemmas.{civil}
 use Rattle.cosem_datetime.specs.declared.calendar.CivilDate.{CivilDate}
-use Rattle.cosem_datetime.specs.Calendar.{is_date, days_of_years, day_count, first_day, date_of_day}
+use Rattle.cosem_datetime.specs.Calendar.{is_date, days_of_years, day_count, first_day, date_of_day, weekday}
 use Rattle.cosem_datetime.proofs.Days.{IsDate, count_parts, months_same, years_more, is_day, date_from, date_true}
 use Rattle.jiff_core.specs.Calendar.{day_count as jiff_count, IsCivilDate}
-use Rattle.jiff_core.proofs.CalendarLemmas.{day_count-next_year, day_count-day_of_year, day_count-lt_year, day_count-end, days_from_civil-day_count}
+use Rattle.jiff_core.proofs.CalendarLemmas.{day_count-next_year, day_count-day_of_year, day_count-lt_year, day_count-end, days_from_civil-day_count, weekday_number-parts}
 use Rattle.jiff_core.proofs.MarchLemmas.{day_count-early}
 use Rattle.jiff_core.proofs.SignedLemmas.{signed_arith, back_small}
 
@@ -49,6 +49,18 @@ date_from_jiff date made n same e =
     let found = from_jiff date.year date.month date.day n (civil date) count in
     let fits : unsigned_abs date.year < 2 ^ hbits w16 = rw found.1.0 (omega (arith, found.1.1.0)) in
     (found.0, (back_small w16 date.year fits ∙ found.1.0, found.1.1))
+
+-- jiff's weekday of that date, which counts from 0 for Monday
+pub weekday_from_jiff : (date made : Date) (n : ℕ) → date ≡ made → epoch_day made +ℤ pos 4_371_587 ≡ pos (n + 3_652_059) → weekday_of date + 1 ≡ weekday n
+weekday_from_jiff date made n same e =
+    let day : epoch_day date +ℤ pos 4_371_587 ≡ pos (n + 3_652_059) = rw same e in
+    omega (arith, signed_arith, day, weekday_number-parts (epoch_day date))
+
+-- a number of 1 to 7 is the same as an unsigned one
+pub small_weekday : (z : ℤ) (n : ℕ) → z ≡ pos (n + 1) → n < 7 → unsigned_abs (to_z w8 (of_z w8 z)) ≡ n + 1
+small_weekday z n e h =
+    let fits : unsigned_abs z < 2 ^ hbits w8 = rw e (omega arith) in
+    rw (back_small w8 z fits, e) refl
 
 small_year : (n : ℕ) → n ≤ 9999 → to_z w16 n ≡ pos n
 small_year n h = grind (arith, nat_tests)

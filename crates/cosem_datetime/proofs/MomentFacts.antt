@@ -91,7 +91,7 @@ fits_seconds : (n : ℕ) → n < 2 ^ 62 → FitsSigned w64 (pos n -ℤ pos 63_11
 fits_seconds n h = omega (arith, signed_arith)
 
 -- the seconds as they are written, past the casts
-pub written_is : (n day second first : ℕ) → n ≡ 86400 * day + second → day ≤ 4_000_000 → second < 86400 → first ≡ 730_485 → to_z w64 (of_z w64 (to_z w64 n -ℤ pos 63_113_904_000)) ≡ pos (86400 * day + second) -ℤ pos (86400 * first)
+pub written_is : (n day second first : ℕ) → n ≡ 86400 * day + second → day ≤ 3_652_424 → second < 86400 → first ≡ 730_485 → to_z w64 (of_z w64 (to_z w64 n -ℤ pos 63_113_904_000)) ≡ pos (86400 * day + second) -ℤ pos (86400 * first)
 written_is n day second first e h k l =
     let epoch : 86400 * first ≡ 63_113_904_000 = omega arith in
     let ends : pos n -ℤ pos 63_113_904_000 ≡ pos (86400 * day + second) -ℤ pos (86400 * first) = rw (e, epoch) refl in

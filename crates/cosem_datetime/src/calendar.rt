@@ -38,12 +38,13 @@ pub fn date_of_day(day: u32) -> CivilDate
     }
 }
 
-/// The weekday of such a day, from 1 for Monday to 7 for Sunday.
+/// The weekday of such a day up to 31 December 9999, from 1 for Monday to 7 for Sunday.
 pub fn weekday(day: u32) -> u8
-    requires { day ≤ 4_000_000 }
+    requires { day ≤ 3_652_424 }
     ensures { result ≡ calendar.weekday day }
 {
-    ((day + 5) % 7 + 1) as u8
+    let date = Date::from_plain(civil::Date::from_days_since_min(day + YEAR_ZERO));
+    date.weekday().to_monday_one_offset() as u8
 }
 
 /// The days of a month.
@@ -60,7 +61,7 @@ pub fn day_of_date(date: CivilDate) -> Option<u32>
     requires month { date.month ≤ 12 }
     requires day { date.day ≤ 31 }
     ensures value { result ≡ (if calendar.is_date date then Some (calendar.day_count date) else None) }
-    ensures bound { IfSome result (λ day. day ≤ 4_000_000) }
+    ensures bound { IfSome result (λ day. day ≤ 3_652_424) }
 {
     match Date::new(date.year as i16, date.month as i8, date.day as i8) {
         Ok(date) => Some(date.to_plain().days_since_min() - YEAR_ZERO),

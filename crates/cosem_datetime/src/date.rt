@@ -8,6 +8,7 @@ ghost use Rattle.cosem_datetime.specs.Reading.{month_of, day_of, year_of, date_o
 use crate::calendar::{CivilDate, date_of_day, month_length, weekday};
 use crate::fault::PatternFault;
 use crate::field::{NOT_SPECIFIED, byte_of, field_holds, read_field};
+use byteorder::{BigEndian, ByteOrder};
 use std::marker::Model;
 
 /// The day of the month that a date names.
@@ -94,7 +95,7 @@ pub(crate) fn date_fields(bytes: &[u8]) -> Result<DatePattern, PatternFault>
     if bytes.len() != 5 {
         return Err(PatternFault::Length);
     }
-    let year = read_year(u16::from_be_bytes([bytes[0], bytes[1]]));
+    let year = read_year(BigEndian::read_u16(bytes));
     let month = read_month(bytes[2])?;
     let day = read_day(bytes[3])?;
     let weekday = read_field(bytes[4], 1, 7)?;
@@ -184,14 +185,15 @@ impl DatePattern {
         ensures bytes { result ≡ date_bytes self.now }
         ensures within { IsDateFields self.now }
     {
-        let [high, low] = self.year.unwrap_or(YEAR_NOT_SPECIFIED).to_be_bytes();
-        [
-            high,
-            low,
+        let mut bytes = [
+            0,
+            0,
             byte_of(self.month),
             self.day.byte(),
             byte_of(self.weekday),
-        ]
+        ];
+        BigEndian::write_u16(&mut bytes, self.year.unwrap_or(YEAR_NOT_SPECIFIED));
+        bytes
     }
 
     /// Whether year, month and day of the month are those of the date.
@@ -277,7 +279,7 @@ impl DatePattern {
 
     /// Whether a weekday that is given is that of the day, which is counted from 1 January of the year 0.
     pub(crate) fn weekday_holds(&self, day: u32) -> bool
-        requires { day ≤ 4_000_000 }
+        requires { day ≤ 3_652_424 }
         ensures { result ≡ holds self.now.weekday (weekday day) }
     {
         field_holds(self.weekday, u32::from(weekday(day)))

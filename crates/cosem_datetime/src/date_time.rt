@@ -1,4 +1,5 @@
-ghost use Rattle.std.specs.Prelude.{◌≡◌, ◌≢◌, ◌+◌, ◌*◌, ◌↔◌, [], ◌∷◌, length, slice_index, Ok, IsTrue, IfOk, IsErrOf};
+ghost use Rattle.std.specs.Prelude.{◌≡◌, ◌≢◌, ◌≤◌, ◌↔◌, [], ◌∷◌, length, slice_index, Ok, IsTrue, IfOk, IsErrOf};
+ghost use Rattle.byteorder.specs.Endian.{big_number};
 ghost use Rattle.cosem_datetime.specs.Fields.{DateTimeFields, IsDateTimeFields, date_time_bytes, unspecified};
 ghost use Rattle.cosem_datetime.specs.Reading.{is_season, deviation_of, date_time_of};
 
@@ -6,6 +7,7 @@ use crate::date::{DatePattern, date_fields};
 use crate::fault::PatternFault;
 use crate::field::NOT_SPECIFIED;
 use crate::time::{TimePattern, time_fields};
+use byteorder::{BigEndian, ByteOrder};
 use std::marker::Model;
 
 /// A date-time of twelve bytes: a date, a time, the deviation from local time to UTC in minutes, and the clock status.
@@ -30,10 +32,12 @@ impl Model for DateTimeField {
     ghost inverse = { λ v. record { date = v.date; time = v.time; deviation = v.deviation; status = v.status } };
 }
 
-fn read_deviation(high: u8, low: u8) -> Result<Option<i16>, PatternFault>
-    ensures { result ≡ deviation_of (high * 256 + low) }
+// The deviation in the first two bytes.
+fn read_deviation(bytes: &[u8]) -> Result<Option<i16>, PatternFault>
+    requires { 2 ≤ length bytes.now }
+    ensures { result ≡ deviation_of (big_number 2 bytes.now) }
 {
-    match i16::from_be_bytes([high, low]) {
+    match BigEndian::read_i16(bytes) {
         i16::MIN => Ok(None),
         minutes @ -720..=840 => Ok(Some(minutes)),
         _ => Err(PatternFault::Range),
@@ -49,7 +53,7 @@ fn date_time_fields(bytes: &[u8]) -> Result<DateTimeField, PatternFault>
     }
     let date = date_fields(&bytes[..5])?;
     let time = time_fields(&bytes[5..9])?;
-    let deviation = read_deviation(bytes[9], bytes[10])?;
+    let deviation = read_deviation(&bytes[9..])?;
     Ok(DateTimeField {
         date,
         time,
@@ -103,8 +107,7 @@ impl DateTimeField {
     {
         let [y1, y2, month, day, weekday] = self.date.bytes();
         let [hour, minute, second, hundredths] = self.time.bytes();
-        let [d1, d2] = self.deviation.unwrap_or(i16::MIN).to_be_bytes();
-        [
+        let mut bytes = [
             y1,
             y2,
             month,
@@ -114,9 +117,11 @@ impl DateTimeField {
             minute,
             second,
             hundredths,
-            d1,
-            d2,
+            0,
+            0,
             self.status,
-        ]
+        ];
+        BigEndian::write_i16(&mut bytes[9..], self.deviation.unwrap_or(i16::MIN));
+        bytes
     }
 }

@@ -14,7 +14,7 @@ const LAST_YEAR: u16 = 9999;
 
 /// The seconds from 1 January 2000 to a second of a day, as it is written: negative before.
 fn written_seconds(day: u32, second: u32) -> i64
-    requires day { day ≤ 4_000_000 }
+    requires day { day ≤ 3_652_424 }
     requires second { second < 86400 }
     ensures value { result ≡ pos (86400 * day + second) -ℤ pos (86400 * first_day) }
     ensures bound { IsWithin (2 ^ 40) result }
