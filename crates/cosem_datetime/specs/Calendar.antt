@@ -1,4 +1,5 @@
--- The days of the Gregorian calendar, counted from 1 January of the year 0, and the days of the week.
+-- The days of the Gregorian calendar, counted from 1 January of the year 0, and the days of the
+-- week.
 use Rattle.std.specs.Prelude.{◌≡◌, ◌==◌, ℕ, zero, suc, ◌+◌, ◌-◌, ◌%◌, Bool, not, ◌&&◌, ◌||◌, nat_le, nat_lt, IsTrue, if◌then◌else◌}
 use Rattle.cosem_datetime.specs.declared.calendar.CivilDate.{CivilDate}
 
