@@ -1,6 +1,6 @@
 -- Readers and relations that agree, and how they are combined.
---     Took, Agrees                a value that is read is spelled by the bytes read for it, and bytes
---                                 that spell a value read as it, whatever bytes follow
+--     Took, Agrees                a value that is read is spelled by the bytes read for it, and
+--                                 bytes that spell a value read as it, whatever bytes follow
 --     none_agrees .. seen_as      no bytes; a step and then others; a value made from another; the
 --                                 same relation in other words
 --     all_read, all_taken         with no bytes after the value
