@@ -31,7 +31,8 @@ pub enum ControlMode {
     /// Disconnection: remote, manual, local. Reconnection: remote (to Ready for reconnection),
     /// manual, local.
     Mode5,
-    /// Disconnection: remote, local. Reconnection: remote (to Ready for reconnection), manual, local.
+    /// Disconnection: remote, local. Reconnection: remote (to Ready for reconnection), manual,
+    /// local.
     Mode6,
 }
 

@@ -19,7 +19,7 @@ words_at test values (suc (suc (suc (suc k)))) lt = absurd (omega arith)
 lt_suc : (m n : ℕ) → nat_lt m n ≡ nat_lt (suc m) (suc n)
 lt_suc m n = grind (arith, nat_tests)
 
--- an answer is true exactly if there is a value that passes
+-- an answer is true exactly if there is a value and it passes
 answer_at : (test : ℕ → Bool) (values : List ℕ) (i : ℕ) →
     get_or (map test values) i false ≡ (nat_lt i (length values) && test (get_or values i 0))
 answer_at test [] i = grind (arith, nat_tests)

@@ -1,4 +1,4 @@
--- What an attribute's written Data reads as: the same value.
+-- An attribute that was written reads as itself.
 use Rattle.std.proofs.Common.{◌≡◌, ℕ, ◌≤◌, true, nat_le, List, [], ◌∷◌, map, length, ok_or, Result, Ok, refl, ap, ap₂, ◌∙◌, arith}
 use Rattle.std.proofs.lemmas.Bool.Decides.{nat_tests}
 use Rattle.std.proofs.lemmas.List.{length-map}

@@ -1,7 +1,7 @@
 /// What a sample fires.
 #[derive(Clone, Copy, Debug, PartialEq, Eq)]
 pub enum Fire {
-    /// No action: neither run reaches its need with this sample, or it had fired before.
+    /// No action: no run reaches its need with this sample, or it has fired already.
     Quiet,
     /// `action_over_threshold`: the value has been over the threshold for
     /// `min_over_threshold_duration`.

@@ -248,7 +248,7 @@ fn is_of_pairs(block: &mut Block) -> bool {
     has_pairs && is_scanned(block, &expected)
 }
 
-// Whether a block of no values alone has no pairs.
+// Whether an empty block of import values has no export values.
 fn is_of_values_alone(alloc: Global) -> Result<bool, BlockMade> {
     let block = Block::from_slice(alloc, &[])?;
     let has_none = block.export().is_none();
