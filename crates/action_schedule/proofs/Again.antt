@@ -1,4 +1,4 @@
--- An attribute that is written is read again.
+-- An attribute that was written reads as itself.
 use Rattle.std.proofs.Common.{◌≡◌, ℕ, true, nat_le, List, map, length, Some, ok_or, Result, Ok, Err, IfOk, refl, sym, ap, ap₂, subst, ◌∙◌, arith}
 use Rattle.std.proofs.lemmas.Bool.Decides.{nat_tests}
 use Rattle.std.proofs.lemmas.List.{length-map}
@@ -27,7 +27,7 @@ use Rattle.cosem_names.specs.declared.write_fault.WriteFault.TheVariants.{Unmatc
 use Rattle.action_schedule.specs.declared.kind.ScheduleType.{ScheduleType}
 use Rattle.action_schedule.specs.declared.kind.ScheduleType.TheVariants.{Type1, Type2, Type3, Type4, Type5}
 
--- a script that is written
+-- a written script reads as itself
 selector_again : (selector : ℕ) → selector_of (script_data (named selector)) ≡ Ok selector
 unfolding selector_of script_data
 selector_again selector = refl
@@ -40,22 +40,22 @@ type_again Type3 = refl
 type_again Type4 = refl
 type_again Type5 = refl
 
--- an entry of its parts
+-- an entry from its parts
 abbrev with_parts : List ℕ × List ℕ → Result EntryPattern WriteFault
 with_parts parts = ok_or (result_ok (time_of parts.0)) Value >>= λ time. ok_or (result_ok (date_of parts.1)) Value >>= λ date. done WriteFault (record { time = time; date = date })
 
--- an entry that is written
+-- a written entry reads as itself
 entry_again : (entry : EntryPattern) → IsEntry entry → entry_of (entry_data entry) ≡ Ok entry
 unfolding entry_of entry_data
 entry_again entry fits =
     ap (λ o. ok_or o Unmatched >>= with_parts) (entry_parts_again (time_bytes entry.time) (date_bytes entry.date) refl (five_bytes entry.date))
     ∙ ap₂ (λ t d. ok_or (result_ok t) Value >>= λ time. ok_or (result_ok d) Value >>= λ date. done WriteFault (record { time = time; date = date })) (time_again entry.time fits.time) (date_again entry.date fits.date)
 
--- entries that were judged, as they are read
+-- judged entries, read
 abbrev with_items : List Data → Result (List EntryPattern) WriteFault
 with_items items = judged_entries items >> Ok (values entry_of items)
 
--- entries that are written
+-- written entries read as themselves
 entries_again : (entries : List EntryPattern) → AreEntries entries → entries_of (entries_data entries) ≡ Ok entries
 unfolding entries_of entries_data judged_entries
 entries_again entries fits =
@@ -69,7 +69,7 @@ entries_again entries fits =
     few : nat_le (length (map entry_data entries)) max_entries ≡ true
     few = grind (arith, nat_tests, fits.few, length-map)
 
--- what was written is read again, if memory sufficed
+-- a script whose writing did not run out of memory reads as itself
 pub selector_written : {E : Type 0} (result : Result Data E) (selector : ℕ) → IfOk result (λ value. value ≡ script_data (named selector)) → IfOk result (λ value. selector_of value ≡ Ok selector)
 selector_written (Ok value) selector is = ap selector_of is ∙ selector_again selector
 selector_written (Err error) selector is = tt
@@ -83,7 +83,7 @@ pub entries_written : {E : Type 0} (result : Result Data E) (written entries : L
 entries_written (Ok value) written entries fits same is = ap entries_of is ∙ ap (λ xs. entries_of (entries_data xs)) same ∙ entries_again entries fits
 entries_written (Err error) written entries fits same is = tt
 
--- the same, of the attribute that was asked for and of the schedule that a caller sees
+-- an attribute reads as itself, given the attribute asked for and the schedule that a caller sees
 pub reads_back : {E : Type 0} (result : Result Data E) (attribute asked : ScheduleAttribute) (inside schedule : Schedule) → asked ≡ attribute → inside ≡ schedule
     → IfOk result (λ value. ReadsBack attribute value inside) → IfOk result (λ value. ReadsBack asked value schedule)
 reads_back result attribute asked inside schedule is view back =

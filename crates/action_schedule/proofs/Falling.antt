@@ -1,4 +1,4 @@
--- A schedule is due exactly where some second of its window matches one of its entries.
+-- A schedule is due exactly if some second of its window matches one of its entries.
 use Rattle.std.proofs.Common.{◌≡◌, ◌↔◌, ℕ, ◌+◌, ◌-◌, ◌<◌, ◌≤◌, Bool, true, false, ◌&&◌, ◌||◌, List, [], ◌∷◌, IsTrue, refl, sym, ap, ap₂, ◌∙◌, arith}
 use Rattle.std.specs.List.{list_any}
 use Rattle.cosem_datetime.specs.Matching.{matches, matches_in}
@@ -21,7 +21,7 @@ found_in entry after upto s late early matched =
     let same : after + 1 + (s - (after + 1)) ≡ s = omega arith in
     some_below_found (λ k. matches entry (after + 1 + k)) (upto - after) (s - (after + 1)) (omega arith) (ap (λ n. matches entry n) same ∙ matched)
 
--- what is found is such a second
+-- what is found is a second that the entry matches
 which_in : (entry : EntryPattern) (after upto : ℕ) → matches_in entry after upto ≡ true → (s : ℕ) × ((after < s) × ((s ≤ upto) × (matches entry s ≡ true)))
 unfolding matches_in
 which_in entry after upto e =
@@ -29,7 +29,7 @@ which_in entry after upto e =
     let within : which.0 < upto - after = which.1.0 in
     (after + 1 + which.0, (omega arith, (omega arith, which.1.1)))
 
--- one of two tests that hold
+-- one of two tests holds
 either : (a b : Bool) → a || b ≡ true → (P : Type 0) → (a ≡ true → P) → (b ≡ true → P) → P
 either true b e P first second = first refl
 either false b e P first second = second e
@@ -41,7 +41,7 @@ or_right false b e = e
 or_left : (a b : Bool) → a ≡ true → a || b ≡ true
 or_left a b e = ap (λ x. x || b) e
 
--- some second of the window is found in one of the entries
+-- a second of the window that one of the entries matches is found
 found_any : (entries : List EntryPattern) (after upto s : ℕ) → after < s → s ≤ upto → list_any (λ entry. matches entry s) entries ≡ true → has_match entries after upto ≡ true
 found_any [] after upto s late early e = absurd cc
 found_any (entry ∷ entries) after upto s late early e =
@@ -62,7 +62,7 @@ both : (a b : Bool) → a && b ≡ true → (a ≡ true) × (b ≡ true)
 both true b e = (refl, e)
 both false b e = absurd cc
 
--- the test says it
+-- the test returns true exactly if the schedule is due
 pub due_means : (schedule : Schedule) (previous now : ℕ) (answer : Bool) → answer ≡ is_due schedule previous now → IsTrue answer ↔ IsDue schedule previous now
 unfolding is_due
 due_means schedule previous now answer is = (there, back)

@@ -1,11 +1,11 @@
--- The parts of an entry that is written.
+-- The parts of a written entry.
 use Rattle.std.proofs.Common.{◌≡◌, ℕ, List, [], ◌∷◌, length, Option, Some, ap₂, arith}
 use Rattle.std.proofs.lemmas.Bool.Decides.{nat_tests}
 use Rattle.cosem_axdr.specs.declared.value.Data.TheVariants.{OctetString}
 use Rattle.cosem_names.specs.Forms.{◌>>=◌, so_many, structure_with}
 use Rattle.action_schedule.specs.Forms.{entry_parts_of}
 
--- so many bytes as are wanted
+-- bytes of the expected number are accepted
 so_many_again : (n : ℕ) (bytes : List ℕ) → length bytes ≡ n → so_many n bytes ≡ Some bytes
 so_many_again n bytes e = grind (arith, nat_tests, e)
 

@@ -1,10 +1,10 @@
--- Two times that are the same as they are written.
+-- Two times that are written in the same way.
 use Rattle.std.proofs.Common.{◌≡◌, ◌↔◌, ℕ, Bool, true, false, ◌&&◌, Option, Some, None, IsTrue, refl, sym, ap, ap₂, arith}
 use Rattle.std.proofs.lemmas.Bool.Decides.{nat_tests}
 use Rattle.cosem_datetime.specs.Fields.{TimeFields}
 use Rattle.action_schedule.specs.Fitting.{is_same_field, is_same_time}
 
--- a test that holds says that two fields are one
+-- fields that pass the test are equal
 field_same : (a b : Option ℕ) → is_same_field a b ≡ true → a ≡ b
 field_same None None e = refl
 field_same None (Some n) e = absurd cc
@@ -13,7 +13,7 @@ field_same (Some m) (Some n) e =
     let same : m ≡ n = grind (arith, nat_tests) in
     ap (λ k. Some k) same
 
--- one field is the same as itself
+-- equal fields pass the test
 same_field : (a b : Option ℕ) → a ≡ b → is_same_field a b ≡ true
 same_field None None e = refl
 same_field None (Some n) e = absurd cc
@@ -26,7 +26,7 @@ both : (a b : Bool) → a && b ≡ true → (a ≡ true) × (b ≡ true)
 both true b e = (refl, e)
 both false b e = absurd cc
 
--- two tests that hold together are one
+-- two tests of which each implies the other are equal
 one_test : (r s : Bool) → (r ≡ true → s ≡ true) → (s ≡ true → r ≡ true) → r ≡ s
 one_test true s there back = sym (there refl)
 one_test false true there back = back refl

@@ -1,9 +1,9 @@
--- The attributes of a schedule past its logical name, by their numbers (IEC 62056-6-2, class 22).
+-- The attributes of a schedule after its logical name, by their numbers (IEC 62056-6-2, class 22).
 use Rattle.std.specs.Prelude.{ℕ, Bool, true, false, Option, Some, None, ◌==◌, if◌then◌else◌}
 use Rattle.action_schedule.specs.declared.attribute.ScheduleAttribute.{ScheduleAttribute}
 use Rattle.action_schedule.specs.declared.attribute.ScheduleAttribute.TheVariants.{ExecutedScript, Kind, ExecutionTime}
 
--- executed_script, type and execution_time
+-- the attribute of a number: 2 executed_script, 3 type, 4 execution_time
 abbrev pub attribute_numbered : ℕ → Option ScheduleAttribute
 attribute_numbered number =
     if number == 2 then Some ExecutedScript
@@ -11,7 +11,7 @@ attribute_numbered number =
     else if number == 4 then Some ExecutionTime
     else None
 
--- an enum, so that reading it takes no memory
+-- whether an attribute is an enum, so that reading it does not allocate
 abbrev pub is_plain : ScheduleAttribute → Bool
 is_plain ExecutedScript = false
 is_plain Kind = true

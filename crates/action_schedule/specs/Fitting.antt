@@ -1,4 +1,5 @@
--- When a schedule fits its type (IEC 62056-6-2, class 22, type and execution_time), and when it is due. How far back seconds count is this meter's.
+-- When a schedule fits its type (IEC 62056-6-2, class 22, type and execution_time), and when it is
+-- due. How far back seconds count is a rule of this meter.
 use Rattle.std.specs.Prelude.{◌≡◌, ℕ, ◌-◌, ◌<◌, ◌≤◌, max, Bool, true, false, ◌&&◌, ◌==◌, List, [], ◌∷◌, length, Option, Some, None}
 use Rattle.std.specs.List.{list_any, list_all}
 use Rattle.cosem_datetime.specs.Fields.{TimeFields}
@@ -14,7 +15,7 @@ is_same_field None None = true
 is_same_field (Some m) (Some n) = m == n
 is_same_field _ _ = false
 
--- the same hour, minute and second, as they are written
+-- the same hour, minute and second, as written
 abbrev pub is_same_time : TimeFields → TimeFields → Bool
 is_same_time one other = is_same_field one.hour other.hour && (is_same_field one.minute other.minute && is_same_field one.second other.second)
 
@@ -27,7 +28,7 @@ have_one_time (entry ∷ entries) = list_all (λ other. is_same_time entry.time 
 abbrev pub have_plain_dates : List EntryPattern → Bool
 have_plain_dates entries = list_all (λ entry. is_plain entry.date) entries
 
--- the entries are such as the type wants
+-- the entries are allowed for the type
 abbrev pub fits_type : ScheduleType → List EntryPattern → Bool
 fits_type Type1 entries = length entries == 1
 fits_type Type2 entries = have_one_time entries && have_plain_dates entries
@@ -43,7 +44,8 @@ fits schedule = fits_type schedule.kind schedule.entries
 abbrev pub seconds_looked_back : ℕ
 seconds_looked_back = 86400
 
--- the moment after which seconds count: the previous one, or that a day before now
+-- the moment after which seconds count: the previous one, or the one a day before now if that is
+-- later
 abbrev pub window_start : ℕ → ℕ → ℕ
 window_start previous now = max previous (now - seconds_looked_back)
 
@@ -55,7 +57,7 @@ has_match entries after upto = list_any (λ entry. matches_in entry after upto) 
 unfoldable pub is_due : Schedule → ℕ → ℕ → Bool
 is_due schedule previous now = fits schedule && has_match schedule.entries (window_start previous now) now
 
--- what that says: it fits, and a second of the window matches one of its entries
+-- what `is_due` means: the schedule fits, and a second of the window matches one of its entries
 pub record IsDue (schedule : Schedule) (previous now : ℕ) : Type 0 where
   pub fit : fits schedule ≡ true
   pub second : ℕ

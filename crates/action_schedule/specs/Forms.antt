@@ -1,10 +1,11 @@
--- The parts of an entry as it is written (IEC 62056-6-2, class 22, execution_time): nothing where the type is another.
+-- The parts of an entry as a client writes it (IEC 62056-6-2, class 22, execution_time): nothing if
+-- a type differs.
 use Rattle.std.specs.Prelude.{ℕ, List, [], ◌∷◌, Option, Some, None}
 use Rattle.cosem_axdr.specs.declared.value.Data.{Data}
 use Rattle.cosem_axdr.specs.Forms.{structure_of}
 use Rattle.cosem_names.specs.Forms.{◌>>=◌, date_bytes_of, time_bytes_of}
 
--- an entry: a structure of a time and a date
+-- the parts of an entry: a structure of a time and a date
 abbrev entry_parts_in : List Data → Option (List ℕ × List ℕ)
 entry_parts_in (time ∷ date ∷ []) = do
   of_time ← time_bytes_of time

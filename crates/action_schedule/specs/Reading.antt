@@ -1,4 +1,6 @@
--- A Data as an attribute of a schedule (IEC 62056-6-2, class 22), or why it is refused. Another type anywhere is told before any value: that order is this meter's.
+-- What a client writes to an attribute of a schedule (IEC 62056-6-2, class 22), or why it is
+-- refused. A wrong type anywhere is reported before any wrong value: that order is a rule of this
+-- meter.
 use Rattle.std.specs.Prelude.{ℕ, nat_le, List, length, ok_or, Result, Ok}
 use Rattle.std.specs.Result.{result_ok}
 use Rattle.byte_reading.specs.Outcome.{◌>>=◌, ◌>>◌, guard}
@@ -27,7 +29,7 @@ kind_of value = do
   number ← ok_or (enumerated_of value) Unmatched
   ok_or (type_of_number number) Value
 
--- an entry of execution_time, whose time and date have no fault
+-- an entry of execution_time; each field of its time and date is in its range
 unfoldable pub entry_of : Data → Result EntryPattern WriteFault
 entry_of value = do
   parts ← ok_or (entry_parts_of value) Unmatched
@@ -35,17 +37,17 @@ entry_of value = do
   date ← ok_or (result_ok (date_of parts.1)) Value
   Ok (record { time = time; date = date })
 
--- the most entries that a schedule has
+-- the maximum number of entries of a schedule
 abbrev pub max_entries : ℕ
 max_entries = 16
 
--- the fault of the Datas of entries: there are sixteen at most
+-- the fault of entries: there are at most sixteen
 unfoldable pub judged_entries : List Data → Result (Unit {0}) WriteFault
 judged_entries items = do
   told entry_of items
   guard (nat_le (length items) max_entries) Value
 
--- execution_time: entries
+-- execution_time: the entries
 unfoldable pub entries_of : Data → Result (List EntryPattern) WriteFault
 entries_of value = do
   items ← ok_or (array_of value) Unmatched

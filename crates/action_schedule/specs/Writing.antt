@@ -1,4 +1,5 @@
--- The attributes of a schedule as they are read (IEC 62056-6-2, class 22): times and dates are octet-strings.
+-- The values of a schedule's attributes when read (IEC 62056-6-2, class 22): times and dates are
+-- octet-strings.
 use Rattle.std.specs.Prelude.{◌≡◌, List, [], ◌∷◌, map, Ok}
 use Rattle.cosem_axdr.specs.declared.value.Data.{Data}
 use Rattle.cosem_axdr.specs.declared.value.Data.TheVariants.{OctetString, Enum}
@@ -18,13 +19,13 @@ entry_data entry = structure_with (OctetString (time_bytes entry.time) ∷ Octet
 unfoldable pub entries_data : List EntryPattern → Data
 entries_data entries = array_with (map entry_data entries)
 
--- an attribute
+-- the value of an attribute
 abbrev pub data_at : ScheduleAttribute → Schedule → Data
 data_at ExecutedScript schedule = script_data (named schedule.selector)
 data_at Kind schedule = Enum (number_of schedule.kind)
 data_at ExecutionTime schedule = entries_data schedule.entries
 
--- written again, a Data gives the attribute back
+-- reading the Data returns the attribute
 abbrev pub ReadsBack : ScheduleAttribute → Data → Schedule → Type 0
 ReadsBack ExecutedScript value schedule = selector_of value ≡ Ok schedule.selector
 ReadsBack Kind value schedule = kind_of value ≡ Ok schedule.kind

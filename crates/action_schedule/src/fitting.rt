@@ -5,10 +5,10 @@ ghost use Rattle.action_schedule.specs.Fitting.{is_same_time, have_one_time, hav
 use crate::kind::ScheduleType;
 use cosem_datetime::{EntryPattern, TimePattern};
 
-/// How far back of a moment entries are looked for: a day.
+/// How many seconds before a moment entries are searched for: a day.
 pub const SECONDS_LOOKED_BACK: u32 = 86_400;
 
-/// Whether two times are the same as they are written.
+/// Whether two times are written in the same way.
 fn is_same_time(one: &TimePattern, other: &TimePattern) -> bool
     ensures { result ≡ is_same_time one.now other.now }
 {
@@ -22,7 +22,7 @@ fn have_time(time: &TimePattern, entries: &[EntryPattern]) -> bool
     entries.iter().all(|entry| is_same_time(time, &entry.time))
 }
 
-/// Whether all entries have one time.
+/// Whether all entries have the same time.
 fn have_one_time(entries: &[EntryPattern]) -> bool
     ensures { result ≡ have_one_time entries.now }
 {
@@ -39,7 +39,7 @@ fn have_plain_dates(entries: &[EntryPattern]) -> bool
     entries.iter().all(|entry| entry.date_is_plain())
 }
 
-/// Whether entries are such as a type wants.
+/// Whether entries are allowed for a type of schedule.
 pub(crate) fn fits_type(kind: ScheduleType, entries: &[EntryPattern]) -> bool
     ensures { result ≡ fits_type kind entries.now }
 {
@@ -52,7 +52,8 @@ pub(crate) fn fits_type(kind: ScheduleType, entries: &[EntryPattern]) -> bool
     }
 }
 
-/// The moment after which seconds count.
+/// Returns the moment after which seconds are searched: the previous one, but at most a day before
+/// `now`.
 pub(crate) fn window_start(previous: u32, now: u32) -> u32
     ensures { result ≡ window_start previous now }
 {

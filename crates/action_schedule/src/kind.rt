@@ -1,24 +1,25 @@
 ghost use Rattle.std.specs.Prelude.{◌≡◌};
 ghost use Rattle.action_schedule.specs.Kinds.{number_of, type_of_number};
 
-/// Attribute 3, type: how many entries a schedule has, whether their times may differ, and whether their dates may have
-/// wildcards, each a year, month or day of the month that isn't a plain number.
+/// The type of a schedule, attribute 3 (IEC 62056-6-2, class 22): how many entries it has, whether
+/// their times may differ, and whether their dates may have wildcards. A wildcard is a year, month
+/// or day of the month that is not a plain number.
 #[derive(Clone, Copy, Debug, PartialEq, Eq)]
 pub enum ScheduleType {
-    /// One entry.
+    /// 1: one entry; wildcards in its date are allowed.
     Type1,
-    /// Any number of entries of one time, without wildcards in dates.
+    /// 2: any number of entries with the same time; wildcards in dates are not allowed.
     Type2,
-    /// Any number of entries of one time.
+    /// 3: any number of entries with the same time; wildcards in dates are allowed.
     Type3,
-    /// Any number of entries, without wildcards in dates.
+    /// 4: any number of entries, whose times may differ; wildcards in dates are not allowed.
     Type4,
-    /// Any number of entries.
+    /// 5: any number of entries, whose times may differ; wildcards in dates are allowed.
     Type5,
 }
 
 impl ScheduleType {
-    /// The number of the type, as attribute 3 shows it.
+    /// Returns the number of the type, 1 to 5, as attribute 3 shows it.
     pub fn number(self) -> u8
         ensures { result ≡ number_of self }
     {
@@ -31,7 +32,7 @@ impl ScheduleType {
         }
     }
 
-    /// The type of this number, or None where it isn't 1 to 5.
+    /// Returns the type of a number, or `None` if the number is not 1 to 5.
     pub fn of_number(number: u8) -> Option<ScheduleType>
         ensures { result ≡ type_of_number number }
     {

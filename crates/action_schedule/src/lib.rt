@@ -1,8 +1,9 @@
-//! A single action schedule (IEC 62056-6-2, class 22): which script runs when, its attributes as they are written and
-//! read back, and whether it is due between two moments of the meter's clock.
+//! A single action schedule (IEC 62056-6-2, class 22): which script runs when, its attributes, read
+//! and written, and whether the schedule is due between two moments of the meter's clock.
 //!
-//! A moment is a `u32`: the seconds since 1 January 2000, 00:00:00, of the meter's own time. That a schedule has 16
-//! entries at most, and that one which doesn't fit its type is kept but never due, is this product's own.
+//! A moment is a `u32`: the seconds since 1 January 2000, 00:00:00, in the meter's own time. That a
+//! schedule has at most 16 entries, and that one that does not fit its type is kept but never due,
+//! are rules of this product.
 #![tactic(auto)]
 
 mod attribute;

@@ -13,7 +13,8 @@ use cosem_names::{NamedScript, WriteFault, judge_each};
 use listed::Listed;
 use std::alloc::{AllocError, Global};
 
-/// The selector of the script that is executed.
+/// Reads the selector of the script to run: `Unmatched` if a type differs, then `Value` if the
+/// script is of another script table.
 #[tactic(auto, unfolding(crate::specs::Reading::selector_of))]
 pub(crate) fn read_selector(value: &Data) -> Result<u16, WriteFault>
     ensures exact { result ≡ selector_of value.now }
@@ -26,7 +27,8 @@ pub(crate) fn read_selector(value: &Data) -> Result<u16, WriteFault>
     Ok(script.selector)
 }
 
-/// The type of a schedule.
+/// Reads the type of a schedule: `Unmatched` if the Data is not an enum, then `Value` if its number
+/// is not 1 to 5.
 #[tactic(auto, unfolding(crate::specs::Reading::kind_of))]
 pub(crate) fn read_kind(value: &Data) -> Result<ScheduleType, WriteFault>
     ensures exact { result ≡ kind_of value.now }
@@ -36,7 +38,8 @@ pub(crate) fn read_kind(value: &Data) -> Result<ScheduleType, WriteFault>
     ScheduleType::of_number(number).ok_or(WriteFault::Value)
 }
 
-/// An entry.
+/// Reads an entry: `Unmatched` if a type or length differs, then `Value` if a field of the time or
+/// date is out of its range.
 #[tactic(auto, unfolding(crate::specs::Reading::entry_of))]
 fn read_entry(value: &Data) -> Result<EntryPattern, WriteFault>
     ensures exact { result ≡ entry_of value.now }
@@ -48,7 +51,8 @@ fn read_entry(value: &Data) -> Result<EntryPattern, WriteFault>
     Ok(EntryPattern { time, date })
 }
 
-/// The fault of entries: another type of one is told before any other.
+/// Judges entries: `Unmatched` if any has a wrong type, then `Value` if any has a wrong value or
+/// there are more than `MAX_ENTRIES`.
 #[tactic(auto, unfolding(crate::specs::Reading::judged_entries))]
 pub(crate) fn judge_entries(items: &[Data]) -> Result<(), WriteFault>
     ensures exact { result ≡ judged_entries items.now }
@@ -62,7 +66,7 @@ pub(crate) fn judge_entries(items: &[Data]) -> Result<(), WriteFault>
     Ok(())
 }
 
-/// The entries that have no fault.
+/// Returns the entries that have no fault.
 pub(crate) fn read_entries(
     alloc: Global,
     items: &[Data],

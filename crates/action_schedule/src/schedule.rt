@@ -19,10 +19,11 @@ use std::alloc::{AllocError, Global};
 use std::marker::Model;
 use std::mem;
 
-/// The most entries that a schedule has.
+/// The maximum number of entries of a schedule.
 pub const MAX_ENTRIES: usize = 16;
 
-/// A single action schedule (IEC 62056-6-2, class 22): the script that it runs, its type and its entries.
+/// A single action schedule (IEC 62056-6-2, class 22): the script that it runs, its type and its
+/// entries.
 #[derive(Debug, Drop)]
 pub struct ActionSchedule {
     selector: u16,
@@ -41,7 +42,7 @@ impl Model for ActionSchedule {
 }
 
 impl ActionSchedule {
-    /// A schedule of type 5 with no entries, which runs the null script. It takes no memory.
+    /// Returns a schedule of type 5 without entries that runs the null script. Does not allocate.
     pub fn new(alloc: Global) -> ActionSchedule
         ensures { result ≡ new_schedule }
     {
@@ -52,7 +53,8 @@ impl ActionSchedule {
         }
     }
 
-    /// A schedule that runs the script of this selector, of this type, with no entries. It takes no memory.
+    /// Returns a schedule without entries that has this type and runs the script with this
+    /// selector. Does not allocate.
     pub fn without_entries(alloc: Global, selector: u16, kind: ScheduleType) -> ActionSchedule
         ensures { result ≡ record { selector = selector; kind = kind; entries = [] } }
     {
@@ -63,8 +65,11 @@ impl ActionSchedule {
         }
     }
 
-    /// Writes attribute 2, executed_script: a structure of the script table's logical name and a long-unsigned
-    /// selector. A script of another table isn't taken. It takes no memory. Where it is refused nothing changes.
+    /// Writes executed_script (attribute 2): a structure of the script table's logical name and a
+    /// long-unsigned selector. Does not allocate.
+    ///
+    /// Errors, judged in this order: `Unmatched` if a type differs, `Value` if the script is of
+    /// another script table. On an error nothing changes.
     pub fn set_script(&mut self, value: &Data) -> Result<(), WriteFault>
         ensures schedule { self.new ≡ with_selector (selector_of value.now) self.old }
         ensures answer { result ≡ answer_of (selector_of value.now) }
@@ -74,7 +79,8 @@ impl ActionSchedule {
         Ok(())
     }
 
-    /// Writes attribute 3, type: an enum from 1 to 5. It takes no memory. Where it is refused nothing changes.
+    /// Writes type (attribute 3): an enum, 1 to 5. Returns `Unmatched` if the Data is not an enum,
+    /// and `Value` for any other number; then nothing changes. Does not allocate.
     pub fn set_kind(&mut self, value: &Data) -> Result<(), WriteFault>
         ensures schedule { self.new ≡ with_kind (kind_of value.now) self.old }
         ensures answer { result ≡ answer_of (kind_of value.now) }
@@ -84,9 +90,12 @@ impl ActionSchedule {
         Ok(())
     }
 
-    /// Writes attribute 4, execution_time: an array of structures, each of a time and a date, these as octet-strings or
-    /// in their own types. Another type anywhere is told before any value that isn't taken: too many entries, or a time or
-    /// date out of its range. Either is told before want of memory. Where it is refused nothing changes.
+    /// Writes execution_time (attribute 4): an array of structures, each of a time and a date,
+    /// which are octet-strings or have their own types.
+    ///
+    /// Errors, judged in this order: `Unmatched` if a type differs anywhere, `Value` if there are
+    /// more than `MAX_ENTRIES` entries or a field of a time or date is out of its range, `Memory`
+    /// if out of memory. On an error nothing changes.
     #[tactic(auto, unfolding(crate::specs::Reading::entries_of))]
     pub fn set_entries(&mut self, alloc: Global, value: &Data) -> Result<(), WriteFault>
         ensures ok { IfOk result (λ _. (self.new ≡ with_entries (entries_of value.now) self.old) × IsOk (entries_of value.now)) }
@@ -101,7 +110,7 @@ impl ActionSchedule {
         Ok(())
     }
 
-    /// Trades the entries (attribute 4) of two schedules. It takes no memory.
+    /// Swaps the entries (attribute 4) of two schedules. Does not allocate.
     pub fn swap_entries(&mut self, other: &mut ActionSchedule)
         ensures own { self.new ≡ record self.old { entries = other.old.entries } }
         ensures other { other.new ≡ record other.old { entries = self.old.entries } }
@@ -109,10 +118,11 @@ impl ActionSchedule {
         mem::swap(&mut self.entries, &mut other.entries);
     }
 
-    /// An attribute as it is read. Times and dates are octet-strings. The type takes no memory.
+    /// Returns the value of an attribute as Data, as a client reads it. Times and dates are
+    /// octet-strings. The type does not allocate; the other attributes fail only if out of memory.
     pub fn to_data(&self, alloc: Global, attribute: ScheduleAttribute) -> Result<Data, AllocError>
         ensures value { IfOk result (λ value. value ≡ data_at attribute self.now) }
-        // Written again, it gives the attribute back.
+        // Reading the Data returns the attribute.
         ensures again { IfOk result (λ value. ReadsBack attribute value self.now) }
         ensures plain { IsTrue (is_plain attribute) → IsOk result }
     {
@@ -123,21 +133,21 @@ impl ActionSchedule {
         }
     }
 
-    /// The selector of the script that it runs.
+    /// Returns the selector of the script that the schedule runs.
     pub fn selector(&self) -> u16
         ensures { result ≡ self.now.selector }
     {
         self.selector
     }
 
-    /// Its type.
+    /// Returns the type.
     pub fn kind(&self) -> ScheduleType
         ensures { result ≡ self.now.kind }
     {
         self.kind
     }
 
-    /// Its entries, in order.
+    /// Returns the entries, in order.
     pub fn entries(&self) -> &[EntryPattern]
         ensures entries { result.now ≡ self.now.entries }
         ensures fit { AreEntries self.now.entries }
@@ -145,7 +155,7 @@ impl ActionSchedule {
         self.entries.as_slice()
     }
 
-    /// Whether its entries are such as its type wants.
+    /// Whether the entries are allowed for the schedule's type.
     #[tactic(auto, unfolding(crate::specs::Fitting::fits))]
     pub fn fits(&self) -> bool
         ensures { result ≡ fits self.now }
@@ -153,7 +163,7 @@ impl ActionSchedule {
         fits_type(self.kind, self.entries.as_slice())
     }
 
-    /// Whether it fits its type, and some second of the window matches one of its entries.
+    /// Whether the schedule fits its type and some second of the window matches one of its entries.
     #[tactic(auto, unfolding(crate::specs::Fitting::is_due, crate::specs::Fitting::fits))]
     fn falls_due(&self, previous: u32, now: u32) -> bool
         ensures { result ≡ is_due self.now previous now }
@@ -161,8 +171,11 @@ impl ActionSchedule {
         self.fits() && has_match(self.entries.as_slice(), window_start(previous, now), now)
     }
 
-    /// Whether it is due at the moment `now`, where the moment before was `previous`: it fits its type, and some second
-    /// after `previous` and up to `now` matches one of its entries. Seconds that are a day old or older don't count.
+    /// Whether the schedule is due at the moment `now`; `previous` is the moment before (both in
+    /// seconds since 1 January 2000).
+    ///
+    /// The schedule is due if it fits its type and some second after `previous` and up to `now`
+    /// matches one of its entries. Seconds a day or more before `now` do not count.
     pub fn due(&self, previous: u32, now: u32) -> bool
         ensures value { result ≡ is_due self.now previous now }
         ensures meaning { IsTrue result ↔ IsDue self.now previous now }
@@ -170,7 +183,7 @@ impl ActionSchedule {
         self.falls_due(previous, now)
     }
 
-    /// A copy of the schedule, in memory of its own.
+    /// Returns a copy of the schedule, or an error if out of memory.
     pub fn try_clone(&self, alloc: Global) -> Result<ActionSchedule, AllocError>
         ensures { IfOk result (λ schedule. schedule ≡ self.now) }
     {

@@ -1,4 +1,5 @@
-//! A box as its pointer and its allocator, for a struct that C keeps: no box may stand in one.
+//! A box as its pointer and its allocator, for a struct that C keeps: such a struct may not contain
+//! a box.
 #![tactic(auto)]
 
 mod parts;

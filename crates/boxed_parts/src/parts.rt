@@ -4,9 +4,11 @@ ghost use Rattle.std_alloc.specs.Box.Ownership.{box_owns};
 use std::alloc::Allocator;
 use std::marker::Model;
 
-/// What a box is made of. It owns what the box owned: the memory, and the value in it.
+/// The parts of a box. They own what the box owned: the memory, and the value in it.
 pub struct Parts<T, A: Allocator> {
+    /// The pointer to the value.
     pub ptr: *mut T,
+    /// The allocator of the memory.
     pub alloc: A,
     /// The value in the box.
     pub ghost value: { T },
@@ -17,7 +19,7 @@ impl<T, A: Allocator> Model for Parts<T, A> {
 }
 
 impl<T, A: Allocator> Parts<T, A> {
-    /// The parts of a box. It takes no memory, and moves none.
+    /// Takes a box apart. Does not allocate, and does not move the value.
     pub fn of(boxed: Box<T, A>) -> Parts<T, A>
     where
         T: Drop,
@@ -27,7 +29,7 @@ impl<T, A: Allocator> Parts<T, A> {
         Parts { ptr, alloc }
     }
 
-    /// The box again.
+    /// Puts the box together again.
     pub fn into_box(self) -> Box<T, A>
         ensures { result.value ≡ self.value }
     {

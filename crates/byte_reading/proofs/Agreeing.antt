@@ -1,8 +1,10 @@
--- Readers and relations that say the same, and how they are put together.
---     Took, Agrees                    what is read is spelled by the bytes that it takes; what is spelled is read, whatever stands behind it
---     none_agrees .. seen_as          no bytes, a step and then others, a value made of one, the same relation in other words
---     all_read, all_taken             with nothing behind it
---     byte_agrees, bytes_agrees       the next byte, the next bytes
+-- Readers and relations that agree, and how they are combined.
+--     Took, Agrees                a value that is read is spelled by the bytes read for it, and
+--                                 bytes that spell a value read as it, whatever bytes follow
+--     none_agrees .. seen_as      no bytes; a step and then others; a value made from another; the
+--                                 same relation in other words
+--     all_read, all_taken         with no bytes after the value
+--     byte_agrees, bytes_agrees   the next byte, the next bytes
 use Rattle.std.proofs.Common.{◌≡◌, ℕ, ◌≤◌, true, nat_le, List, [], ◌∷◌, ◌++◌, length, take, drop, Result, Ok, Err, refl, sym, ap, subst, ◌∙◌, append_assoc, append-nil, arith}
 use Rattle.std.proofs.lemmas.Bool.{leb-true, le-leb}
 use Rattle.std.proofs.lemmas.List.{take_at, drop_at, take-append-drop, length-append, length-take}
@@ -10,18 +12,18 @@ use Rattle.byte_reading.specs.Outcome.{◌>>=◌}
 use Rattle.byte_reading.specs.Reading.{read_as, whole_or, first_byte, first_bytes}
 use Rattle.byte_reading.proofs.OutcomeLemmas.{done, ok_is, bind_ok, guard_ok}
 
--- a value was read from the front of bytes, and its spelling is what was taken
+-- a value was read from the front of bytes, and the bytes read for it spell it
 pub record Took (X : Type 0) (Spells : X → List ℕ → Type 0) (bytes : List ℕ) (read : X × List ℕ) : Type 0 where
   pub text : List ℕ
   pub parts : bytes ≡ text ++ read.1
   pub spelled : Spells read.0 text
 
--- a reader and a relation say the same
+-- a reader and a relation agree
 pub record Agrees {F : Type 0} (X : Type 0) (read : List ℕ → Result (X × List ℕ) F) (Spells : X → List ℕ → Type 0) : Type 0 where
   pub takes : (bytes : List ℕ) (x : X × List ℕ) → read bytes ≡ Ok x → Took X Spells bytes x
   pub again : (x : X) (text rest : List ℕ) → Spells x text → read (text ++ rest) ≡ Ok (x, rest)
 
--- this value, of no bytes
+-- this value, spelled by no bytes
 abbrev pub IsNone : {X : Type 0} → X → X → List ℕ → Type 0
 IsNone none x text = (none ≡ x) × (text ≡ [])
 
@@ -31,7 +33,7 @@ none_agrees {F = F} {X = X} none = record {
   again = λ x text rest s. rw s.1 (ap (λ (z : X). done F (z, rest)) s.0);
 }
 
--- a step, and then others that depend on what it read: bytes in two parts that spell them
+-- a step, and then others that depend on what it read: two parts of the bytes spell them
 pub then_agrees : {F X Z : Type 0} (first : List ℕ → Result (X × List ℕ) F) (next : X → List ℕ → Result (Z × List ℕ) F) (P : X → List ℕ → Type 0) (Q : X → Z → List ℕ → Type 0) (S : Z → List ℕ → Type 0)
     → Agrees X first P → ((x : X) → Agrees Z (next x) (Q x))
     → ((x : X) (z : Z) (one other : List ℕ) → P x one → Q x z other → S z (one ++ other))
@@ -54,7 +56,7 @@ then_agrees first next P Q S one others to from = record {
       rw p ((others f.0).again z f.2 rest f.5);
 }
 
--- what was read, seen as a value
+-- what was read, as another value
 abbrev pub IsMade : {X Y : Type 0} → (X → Y) → (X → List ℕ → Type 0) → Y → List ℕ → Type 0
 IsMade {X = X} make P y text = (x : X) × (make x ≡ y) × P x text
 
@@ -68,26 +70,26 @@ made_agrees {F = F} {Y = Y} make field P agrees = record {
   again = λ y text rest f. rw (agrees.again f.0 text rest f.2) (ap (λ (z : Y). done F (z, rest)) f.1);
 }
 
--- the same reader, of a relation that says the same
+-- a reader agrees with a relation that is equivalent to its own
 pub seen_as : {F X : Type 0} (read : List ℕ → Result (X × List ℕ) F) (P S : X → List ℕ → Type 0) → Agrees X read P → ((x : X) (text : List ℕ) → P x text → S x text) → ((x : X) (text : List ℕ) → S x text → P x text) → Agrees X read S
 seen_as read P S agrees to from = record {
   takes = λ bytes x e. let t = agrees.takes bytes x e in record { text = t.text; parts = t.parts; spelled = to x.0 t.text t.spelled };
   again = λ x text rest s. agrees.again x text rest (from x text s);
 }
 
--- what was read whole has nothing behind it
+-- no bytes are left after a value that was read whole
 pub whole_ok : {F X : Type 0} (fault : F) (read : Result (X × List ℕ) F) (x : X) → whole_or fault read ≡ Ok x → read ≡ Ok (x, [])
 whole_ok {F = F} {X = X} fault (Ok (y, [])) x e = ap (λ (z : X). done F (z, [])) (ok_is {F = F} y x e)
 whole_ok fault (Ok (y, byte ∷ rest)) x e = absurd cc
 whole_ok fault (Err first) x e = absurd cc
 
--- what is spelled by all the bytes is read whole
+-- bytes that spell a value are read whole
 pub all_read : {F X : Type 0} (fault : F) (read : List ℕ → Result (X × List ℕ) F) (P : X → List ℕ → Type 0) → Agrees X read P → (x : X) (text : List ℕ) → P x text → whole_or fault (read text) ≡ Ok x
 all_read fault read P agrees x text s =
     let e : read text ≡ Ok (x, []) = ap read (sym (append-nil text)) ∙ agrees.again x text [] s in
     rw e refl
 
--- what is read whole is spelled by all the bytes
+-- a value that is read whole is spelled by all the bytes
 pub all_taken : {F X : Type 0} (fault : F) (read : List ℕ → Result (X × List ℕ) F) (P : X → List ℕ → Type 0) → Agrees X read P → (x : X) (bytes : List ℕ) → whole_or fault (read bytes) ≡ Ok x → P x bytes
 all_taken fault read P agrees x bytes e =
     let t = agrees.takes bytes (x, []) (whole_ok fault (read bytes) x e) in
@@ -108,7 +110,7 @@ byte_takes {F = F} fault (byte ∷ rest) x e =
 pub byte_agrees : {F : Type 0} (fault : F) → Agrees ℕ (first_byte fault) IsByte
 byte_agrees fault = record { takes = byte_takes fault; again = λ x text rest s. rw s refl }
 
--- so many bytes
+-- n bytes
 abbrev pub AreBytes : ℕ → List ℕ → List ℕ → Type 0
 AreBytes n bytes text = (length text ≡ n) × (bytes ≡ text)
 

@@ -1,13 +1,13 @@
--- What a definition that reads bytes says, and how the answer of code is compared with it.
---     ◌>>=◌, ◌>>◌     one step and then the next, the first fault ending all: what `do` notation stands for
---     guard           go on only where a test holds
---     Fails           an error of code is the fault of the definition, or memory ran out
---     Gives           an answer of code is that of the definition, memory aside
+-- The result of a definition that reads bytes, and how the result of code is compared with it.
+--     ◌>>=◌, ◌>>◌     one step and then the next, up to the first fault: what `do` notation means
+--     guard           continues only if a test holds
+--     Fails           an error of code is the fault of the definition, or it is out of memory
+--     Gives           a result of code is that of the definition, unless it is out of memory
 use Rattle.std.specs.Prelude.{◌≡◌, ◌⊎◌, Bool, true, false, Result, Ok, Err}
 
 infixl 10 ◌>>=◌
 infixl 10 ◌>>◌
--- the next step on what the first one read, or the first one's fault
+-- the next step on the value that the first one read, or the first one's fault
 abbrev pub ◌>>=◌ : {A B F : Type 0} → Result A F → (A → Result B F) → Result B F
 (Ok x) >>= next = next x
 (Err fault) >>= next = Err fault
@@ -21,11 +21,12 @@ abbrev pub guard : {F : Type 0} → Bool → F → Result (Unit {0}) F
 guard true fault = Ok tt
 guard false fault = Err fault
 
--- this error of code: memory ran out, or it is the fault that the definition gives
+-- an error of code: it is out of memory, or it is the fault that the definition gives
 abbrev pub Fails : {X F : Type 0} → F → F → Result X F → Type 0
 Fails memory error given = (error ≡ memory) ⊎ (given ≡ Err error)
 
--- what code answered, its value seen by a view, is what the definition gives, unless memory ran out
+-- the result of code, its value seen through a view, is that of the definition, unless it is out of
+-- memory
 abbrev pub Gives : {X Y F : Type 0} → F → (X → Y) → Result X F → Result Y F → Type 0
 Gives memory view (Ok x) given = given ≡ Ok (view x)
 Gives memory view (Err error) given = Fails memory error given

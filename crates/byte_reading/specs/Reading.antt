@@ -1,22 +1,25 @@
--- Reading from the front of bytes: the steps that every format has, with the fault where the bytes do not go so far.
---     Reads                           how a step of code is compared with what a definition answers: the value and the bytes behind it, or the first fault
---     read_as, whole_or               what was read seen as a value, and with nothing behind it
---     first_byte, first_bytes         a byte, bytes
+-- Reading from the front of bytes: the steps that every format has, with a fault if there are too
+-- few bytes.
+--     Reads                     how a step of code is compared with a definition: the value and the
+--                               bytes after it, or the first fault
+--     read_as, whole_or         what was read as another value; with no bytes after it
+--     first_byte, first_bytes   the next byte, the next bytes
 use Rattle.std.specs.Prelude.{◌≡◌, ℕ, nat_le, List, [], ◌∷◌, length, take, drop, Result, Ok, Err}
 use Rattle.byte_reading.specs.Outcome.{◌>>=◌, ◌>>◌, guard}
 
--- a step of code that moves on through the bytes answers as the definition does
+-- a step of code returns the value of the definition and leaves the definition's rest, or returns
+-- its fault
 abbrev pub Reads : {X Y F : Type 0} → (X → Y) → Result X F → List ℕ → Result (Y × List ℕ) F → Type 0
 Reads view (Ok x) new given = given ≡ Ok (view x, new)
 Reads view (Err fault) new given = given ≡ Err fault
 
--- what was read, seen as a value
+-- what was read, as another value
 abbrev pub read_as : {X Y F : Type 0} → (X → Y) → Result (X × List ℕ) F → Result (Y × List ℕ) F
 read_as make read = do
   x ← read
   Ok (make x.0, x.1)
 
--- what was read, if nothing stands behind it
+-- the value that was read, if no bytes are left after it
 abbrev pub whole_or : {X F : Type 0} → F → Result (X × List ℕ) F → Result X F
 whole_or fault (Err first) = Err first
 whole_or fault (Ok (x, [])) = Ok x
@@ -27,7 +30,7 @@ abbrev pub first_byte : {F : Type 0} → F → List ℕ → Result (ℕ × List 
 first_byte fault [] = Err fault
 first_byte fault (byte ∷ rest) = Ok (byte, rest)
 
--- the next bytes, wanted all at once
+-- the next n bytes, or the fault if there are fewer
 abbrev pub first_bytes : {F : Type 0} → F → ℕ → List ℕ → Result (List ℕ × List ℕ) F
 first_bytes fault n bytes = do
   guard (nat_le n (length bytes)) fault

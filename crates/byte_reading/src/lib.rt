@@ -1,7 +1,9 @@
-//! The reader of bytes that the formats of this repository share, and the words in which their readers say what they answer.
+//! The reader of bytes that the formats of this repository share, and the definitions in which
+//! their readers are specified.
 //!
-//! A format is read by a definition on lists, in `do` notation over `Result`, whose faults come in the order in which the bytes are wanted. The code's answer is
-//! then compared with that of the definition, memory aside. `specs/` has the words, and `proofs/` what is known of them.
+//! A format is read by a definition on lists, in `do` notation over `Result`. Its faults are
+//! ordered as the bytes are read. The code returns what the definition does, unless it is out of
+//! memory. `specs/` has the definitions, and `proofs/` their lemmas.
 #![tactic(auto)]
 
 mod owned;

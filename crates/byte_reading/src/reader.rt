@@ -3,7 +3,8 @@ ghost use Rattle.byte_reading.specs.Reading.{Reads, whole_or, first_byte, first_
 
 use std::marker::Model;
 
-/// What is left of bytes that are read from left to right. A step that finds too few of them answers the fault that it is given.
+/// The rest of some bytes that are read from left to right. A step that finds too few bytes returns
+/// the fault that its caller passes.
 #[derive(Drop)]
 pub struct Reader<'a> {
     rest: &'a [u8],
@@ -18,14 +19,14 @@ impl<'a> Model for Reader<'a> {
 }
 
 impl<'a> Reader<'a> {
-    /// At the front of bytes.
+    /// Returns a reader at the front of `bytes`.
     pub fn new(bytes: &'a [u8]) -> Self
         ensures { result ≡ bytes.now }
     {
         Reader { rest: bytes }
     }
 
-    /// What is left.
+    /// Returns the bytes that are not yet read.
     pub fn rest(&self) -> &'a [u8]
         ensures { result.now ≡ self.now }
     {
@@ -33,14 +34,14 @@ impl<'a> Reader<'a> {
         rest
     }
 
-    /// Whether nothing is left.
+    /// Whether all bytes are read.
     pub fn is_empty(&self) -> bool
         ensures { IsTrue result ↔ (self.now ≡ []) }
     {
         self.rest.is_empty()
     }
 
-    /// The value that was read, if nothing stands behind it.
+    /// Returns `value` if all bytes are read, else `fault`.
     pub fn finish<T: Drop, F: Copy>(&self, value: T, fault: F) -> Result<T, F>
         ensures { result ≡ whole_or fault (Ok (value, self.now)) }
     {
@@ -51,7 +52,7 @@ impl<'a> Reader<'a> {
         }
     }
 
-    /// The next byte.
+    /// Reads the next byte, or returns `fault` if there is none.
     pub fn byte<F: Copy>(&mut self, fault: F) -> Result<u8, F>
         ensures { Reads (λ byte. byte) result self.new (first_byte fault self.old) }
     {
@@ -62,7 +63,7 @@ impl<'a> Reader<'a> {
         Ok(*byte)
     }
 
-    /// The next bytes, wanted all at once.
+    /// Reads the next `count` bytes. Returns `fault` and reads nothing if there are fewer.
     pub fn bytes<F: Copy>(&mut self, count: usize, fault: F) -> Result<&'a [u8], F>
         ensures read { Reads (λ bytes. bytes.now) result self.new (first_bytes fault count self.old) }
         ensures len { IfOk result (λ bytes. length bytes.now ≡ count) }
@@ -75,7 +76,7 @@ impl<'a> Reader<'a> {
         Ok(bytes)
     }
 
-    /// The next `N` bytes.
+    /// Reads the next `N` bytes. Returns `fault` and reads nothing if there are fewer.
     pub fn array<const N: usize, F: Copy>(&mut self, fault: F) -> Result<[u8; N], F>
         ensures { Reads (λ bytes. bytes) result self.new (first_bytes fault N self.old) }
     {

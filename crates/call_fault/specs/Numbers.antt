@@ -1,4 +1,4 @@
--- The number of each fault.
+-- The numbers of the faults.
 use Rattle.std.specs.Prelude.{ℕ}
 use Rattle.call_fault.specs.declared.fault.CallFault.{CallFault}
 use Rattle.call_fault.specs.declared.fault.CallFault.TheVariants as fault

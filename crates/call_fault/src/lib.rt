@@ -1,4 +1,4 @@
-//! Why a call was refused: one of a lock, or one of a meter that has none.
+//! Why a call of a lock, or of a meter without a lock, was refused.
 #![tactic(auto)]
 
 mod fault;

@@ -1,4 +1,4 @@
--- Each day of the calendar has one date, and jiff's day counts are the project's.
+-- Each day of the calendar has one date, and jiff's day counts are those of the definitions.
 use Rattle.std.proofs.Common.{◌≡◌, ℕ, zero, suc, ◌+◌, ◌-◌, ◌<◌, ◌≤◌, inl, inr, Bool, true, false, refl, sym, ap, ◌∙◌, arith, cond, pos}
 use Rattle.std.specs.Prelude.{IsTrue, nat_lt}
 use Rattle.std.proofs.lemmas.Bool.{cases_order}
@@ -8,7 +8,7 @@ use Rattle.cosem_datetime.specs.Calendar.{year_length, month_length, days_of_yea
 use Rattle.jiff_core.specs.Calendar as jiff
 use Rattle.jiff_core.proofs.CalendarLemmas.{days_of_months_all}
 
--- what a test of a date says
+-- the parts of a date that the calendar has
 pub record IsDate (c : CivilDate) : Type 0 where
   pub month : (1 ≤ c.month) × (c.month ≤ 12)
   pub day : (1 ≤ c.day) × (c.day ≤ month_length c.year c.month)
@@ -25,7 +25,7 @@ month_bounds y m = grind arith
 pub year_bounds : (y : ℕ) → 365 ≤ year_length y
 year_bounds y = grind arith
 
--- one more month has its days more
+-- the days of n months are those of n - 1 months and of the month n
 pub months_more : (y m : ℕ) → 1 ≤ m → days_of_months y m ≡ days_of_months y (m - 1) + month_length y m
 unfolding days_of_months
 months_more y zero h = absurd (omega arith)
@@ -52,7 +52,7 @@ pub count_parts : (c : CivilDate) → day_count c ≡ days_of_years c.year + day
 unfolding day_count
 count_parts c = refl
 
--- the day after is a date of the calendar
+-- the day after a date of the calendar is a date of the calendar
 pub next_is_date : (c : CivilDate) → IsDate c → IsDate (next_date c)
 next_is_date c h =
     grind (arith, nat_tests, h.month, h.day, month_bounds c.year c.month, month_bounds c.year (c.month + 1), month_bounds (c.year + 1) 1)
@@ -84,7 +84,7 @@ next_year_count y d k e =
     let next : y + 1 ≡ suc y = omega arith in
     rw next (omega (arith, months_none (suc y), years_more y, months_all y, months_more y 12 (omega arith)))
 
--- and one day later
+-- the day after is one day later
 pub next_count : (c : CivilDate) → IsDate c → day_count (next_date c) ≡ suc (day_count c)
 next_count c h =
     at_if (λ n. day_count n ≡ suc (day_count c)) (nat_lt c.day (month_length c.year c.month)) _ _
@@ -116,7 +116,7 @@ months_add y m (suc k) =
     let back : suc k + m - 1 ≡ k + m = omega arith in
     omega (arith, months_add y m k, rw back at (months_more y (suc k + m) (omega arith)))
 
--- a date lies before the end of its month
+-- a date is before the end of its month
 month_end : (c : CivilDate) → IsDate c → day_count c < days_of_years c.year + days_of_months c.year c.month
 month_end c h = omega (arith, count_parts c, months_more c.year c.month h.month.0, h.day.0, h.day.1)
 
@@ -131,17 +131,17 @@ years_to y later h =
     let same : later - y + y ≡ later = omega arith in
     rw same at (years_add y (later - y))
 
--- and before the end of its year
+-- a date is before the end of its year
 pub year_end : (c : CivilDate) → IsDate c → day_count c < days_of_years (suc c.year)
 year_end c h =
     omega (arith, month_end c h, months_to c.year c.month 12 h.month.1, months_all c.year, years_more c.year)
 
--- a date of a later year comes later
+-- a date of a later year is later
 year_before : (a b : CivilDate) → IsDate a → IsDate b → a.year < b.year → day_count a < day_count b
 year_before a b h k lt =
     omega (arith, year_end a h, years_to (suc a.year) b.year (omega arith), count_parts b)
 
--- and of a later month of the same year
+-- a date of a later month of the same year is later
 month_before : (a b : CivilDate) → IsDate a → IsDate b → a.year ≡ b.year → a.month < b.month → day_count a < day_count b
 month_before a b h k e lt =
     let later = months_to b.year a.month (b.month - 1) (omega arith) in
@@ -151,7 +151,7 @@ month_before a b h k e lt =
 same_parts : (y m d y₂ m₂ d₂ : ℕ) → y ≡ y₂ → m ≡ m₂ → d ≡ d₂ → ◌≡◌ {A = CivilDate} (record { year = y; month = m; day = d }) (record { year = y₂; month = m₂; day = d₂ })
 same_parts y m d y₂ m₂ d₂ e f g = rw (e, f, g)
 
--- of two dates one has the smaller year, month or day, or they are one
+-- dates with the same count are the same
 same_date : (a b : CivilDate) → IsDate a → IsDate b → day_count a ≡ day_count b → a ≡ b
 same_date a b h k e =
     elim (cases_order a.year b.year) [
@@ -167,7 +167,7 @@ same_date a b h k e =
       ]
     ]
 
--- a date is day n exactly where it is the date of day n
+-- a date is day n exactly if it is the date of day n
 pub is_day : (n : ℕ) (c : CivilDate) → (IsDay n c → c ≡ date_of_day n) × (c ≡ date_of_day n → IsDay n c)
 is_day n c =
     let here = date_of_day_is n in (

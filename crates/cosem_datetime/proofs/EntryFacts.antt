@@ -1,4 +1,4 @@
--- Seconds of days, joined to seconds of the meter's time.
+-- Seconds of a day as seconds of the meter's time.
 use Rattle.std.proofs.Common.{◌≡◌, ℕ, ◌+◌, ◌-◌, ◌*◌, ◌/◌, ◌%◌, ◌<◌, ◌≤◌, Bool, true, false, refl, sym, ap, ◌∙◌, arith}
 use Rattle.std.specs.Prelude.{◌&&◌, nat_lt}
 use Rattle.std.proofs.lemmas.Bool.Decides.{nat_tests}
@@ -8,7 +8,7 @@ use Rattle.cosem_datetime.specs.First.{TellsPassing}
 use Rattle.cosem_datetime.proofs.Jiff.{first_day_is}
 use Rattle.cosem_datetime.proofs.SomeFacts.{none_below_zero, some_below_found, none_below_each}
 
--- a second of a day, by its day and its place there
+-- a second of the meter's time, by its day and its second of the day
 pub matches_at : (entry : EntryPattern) (day s n : ℕ) → n ≡ 86400 * day + s → s < 86400 → matches entry n ≡ date_matches entry.date (730_485 + day) && time_matches entry.time s
 unfolding matches
 matches_at entry day s n e h =
@@ -22,7 +22,7 @@ false_and a b e = rw e refl
 and_same : (a b c : Bool) → a ≡ true → b ≡ c → a && b ≡ c
 and_same a b c e f = rw (e, f) refl
 
--- a day that the date doesn't match
+-- on a day that the date does not match, no second matches
 pub day_fails : (entry : EntryPattern) (day from to : ℕ) → to < 86400 → date_matches entry.date (730_485 + day) ≡ false → TellsPassing (matches entry) (86400 * day + from) (86400 * day + to) false
 day_fails entry day from to h e = record {
   found = λ f. absurd cc;
@@ -30,7 +30,7 @@ day_fails entry day from to h e = record {
       matches_at entry day (n - 86400 * day) n (omega arith) (omega arith) ∙ false_and _ _ e;
 }
 
--- a day that it matches
+-- on a day that the date matches, the time decides
 pub day_tells : (entry : EntryPattern) (day from to : ℕ) (answer : Bool) → to < 86400 → date_matches entry.date (730_485 + day) ≡ true → TellsPassing (time_matches entry.time) from to answer → TellsPassing (matches entry) (86400 * day + from) (86400 * day + to) answer
 day_tells entry day from to answer h e told = record {
   found = λ f.
@@ -51,7 +51,7 @@ tells_in entry after upto true told =
 tells_in entry after upto false told =
     sym (none_below_each _ (upto - after) (λ k lt. told.none refl (after + 1 + k) (omega arith) (omega arith)))
 
--- no second lies in an empty interval
+-- no second is in an empty interval
 pub none_in : (entry : EntryPattern) (after upto : ℕ) → upto ≤ after → nat_lt after upto ≡ matches_in entry after upto
 unfolding matches_in
 none_in entry after upto h =

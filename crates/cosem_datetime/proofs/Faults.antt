@@ -1,4 +1,4 @@
--- Which fault reading gives.
+-- Which fault reading returns.
 use Rattle.std.proofs.Common.{◌≡◌, ◌≢◌, ℕ, ◌⊎◌, inl, inr, Bool, true, false, cond, List, length, Result, Ok, Err, refl, ◌∙◌, arith}
 use Rattle.std.specs.Prelude.{◌==◌, IsTrue, IfOk, slice_index, slice_range}
 use Rattle.std.specs.Int.{w16, from_be_bytes}
@@ -30,7 +30,7 @@ chosen : {A : Type 0} (b : Bool) (x y z : A) → cond b x y ≡ z → ((b ≡ tr
 chosen true x y z e = inl (refl, e)
 chosen false x y z e = inr (refl, e)
 
--- a test of the length comes first
+-- the length is tested first
 guard_err : {A : Type 0} (m n : ℕ) (r : Result A PatternFault) (f : PatternFault) → cond (m == n) r (Err Length) ≡ Err f → ((m ≢ n) × (f ≡ Length)) ⊎ ((m ≡ n) × (r ≡ Err f))
 guard_err m n r f e =
     elim (chosen (m == n) r (Err Length) (Err f) e) [
@@ -82,7 +82,7 @@ date_faults bytes f e =
       )
     ]
 
--- a date has another length exactly where that is the fault
+-- reading a date returns `Length` exactly if its length is wrong
 pub date_length : (bytes : List ℕ) → (date_of bytes ≡ Err Length → length bytes ≢ 5) × (length bytes ≢ 5 → date_of bytes ≡ Err Length)
 unfolding date_of
 date_length bytes = (
@@ -90,7 +90,7 @@ date_length bytes = (
   λ h. guard_other (length bytes) 5 _ h,
 )
 
--- its month is a change of daylight saving exactly where that is the fault
+-- reading a date returns `SeasonMonth` exactly if its month is a change of daylight saving
 pub date_season : (bytes : List ℕ) → (date_of bytes ≡ Err SeasonMonth → (length bytes ≡ 5) × IsTrue (is_season (slice_index bytes 2))) × ((length bytes ≡ 5) × IsTrue (is_season (slice_index bytes 2)) → date_of bytes ≡ Err SeasonMonth)
 unfolding date_of
 date_season bytes = (
@@ -114,7 +114,7 @@ time_faults bytes f e =
       )
     ]
 
--- a time has another length exactly where that is the fault, and else the fault is a range
+-- reading a time returns `Length` exactly if its length is wrong, and otherwise only `Range`
 pub time_length : (bytes : List ℕ) → (time_of bytes ≡ Err Length → length bytes ≢ 4) × (length bytes ≢ 4 → time_of bytes ≡ Err Length)
 unfolding time_of
 time_length bytes =
@@ -144,7 +144,7 @@ inner bytes h =
     at_twelve (λ l. (length (slice_range l 0 5) ≡ 5) × ((length (slice_range l 5 9) ≡ 4) × (slice_index (slice_range l 0 5) 2 ≡ slice_index l 2))) bytes h
     (λ a b c d e f g h i j k l. (refl, (refl, refl)))
 
--- a date-time has another length exactly where that is the fault
+-- reading a date-time returns `Length` exactly if its length is wrong
 pub date_time_length : (bytes : List ℕ) → (date_time_of bytes ≡ Err Length → length bytes ≢ 12) × (length bytes ≢ 12 → date_time_of bytes ≡ Err Length)
 unfolding date_time_of
 date_time_length bytes = (
@@ -157,7 +157,7 @@ date_time_length bytes = (
   λ h. guard_other (length bytes) 12 _ h,
 )
 
--- its month is a change of daylight saving exactly where that is the fault
+-- reading a date-time returns `SeasonMonth` exactly if its month is a change of daylight saving
 pub date_time_season : (bytes : List ℕ) → (date_time_of bytes ≡ Err SeasonMonth → (length bytes ≡ 12) × IsTrue (is_season (slice_index bytes 2))) × ((length bytes ≡ 12) × IsTrue (is_season (slice_index bytes 2)) → date_time_of bytes ≡ Err SeasonMonth)
 unfolding date_time_of
 date_time_season bytes = (

@@ -1,4 +1,4 @@
--- Searches in parts, joined.
+-- Searches over parts of a range, joined.
 use Rattle.std.proofs.Common.{◌≡◌, ℕ, ◌+◌, ◌*◌, ◌/◌, ◌%◌, ◌<◌, ◌≤◌, ◌⊎◌, inl, inr, Bool, true, false, refl, ap, ◌∙◌, arith}
 use Rattle.std.specs.Prelude.{◌&&◌, nat_le}
 use Rattle.std.proofs.lemmas.Bool.Decides.{nat_tests}
@@ -18,7 +18,7 @@ and_false_right true b e = e
 and_true : (a b : Bool) → a ≡ true → b ≡ true → a && b ≡ true
 and_true a b e f = rw e f
 
--- two stretches, one after the other
+-- no number passes in two ranges of which one follows the other
 pub none_then : (test : ℕ → Bool) (from middle limit : ℕ) → NonePasses test from middle → NonePasses test middle limit → NonePasses test from limit
 none_then test from middle limit a b = record {
   none = λ n low high. elim (cases_order n middle) [
@@ -28,7 +28,7 @@ none_then test from middle limit a b = record {
   ];
 }
 
--- one found after a stretch in which none passes is the first of both
+-- the first number found after a range in which no number passes is the first of both ranges
 pub first_then : (test : ℕ → Bool) (from middle limit n : ℕ) → from ≤ middle → NonePasses test from middle → IsFirst test middle limit n → IsFirst test from limit n
 first_then test from middle limit n le a b =
     record { low = omega (arith, b.low); high = b.high; passes = b.passes; before = none_then test from middle n a b.before }
@@ -38,7 +38,7 @@ pub first_within : (test : ℕ → Bool) (from middle limit n : ℕ) → middle 
 first_within test from middle limit n le a =
     record { low = a.low; high = omega (arith, a.high); passes = a.passes; before = a.before }
 
--- numbers in units and what is left of them
+-- a number as whole units and a remainder
 pub record IsUnit (unit : ℕ) : Type 0 where
   pub parts : (m s : ℕ) → s < unit → ((unit * m + s) / unit ≡ m) × ((unit * m + s) % unit ≡ s)
   pub same : (from n : ℕ) → from ≤ n → n < unit * (from / unit + 1) → (n / unit ≡ from / unit) × (from % unit ≤ n % unit)
@@ -67,21 +67,21 @@ hours = record {
   top = λ m s limit lt h. omega arith;
 }
 
--- none where the whole units don't pass
+-- no number passes in a unit that does not pass
 pub whole_fails : (unit : ℕ) (whole left : ℕ → Bool) (from : ℕ) → IsUnit unit → whole (from / unit) ≡ false → NonePasses (parts_pass unit whole left) from (unit * (from / unit + 1))
 unfolding parts_pass
 whole_fails unit whole left from u e = record {
   none = λ n low high. and_false_left _ _ (ap whole (u.same from n low high).0 ∙ e);
 }
 
--- none where nothing that is left of this unit passes
+-- no number passes in this unit if no remainder passes
 pub left_fails : (unit : ℕ) (whole left : ℕ → Bool) (from : ℕ) → 0 < unit → IsUnit unit → NonePasses left (from % unit) unit → NonePasses (parts_pass unit whole left) from (unit * (from / unit + 1))
 unfolding parts_pass
 left_fails unit whole left from pos u h = record {
   none = λ n low high. and_false_right _ _ (h.none (n % unit) (u.same from n low high).1 (omega arith));
 }
 
--- the first of this unit
+-- the first number of this unit that passes
 pub left_found : (unit : ℕ) (whole left : ℕ → Bool) (from s : ℕ) → IsUnit unit → whole (from / unit) ≡ true → IsFirst left (from % unit) unit s → IsFirst (parts_pass unit whole left) from (unit * (from / unit + 1)) (unit * (from / unit) + s)
 unfolding parts_pass
 left_found unit whole left from s u e h =
@@ -101,21 +101,21 @@ left_found unit whole left from s u e h =
       };
     }
 
--- none in the later units where no whole unit passes
+-- no number passes in the later units if none of these passes
 pub later_fails : (unit : ℕ) (whole left : ℕ → Bool) (first limit : ℕ) → IsUnit unit → NonePasses whole first limit → NonePasses (parts_pass unit whole left) (unit * first) (unit * limit)
 unfolding parts_pass
 later_fails unit whole left first limit u h = record {
   none = λ n low high. and_false_left _ _ (h.none (n / unit) (u.low first n low) (u.high limit n high));
 }
 
--- none where nothing passes that may be left
+-- no number passes if no remainder passes
 pub all_fail : (unit : ℕ) (whole left : ℕ → Bool) (from limit : ℕ) → 0 < unit → NonePasses left 0 unit → NonePasses (parts_pass unit whole left) from limit
 unfolding parts_pass
 all_fail unit whole left from limit pos h = record {
   none = λ n low high. and_false_right _ _ (h.none (n % unit) (omega arith) (omega arith));
 }
 
--- the first of the later units
+-- the first number of the later units that passes
 pub later_found : (unit : ℕ) (whole left : ℕ → Bool) (first limit m s : ℕ) → IsUnit unit → IsFirst whole first limit m → IsFirst left 0 unit s → IsFirst (parts_pass unit whole left) (unit * first) (unit * limit) (unit * m + s)
 unfolding parts_pass
 later_found unit whole left first limit m s u h k =
@@ -132,7 +132,7 @@ later_found unit whole left first limit m s u h k =
       };
     }
 
--- the day's seconds by hour, minute and second
+-- the second of the day by its hour, minute and second
 pub day_parts : (t : TimeFields) (s : ℕ) → time_matches t s ≡ day_second_holds t s
 unfolding time_matches parts_pass
 day_parts t s =
@@ -146,7 +146,7 @@ at_most a b h = grind (arith, nat_tests)
 over : (a b : ℕ) → nat_le a b ≡ false → b < a
 over a b h = grind (arith, nat_tests)
 
--- the first second tells whether there is one up to `to`
+-- some second up to `to` matches exactly if the first that matches is at most `to`
 pub first_tells : (t : TimeFields) (from to s : ℕ) → to < 86400 → IsFirst (day_second_holds t) from 86400 s → TellsPassing (time_matches t) from to (nat_le s to)
 first_tells t from to s within h = record {
   found = λ e. (s, (h.low, (at_most s to e, day_parts t s ∙ h.passes)));

@@ -1,4 +1,4 @@
--- jiff's day counts are the project's.
+-- jiff's day counts are those of the definitions.
 use Rattle.std.proofs.Common.{◌≡◌, ℕ, zero, suc, ◌+◌, ◌-◌, ◌<◌, ◌≤◌, refl, ◌∙◌, arith, ℤ, pos, negsuc, ◌+ℤ◌, unsigned_abs, to_z, of_z, w8, w16, ◌^◌, true}
 use Rattle.std.proofs.lemmas.Bool.Decides.{nat_tests}
 use mir.Val.{hbits}
@@ -31,7 +31,7 @@ pub first_day_is : first_day ≡ 730_485
 unfolding first_day
 first_day_is = omega (arith, jiff_count_is 2000 1 1 (omega arith), day_count-early (pos 2000) 11999 1 1 refl (omega arith) (omega arith) (omega arith))
 
--- a date of jiff, in terms of the project's days
+-- a date of jiff as a day of the definitions
 pub from_jiff : (y : ℤ) (m d n : ℕ) → IsCivilDate y m d → jiff_count y m d ≡ n + 3_652_425 → (k : ℕ) × ((y ≡ pos k) × ((k ≤ 9999) × (record { year = k; month = m; day = d } ≡ date_of_day n)))
 from_jiff (pos k) m d n h e =
     let c : CivilDate = record { year = k; month = m; day = d } in
@@ -41,7 +41,7 @@ from_jiff (pos k) m d n h e =
 from_jiff (negsuc k) m d n h e =
     absurd (omega (arith, signed_arith, day_count-lt_year (negsuc k) m d (pos 0) 1 1 h (omega arith) (search arith), jiff_year 0, no_years))
 
--- the date that many days after 1 January of the year 0
+-- the date n days after 1 January of the year 0
 pub date_from_jiff : (date made : Date) (n : ℕ) → date ≡ made → epoch_day made +ℤ pos 4_371_587 ≡ pos (n + 3_652_059) → (k : ℕ) × ((to_z w16 (of_z w16 date.year) ≡ pos k) × ((k ≤ 9999) × (record { year = k; month = date.month; day = date.day } ≡ date_of_day n)))
 date_from_jiff date made n same e =
     let day : epoch_day date +ℤ pos 4_371_587 ≡ pos (n + 3_652_059) = rw same e in
@@ -71,7 +71,7 @@ small_part n h = grind (arith, nat_tests)
 civil_at : (y y₂ : ℤ) (m m₂ d d₂ : ℕ) → y ≡ y₂ → m ≡ m₂ → d ≡ d₂ → IsCivilDate y m d → IsCivilDate y₂ m₂ d₂
 civil_at y y₂ m m₂ d d₂ e f g h = rw (← e, ← f, ← g) h
 
--- a date that jiff made is of the calendar, and its day is jiff's
+-- a date that jiff made is in the calendar, and its day is jiff's
 pub to_jiff : (date made : Date) (c : CivilDate) (days : ℕ) → c.year ≤ 9999 → c.month ≤ 12 → c.day ≤ 31 → IsYmd (to_z w16 c.year) (to_z w8 c.month) (to_z w8 c.day) date → made ≡ date → epoch_day made +ℤ pos 4_371_587 ≡ pos days → (is_date c ≡ true) × (days ≡ day_count c + 3_652_059)
 to_jiff date made c days h k l ymd same e =
     let year : date.year ≡ pos c.year = ymd.0 ∙ small_year c.year h in
@@ -85,6 +85,6 @@ to_jiff date made c days h k l ymd same e =
     let count : jiff_count (pos c.year) c.month c.day ≡ days + 366 = rw (← year, ← month, ← day) (omega (arith, signed_arith, days_from_civil-day_count date.year date.month date.day)) in
     (date_true c found, omega (arith, jiff_count_is c.year c.month c.day is.2.0))
 
--- 1 January of the year 10000
+-- the days before 1 January of the year 10000
 pub days_to_10000 : days_of_years 10000 ≡ 3_652_425
 days_to_10000 = omega (arith, jiff_year 10000, day_count-end)

@@ -1,4 +1,4 @@
--- How a moment comes of its parts.
+-- A moment from the parts of a date-time.
 use Rattle.std.proofs.Common.{◌≡◌, ℕ, ◌+◌, ◌*◌, ◌<◌, ◌≤◌, ◌^◌, Bool, true, false, cond, Option, Some, None, refl, ap, ◌∙◌, arith, ℤ, pos, negsuc, ◌+ℤ◌, ◌-ℤ◌, ◌*ℤ◌, ◌≤ℤ◌, to_z, of_z, to_z-of_z, FitsSigned, w16, w64}
 use Rattle.std.specs.Prelude.{◌&&◌, unwrap_or}
 use Rattle.std.proofs.lemmas.Bool.Decides.{nat_tests}
@@ -23,7 +23,7 @@ pub all_given : (f : DateTimeFields) (c : CivilDate) (s : ℕ) → plain_date f.
 unfolding moment_of
 all_given f c s e h = rw (e, h) refl
 
--- a test is false where its choice is none
+-- a choice without a value means that its test is false
 none_means_false : (b : Bool) (n : ℕ) → cond b (Some n) None ≡ None → b ≡ false
 none_means_false false n e = refl
 none_means_false true n e = absurd cc
@@ -39,12 +39,12 @@ false_right : (a b : Bool) → b ≡ false → a && b ≡ false
 false_right true b e = e
 false_right false b e = refl
 
--- the calendar doesn't have the date
+-- the calendar does not have the date
 pub no_such_date : (f : DateTimeFields) (c : CivilDate) (s : ℕ) → plain_date f.date ≡ Some c → second_of_day f.time ≡ Some s → cond (is_date c) (Some (day_count c)) None ≡ None → moment_of f ≡ None
 no_such_date f c s e h k =
     all_given f c s e h ∙ ap (λ b. cond b (in_u32 (seconds_since c s f.deviation)) None) (false_left _ _ (none_means_false (is_date c) (day_count c) k))
 
--- the weekday isn't that of the date
+-- the weekday is not that of the date
 pub other_weekday : (f : DateTimeFields) (c : CivilDate) (s n : ℕ) → plain_date f.date ≡ Some c → second_of_day f.time ≡ Some s → cond (is_date c) (Some (day_count c)) None ≡ Some n → holds f.date.weekday (weekday n) ≡ false → moment_of f ≡ None
 other_weekday f c s n e h k w =
     let day = some_means_true (is_date c) (day_count c) n k in
@@ -71,14 +71,14 @@ least_deviation (Some d) h = h.0
 late_seconds : (days s first : ℕ) (d : ℤ) → 3_652_425 ≤ days → first ≡ 730_485 → negsuc 719 ≤ℤ d → pos (2 ^ 32) ≤ℤ ((pos (86400 * days + s) -ℤ pos (86400 * first)) +ℤ (pos 60 *ℤ d))
 late_seconds days s first d h k l = omega (arith, signed_arith)
 
--- past the year 9999 no moment fits
+-- no moment is after the year 9999
 pub too_late : (f : DateTimeFields) (c : CivilDate) (s : ℕ) → IsDeviationWithin f.deviation → plain_date f.date ≡ Some c → second_of_day f.time ≡ Some s → 9999 < c.year → moment_of f ≡ None
 too_late f c s d e h lt =
     let late : 3_652_425 ≤ day_count c = omega (arith, count_parts c, years_to 10000 c.year (omega arith), days_to_10000) in
     let none = past_u32 (seconds_since c s f.deviation) (late_seconds (day_count c) s first_day (unwrap_or f.deviation (pos 0)) late first_day_is (least_deviation f.deviation d)) in
     all_given f c s e h ∙ at_if (λ o. o ≡ None) (is_right_date f.date c) _ _ (λ _. none) (λ _. refl)
 
--- the last steps, past the casts
+-- the last steps, without the casts
 pub cast_back : (result : Option ℕ) (moved written deviation w d : ℤ) → FitsSigned w64 moved → FitsSigned w64 written → FitsSigned w16 deviation → result ≡ in_u32 (to_z w64 (of_z w64 moved)) → moved ≡ to_z w64 (of_z w64 written) +ℤ (pos 60 *ℤ to_z w16 (of_z w16 deviation)) → written ≡ w → deviation ≡ d → result ≡ in_u32 (w +ℤ (pos 60 *ℤ d))
 cast_back result moved written deviation w d f g h last step e k =
     let parts : to_z w64 (of_z w64 written) +ℤ (pos 60 *ℤ to_z w16 (of_z w16 deviation)) ≡ w +ℤ (pos 60 *ℤ d) = rw (to_z-of_z g, to_z-of_z h, e, k) refl in

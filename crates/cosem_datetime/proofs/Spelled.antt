@@ -1,4 +1,4 @@
--- What is read is spelled so, and what is spelled so is read.
+-- What is read spells the bytes, and the bytes that spell it read as it.
 use Rattle.std.proofs.Common.{◌≡◌, ◌≢◌, ℕ, zero, suc, ◌+◌, ◌-◌, ◌*◌, ◌/◌, ◌%◌, ◌<◌, ◌≤◌, ◌^◌, inl, inr, true, false, cond, List, [], ◌∷◌, ◌++◌, length, get_or, Option, Some, None, Result, Ok, Err, refl, sym, ap, ◌∙◌, arith, ℤ, pos, negsuc, ◌≤ℤ◌}
 use Rattle.std.proofs.lemmas.Int.{ints}
 use Rattle.std.proofs.lemmas.Bool.{cases_lt}
@@ -44,7 +44,7 @@ month_again : (f : Option ℕ) → IsWithin 1 12 f → month_of (field_byte f) �
 month_again None h = refl
 month_again (Some n) h = grind (arith, nat_tests)
 
--- each of the list is a byte
+-- each item of the list is a byte
 abbrev pub IsBytes : List ℕ → Type 0
 IsBytes bytes = (i : ℕ) → get_or bytes i 0 < 256
 
@@ -143,7 +143,7 @@ date_len : (bytes : List ℕ) (p : DateFields) → date_of bytes ≡ Ok p → le
 unfolding date_of
 date_len bytes p e = (guard_ok (length bytes) 5 _ _ p e).0
 
--- a date that is read is spelled so
+-- the bytes that a date was read from spell it
 pub date_takes : (bytes : List ℕ) (p : DateFields) → IsBytes bytes → date_of bytes ≡ Ok p → IsDateFields p × (bytes ≡ date_bytes p)
 date_takes bytes p fits e =
     at_five (λ l. IsBytes l → date_of l ≡ Ok p → IsDateFields p × (l ≡ date_bytes p)) bytes (date_len bytes p e)
@@ -165,7 +165,7 @@ time_len : (bytes : List ℕ) (p : TimeFields) → time_of bytes ≡ Ok p → le
 unfolding time_of
 time_len bytes p e = (guard_ok (length bytes) 4 _ _ p e).0
 
--- a time that is read is spelled so
+-- the bytes that a time was read from spell it
 pub time_takes : (bytes : List ℕ) (p : TimeFields) → time_of bytes ≡ Ok p → IsTimeFields p × (bytes ≡ time_bytes p)
 time_takes bytes p e =
     at_four (λ l. time_of l ≡ Ok p → IsTimeFields p × (l ≡ time_bytes p)) bytes (time_len bytes p e)
@@ -246,13 +246,13 @@ date_time_len : (bytes : List ℕ) (p : DateTimeFields) → date_time_of bytes �
 unfolding date_time_of
 date_time_len bytes p e = (guard_ok (length bytes) 12 _ _ p e).0
 
--- a date-time that is read is spelled so
+-- the bytes that a date-time was read from spell it
 pub date_time_takes : (bytes : List ℕ) (p : DateTimeFields) → IsBytes bytes → date_time_of bytes ≡ Ok p → IsDateTimeFields p × (bytes ≡ date_time_bytes p)
 date_time_takes bytes p fits q =
     at_twelve (λ l. IsBytes l → date_time_of l ≡ Ok p → IsDateTimeFields p × (l ≡ date_time_bytes p)) bytes (date_time_len bytes p q)
     (λ a b c d e f g h i j k l m n. date_time_parts_take a b c d e f g h i j k l p m n) fits q
 
--- the parts of a date-time's text
+-- the parts of a date-time's bytes
 date_time_again_parts : (year : Option ℕ) (month : Option ℕ) (day : DayOfMonth) (weekday : Option ℕ) (time : TimeFields) (deviation : Option ℤ) (status : ℕ) → IsDateTimeFields (record { date = record { year = year; month = month; day = day; weekday = weekday }; time = time; deviation = deviation; status = status }) → date_time_of (date_time_bytes (record { date = record { year = year; month = month; day = day; weekday = weekday }; time = time; deviation = deviation; status = status })) ≡ Ok (record { date = record { year = year; month = month; day = day; weekday = weekday }; time = time; deviation = deviation; status = status })
 unfolding date_time_of
 date_time_again_parts None month day weekday time None status h =
@@ -264,7 +264,7 @@ date_time_again_parts (Some y) month day weekday time None status h =
 date_time_again_parts (Some y) month day weekday time (Some z) status h =
     rw (date_again (record { year = Some y; month = month; day = day; weekday = weekday }) h.date, time_again time h.time, deviation_again (Some z) h.deviation) refl
 
--- a date-time's text is read as that date-time
+-- the bytes of a date-time read as that date-time
 pub date_time_again : (p : DateTimeFields) → IsDateTimeFields p → date_time_of (date_time_bytes p) ≡ Ok p
 date_time_again p h =
     date_time_again_parts p.date.year p.date.month p.date.day p.date.weekday p.time p.deviation p.status h

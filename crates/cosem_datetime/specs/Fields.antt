@@ -1,11 +1,12 @@
--- What a date, a time and a date-time say, with the ranges of their fields and the bytes that spell them (IEC 62056-6-2, date and time formats).
--- That hundredths of a second are 0 or not specified is this meter's.
+-- The fields of a date, a time and a date-time, with their ranges and the bytes that spell them
+-- (IEC 62056-6-2, date and time formats). That hundredths of a second are 0 or not specified is a
+-- rule of this meter.
 use Rattle.std.specs.Prelude.{ℕ, ◌<◌, List, [], ◌∷◌, ◌++◌, Option, Some, None, IfSome, ℤ, pos, negsuc, ◌≤ℤ◌}
 use Rattle.std.specs.Int.{IsInRange, w16, to_be_bytes, cast_unsigned}
 use Rattle.cosem_datetime.specs.declared.date.DayOfMonth.{DayOfMonth}
 use Rattle.cosem_datetime.specs.declared.date.DayOfMonth.TheVariants.{Any, Number, SecondLast, Last}
 
--- a field is `None` where it is not specified; weekday 1 is Monday
+-- a field is `None` if it is not specified; weekday 1 is Monday
 pub record DateFields : Type 0 where
   pub year : Option ℕ
   pub month : Option ℕ
@@ -25,7 +26,7 @@ pub record DateTimeFields : Type 0 where
   pub deviation : Option ℤ
   pub status : ℕ
 
--- a field that is specified lies in its range
+-- a field that is specified is in its range
 abbrev pub IsWithin : ℕ → ℕ → Option ℕ → Type 0
 IsWithin low high field = IfSome field (λ n. IsInRange low high n)
 
@@ -87,7 +88,7 @@ abbrev pub date_time_bytes : DateTimeFields → List ℕ
 date_time_bytes p =
     date_bytes p.date ++ time_bytes p.time ++ deviation_bytes p.deviation ++ p.status ∷ []
 
--- nothing is specified
+-- no field is specified
 abbrev pub unspecified : DateTimeFields
 unspecified =
     record {

@@ -1,13 +1,13 @@
--- The first number from one on that passes a test.
+-- The first number that passes a test, from a given number on.
 use Rattle.std.specs.Prelude.{◌≡◌, ℕ, ◌/◌, ◌%◌, ◌<◌, ◌≤◌, Bool, true, false, ◌&&◌, Option, MatchOption}
 use Rattle.cosem_datetime.specs.Fields.{TimeFields}
 use Rattle.cosem_datetime.specs.Matching.{holds}
 
--- no number from `from` up to, not with, `limit` passes
+-- no number from `from` to before `limit` passes
 pub record NonePasses (test : ℕ → Bool) (from limit : ℕ) : Type 0 where
   pub none : (n : ℕ) → from ≤ n → n < limit → test n ≡ false
 
--- it passes, and none before it does
+-- n passes, and no number from `from` to before n does
 pub record IsFirst (test : ℕ → Bool) (from limit n : ℕ) : Type 0 where
   pub low : from ≤ n
   pub high : n < limit
@@ -18,19 +18,19 @@ abbrev pub IsFirstIfAny : (ℕ → Bool) → ℕ → ℕ → Option ℕ → Type
 IsFirstIfAny test from limit found =
     MatchOption found (NonePasses test from limit) (IsFirst test from limit)
 
--- how many whole units a number has passes the one test, and what is left the other
+-- whether the number of whole units in n passes one test, and the remainder the other
 unfoldable pub parts_pass : ℕ → (ℕ → Bool) → (ℕ → Bool) → ℕ → Bool
 parts_pass unit whole left n = whole (n / unit) && left (n % unit)
 
--- a second of the hour has the minute and the second
+-- whether a second of the hour has the minute and the second
 abbrev pub hour_second_holds : Option ℕ → Option ℕ → ℕ → Bool
 hour_second_holds minute second = parts_pass 60 (holds minute) (holds second)
 
--- a second of the day has the hour, the minute and the second
+-- whether a second of the day has the hour, the minute and the second
 abbrev pub day_second_holds : TimeFields → ℕ → Bool
 day_second_holds t = parts_pass 3600 (holds t.hour) (hour_second_holds t.minute t.second)
 
--- the answer is whether some number from `from` to `to`, both taken in, passes
+-- the answer is whether some number from `from` to `to`, both included, passes
 pub record TellsPassing (test : ℕ → Bool) (from to : ℕ) (answer : Bool) : Type 0 where
   pub found : answer ≡ true → (n : ℕ) × ((from ≤ n) × ((n ≤ to) × (test n ≡ true)))
   pub none : answer ≡ false → (n : ℕ) → from ≤ n → n ≤ to → test n ≡ false

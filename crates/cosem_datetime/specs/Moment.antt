@@ -1,4 +1,4 @@
--- The second that a date-time stands for (IEC 62056-6-2, date and time formats).
+-- The second that a date-time names (IEC 62056-6-2, date and time formats).
 use Rattle.std.specs.Prelude.{ℕ, ◌+◌, ◌*◌, ◌^◌, Bool, ◌&&◌, nat_lt, Option, Some, None, unwrap_or, ℤ, pos, negsuc, ◌+ℤ◌, ◌-ℤ◌, ◌*ℤ◌, if◌then◌else◌}
 use Rattle.cosem_datetime.specs.declared.calendar.CivilDate.{CivilDate}
 use Rattle.cosem_datetime.specs.declared.date.DayOfMonth.{DayOfMonth}
@@ -16,7 +16,7 @@ abbrev pub day_number : DayOfMonth → Option ℕ
 day_number (Number d) = Some d
 day_number _ = None
 
--- the date, where year, month and day of the month are numbers
+-- the date, if year, month and day of the month are numbers
 abbrev pub plain_date : DateFields → Option CivilDate
 plain_date p = do
   year ← p.year
@@ -24,7 +24,7 @@ plain_date p = do
   day ← day_number p.day
   Some (record { year = year; month = month; day = day })
 
--- the second of the day, where hour, minute and second are numbers
+-- the second of the day, if hour, minute and second are numbers
 abbrev pub second_of_day : TimeFields → Option ℕ
 second_of_day t = do
   hour ← t.hour
@@ -32,21 +32,22 @@ second_of_day t = do
   second ← t.second
   Some (3600 * hour + 60 * minute + second)
 
--- the calendar has the date, and a weekday that is given is its own
+-- whether the calendar has the date, and the weekday, if specified, is its own
 abbrev pub is_right_date : DateFields → CivilDate → Bool
 is_right_date p c = is_date c && holds p.weekday (weekday (day_count c))
 
--- a number of seconds that 32 bits hold
+-- the seconds, if they fit 32 bits
 abbrev pub in_u32 : ℤ → Option ℕ
 in_u32 (pos s) = if nat_lt s (2 ^ 32) then Some s else None
 in_u32 (negsuc s) = None
 
--- from 1 January 2000 to a second of a date, negative before; the deviation, in minutes, leads to UTC
+-- the seconds from 1 January 2000 to a second of a date, negative before; adding the deviation, in
+-- minutes, gives UTC
 abbrev pub seconds_since : CivilDate → ℕ → Option ℤ → ℤ
 seconds_since c second deviation =
     (pos (86400 * day_count c + second) -ℤ pos (86400 * first_day)) +ℤ (pos 60 *ℤ unwrap_or deviation (pos 0))
 
--- the seconds, where all six fields are numbers, the date is right, and 32 bits hold them
+-- the seconds, if all six fields are numbers, the date is right, and the seconds fit 32 bits
 unfoldable pub moment_of : DateTimeFields → Option ℕ
 moment_of field = do
   c ← plain_date field.date

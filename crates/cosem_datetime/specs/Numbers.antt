@@ -1,4 +1,4 @@
--- The number of each fault.
+-- The numbers of the faults.
 use Rattle.std.specs.Prelude.{ℕ}
 use Rattle.cosem_datetime.specs.declared.fault.PatternFault.{PatternFault}
 use Rattle.cosem_datetime.specs.declared.fault.PatternFault.TheVariants as fault

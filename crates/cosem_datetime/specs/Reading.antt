@@ -1,4 +1,5 @@
--- Reading bytes field by field (IEC 62056-6-2, date and time formats) from left to right, up to the first fault.
+-- Reading bytes (IEC 62056-6-2, date and time formats) field by field, from left to right, up to
+-- the first fault.
 use Rattle.std.specs.Prelude.{◌==◌, ℕ, List, length, slice_index, slice_range, Option, Some, None, Result, Ok, Err, ℤ, pos, negsuc, ◌&&◌, ◌||◌, nat_le, nat_lt, Bool, if◌then◌else◌}
 use Rattle.std.specs.Int.{w16, from_be_bytes, cast_signed}
 use Rattle.cosem_datetime.specs.declared.fault.PatternFault.{PatternFault}
@@ -12,13 +13,13 @@ abbrev pub ◌>>=◌ : {A B : Type 0} → Result A PatternFault → (A → Resul
 (Ok x) >>= f = f x
 (Err e) >>= f = Err e
 
--- one byte: not specified, or a number from low to high
+-- a field of one byte: not specified, or a number from low to high
 abbrev pub field_of : ℕ → ℕ → ℕ → Result (Option ℕ) PatternFault
 field_of low high b =
     if b == 0xFF then Ok None
     else (if nat_le low b && nat_le b high then Ok (Some b) else Err Range)
 
--- the begin or the end of daylight saving
+-- whether a month is the begin or the end of daylight saving
 abbrev pub is_season : ℕ → Bool
 is_season b = (b == 0xFD) || (b == 0xFE)
 
@@ -35,18 +36,18 @@ day_of b =
 abbrev pub year_of : ℕ → Option ℕ
 year_of y = if y == 0xFFFF then None else Some y
 
--- from -720 to 840
+-- whether a number of minutes is from -720 to 840
 abbrev pub is_deviation : ℤ → Bool
 is_deviation (pos n) = nat_le n 840
 is_deviation (negsuc n) = nat_lt n 720
 
--- two bytes: 0x8000 is not specified
+-- a deviation of two bytes: 0x8000 is not specified
 abbrev pub deviation_of : ℕ → Result (Option ℤ) PatternFault
 deviation_of n =
     if n == 0x8000 then Ok None
     else (if is_deviation (cast_signed w16 n) then Ok (Some (cast_signed w16 n)) else Err Range)
 
--- five bytes
+-- a date of five bytes
 unfoldable pub date_of : List ℕ → Result DateFields PatternFault
 date_of bytes =
     if length bytes == 5 then (do
@@ -56,7 +57,7 @@ date_of bytes =
       Ok (record { year = year_of (from_be_bytes w16 (slice_range bytes 0 2)); month = month; day = day; weekday = weekday }))
     else Err Length
 
--- four bytes
+-- a time of four bytes
 unfoldable pub time_of : List ℕ → Result TimeFields PatternFault
 time_of bytes =
     if length bytes == 4 then (do
@@ -67,7 +68,7 @@ time_of bytes =
       Ok (record { hour = hour; minute = minute; second = second; hundredths = hundredths }))
     else Err Length
 
--- twelve bytes
+-- a date-time of twelve bytes
 unfoldable pub date_time_of : List ℕ → Result DateTimeFields PatternFault
 date_time_of bytes =
     if length bytes == 12 then (do

@@ -4,10 +4,13 @@ use crate::calendar::{FIRST_DAY, SECONDS_OF_DAY};
 use crate::date::DatePattern;
 use crate::time::TimePattern;
 
-/// One execution time of a single action schedule (IEC 62056-6-2, class 22): a time on the days of a date.
+/// One execution time of a single action schedule (IEC 62056-6-2, class 22): a time, on the days of
+/// a date.
 #[derive(Clone, Copy, Debug)]
 pub struct EntryPattern {
+    /// The time of day.
     pub time: TimePattern,
+    /// The days.
     pub date: DatePattern,
 }
 
@@ -24,7 +27,8 @@ impl EntryPattern {
             && self.time.matches_second(second % SECONDS_OF_DAY)
     }
 
-    /// Whether some second of `(after, upto]` matches: `after` itself is left out, and `upto` taken in.
+    /// Whether the entry matches some second of `(after, upto]`: after `after`, up to and including
+    /// `upto`.
     pub fn matches_in(&self, after: u32, upto: u32) -> bool
         ensures value { result ≡ matches_in self.now after upto }
         ensures seconds { IsTrue result ↔ ((s : ℕ) × ((after < s) × ((s ≤ upto) × IsTrue (matches self.now s)))) }
@@ -32,14 +36,14 @@ impl EntryPattern {
         after < upto && self.matches_within(after + 1, upto)
     }
 
-    /// Whether year, month and day of the month are plain numbers; the weekday doesn't count.
+    /// Whether year, month and day of the month are plain numbers. The weekday does not count.
     pub fn date_is_plain(&self) -> bool
         ensures { result ≡ is_plain self.now.date }
     {
         self.date.is_plain()
     }
 
-    /// Whether some second from `first` to `last`, both taken in, matches.
+    /// Whether the entry matches some second from `first` to `last`, both included.
     fn matches_within(&self, first: u32, last: u32) -> bool
         ensures { TellsPassing (matches self.now) first last result }
     {
@@ -54,7 +58,8 @@ impl EntryPattern {
         false
     }
 
-    /// Whether some second of a day from `from` to `to`, both taken in, matches; 1 January 2000 is day 0.
+    /// Whether the entry matches some second of a day from `from` to `to`, both included. Day 0 is
+    /// 1 January 2000.
     fn matches_on(&self, day: u32, from: u32, to: u32) -> bool
         requires day { day ≤ 49710 }
         requires from { from < 86400 }

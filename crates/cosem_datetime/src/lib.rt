@@ -1,7 +1,8 @@
-//! Dates and times as DLMS/COSEM meters write them (IEC 62056-6-2, "date and time formats"): patterns in
-//! which a field may be left open, and the seconds of a meter's clock that they name.
+//! Dates and times as DLMS/COSEM writes them (IEC 62056-6-2, date and time formats): patterns whose
+//! fields may be unspecified, and the seconds of a meter's clock that match them.
 //!
-//! A second is a `u32`: the seconds since 1 January 2000, 00:00:00, of the meter's own time. No call takes memory.
+//! A second is a `u32`: the seconds since 1 January 2000, 00:00:00, in the meter's own time. No
+//! function allocates.
 #![tactic(auto)]
 
 mod calendar;

@@ -6,13 +6,13 @@ ghost use Rattle.cosem_datetime.specs.Moment.{in_u32, moment_of};
 use crate::calendar::{SECONDS_OF_DAY, day_of_date};
 use crate::date_time::DateTimeField;
 
-/// From 1 January of the year 0 to 1 January 2000.
+/// The seconds from 1 January of the year 0 to 1 January 2000.
 const FIRST_SECOND: i64 = 63_113_904_000;
 
-/// The years up to this one are asked of `jiff`; the moments end in 2136.
+/// The last year for which `jiff` is called. The moments end in 2136.
 const LAST_YEAR: u16 = 9999;
 
-/// The seconds from 1 January 2000 to a second of a day, as it is written: negative before.
+/// Returns the seconds from 1 January 2000 to a second of a day, as written: negative before 2000.
 fn written_seconds(day: u32, second: u32) -> i64
     requires day { day ≤ 3_652_424 }
     requires second { second < 86400 }
@@ -23,7 +23,7 @@ fn written_seconds(day: u32, second: u32) -> i64
     seconds as i64 - FIRST_SECOND
 }
 
-/// The seconds moved by a deviation in minutes.
+/// Returns the seconds after adding a deviation in minutes.
 fn moved_seconds(seconds: i64, deviation: i16) -> i64
     requires { IsWithin (2 ^ 40) seconds }
     ensures { result ≡ seconds +ℤ (pos 60 *ℤ deviation) }
@@ -31,17 +31,18 @@ fn moved_seconds(seconds: i64, deviation: i16) -> i64
     seconds + 60 * i64::from(deviation)
 }
 
-/// The seconds, where a `u32` holds them.
+/// Returns the seconds, or `None` if they do not fit a `u32`.
 fn seconds_of_u32(seconds: i64) -> Option<u32>
     ensures { result ≡ in_u32 seconds }
 {
     u32::try_from(seconds).ok()
 }
 
-/// The second that a date-time stands for, with the deviation added to the time as it is written.
+/// Returns the second that a date-time names, in seconds since 1 January 2000: the written time
+/// plus the deviation.
 ///
-/// There is one where year, month, day, hour, minute and second are all numbers, the calendar has the date, a weekday
-/// that is given is the date's own, and a `u32` of seconds since 1 January 2000 holds the sum.
+/// Returns `None` unless year, month, day, hour, minute and second are all numbers, the calendar
+/// has the date, the weekday (if specified) is the date's own, and the sum fits a `u32`.
 pub fn moment_of(field: &DateTimeField) -> Option<u32>
     ensures { result ≡ moment_of field.now }
 {

@@ -9,7 +9,8 @@ use crate::fault::PatternFault;
 use crate::field::{byte_of, field_holds, read_field};
 use std::marker::Model;
 
-/// A time of four bytes: hour, minute, second and hundredths of a second, each of which may be left open.
+/// A time of four bytes: hour, minute, second and hundredths of a second, each of which may be
+/// unspecified.
 #[derive(Clone, Copy, Debug, PartialEq, Eq)]
 pub struct TimePattern {
     hour: Option<u8>,
@@ -49,11 +50,15 @@ pub(crate) fn time_fields(bytes: &[u8]) -> Result<TimePattern, PatternFault>
     })
 }
 
-/// Reads a time of four bytes.
+/// Reads a time of four bytes (IEC 62056-6-2, date and time formats). Hundredths of a second are 0
+/// or not specified; that is a rule of this meter.
+///
+/// Errors, judged in this order: `Length` if there are not four bytes, `Range` if a field is out of
+/// its range.
 pub fn read_time(bytes: &[u8]) -> Result<TimePattern, PatternFault>
-    // Field by field from left to right, up to the first fault.
+    // Fields are read from left to right, up to the first fault.
     ensures exact { result ≡ time_of bytes.now }
-    // What is read is spelled so, and what is spelled so is read.
+    // The time that is read spells these bytes, and the bytes that spell a time read as that time.
     ensures found { IfOk result (λ p. IsTimeFields p × (bytes.now ≡ time_bytes p)) }
     ensures only { (p : TimeFields) → IsTimeFields p → bytes.now ≡ time_bytes p → result ≡ Ok p }
     ensures length { IsErrOf result PatternFault.Length ↔ (length bytes.now ≢ 4) }
@@ -62,7 +67,7 @@ pub fn read_time(bytes: &[u8]) -> Result<TimePattern, PatternFault>
     time_fields(bytes)
 }
 
-/// The first number from `from` up to, not with, `limit` that the field allows.
+/// Returns the first number from `from` to before `limit` that the field allows, or `None`.
 fn first_value(field: Option<u8>, from: u32, limit: u32) -> Option<u32>
     ensures { IsFirstIfAny (holds field) from limit result }
 {
@@ -74,7 +79,8 @@ fn first_value(field: Option<u8>, from: u32, limit: u32) -> Option<u32>
     }
 }
 
-/// The first second from `from` on in the same minute, both counted from the begin of an hour.
+/// Returns the first matching second from `from` on in the same minute, or `None`. Both are counted
+/// from the start of the hour.
 fn first_in_minute(minute: Option<u8>, second: Option<u8>, from: u32) -> Option<u32>
     requires { from < 3600 }
     ensures { IsFirstIfAny (hour_second_holds minute second) from (60 * (from / 60 + 1)) result }
@@ -86,7 +92,8 @@ fn first_in_minute(minute: Option<u8>, second: Option<u8>, from: u32) -> Option<
     Some(60 * (from / 60) + second)
 }
 
-/// The first second from `from` on in the same hour, both counted from the begin of the hour.
+/// Returns the first matching second from `from` on in the same hour, or `None`. Both are counted
+/// from the start of the hour.
 fn first_in_hour(minute: Option<u8>, second: Option<u8>, from: u32) -> Option<u32>
     requires { from < 3600 }
     ensures { IsFirstIfAny (hour_second_holds minute second) from 3600 result }
@@ -100,7 +107,7 @@ fn first_in_hour(minute: Option<u8>, second: Option<u8>, from: u32) -> Option<u3
 }
 
 impl TimePattern {
-    /// The time with no field specified.
+    /// Returns the time with no field specified.
     pub(crate) const fn unspecified() -> TimePattern
         ensures { result ≡ unspecified.time }
     {
@@ -112,11 +119,11 @@ impl TimePattern {
         }
     }
 
-    /// The four bytes that spell the time, which are those that it was read from.
+    /// Returns the four bytes that spell the time: those that it was read from.
     pub fn bytes(&self) -> [u8; 4]
         ensures bytes { result ≡ time_bytes self.now }
         ensures within { IsTimeFields self.now }
-        // Read again, they give the time back.
+        // Reading the bytes returns the time.
         ensures again { time_of result ≡ Ok self.now }
     {
         self.spelling()
@@ -134,7 +141,8 @@ impl TimePattern {
         ]
     }
 
-    /// Whether both write the same hour, minute and second: not specified equals itself alone, and hundredths don't count.
+    /// Whether both have the same hour, minute and second as written. An unspecified field equals
+    /// only an unspecified field; hundredths do not count.
     pub fn same_time(&self, other: &TimePattern) -> bool
         ensures { IsTrue result ↔ (((self.now.hour ≡ other.now.hour) × (self.now.minute ≡ other.now.minute)) × (self.now.second ≡ other.now.second)) }
     {
@@ -151,7 +159,8 @@ impl TimePattern {
             && field_holds(self.second, second % 60)
     }
 
-    /// The first second from `from` on in the same hour, both counted from the begin of the day.
+    /// Returns the first matching second from `from` on in the same hour, or `None`. Both are
+    /// counted from the start of the day.
     fn first_in_this_hour(&self, from: u32) -> Option<u32>
         requires { from < 86400 }
         ensures { IsFirstIfAny (day_second_holds self.now) from (3600 * (from / 3600 + 1)) result }
@@ -163,7 +172,8 @@ impl TimePattern {
         Some(3600 * (from / 3600) + second)
     }
 
-    /// The first second from `from` on, both counted from the begin of the day.
+    /// Returns the first matching second from `from` on in the same day, or `None`. Both are
+    /// counted from the start of the day.
     fn first_in_day(&self, from: u32) -> Option<u32>
         requires { from < 86400 }
         ensures { IsFirstIfAny (day_second_holds self.now) from 86400 result }
@@ -176,7 +186,7 @@ impl TimePattern {
         Some(3600 * hour + second)
     }
 
-    /// Whether some second of the day from `from` to `to`, both taken in, matches.
+    /// Whether the time matches some second of the day from `from` to `to`, both included.
     pub(crate) fn matches_between(&self, from: u32, to: u32) -> bool
         requires from { from < 86400 }
         requires to { to < 86400 }
@@ -188,7 +198,7 @@ impl TimePattern {
         }
     }
 
-    /// The second of the day, where hour, minute and second are numbers.
+    /// Returns the second of the day, or `None` unless hour, minute and second are all numbers.
     pub(crate) fn second_of_day(&self) -> Option<u32>
         ensures second { result ≡ second_of_day self.now }
         ensures within { IfSome result (λ second. second < 86400) }

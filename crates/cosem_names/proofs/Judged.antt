@@ -1,4 +1,4 @@
--- Several Datas that are judged: whether one was of another type so far, and whether one had any fault.
+-- Judging several items: whether any so far had a wrong type, and whether any had a fault.
 use Rattle.std.proofs.Common.{◌≡◌, ℕ, ◌+◌, ◌<◌, ◌≤◌, Bool, ◌||◌, cond, List, [], ◌∷◌, length, take, get_or, Result, Ok, Err, is_err, refl, sym, ap, ap₂, ◌∙◌}
 use Rattle.std.proofs.Math.Seq.{take_all}
 use Rattle.std.proofs.lemmas.List.Folds.{list_any_more}
@@ -9,7 +9,7 @@ use Rattle.cosem_names.specs.WriteFault.{is_unmatched, told}
 use Rattle.cosem_names.specs.declared.write_fault.WriteFault.{WriteFault}
 use Rattle.cosem_names.specs.declared.write_fault.WriteFault.TheVariants.{Unmatched, Value, Memory}
 
--- this is so of the first i items
+-- what was found of the first i items
 pub record HasJudged {A B : Type 0} (read : A → Result B WriteFault) (items : List A) (i : ℕ) (unmatched faulty : Bool) : Type 0 where
   pub typed : unmatched ≡ list_any (λ item. is_unmatched (read item)) (take i items)
   pub faults : faulty ≡ list_any (λ item. is_err (read item)) (take i items)
@@ -23,7 +23,7 @@ HasJudged-more {read = read} {items = items} {i = i} so_far item given within is
   faults = ap₂ (λ a r. a || is_err r) so_far.faults (read_as ∙ ap read is) ∙ sym (list_any_more (λ x. is_err (read x)) items i item within);
 }
 
--- all of them: this is what is told
+-- after all items, the fault that is reported
 pub HasJudged-all : {A B : Type 0} {read : A → Result B WriteFault} {items : List A} {i : ℕ} {unmatched faulty : Bool} → HasJudged read items i unmatched faulty
     → length items ≤ i → (r : Result (Unit {0}) WriteFault) → cond unmatched (Err Unmatched) (cond faulty (Err Value) (done WriteFault tt)) ≡ r → r ≡ told read items
 unfolding told
@@ -33,7 +33,7 @@ HasJudged-all {read = read} {items = items} {i = i} judged all r is =
     (judged.typed ∙ ap (list_any (λ item. is_unmatched (read item))) (take_all i items all))
     (judged.faults ∙ ap (list_any (λ item. is_err (read item))) (take_all i items all))
 
--- two readings that tell the same of each
+-- two ways of reading that agree on the fault of each item agree on the fault of several
 pub told_alike : {A B C : Type 0} (f : A → Result B WriteFault) (g : A → Result C WriteFault) → ((x : A) → is_unmatched (f x) ≡ is_unmatched (g x))
     → ((x : A) → is_err (f x) ≡ is_err (g x)) → (items : List A) → told f items ≡ told g items
 unfolding told
@@ -45,7 +45,7 @@ told_alike {A = A} f g typed faults items =
     any_alike p q same [] = refl
     any_alike p q same (x ∷ xs) = ap₂ (λ a b. a || b) (same x) (any_alike p q same xs)
 
--- the same of a reading whose values are left out
+-- reading that drops the values reports the same fault
 pub told_of_faults : {A B : Type 0} (read : A → Result B WriteFault) (items : List A)
     → told (λ x. result_map_both (λ value. tt {0}) (λ fault. fault) (read x)) items ≡ told read items
 told_of_faults {A = A} {B = B} read items = told_alike (λ x. result_map_both (λ value. tt {0}) (λ fault. fault) (read x)) read (λ x. typed (read x)) (λ x. faulty (read x)) items

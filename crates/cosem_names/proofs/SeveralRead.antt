@@ -1,4 +1,5 @@
--- Several Datas that are read: a loop that keeps those without a fault, and values that are written and read again.
+-- Reading several items: a loop that keeps those without a fault, and values that are written and
+-- read back.
 use Rattle.std.proofs.Common.{◌≡◌, ℕ, ◌+◌, ◌<◌, ◌≤◌, Bool, true, false, ◌||◌, cond, List, [], ◌∷◌, ◌++◌, map, length, take, get_or, Some, None, Result, Ok, Err, is_err, refl, sym, ap, ap₂, ◌∙◌, arith, append-nil, length-append}
 use Rattle.std.proofs.lemmas.List.{take_more}
 use Rattle.std.proofs.lemmas.List.Elements.{filter_map-append, All-push, All-head, All-tail}
@@ -9,7 +10,7 @@ use Rattle.cosem_names.specs.WriteFault.{is_unmatched, told, values}
 use Rattle.cosem_names.specs.declared.write_fault.WriteFault.{WriteFault}
 use Rattle.cosem_names.specs.declared.write_fault.WriteFault.TheVariants.{Unmatched, Value}
 
--- of the first i items, these are the values
+-- the values of the first i items
 pub record HasRead {A B : Type 0} (read : A → Result B WriteFault) (P : B → Type 0) (items : List A) (i : ℕ) (found : List B) : Type 0 where
   pub are : found ≡ values read (take i items)
   pub fit : All P found
@@ -22,7 +23,7 @@ one_more read items i item within is =
     ap (values read) (take_more items i item within) ∙ filter_map-append (λ x. result_ok (read x)) (take i items) (get_or items i item ∷ [])
     ∙ ap (λ x. values read (take i items) ++ cons_option (result_ok (read x)) []) (sym is)
 
--- an item with a fault
+-- an item with a fault adds no value
 pub HasRead-none : {A B : Type 0} {read : A → Result B WriteFault} {P : B → Type 0} {items : List A} {i : ℕ} {found : List B} → HasRead read P items i found
     → (item : A) → i < length items → item ≡ get_or items i item → result_ok (read item) ≡ None → HasRead read P items (i + 1) found
 HasRead-none {read = read} {items = items} {i = i} so_far item within is none = record {
@@ -31,7 +32,7 @@ HasRead-none {read = read} {items = items} {i = i} so_far item within is none = 
   few = omega (arith, so_far.few);
 }
 
--- an item without one
+-- an item without a fault adds its value
 pub HasRead-one : {A B : Type 0} {read : A → Result B WriteFault} {P : B → Type 0} {items : List A} {i : ℕ} {found : List B} → HasRead read P items i found
     → (item : A) (x : B) → i < length items → item ≡ get_or items i item → result_ok (read item) ≡ Some x → P x → HasRead read P items (i + 1) (found ++ x ∷ [])
 HasRead-one {read = read} {P = P} {items = items} {i = i} {found = found} so_far item x within is some fits = record {
@@ -40,13 +41,13 @@ HasRead-one {read = read} {P = P} {items = items} {i = i} {found = found} so_far
   few = omega (arith, so_far.few, length-append found (x ∷ []));
 }
 
--- several Datas have no fault, and these are their values
+-- no item has a fault, and these are their values
 pub record AreRead {A B : Type 0} (read : A → Result B WriteFault) (items : List A) (xs : List B) : Type 0 where
   pub typed : list_any (λ item. is_unmatched (read item)) items ≡ false
   pub faultless : list_any (λ item. is_err (read item)) items ≡ false
   pub are : values read items ≡ xs
 
--- where each that is written is read again, all are
+-- if each written value reads as itself, all of them do
 pub all_again : {A B : Type 0} (read : A → Result B WriteFault) (write : B → A) (P : B → Type 0) → ((x : B) → P x → read (write x) ≡ Ok x)
     → (xs : List B) → All P xs → AreRead read (map write xs) xs
 all_again read write P again [] all = record { typed = refl; faultless = refl; are = refl }
@@ -59,12 +60,12 @@ all_again read write P again (x ∷ xs) all =
       are = ap₂ (λ r ys. cons_option (result_ok r) ys) one rest.are;
     }
 
--- nothing is told of these
+-- no fault is reported for items without a fault
 pub told_again : {A B : Type 0} {read : A → Result B WriteFault} {items : List A} {xs : List B} → AreRead read items xs → told read items ≡ Ok tt
 unfolding told
 told_again are = ap₂ (λ a b. cond a (Err Unmatched) (cond b (Err Value) (done WriteFault tt))) are.typed are.faultless
 
--- of several that are told to have no fault, none has one
+-- if no fault is reported, no item has one
 pub told_ok : {A B : Type 0} (read : A → Result B WriteFault) (items : List A) (u : Unit {0}) → told read items ≡ Ok u → list_any (λ item. is_err (read item)) items ≡ false
 unfolding told
 told_ok read items u e = here (list_any (λ item. is_unmatched (read item)) items) (list_any (λ item. is_err (read item)) items) e

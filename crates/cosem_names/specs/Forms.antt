@@ -1,4 +1,5 @@
--- Forms that values of several classes share (IEC 62056-6-2): an array, a structure, a logical name, dates and times.
+-- The forms that values of several classes share (IEC 62056-6-2): an array, a structure, a logical
+-- name, dates and times.
 use Rattle.std.specs.Prelude.{ℕ, List, [], ◌∷◌, Option, Some, None, length, ◌==◌, if◌then◌else◌}
 use Rattle.cosem_axdr.specs.Forms.{octets_of}
 use Rattle.cosem_axdr.specs.Tree.{trees_of}
@@ -7,7 +8,7 @@ use Rattle.cosem_axdr.specs.declared.value.Data.{Data}
 use Rattle.cosem_axdr.specs.declared.value.Data.TheVariants.{Array, Structure, OctetString, DateTime, Date, Time}
 use Rattle.cosem_names.specs.declared.name.Obis.{Obis}
 
--- an array of Datas, and a structure
+-- an array of Data, and a structure
 abbrev pub array_with : List Data → Data
 array_with items = Array (trees_of (all_trees items))
 
@@ -15,7 +16,7 @@ abbrev pub structure_with : List Data → Data
 structure_with items = Structure (trees_of (all_trees items))
 
 infixl 10 ◌>>=◌
--- the next part, where the first one is there
+-- the next part, if there is a first one
 abbrev pub ◌>>=◌ : {A B : Type 0} → Option A → (A → Option B) → Option B
 None >>= next = None
 (Some x) >>= next = next x
@@ -28,7 +29,7 @@ name_in _ = None
 abbrev pub name_of : Data → Option Obis
 name_of value = octets_of value >>= name_in
 
--- so many bytes
+-- the bytes, if there are exactly n
 abbrev pub so_many : ℕ → List ℕ → Option (List ℕ)
 so_many n bytes = if length bytes == n then Some bytes else None
 

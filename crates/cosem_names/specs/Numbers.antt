@@ -1,4 +1,4 @@
--- The number of each fault.
+-- The numbers of the faults.
 use Rattle.std.specs.Prelude.{ℕ}
 use Rattle.cosem_names.specs.declared.write_fault.WriteFault.{WriteFault}
 use Rattle.cosem_names.specs.declared.write_fault.WriteFault.TheVariants as fault

@@ -1,4 +1,5 @@
--- The object_list of the association as a client of a level reads it: the table told as a Data (IEC 62056-6-2, Association LN).
+-- The object_list of the association as a client of a level reads it: the table as Data (IEC
+-- 62056-6-2, Association LN).
 use Rattle.std.specs.Prelude.{ℕ, Bool, true, false, List, [], ◌∷◌, ◌==◌, filter, map}
 use Rattle.std.specs.Int.{w8, cast_signed}
 use Rattle.cosem_axdr.specs.declared.value.Data.{Data}
@@ -25,35 +26,35 @@ abbrev pub execution_number : Bool → ℕ
 execution_number false = 0
 execution_number true = 1
 
--- an attribute: its number, its access mode for the level, and no selectors
+-- the entry of an attribute: its number, its access mode for the level, and no selectors
 unfoldable pub attribute_entry : Level → Attribute → Data
 attribute_entry level row = structure_with
     (Integer (cast_signed w8 row.number) ∷ Enum (access_number (access_by level row)) ∷ Null ∷ [])
 
--- a method: its number and its access mode for the level
+-- the entry of a method: its number and its access mode for the level
 unfoldable pub method_entry : Level → Method → Data
 method_entry level row = structure_with
     (Integer (cast_signed w8 row.number) ∷ Enum (execution_number (execution_by level row)) ∷ [])
 
--- the attributes of a class among rows, in their order
+-- the entries of a class's attributes among rows, in their order
 unfoldable pub attribute_entries : Level → ClassId → List Attribute → List Data
 attribute_entries level class rows = map (attribute_entry level) (filter (λ row. row.class.0 == class.0) rows)
 
--- the methods of a class among rows, in their order
+-- the entries of a class's methods among rows, in their order
 unfoldable pub method_entries : Level → ClassId → List Method → List Data
 method_entries level class rows = map (method_entry level) (filter (λ row. row.class.0 == class.0) rows)
 
--- the access rights to the attributes and methods of a class, as rows give them
+-- the access rights to the attributes and methods of a class that rows have
 unfoldable pub access_rights : Level → ClassId → List Attribute → List Method → Data
 access_rights level class attributes methods = structure_with
     (array_with (attribute_entries level class attributes) ∷ array_with (method_entries level class methods) ∷ [])
 
--- an object: its class, version and logical name, and the access rights of its class
+-- the entry of an object: its class, version and logical name, and the access rights of its class
 unfoldable pub object_entry : Level → List Attribute → List Method → Object → Data
 object_entry level attributes methods row = structure_with
     (LongUnsigned row.class.0 ∷ Unsigned row.version ∷ OctetString row.name.0 ∷ access_rights level row.class attributes methods ∷ [])
 
--- objects in their order
+-- the entries of objects, in their order
 unfoldable pub object_entries : Level → List Attribute → List Method → List Object → List Data
 object_entries level attributes methods rows = map (object_entry level attributes methods) rows
 

@@ -1,4 +1,5 @@
--- The rows of the table that a request names, and what a client may do there (IEC 62056-6-2, Association LN, access rights).
+-- The rows of the table that a request names, and what a client may do there (IEC 62056-6-2,
+-- Association LN, access rights).
 use Rattle.std.specs.Prelude.{ℕ, Bool, true, false, Option, None, ◌==◌, ◌&&◌, find, option_map, unwrap_or, option_and_then, if◌then◌else◌}
 use Rattle.std.specs.Str.{bytes_eq}
 use Rattle.cosem_names.specs.declared.level.Level.{Level}
@@ -27,19 +28,20 @@ class_attribute_of class number = find (λ row. row.class.0 == class.0 && row.nu
 unfoldable pub class_method_of : ClassId → ℕ → Option Method
 class_method_of class number = find (λ row. row.class.0 == class.0 && row.number == number) methods
 
--- the row of an attribute that a request names: the name's object must have the class that is named
+-- the row of an attribute that a request names: the object with that name must be of the class
+-- named
 unfoldable pub attribute_of : AttrRef → Option Attribute
 attribute_of reference = option_and_then (λ object.
     if object.class.0 == reference.class.0 then class_attribute_of object.class reference.number else None)
     (object_of reference.name)
 
--- the row of a method that a request names, in the same way
+-- the row of a method that a request names: the object with that name must be of the class named
 unfoldable pub method_of : MethodRef → Option Method
 method_of reference = option_and_then (λ object.
     if object.class.0 == reference.class.0 then class_method_of object.class reference.number else None)
     (object_of reference.name)
 
--- an access mode as rights
+-- the rights of an access mode
 abbrev pub rights_by : Access → Rights
 rights_by NoAccess = record { read = false; write = false }
 rights_by ReadOnly = record { read = true; write = false }

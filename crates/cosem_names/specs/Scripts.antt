@@ -1,5 +1,5 @@
--- A script as other objects name it (IEC 62056-6-2: executed_script of class 22, the actions of class 71): a structure of a script table's logical name and a
--- selector in that table.
+-- A script as other objects name it (IEC 62056-6-2: executed_script of class 22, actions of class
+-- 71): a structure of a script table's logical name and a selector in that table.
 use Rattle.std.specs.Prelude.{ℕ, Bool, List, [], ◌∷◌, Option, Some, None}
 use Rattle.std.specs.Str.{bytes_eq}
 use Rattle.cosem_axdr.specs.declared.value.Data.{Data}
@@ -10,7 +10,8 @@ use Rattle.cosem_names.specs.declared.scripts.NamedScript.{NamedScript}
 use Rattle.cosem_names.specs.Forms.{◌>>=◌, name_of, structure_with}
 use Rattle.cosem_names.specs.Table.{obis}
 
--- the meter's script table: 0.0.10.0.106.255 (IEC 62056-6-1, script table objects)
+-- the logical name of the meter's script table: 0.0.10.0.106.255 (IEC 62056-6-1, script table
+-- objects)
 abbrev pub script_table : Obis
 script_table = obis 0 0 10 0 106 255
 
@@ -18,11 +19,11 @@ script_table = obis 0 0 10 0 106 255
 abbrev pub named : ℕ → NamedScript
 named selector = record { table = script_table; selector = selector }
 
--- the script is one of that table
+-- whether a script is one of that table
 abbrev pub is_of_the_table : NamedScript → Bool
 is_of_the_table script = bytes_eq script.table.0 script_table.0
 
--- the structure, as it is read
+-- the script in a structure
 abbrev script_with : List Data → Option NamedScript
 script_with (name ∷ selector ∷ []) = do
   table ← name_of name
@@ -33,6 +34,6 @@ script_with _ = None
 abbrev pub script_of : Data → Option NamedScript
 script_of value = structure_of value >>= script_with
 
--- and as it is written
+-- the structure of a script
 unfoldable pub script_data : NamedScript → Data
 script_data script = structure_with (OctetString script.table.0 ∷ LongUnsigned script.selector ∷ [])

@@ -1,5 +1,7 @@
--- The meter's objects, and what each client may do with their attributes and methods. Classes, versions, attributes and methods are those of the
--- Blue Book (IEC 62056-6-2), logical names by the value groups A to F (IEC 62056-6-1). Which objects there are, and the rights, is this product's own.
+-- The meter's objects, and what each client may do with their attributes and methods. Classes,
+-- versions, attributes and methods are those of the Blue Book (IEC 62056-6-2), logical names follow
+-- the value groups A to F (IEC 62056-6-1). Which objects there are, and the rights, are rules of
+-- this product.
 use Rattle.std.specs.Prelude.{ℕ, Bool, true, false, List, [], ◌∷◌}
 use Rattle.cosem_names.specs.declared.name.ClassId.{ClassId}
 use Rattle.cosem_names.specs.declared.name.Obis.{Obis}
@@ -105,7 +107,8 @@ attributes =
     attribute limiter 11 NoAccess ReadAndWrite ∷  -- actions
     []
 
--- the methods of the classes: number, and whether the public and the management client may execute it
+-- the methods of the classes: number, and whether the public and the management client may execute
+-- it
 abbrev pub methods : List Method
 methods =
     method script_table 1 false true ∷  -- execute

@@ -5,7 +5,7 @@ use crate::level::{Level, Rights};
 use crate::name::{AttrRef, ClassId, MethodRef, Obis};
 use crate::objects::{ATTRIBUTES, Access, Attribute, METHODS, Method, OBJECTS, Object};
 
-/// The row of the object with this logical name, or None where no object has it.
+/// Returns the row of the object with this logical name, or `None` if no object has it.
 #[tactic(auto, unfolding(crate::specs::Objects::object_of))]
 pub fn object(name: Obis) -> Option<Object>
     ensures { result ≡ object_of name }
@@ -13,7 +13,7 @@ pub fn object(name: Obis) -> Option<Object>
     OBJECTS.iter().copied().find(|row| row.name == name)
 }
 
-/// The class of the object with this logical name, or None where no object has it.
+/// Returns the class of the object with this logical name, or `None` if no object has it.
 pub fn find(name: Obis) -> Option<ClassId>
     ensures { result ≡ option_map (λ row. row.class) (object_of name) }
 {
@@ -21,7 +21,8 @@ pub fn find(name: Obis) -> Option<ClassId>
     Some(row.class)
 }
 
-/// The row of an attribute of a class.
+/// Returns the row of an attribute of a class, or `None` if the class has no attribute of this
+/// number.
 #[tactic(auto, unfolding(crate::specs::Objects::class_attribute_of))]
 fn class_attribute(class: ClassId, number: u8) -> Option<Attribute>
     ensures { result ≡ class_attribute_of class number }
@@ -32,7 +33,7 @@ fn class_attribute(class: ClassId, number: u8) -> Option<Attribute>
         .find(|row| row.class == class && row.number == number)
 }
 
-/// The row of a method of a class.
+/// Returns the row of a method of a class, or `None` if the class has no method of this number.
 #[tactic(auto, unfolding(crate::specs::Objects::class_method_of))]
 fn class_method(class: ClassId, number: u8) -> Option<Method>
     ensures { result ≡ class_method_of class number }
@@ -43,8 +44,8 @@ fn class_method(class: ClassId, number: u8) -> Option<Method>
         .find(|row| row.class == class && row.number == number)
 }
 
-/// The row of an attribute, or None where the name is unknown, the class is not the name's, or the
-/// object has no attribute of that number.
+/// Returns the row of an attribute. Returns `None` if no object has the logical name, the object is
+/// of another class, or the class has no attribute of that number.
 #[tactic(auto, unfolding(crate::specs::Objects::attribute_of))]
 pub fn attribute(reference: &AttrRef) -> Option<Attribute>
     ensures { result ≡ attribute_of reference.now }
@@ -67,8 +68,8 @@ fn method(reference: &MethodRef) -> Option<Method>
     class_method(row.class, reference.number)
 }
 
-/// What a client of this level may do with an attribute: neither read nor write where there is no such
-/// attribute.
+/// Returns what a client of this level may do with an attribute. If there is no such attribute, it
+/// may neither read nor write.
 #[tactic(auto, unfolding(crate::specs::Objects::rights_of))]
 pub fn rights(level: Level, reference: &AttrRef) -> Rights
     ensures { result ≡ rights_of level reference.now }
@@ -99,7 +100,7 @@ pub fn rights(level: Level, reference: &AttrRef) -> Rights
     }
 }
 
-/// Whether a client of this level may execute a method: false where there is no such method.
+/// Whether a client of this level may execute a method. False if there is no such method.
 #[tactic(auto, unfolding(crate::specs::Objects::may_execute_of))]
 pub fn may_execute(level: Level, reference: &MethodRef) -> bool
     ensures { result ≡ may_execute_of level reference.now }

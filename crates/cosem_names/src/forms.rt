@@ -4,14 +4,15 @@ ghost use Rattle.cosem_names.specs.Forms.{so_many, name_of, date_time_bytes_of, 
 use crate::name::Obis;
 use cosem_axdr::Data;
 
-/// The bytes of a date-time, of a date and of a time (IEC 62056-6-2, date and time formats).
+/// The lengths in bytes of a date-time, a date and a time (IEC 62056-6-2, date and time formats).
 const DATE_TIME_LEN: usize = 12;
 
 const DATE_LEN: usize = 5;
 
 const TIME_LEN: usize = 4;
 
-/// The logical name in an octet-string of six bytes (IEC 62056-6-2, logical_name), or None where the Data is another.
+/// Returns the logical name in an octet-string of six bytes (IEC 62056-6-2, logical_name), or
+/// `None` for any other Data.
 pub fn name_in(value: &Data) -> Option<Obis>
     ensures { result ≡ name_of value.now }
 {
@@ -21,7 +22,7 @@ pub fn name_in(value: &Data) -> Option<Obis>
     Some(Obis([*a, *b, *c, *d, *e, *f]))
 }
 
-/// Bytes, where they are so many.
+/// Returns the bytes, or `None` if their number is not `length`.
 fn of_length(bytes: &[u8], length: usize) -> Option<&[u8]>
     ensures { option_map (λ bytes. bytes.now) result ≡ so_many length bytes.now }
 {
@@ -32,7 +33,8 @@ fn of_length(bytes: &[u8], length: usize) -> Option<&[u8]>
     }
 }
 
-/// The twelve bytes of a date-time, in a Data of that type or in an octet-string (IEC 62056-6-2, date and time formats).
+/// Returns the twelve bytes of a date-time, in Data of that type or in an octet-string (IEC
+/// 62056-6-2, date and time formats), or `None` for any other Data.
 pub fn date_time_bytes(value: &Data) -> Option<&[u8]>
     ensures { option_map (λ bytes. bytes.now) result ≡ date_time_bytes_of value.now }
 {
@@ -43,7 +45,8 @@ pub fn date_time_bytes(value: &Data) -> Option<&[u8]>
     }
 }
 
-/// The five bytes of a date, in a Data of that type or in an octet-string (IEC 62056-6-2, date and time formats).
+/// Returns the five bytes of a date, in Data of that type or in an octet-string (IEC 62056-6-2,
+/// date and time formats), or `None` for any other Data.
 pub fn date_bytes(value: &Data) -> Option<&[u8]>
     ensures { option_map (λ bytes. bytes.now) result ≡ date_bytes_of value.now }
 {
@@ -54,7 +57,8 @@ pub fn date_bytes(value: &Data) -> Option<&[u8]>
     }
 }
 
-/// The four bytes of a time, in a Data of that type or in an octet-string (IEC 62056-6-2, date and time formats).
+/// Returns the four bytes of a time, in Data of that type or in an octet-string (IEC 62056-6-2,
+/// date and time formats), or `None` for any other Data.
 pub fn time_bytes(value: &Data) -> Option<&[u8]>
     ensures { option_map (λ bytes. bytes.now) result ≡ time_bytes_of value.now }
 {

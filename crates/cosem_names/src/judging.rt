@@ -5,14 +5,15 @@ ghost use Rattle.cosem_names.specs.WriteFault.{is_unmatched, told};
 use crate::write_fault::WriteFault;
 use cosem_axdr::Data;
 
-/// Whether what was read is of another type.
+/// Whether reading failed because of a wrong type.
 fn is_unmatched<X>(given: &Result<X, WriteFault>) -> bool
     ensures { result ≡ is_unmatched given.now }
 {
     matches!(given, Err(WriteFault::Unmatched))
 }
 
-/// The fault of several Datas by what is read of each: another type of one is told before any other fault. That order is this meter's.
+/// Judges several items by reading each: `Unmatched` if any has a wrong type, then `Value` if
+/// reading any fails for another reason. That order is a rule of this meter.
 #[tactic(auto, unfolding(crate::specs::WriteFault::told))]
 pub fn judge_each<X: Drop, F: Fn(&Data) -> Result<X, WriteFault>>(
     items: &[Data],

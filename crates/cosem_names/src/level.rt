@@ -1,15 +1,17 @@
-/// Which client asks: the level of its association.
+/// The access level of a client's association.
 #[derive(Clone, Copy, Debug, PartialEq, Eq)]
 pub enum Level {
-    /// The public client, of client port 16: it reads.
+    /// The public client (client port 16): may only read.
     Public,
-    /// The management client, of client port 1.
+    /// The management client (client port 1): may also write and execute.
     Management,
 }
 
 /// What a client may do with an attribute.
 #[derive(Clone, Copy, Debug, PartialEq, Eq)]
 pub struct Rights {
+    /// Whether it may read the attribute.
     pub read: bool,
+    /// Whether it may write the attribute.
     pub write: bool,
 }

@@ -1,6 +1,7 @@
 //! The names of the meter's objects, and what each client may do with them.
 //!
-//! `objects` has the one table of the objects; `access` reads it, and `object_list` tells it to a client.
+//! `objects` has the one table of the objects, `access` looks up in it, and `object_list` shows it
+//! to a client.
 #![tactic(auto)]
 
 mod access;

@@ -6,18 +6,24 @@ pub struct Obis(pub [u8; 6]);
 #[derive(Clone, Copy, Debug, PartialEq, Eq)]
 pub struct ClassId(pub u16);
 
-/// A COSEM attribute descriptor: which attribute a GET or a SET names (IEC 62056-5-3).
+/// A COSEM attribute descriptor: the attribute that a GET or a SET names (IEC 62056-5-3).
 #[derive(Clone, Copy, Debug, PartialEq, Eq)]
 pub struct AttrRef {
+    /// The class_id of the object.
     pub class: ClassId,
+    /// The logical name of the object.
     pub name: Obis,
+    /// The number of the attribute; 1 is the logical name.
     pub number: u8,
 }
 
-/// A COSEM method descriptor: which method an ACTION names (IEC 62056-5-3).
+/// A COSEM method descriptor: the method that an ACTION names (IEC 62056-5-3).
 #[derive(Clone, Copy, Debug, PartialEq, Eq)]
 pub struct MethodRef {
+    /// The class_id of the object.
     pub class: ClassId,
+    /// The logical name of the object.
     pub name: Obis,
+    /// The number of the method; 1 is the first.
     pub number: u8,
 }

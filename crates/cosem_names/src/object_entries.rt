@@ -8,9 +8,9 @@ use crate::objects::{ATTRIBUTES, Access, Attribute, METHODS, Method, OBJECTS, Ob
 use cosem_axdr::{Data, Items, Octets};
 use std::alloc::{AllocError, Global};
 
-/// The object_list of the Association LN object (IEC 62056-6-2, class 15, attribute 2), as a client of this
-/// level reads it: each object of the table with its class, version and logical name, and this level's access
-/// modes of its attributes and methods.
+/// Returns object_list, attribute 2 of the Association LN object (IEC 62056-6-2, class 15), as a
+/// client of this level reads it: each object of the table with its class, version and logical
+/// name, and this level's access modes of its attributes and methods. Fails only if out of memory.
 pub fn object_list(alloc: Global, level: Level) -> Result<Data, AllocError>
     ensures { IfOk result (λ list. list ≡ object_list_of level) }
 {
@@ -18,7 +18,7 @@ pub fn object_list(alloc: Global, level: Level) -> Result<Data, AllocError>
     Ok(Data::Array(Items::from_vec(entries)))
 }
 
-// The entries of objects, in order, with the attributes and methods that rows give to their classes.
+// Writes the entries of objects, in order. `attributes` and `methods` have those of their classes.
 #[tactic(auto, unfolding(crate::specs::ObjectList::object_entries))]
 fn object_entries(
     alloc: Global,
@@ -36,7 +36,8 @@ fn object_entries(
     Ok(entries)
 }
 
-// The entry of an object: its class, version and logical name, and the access rights of its class.
+// Writes the entry of an object: its class, version and logical name, and the access rights of its
+// class.
 #[tactic(auto, unfolding(crate::specs::ObjectList::object_entry))]
 fn object_entry(
     alloc: Global,
@@ -56,7 +57,7 @@ fn object_entry(
     Ok(Data::Structure(Items::from_vec(entry)))
 }
 
-// The access rights of a class: those to its attributes, and those to its methods.
+// Writes the access rights of a class: those to its attributes, then those to its methods.
 #[tactic(auto, unfolding(crate::specs::ObjectList::access_rights))]
 fn access_rights(
     alloc: Global,
@@ -76,7 +77,7 @@ fn access_rights(
     Ok(Data::Structure(Items::from_vec(rights)))
 }
 
-// The entries of the attributes of a class, in the order of the rows.
+// Writes the entries of a class's attributes, in the order of the rows.
 #[tactic(auto, unfolding(crate::specs::ObjectList::attribute_entries))]
 fn attribute_entries(
     alloc: Global,
@@ -95,7 +96,7 @@ fn attribute_entries(
     Ok(entries)
 }
 
-// The entries of the methods of a class, in the order of the rows.
+// Writes the entries of a class's methods, in the order of the rows.
 #[tactic(auto, unfolding(crate::specs::ObjectList::method_entries))]
 fn method_entries(
     alloc: Global,
@@ -114,7 +115,7 @@ fn method_entries(
     Ok(entries)
 }
 
-// The entry of an attribute: its number, its access mode and no access selectors.
+// Writes the entry of an attribute: its number, its access mode and no access selectors.
 #[tactic(auto, unfolding(crate::specs::ObjectList::attribute_entry))]
 fn attribute_entry(alloc: Global, level: Level, row: &Attribute) -> Result<Data, AllocError>
     ensures { IfOk result (λ entry. entry ≡ attribute_entry level row.now) }
@@ -131,7 +132,7 @@ fn attribute_entry(alloc: Global, level: Level, row: &Attribute) -> Result<Data,
     Ok(Data::Structure(Items::from_vec(entry)))
 }
 
-// The entry of a method: its number and its access mode.
+// Writes the entry of a method: its number and its access mode.
 #[tactic(auto, unfolding(crate::specs::ObjectList::method_entry))]
 fn method_entry(alloc: Global, level: Level, row: &Method) -> Result<Data, AllocError>
     ensures { IfOk result (λ entry. entry ≡ method_entry level row.now) }
@@ -147,7 +148,7 @@ fn method_entry(alloc: Global, level: Level, row: &Method) -> Result<Data, Alloc
     Ok(Data::Structure(Items::from_vec(entry)))
 }
 
-// The number of an attribute's access mode.
+// Returns the number of an attribute's access mode.
 fn access_number(access: Access) -> u8
     ensures { result ≡ access_number access }
 {

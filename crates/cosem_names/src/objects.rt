@@ -1,27 +1,30 @@
 use crate::name::{ClassId, Obis};
 
-/// The access mode of an attribute (Blue Book, Association LN, object_list).
+/// The access mode of an attribute (IEC 62056-6-2, Association LN, object_list).
 #[derive(Clone, Copy, Debug, PartialEq, Eq)]
 pub enum Access {
+    /// 0, no_access: may be neither read nor written.
     NoAccess,
+    /// 1, read_only: may be read.
     ReadOnly,
+    /// 3, read_and_write: may be read and written.
     ReadAndWrite,
 }
 
-/// Which of the four schedules: the value group B of its logical name.
+/// The number of a schedule, first to fourth: the value group B of its logical name is one less.
 #[derive(Clone, Copy, Debug, PartialEq, Eq)]
 pub enum ScheduleNumber {
-    /// 0.0.15.0.1.255
+    /// 0.0.15.0.1.255.
     First,
-    /// 0.1.15.0.1.255
+    /// 0.1.15.0.1.255.
     Second,
-    /// 0.2.15.0.1.255
+    /// 0.2.15.0.1.255.
     Third,
-    /// 0.3.15.0.1.255
+    /// 0.3.15.0.1.255.
     Fourth,
 }
 
-/// Which of the two directions of power a register or a limiter measures.
+/// The direction of power that a register or a limiter measures.
 #[derive(Clone, Copy, Debug, PartialEq, Eq)]
 pub enum Which {
     /// The imported power: the register 1.0.1.7.0.255 and the limiter 0.0.17.0.0.255.
@@ -30,58 +33,78 @@ pub enum Which {
     Export,
 }
 
-/// Which object of the meter a row of the table speaks of.
+/// The object of the meter that a row of the table is for.
 #[derive(Clone, Copy, Debug, PartialEq, Eq)]
 pub enum Instance {
+    /// The association of the client that asks: class 15, Association LN.
     Association,
+    /// The COSEM logical device name: class 1, Data.
     DeviceName,
+    /// The power of one direction: class 3, Register.
     Register(Which),
+    /// The script table: class 9, Script table.
     ScriptTable,
+    /// One of the four schedules: class 22, Single action schedule.
     Schedule(ScheduleNumber),
+    /// The supply switch: class 70, Disconnect control.
     DisconnectControl,
+    /// The limiter of one direction of power: class 71, Limiter.
     Limiter(Which),
 }
 
-/// An object, with its logical name and its interface class.
+/// A row of the object table: an object with its logical name, its interface class and the class's
+/// version.
 #[derive(Clone, Copy, Debug, PartialEq, Eq)]
 pub struct Object {
+    /// Which object of the meter it is.
     pub instance: Instance,
+    /// The class_id of its interface class.
     pub class: ClassId,
+    /// The version of its interface class.
     pub version: u8,
+    /// Its logical name.
     pub name: Obis,
 }
 
 /// An attribute of an interface class, with its access mode for each level.
 #[derive(Clone, Copy, Debug, PartialEq, Eq)]
 pub struct Attribute {
+    /// The class_id of the interface class.
     pub class: ClassId,
+    /// The number of the attribute.
     pub number: u8,
+    /// The access mode for the public client.
     pub public: Access,
+    /// The access mode for the management client.
     pub management: Access,
 }
 
 /// A method of an interface class, and which levels may execute it.
 #[derive(Clone, Copy, Debug, PartialEq, Eq)]
 pub struct Method {
+    /// The class_id of the interface class.
     pub class: ClassId,
+    /// The number of the method.
     pub number: u8,
+    /// Whether the public client may execute it.
     pub public: bool,
+    /// Whether the management client may execute it.
     pub management: bool,
 }
 
-/// Association LN (IEC 62056-6-2, class 15).
+/// Class 15, Association LN (IEC 62056-6-2).
 pub const ASSOCIATION_LN: ClassId = ClassId(15);
-/// Data (IEC 62056-6-2, class 1).
+/// Class 1, Data (IEC 62056-6-2).
 pub const DATA: ClassId = ClassId(1);
-/// Register (IEC 62056-6-2, class 3).
+/// Class 3, Register (IEC 62056-6-2).
 pub const REGISTER: ClassId = ClassId(3);
-/// Script table (IEC 62056-6-2, class 9).
+/// Class 9, Script table (IEC 62056-6-2).
 pub const SCRIPT_TABLE: ClassId = ClassId(9);
-/// Single action schedule (IEC 62056-6-2, class 22).
+/// Class 22, Single action schedule (IEC 62056-6-2).
 pub const SINGLE_ACTION_SCHEDULE: ClassId = ClassId(22);
-/// Disconnect control (IEC 62056-6-2, class 70).
+/// Class 70, Disconnect control (IEC 62056-6-2).
 pub const DISCONNECT_CONTROL: ClassId = ClassId(70);
-/// Limiter (IEC 62056-6-2, class 71).
+/// Class 71, Limiter (IEC 62056-6-2).
 pub const LIMITER: ClassId = ClassId(71);
 
 /// The meter's objects, in the order of the object list.
@@ -171,7 +194,7 @@ macro_rules! attribute {
     };
 }
 
-/// The attributes of the classes: what each level may do with them.
+/// The attributes of the classes, with what each level may do with them.
 pub const ATTRIBUTES: [Attribute; 28] = [
     attribute!(ASSOCIATION_LN 1: ReadOnly, ReadOnly),
     attribute!(ASSOCIATION_LN 2: ReadOnly, ReadOnly),
@@ -214,7 +237,7 @@ macro_rules! method {
     };
 }
 
-/// The methods of the classes: which levels may execute them.
+/// The methods of the classes, with which levels may execute them.
 pub const METHODS: [Method; 3] = [
     method!(SCRIPT_TABLE 1: false, true),
     method!(DISCONNECT_CONTROL 1: false, true),

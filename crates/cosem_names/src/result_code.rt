@@ -1,26 +1,40 @@
 ghost use Rattle.std.specs.Prelude.{◌≡◌};
 ghost use Rattle.cosem_names.specs.ResultCode.{code_of, result_of};
 
-/// The result of a service: Data-Access-Result and Action-Result of IEC 62056-5-3, section 9.
+/// The result of a service: Data-Access-Result and Action-Result (IEC 62056-5-3).
 #[derive(Clone, Copy, Debug, PartialEq, Eq)]
 pub enum ResultCode {
+    /// 0, success.
     Success,
+    /// 1, hardware-fault. This meter never returns it.
     HardwareFault,
+    /// 2, temporary-failure: the present state of the meter does not allow it.
     TemporaryFailure,
+    /// 3, read-write-denied: the client has no right to it, or the class has no attribute or method
+    /// of that number.
     ReadWriteDenied,
+    /// 4, object-undefined: no object has this logical name.
     ObjectUndefined,
+    /// 9, object-class-inconsistent: the object is of another class.
     ObjectClassInconsistent,
+    /// 12, type-unmatched: the written value has a wrong type.
     TypeUnmatched,
+    /// 13, scope-of-access-violated: a part of an attribute was requested.
     ScopeOfAccessViolated,
-    /// In an answer to an ACTION: no-long-action-in-progress.
+    /// 16, no-long-get-in-progress: a block was requested without a transfer. In an answer to an
+    /// ACTION, no-long-action-in-progress.
     NoLongGetInProgress,
+    /// 18, no-long-set-in-progress: a block of a SET arrived without a transfer.
     NoLongSetInProgress,
+    /// 19, data-block-number-invalid: a block has an unexpected number.
     DataBlockNumberInvalid,
+    /// 250, other-reason: a written value is not accepted, a script does not exist, the meter is
+    /// out of memory, or any other reason.
     OtherReason,
 }
 
 impl ResultCode {
-    /// The number that stands for this result in an APDU.
+    /// Returns the number of the result in an APDU.
     pub fn code(self) -> u8
         ensures { result ≡ code_of self }
     {
@@ -40,7 +54,7 @@ impl ResultCode {
         }
     }
 
-    /// The result of this number, or None where no result of the meter's services has it.
+    /// Returns the result of a number, or `None` if no result of this meter has it.
     #[tactic(auto, unfolding(crate::specs::ResultCode::result_of))]
     pub fn of_code(code: u8) -> Option<ResultCode>
         ensures { result ≡ result_of code }

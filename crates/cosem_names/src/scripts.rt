@@ -6,20 +6,21 @@ use crate::name::Obis;
 use cosem_axdr::{Data, Items, Octets};
 use std::alloc::{AllocError, Global};
 
-/// The script table (IEC 62056-6-1, script table objects).
+/// The logical name of the script table (IEC 62056-6-1, script table objects).
 const SCRIPT_TABLE: Obis = Obis([0, 0, 10, 0, 106, 255]);
 
-/// A script as other objects name it (IEC 62056-6-2: executed_script of class 22, the actions of class 71): a script table's logical name, and a selector in that table.
+/// A script as other objects name it (IEC 62056-6-2: executed_script of class 22, actions of class
+/// 71): a script table's logical name, and a selector in that table.
 #[derive(Clone, Copy, Debug)]
 pub struct NamedScript {
-    /// `script_logical_name`.
+    /// `script_logical_name`: the logical name of the script table.
     pub table: Obis,
-    /// `script_selector`.
+    /// `script_selector`: the identifier of the script in that table.
     pub selector: u16,
 }
 
 impl NamedScript {
-    /// A script of the meter's script table.
+    /// Returns a script of the meter's script table.
     pub fn of_the_table(selector: u16) -> NamedScript
         ensures { result ≡ named selector }
     {
@@ -29,7 +30,8 @@ impl NamedScript {
         }
     }
 
-    /// The script in a structure of an octet-string of six bytes and a long-unsigned, or None where the Data is another.
+    /// Reads a script from a structure of an octet-string of six bytes and a long-unsigned. Returns
+    /// `None` for any other Data.
     pub fn from_data(value: &Data) -> Option<NamedScript>
         ensures { result ≡ script_of value.now }
     {
@@ -42,18 +44,18 @@ impl NamedScript {
         })
     }
 
-    /// Whether it is one of the meter's script table.
+    /// Whether the script is of the meter's script table.
     pub fn is_of_the_table(&self) -> bool
         ensures { result ≡ is_of_the_table self.now }
     {
         self.table == SCRIPT_TABLE
     }
 
-    /// The structure that names it.
+    /// Writes the structure that names the script. Fails only if out of memory.
     #[tactic(auto, unfolding(crate::specs::Scripts::script_data))]
     pub fn to_data(&self, alloc: Global) -> Result<Data, AllocError>
         ensures value { IfOk result (λ value. value ≡ script_data self.now) }
-        // Read again, it gives the script back.
+        // Reading the Data returns the script.
         ensures again { IfOk result (λ value. script_of value ≡ Some self.now) }
     {
         let name = Octets::from_slice(alloc, &self.table.0)?;

@@ -2,17 +2,22 @@ use crate::name::AttrRef;
 use crate::result_code::ResultCode;
 use cosem_axdr::Data;
 
-/// An attribute, and whether only a part of it was asked for: Cosem-Attribute-Descriptor-With-Selection of
-/// IEC 62056-5-3. Which part doesn't matter, since the meter answers to none.
+/// An attribute, and whether only a part of it was requested:
+/// Cosem-Attribute-Descriptor-With-Selection (IEC 62056-5-3). Which part is not kept, since the
+/// meter refuses all of them.
 #[derive(Clone, Copy, Debug, PartialEq, Eq)]
 pub struct AttributeSelection {
+    /// The attribute.
     pub attr: AttrRef,
+    /// Whether the request has an access selection, so asks for a part.
     pub selected: bool,
 }
 
-/// What a read of an attribute gives: Get-Data-Result of IEC 62056-5-3.
+/// The result of reading an attribute: Get-Data-Result (IEC 62056-5-3).
 #[derive(Debug, Drop)]
 pub enum GetResult {
+    /// The value of the attribute.
     Value(Data),
+    /// Why the attribute is not read.
     Code(ResultCode),
 }

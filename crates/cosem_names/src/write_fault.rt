@@ -7,22 +7,22 @@ use crate::result_code::ResultCode;
 use std::alloc::{AllocError, AllocFailed};
 use thiserror::Error;
 
-/// Why a Data is refused as the value of an attribute. Types are judged over the whole Data before any value, and either
-/// before want of memory.
+/// Why Data is refused as the value of an attribute. Types are judged over the whole Data before
+/// any value, and both before memory is allocated.
 #[derive(Clone, Copy, Debug, PartialEq, Eq, Error)]
 pub enum WriteFault {
-    /// Another type, or another count or length.
+    /// A wrong type, number of elements or length.
     #[error("a value of another type")]
     Unmatched = 1,
-    /// A value that the attribute doesn't take.
+    /// A value that the attribute does not accept.
     #[error("a value that is not taken")]
     Value = 2,
-    /// Memory ran out.
+    /// Out of memory.
     #[error("out of memory")]
     Memory = 3,
 }
 
-/// The number of the fault, 1 to 3.
+/// Returns the number of the fault, 1 to 3.
 impl From<WriteFault> for u8 {
     ghost from_gives = { λ fault number. number ≡ fault_number fault };
 
@@ -32,8 +32,8 @@ impl From<WriteFault> for u8 {
 }
 
 impl WriteFault {
-    /// The result of a write that has this fault: type-unmatched, or other-reason. Want of memory is no fault of what is
-    /// written.
+    /// Returns the result of a write that has this fault: type-unmatched for `Unmatched`, else
+    /// other-reason.
     pub fn code(self) -> ResultCode
         ensures { result ≡ fault_code self }
     {

@@ -1,4 +1,5 @@
--- The attributes of the switch past its logical name, by their numbers, as they are read and written (IEC 62056-6-2, class 70).
+-- The attributes of the switch after its logical name: their numbers, and their values as Data when
+-- read and written (IEC 62056-6-2, class 70).
 use Rattle.std.specs.Prelude.{ℕ, Option, Some, None, ok_or, Result, Ok, Err, ◌==◌, if◌then◌else◌}
 use Rattle.byte_reading.specs.Outcome.{◌>>=◌}
 use Rattle.cosem_axdr.specs.Forms.{enumerated_of}
@@ -13,7 +14,7 @@ use Rattle.disconnect_control.specs.declared.attribute.ControlAttribute.TheVaria
 use Rattle.disconnect_control.specs.declared.state.ControlMode.{ControlMode}
 use Rattle.disconnect_control.specs.declared.state.ControlState.TheVariants.{Connected}
 
--- output_state, control_state and control_mode
+-- the attribute of a number: 2 output_state, 3 control_state, 4 control_mode
 abbrev pub attribute_numbered : ℕ → Option ControlAttribute
 attribute_numbered number =
     if number == 2 then Some attribute.OutputState
@@ -21,12 +22,12 @@ attribute_numbered number =
     else if number == 4 then Some attribute.ControlMode
     else None
 
--- an attribute as it is read: whether the supply is on, the state, the mode
+-- the value of an attribute when read: whether the supply is on, the state, the mode
 abbrev pub data_at : ControlAttribute → Control → Data
 data_at attribute.OutputState control = Boolean (is_state control.state Connected)
 data_at attribute.ControlState control = Enum (state_number control.state)
 data_at attribute.ControlMode control = Enum (mode_number control.mode)
 
--- control_mode as it is written: an enum, 0 to 6
+-- the mode that a written control_mode is: an enum, 0 to 6
 unfoldable pub mode_form : Data → Result ControlMode WriteFault
 mode_form value = ok_or (enumerated_of value) Unmatched >>= λ number. ok_or (mode_of number) Value

@@ -7,16 +7,18 @@ use Rattle.disconnect_control.specs.declared.state.ControlMode.{ControlMode}
 use Rattle.disconnect_control.specs.declared.state.Trigger.{Trigger}
 use Rattle.disconnect_control.specs.Transitions.{is_state, mode_number, after}
 
--- the switch as its clients see it: attributes 3 and 4 (IEC 62056-6-2, class 70, control_state and control_mode)
+-- the switch as its clients see it: attributes 3 and 4 (IEC 62056-6-2, class 70, control_state and
+-- control_mode)
 pub record Control : Type 0 where
   pub state : ControlState
   pub mode : ControlMode
 
--- the switch after a trigger: its mode stays
+-- the switch after a trigger: its mode does not change
 abbrev pub triggered : Trigger → Control → Control
 triggered trigger control = record { state = after control.mode trigger control.state; mode = control.mode }
 
--- whether a mode may be written: mode 0 is always connected (IEC 62056-6-2, class 70, control_mode), so it is taken in Connected alone
+-- whether a mode may be written: in mode 0 the switch is always connected (IEC 62056-6-2, class 70,
+-- control_mode), so mode 0 is accepted only in Connected
 unfoldable pub is_mode_fit : ControlMode → ControlState → Bool
 is_mode_fit mode state = not (mode_number mode == 0) || is_state state Connected
 

@@ -14,7 +14,8 @@ pub record Row : Type 0 where
   pub from : ControlState
   pub to : ControlState
 
--- the eight transitions, by the letters of the standard's figure of states and transitions (IEC 62056-6-2, class 70)
+-- the eight transitions, by the letters of the standard's figure of states and transitions
+-- (IEC 62056-6-2, class 70)
 abbrev pub a : Row
 a = record { trigger = RemoteReconnect; from = Disconnected; to = Connected }
 
@@ -127,6 +128,7 @@ is_target _ ManualReconnect state = is_state state Connected
 is_target _ LocalDisconnect state = is_state state Disconnected || is_state state ReadyForReconnection
 is_target _ LocalReconnect state = is_state state Connected
 
--- the result of a trigger, which is this meter's: success where a transition is allowed or nothing is left to do
+-- the result of a trigger, a rule of this meter: success if a transition is allowed or nothing is
+-- left to do
 unfoldable pub result_of : ControlMode → Trigger → ControlState → ResultCode
 result_of mode trigger state = if is_some (allowed mode trigger state) || is_target mode trigger state then Success else TemporaryFailure

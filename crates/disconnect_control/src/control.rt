@@ -8,7 +8,8 @@ use crate::state::{ControlMode, ControlState, Trigger};
 use cosem_names::ResultCode;
 use std::marker::Model;
 
-/// The supply switch: its state and its mode. In mode 0 it is always Connected.
+/// The supply switch: its state and its mode (IEC 62056-6-2, class 70). In mode 0 it is always
+/// Connected.
 #[derive(Clone, Copy, Debug, PartialEq, Eq)]
 pub struct DisconnectControl {
     state: ControlState,
@@ -26,7 +27,7 @@ impl Model for DisconnectControl {
 }
 
 impl ControlState {
-    /// The number of the state, as attribute 3 shows it.
+    /// Returns the number of the state, 0 to 2, as control_state (attribute 3) shows it.
     pub fn number(self) -> u8
         ensures { result ≡ state_number self }
     {
@@ -35,14 +36,14 @@ impl ControlState {
 }
 
 impl ControlMode {
-    /// The number of the mode, as attribute 4 shows it.
+    /// Returns the number of the mode, 0 to 6, as control_mode (attribute 4) shows it.
     pub fn number(self) -> u8
         ensures { result ≡ mode_number self }
     {
         self as u8
     }
 
-    /// The mode of this number, or None above 6.
+    /// Returns the mode of a number, or `None` if the number is above 6.
     pub fn of_number(number: u8) -> Option<ControlMode>
         ensures { result ≡ mode_of number }
     {
@@ -59,7 +60,8 @@ impl ControlMode {
     }
 }
 
-/// The state that a mode's transition leads to, where one is allowed.
+/// Returns the state to which the mode's transition leads, or `None` if the mode has no transition
+/// on this trigger in this state.
 #[tactic(auto, unfolding(crate::specs::Transitions::allowed))]
 fn next(mode: ControlMode, trigger: Trigger, state: ControlState) -> Option<ControlState>
     ensures { result ≡ option_map (λ row. row.to) (allowed mode trigger state) }
@@ -84,7 +86,7 @@ fn next(mode: ControlMode, trigger: Trigger, state: ControlState) -> Option<Cont
     }
 }
 
-/// Whether a state is what a trigger asks for.
+/// Whether the state is already what the trigger asks for.
 fn is_done(mode: ControlMode, trigger: Trigger, state: ControlState) -> bool
     ensures { result ≡ is_target mode trigger state }
 {
@@ -104,7 +106,7 @@ fn is_done(mode: ControlMode, trigger: Trigger, state: ControlState) -> bool
 }
 
 impl DisconnectControl {
-    /// The switch of a new meter: Connected, in mode 0.
+    /// Returns the switch of a new meter: Connected, in mode 0.
     pub fn new() -> DisconnectControl
         ensures { result ≡ record { state = Connected; mode = Mode0 } }
     {
@@ -114,7 +116,8 @@ impl DisconnectControl {
         }
     }
 
-    /// A switch in this state and mode, or None for mode 0 in another state than Connected.
+    /// Returns a switch in a given state and mode, or `None` if the mode is 0 and the state is not
+    /// Connected.
     pub fn of(state: ControlState, mode: ControlMode) -> Option<DisconnectControl>
         ensures none { IsNone result ↔ ((mode ≡ Mode0) × (state ≢ Connected)) }
         ensures some { IfSome result (λ control. control ≡ record { state = state; mode = mode }) }
@@ -125,14 +128,14 @@ impl DisconnectControl {
         Some(DisconnectControl { state, mode })
     }
 
-    /// Attribute 3, control_state.
+    /// Returns control_state (attribute 3).
     pub fn state(&self) -> ControlState
         ensures { result ≡ self.now.state }
     {
         self.state
     }
 
-    /// Attribute 4, control_mode. In mode 0 the switch is Connected.
+    /// Returns control_mode (attribute 4). In mode 0 the switch is Connected.
     pub fn mode(&self) -> ControlMode
         ensures mode { result ≡ self.now.mode }
         ensures fit { self.now.mode ≡ Mode0 → self.now.state ≡ Connected }
@@ -140,7 +143,7 @@ impl DisconnectControl {
         self.mode
     }
 
-    /// Attribute 2, output_state: whether the supply is on, which is so in Connected alone.
+    /// Returns output_state (attribute 2): whether the supply is on. It is on only in Connected.
     pub fn output(&self) -> bool
         ensures state { result ≡ is_state self.now.state Connected }
         ensures connected { IsTrue result ↔ (self.now.state ≡ Connected) }
@@ -148,8 +151,10 @@ impl DisconnectControl {
         self.state == ControlState::Connected
     }
 
-    /// Acts on a trigger: follows the mode's transition, where there is one. TemporaryFailure says that there
-    /// is none and that the state is not what the trigger asks for; nothing has changed then.
+    /// Acts on a trigger: follows the mode's transition, if it has one in this state.
+    ///
+    /// Returns `Success` if there is a transition or the state is already what the trigger asks
+    /// for, else `TemporaryFailure`. Without a transition nothing changes.
     #[tactic(auto, unfolding(crate::specs::Transitions::allowed, crate::specs::Transitions::after, crate::specs::Transitions::result_of))]
     pub fn apply(&mut self, trigger: Trigger) -> ResultCode
         ensures control { self.new ≡ triggered trigger self.old }
@@ -165,7 +170,8 @@ impl DisconnectControl {
         }
     }
 
-    /// Writes attribute 4. Mode 0 is refused with TemporaryFailure outside Connected, and nothing changes.
+    /// Writes control_mode (attribute 4). Outside Connected mode 0 is refused with
+    /// `TemporaryFailure`, and nothing changes.
     #[tactic(auto, unfolding(crate::specs::Control::is_mode_fit, crate::specs::Control::with_mode, crate::specs::Control::mode_result))]
     pub fn set_mode(&mut self, mode: ControlMode) -> ResultCode
         ensures control { self.new ≡ with_mode mode self.old }

@@ -8,7 +8,7 @@ use cosem_axdr::Data;
 use cosem_names::WriteFault;
 
 impl DisconnectControl {
-    /// An attribute as it is read. It takes no memory.
+    /// Returns the value of an attribute as Data, as a client reads it. Does not allocate.
     pub fn to_data(&self, attribute: ControlAttribute) -> Data
         ensures { result ≡ data_at attribute self.now }
     {
@@ -20,7 +20,9 @@ impl DisconnectControl {
     }
 }
 
-/// Reads a mode as attribute 4 of the switch is written: an enum of 0 to 6. `Unmatched` where it is no enum, `Value` above 6. It takes no memory.
+/// Reads a mode from the Data that a client writes to control_mode (attribute 4): an enum, 0 to 6.
+/// Returns `Unmatched` if the Data is not an enum, and `Value` if its number is above 6. Does not
+/// allocate.
 #[tactic(auto, unfolding(crate::specs::Attributes::mode_form))]
 pub fn read_mode(value: &Data) -> Result<ControlMode, WriteFault>
     ensures { result ≡ mode_form value.now }

@@ -1,4 +1,5 @@
-//! The supply switch of class 70, Disconnect control (IEC 62056-6-2): its state, its mode and its triggers, and its attributes as they are read and written as Data.
+//! The supply switch, class 70 Disconnect control (IEC 62056-6-2): its states, modes and triggers,
+//! and its attributes as Data, read and written.
 #![tactic(auto)]
 
 mod attribute;

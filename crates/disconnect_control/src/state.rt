@@ -1,34 +1,57 @@
-/// Attribute 3, control_state: what the switch is and may become.
+/// What the switch is and may become: control_state, attribute 3 (IEC 62056-6-2, class 70).
 #[derive(Clone, Copy, Debug, PartialEq, Eq)]
 pub enum ControlState {
-    /// The supply is cut.
+    /// 0, Disconnected: the supply is off, and only a remote reconnection changes the state.
     Disconnected,
-    /// The supply is on.
+    /// 1, Connected: the supply is on.
     Connected,
-    /// The supply is cut, and a press of the meter's button restores it.
+    /// 2, Ready for reconnection: the supply is off, and a manual reconnection (the meter's button)
+    /// restores it; in modes 5 and 6 a local reconnection does too.
     ReadyForReconnection,
 }
 
-/// Attribute 4, control_mode: which triggers the switch obeys.
+/// Which triggers the switch obeys: control_mode, attribute 4 (IEC 62056-6-2, class 70). Each mode
+/// lists the disconnections and reconnections that it allows; the others do nothing.
+///
+/// A remote disconnection leads to Disconnected, manual and local ones to Ready for reconnection. A
+/// remote reconnection acts in Disconnected, manual and local ones in Ready for reconnection.
 #[derive(Clone, Copy, Debug, PartialEq, Eq)]
 pub enum ControlMode {
-    /// None: always connected.
+    /// No disconnection and no reconnection: the switch is always Connected.
     Mode0,
+    /// Disconnection: remote, manual, local. Reconnection: remote (to Ready for reconnection),
+    /// manual.
     Mode1,
+    /// Disconnection: remote, manual, local. Reconnection: remote (to Connected), manual.
     Mode2,
+    /// Disconnection: remote, local. Reconnection: remote (to Ready for reconnection), manual.
     Mode3,
+    /// Disconnection: remote, local. Reconnection: remote (to Connected), manual.
     Mode4,
+    /// Disconnection: remote, manual, local. Reconnection: remote (to Ready for reconnection),
+    /// manual, local.
     Mode5,
+    /// Disconnection: remote, local. Reconnection: remote (to Ready for reconnection), manual,
+    /// local.
     Mode6,
 }
 
-/// What asks the switch to change: a client, a person at the meter, or the meter itself.
+/// What asks the switch to change: a client or a schedule (remote), a person at the meter's button
+/// (manual), or a limiter (local).
 #[derive(Clone, Copy, Debug, PartialEq, Eq)]
 pub enum Trigger {
+    /// A client disconnects: method 1, remote_disconnect, or a script that a client executes or a
+    /// schedule runs.
     RemoteDisconnect,
+    /// A client allows the reconnection, or in modes 2 and 4 reconnects: method 2,
+    /// remote_reconnect, or a script that a client executes or a schedule runs.
     RemoteReconnect,
+    /// A person disconnects: a press of the meter's button in Connected.
     ManualDisconnect,
+    /// A person reconnects: a press of the meter's button in any other state.
     ManualReconnect,
+    /// The meter disconnects: a script that a limiter runs.
     LocalDisconnect,
+    /// The meter reconnects: a script that a limiter runs.
     LocalReconnect,
 }

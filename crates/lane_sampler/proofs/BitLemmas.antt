@@ -15,11 +15,11 @@ words_at test values (suc (suc zero)) lt = refl
 words_at test values (suc (suc (suc zero))) lt = refl
 words_at test values (suc (suc (suc (suc k)))) lt = absurd (omega arith)
 
--- a test of two numbers is that of the next ones
+-- a comparison of two numbers is that of their successors
 lt_suc : (m n : ℕ) → nat_lt m n ≡ nat_lt (suc m) (suc n)
 lt_suc m n = grind (arith, nat_tests)
 
--- an answer is true exactly where there is a value that passes
+-- an answer is true exactly if there is a value and it passes
 answer_at : (test : ℕ → Bool) (values : List ℕ) (i : ℕ) →
     get_or (map test values) i false ≡ (nat_lt i (length values) && test (get_or values i 0))
 answer_at test [] i = grind (arith, nat_tests)
@@ -28,7 +28,7 @@ answer_at test (v ∷ values) (suc i) =
     let same : nat_lt i (length values) ≡ nat_lt (suc i) (suc (length values)) = lt_suc i (length values) in
     answer_at test values i ∙ ap (λ b. b && test (get_or values i 0)) same
 
--- an answer of one word's values
+-- an answer for a value of one word
 answer_in_part : (test : ℕ → Bool) (values : List ℕ) (start j : ℕ) → j < 64 →
     get_or (map test (take 64 (drop start values))) j false ≡ get_or (map test values) (start + j) false
 answer_in_part test values start j lt =
@@ -37,7 +37,7 @@ answer_in_part test values start j lt =
     ∙ ap (λ bs. get_or bs j false) (sym (drop-map test start values))
     ∙ get_or-drop start (map test values) j false
 
--- the words of a test have its answers as their bits
+-- the bits of a test's words are its answers
 pub words_of-bits : (test : ℕ → Bool) (values : List ℕ) → IsMask test values (words_of test values)
 words_of-bits test values = record {
   bits = λ i lt.
@@ -56,7 +56,7 @@ masks_of-bits values threshold = record {
   len = refl;
 }
 
--- so are masks that are equal to those
+-- masks that are equal to those of the values are right bit by bit
 pub bits_from_words : (values : List ℕ) (threshold : ℕ) (masks : Masks) →
     masks ≡ masks_of values threshold → AreMasks values threshold masks
 bits_from_words values threshold masks e = subst (AreMasks values threshold) (sym e) (masks_of-bits values threshold)

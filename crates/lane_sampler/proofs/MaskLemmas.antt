@@ -17,7 +17,7 @@ pub record SoFar (word : Word) (values : List ℕ) (threshold at : ℕ) : Type 0
   pub over : word.over ≡ word_of (is_over threshold) (take at values)
   pub under : word.under ≡ word_of (is_under threshold) (take at values)
 
--- the digits of a longer list stand above those of its beginning
+-- the digits of a longer list are above those of its prefix
 pub mask_l-append : (ms ns : List Bool) → mask_l (ms ++ ns) ≡ mask_l ms + mask_l ns * 2 ^ length ms
 mask_l-append [] ns = omega arith
 mask_l-append (m ∷ ms) ns = rw (mask_l-append ms ns, pow-succ' 2 (length ms)) (omega arith)
@@ -28,7 +28,7 @@ word_of-lt test values n long =
     let P : ℕ → Type 0 = λ m. word_of test values < 2 ^ m in
     subst P (length-map values test ∙ long) (mask_l-lt (map test values))
 
--- the values from `at` to `at + n`, shifted into their place, complete the word
+-- the values from `at` to `at + n`, shifted to their place, complete the word
 pub word_more : (test : ℕ → Bool) (values : List ℕ) (at n word mask : ℕ) →
     at + n ≤ length values → at + n ≤ 64 →
     word ≡ word_of test (take at values) → mask ≡ word_of test (chunk at n values) →
@@ -59,7 +59,7 @@ word_of_one test values at within =
     byte_is : (b : Bool) → bool_byte b ≡ cond b 1 0 + 2 * 0
     byte_is b = elim b as (λ b. bool_byte b ≡ cond b 1 0 + 2 * 0) [ true ↦ refl | false ↦ refl ]
 
--- the values of one word, between bounds that the end of the values cuts off
+-- the values of one word, whose bounds the end of the values limits
 pub part_is : (values : List ℕ) (start from upto : ℕ) →
     from ≡ min start (length values) → upto ≡ min (from + 64) (length values) →
     take (upto - from) (drop from values) ≡ take 64 (drop start values)

@@ -1,4 +1,4 @@
--- Runs of ones: in one word, over the words of a mask, and what they say of the values.
+-- Runs of ones: in one word, over the words of a mask, and what they mean for the values.
 use Rattle.std.proofs.Common.{◌≡◌, ℕ, Bool, true, false, ◌&&◌, inl, inr, ◌+◌, ◌-◌, ◌/◌, ◌%◌, ◌^◌, ◌<◌, ◌≤◌, nat_lt, w64, List, length, get_or, take, drop, cond, sym, ◌∙◌, ap, subst, arith, zero, suc, min}
 use Rattle.std.specs.Int.{bit_at, trailing_ones}
 use Rattle.std.proofs.lemmas.Nat.{shr-shr, shr_below, shr_le}
@@ -14,7 +14,7 @@ use Rattle.std.proofs.lemmas.Nat.Bits.{bit_at-trailing_ones, bit_at_ones, bit_at
 use Rattle.lane_sampler.specs.Masks.{mask_bit, IsMask}
 use Rattle.lane_sampler.specs.Runs.{AreOnes, EndsAt, IsRun}
 
--- n ones stand from bit s of a 64-bit word, and a zero after them or the word's end
+-- n ones from bit s of a 64-bit word, followed by a zero or the word's end
 pub record RunInWord (x s n : ℕ) : Type 0 where
   pub within : n ≤ 64 - s
   pub ones : (k : ℕ) → k < n → bit_at x (s + k) ≡ 1
@@ -82,7 +82,7 @@ ones_more words at end n from before after k lt = elim (cases_lt k (end - at)) [
   | inl inside ↦ before k inside
 ]
 
--- the run that ends there, cut off at len
+-- the run that ends there, limited to len
 pub run_of_end : (words : List ℕ) (len at end : ℕ) → EndsAt words len at end → IsRun words len at (min end len - at)
 run_of_end words len at end e = record {
   within = omega arith;
@@ -92,11 +92,11 @@ run_of_end words len at end e = record {
       ap (mask_bit words) place ∙ e.stops (omega arith);
 }
 
--- a bit of a mask and the answer that it keeps
+-- a bit of a mask, and the answer that it stores
 answer_is : (i n : ℕ) (b : Bool) (bit : ℕ) → bit ≡ cond (nat_lt i n && b) 1 0 → bit ≡ 1 → (i < n) × (b ≡ true)
 answer_is i n b bit is one = (grind (arith, nat_tests), grind (arith, nat_tests))
 
--- a one stands where a value passes the test
+-- a bit is one only if its value passes the test
 pub passes : (test : ℕ → Bool) (values words : List ℕ) → IsMask test values words →
     (i : ℕ) → i < 256 → mask_bit words i ≡ 1 → (i < length values) × (test (get_or values i 0) ≡ true)
 passes test values words mask i lt one = answer_is i (length values) (test (get_or values i 0)) _ (mask.bits i lt) one
@@ -104,7 +104,7 @@ passes test values words mask i lt one = answer_is i (length values) (test (get_
 no_answer : (i n : ℕ) (b : Bool) (bit : ℕ) → bit ≡ cond (nat_lt i n && b) 1 0 → bit ≡ 0 → i < n → b ≡ false
 no_answer i n b bit is none lt = grind (arith, nat_tests)
 
--- a zero stands where a value does not pass it
+-- a bit is zero only if its value does not pass the test
 pub fails : (test : ℕ → Bool) (values words : List ℕ) → IsMask test values words →
     (i : ℕ) → i < 256 → mask_bit words i ≡ 0 → i < length values → test (get_or values i 0) ≡ false
 fails test values words mask i lt none within = no_answer i (length values) (test (get_or values i 0)) _ (mask.bits i lt) none within
@@ -119,7 +119,7 @@ run_passes words len at n small run test values mask long =
     (λ k lt. ap test (get_or-drop at values k 0) ∙ (passes test values words mask (at + k) (omega (arith, run.within)) (run.ones k lt)).1)
     (λ lt. ap test (get_or-drop at values n 0) ∙ fails test values words mask (at + n) (omega arith) (run.stops (omega arith)) (omega arith)))
 
--- each value of such a run passes the test
+-- each value of a run in the mask of a test passes it
 pub all_pass : (words : List ℕ) (len at n : ℕ) → len ≤ 256 → IsRun words len at n →
     (test : ℕ → Bool) (values : List ℕ) → IsMask test values words → All (λ v. IsTrue (test v)) (take n (drop at values))
 all_pass words len at n small run test values mask k d within =

@@ -1,4 +1,4 @@
--- What a block keeps.
+-- The fields of a block.
 use Rattle.std.specs.Prelude.{◌≤◌, length, IfSome}
 use Rattle.std.specs.Option.{option_map}
 use Rattle.lane_sampler.specs.declared.samples.Block.TheInside.{Inside}
@@ -9,7 +9,7 @@ use Rattle.lane_sampler.specs.Scans.{AreRightScans}
 abbrev pub samples_of : Inside → Samples
 samples_of block = record { import = block.import.items; export = option_map (λ v. v.items) block.export }
 
--- at most so many values or pairs, and no scan that is wrong for them
+-- a block has at most `most_values` values or pairs, and its scans are right for them
 pub record IsBlock (block : Inside) : Type 0 where
   pub few : length block.import.items ≤ most_values
   pub even : AreEven (samples_of block)

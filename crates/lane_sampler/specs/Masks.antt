@@ -1,38 +1,40 @@
--- The masks of values against a threshold: one bit a value, in four words of 64 bits.
+-- The masks of values against a threshold: one bit for each value, in four words of 64 bits.
 use Rattle.std.specs.Prelude.{◌≡◌, ℕ, Bool, ◌*◌, ◌/◌, ◌%◌, ◌<◌, ◌&&◌, nat_lt, if◌then◌else◌, List, [], ◌∷◌, length, map, take, drop, slice_index}
 use Rattle.std.specs.Int.{bit_at}
 use Rattle.std.specs.Simd.Lanes.{mask_l}
 use Rattle.lane_sampler.specs.declared.lanes.Masks.{Masks}
 use Rattle.lane_sampler.specs.declared.lanes.Word.{Word}
 
--- bit i of a row of words, of which the first has bits 0 to 63
+-- bit i of a list of words, of which the first has bits 0 to 63
 abbrev pub mask_bit : List ℕ → ℕ → ℕ
 mask_bit words i = bit_at (slice_index words (i / 64)) (i % 64)
 
--- a bit is set exactly where there is a value that passes the test
+-- a bit is set exactly if there is a value that passes the test
 pub record IsMask (test : ℕ → Bool) (values words : List ℕ) : Type 0 where
   pub bits : (i : ℕ) → i < 256 →
       mask_bit words i ≡ (if nat_lt i (length values) && test (slice_index values i) then 1 else 0)
 
--- the value is greater than the threshold: over it, as a limiter has it (IEC 62056-6-2, class 71)
+-- whether a value is greater than the threshold: over it, as a limiter has it (IEC 62056-6-2, class
+-- 71)
 abbrev pub is_over : ℕ → ℕ → Bool
 is_over threshold value = nat_lt threshold value
 
--- the value is less than the threshold: under it, as a limiter has it (IEC 62056-6-2, class 71)
+-- whether a value is less than the threshold: under it, as a limiter has it (IEC 62056-6-2, class
+-- 71)
 abbrev pub is_under : ℕ → ℕ → Bool
 is_under threshold value = nat_lt value threshold
 
--- the masks of the values greater and of the values less than the threshold
+-- the masks of the values greater than the threshold, and of the values less than it
 pub record AreMasks (values : List ℕ) (threshold : ℕ) (masks : Masks) : Type 0 where
   pub over : IsMask (is_over threshold) values masks.over
   pub under : IsMask (is_under threshold) values masks.under
   pub len : masks.len ≡ length values
 
--- the number whose binary digits, the lowest first, say which values pass the test
+-- the number whose binary digits, the lowest first, show which values pass the test
 abbrev pub word_of : (ℕ → Bool) → List ℕ → ℕ
 word_of test values = mask_l (map test values)
 
--- the word that is for values 64 * k to 64 * k + 63
+-- the word for values 64 * k to 64 * k + 63
 abbrev pub word_at : (ℕ → Bool) → List ℕ → ℕ → ℕ
 word_at test values k = word_of test (take 64 (drop (64 * k) values))
 

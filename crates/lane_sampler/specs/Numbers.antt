@@ -1,4 +1,4 @@
--- The number of each fault.
+-- The numbers of the faults.
 use Rattle.std.specs.Prelude.{ℕ}
 use Rattle.lane_sampler.specs.declared.samples.BlockMade.{BlockMade}
 use Rattle.lane_sampler.specs.declared.samples.BlockMade.TheVariants as fault

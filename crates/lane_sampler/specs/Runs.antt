@@ -12,7 +12,7 @@ pub record IsRun (words : List ℕ) (len at n : ℕ) : Type 0 where
   pub ones : AreOnes words at n
   pub stops : n < len - at → mask_bit words (at + n) ≡ 0
 
--- the bits from at to end are ones, and a zero or len comes after them
+-- the bits from at to end are ones, followed by a zero or by len
 pub record EndsAt (words : List ℕ) (len at end : ℕ) : Type 0 where
   pub from : at ≤ end
   pub ones : AreOnes words at (end - at)

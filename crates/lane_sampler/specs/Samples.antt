@@ -1,7 +1,7 @@
--- What a block of samples is to its callers.
+-- A block of samples as its callers see it.
 use Rattle.std.specs.Prelude.{◌≡◌, ℕ, List, length, Option, Some, None, IfSome}
 
--- a block has at most so many values, or pairs of them
+-- the maximum number of values, or of pairs of values, in a block
 abbrev pub most_values : ℕ
 most_values = 256
 

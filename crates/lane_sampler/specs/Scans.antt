@@ -9,7 +9,7 @@ use Rattle.lane_sampler.specs.Samples.{Samples}
 abbrev pub IsRightScan : List ℕ → Scan → Type 0
 IsRightScan values scan = AreMasks values scan.threshold scan.masks
 
--- there is an export scan exactly where there are export values, and it is right for them
+-- there is an export scan exactly if there are export values, and it is right for them
 abbrev pub IsRightExport : Option (List ℕ) → Option Scan → Type 0
 IsRightExport None None = Unit {0}
 IsRightExport None (Some scan) = ⊥

@@ -1,19 +1,20 @@
-//! The masks of up to 256 values against a threshold, made sixteen lanes at a time or plainly.
+//! The masks of up to 256 values against a threshold, computed sixteen lanes at a time or value by
+//! value.
 
 ghost use Rattle.std.specs.Prelude.{◌≡◌, ◌+◌, ◌*◌, ◌≤◌, length, map, take, drop};
 ghost use Rattle.lane_sampler.specs.Masks.{AreMasks, is_over, is_under, masks_of, word_for, word_of};
 
 use std::simd::prelude::*;
 
-/// How many values one vector holds.
+/// The number of values in one vector.
 const LANES: usize = 16;
 
-/// How many values one word of a mask is for.
+/// The number of values in one word of a mask.
 const WORD_BITS: usize = 64;
 
-/// Which of up to 256 values lie over a threshold, and which under it: bit `i % 64` of word `i / 64`
-/// is for value `i`. A value that equals the threshold has neither bit, and no bit past the values
-/// is set.
+/// Which of up to 256 values are over a threshold, and which under it. Bit `i % 64` of word `i /
+/// 64` is for value `i`. A value equal to the threshold has neither bit set, and no bit after the
+/// last value is set.
 #[derive(Clone, Copy, Debug, PartialEq, Eq)]
 pub struct Masks {
     /// The values greater than the threshold.
@@ -24,14 +25,14 @@ pub struct Masks {
     pub len: u16,
 }
 
-/// The two words for up to 64 values.
+/// The two words for up to 64 values: bit `i` is for value `i`.
 #[derive(Clone, Copy)]
 struct Word {
     over: u64,
     under: u64,
 }
 
-/// The masks of at most 256 values against a threshold, made sixteen lanes at a time.
+/// Returns the masks of at most 256 values against a threshold, computed sixteen lanes at a time.
 #[tactic(auto, unfolding(crate::specs::Masks::words_of))]
 pub fn classify(values: &[u32], threshold: u32) -> Masks
     requires { length values.now ≤ 256 }
@@ -47,7 +48,7 @@ pub fn classify(values: &[u32], threshold: u32) -> Masks
     joined(words, values.len() as u16)
 }
 
-/// The masks of at most 256 values against a threshold, made a value at a time.
+/// Returns the masks of at most 256 values against a threshold, computed value by value.
 #[tactic(auto, unfolding(crate::specs::Masks::words_of))]
 pub fn classify_plain(values: &[u32], threshold: u32) -> Masks
     requires { length values.now ≤ 256 }
@@ -63,7 +64,7 @@ pub fn classify_plain(values: &[u32], threshold: u32) -> Masks
     joined(words, values.len() as u16)
 }
 
-// The values that one word of a mask is for.
+// Returns the values that one word of a mask is for.
 fn part(values: &[u32], word: usize) -> &[u32]
     requires { word ≤ 3 }
     ensures values { result.now ≡ take 64 (drop (64 * word) values.now) }
@@ -102,7 +103,7 @@ fn word_by_lanes(values: &[u32], threshold: u32) -> Word
     with_tail(word, values, at, threshold)
 }
 
-// The bits of the sixteen values from `at` on.
+// Returns the bits of the sixteen values from `at` on.
 fn lanes_at(values: &[u32], at: usize, threshold: u32) -> Word
     requires { at + LANES ≤ length values.now }
     ensures over { result.over ≡ word_of (is_over threshold) (take LANES (drop at values.now)) }
@@ -123,7 +124,7 @@ fn word_plainly(values: &[u32], threshold: u32) -> Word
     with_tail(Word { over: 0, under: 0 }, values, 0, threshold)
 }
 
-// The words for all values, from those for the values before `from`.
+// Returns the words for all values, given those for the values before `from`.
 fn with_tail(mut word: Word, values: &[u32], from: usize, threshold: u32) -> Word
     requires few { length values.now ≤ 64 }
     requires within { from ≤ length values.now }

@@ -1,6 +1,6 @@
-//! Blocks of power samples and their masks: which samples lie over a limiter's threshold and which
-//! under it, one bit a sample. A limiter monitors a value against a threshold (IEC 62056-6-2, class
-//! 71), and takes whole runs of samples on one side of it from these masks.
+//! Blocks of power samples and their masks: which samples are over a limiter's threshold and which
+//! under it, one bit for each sample. A limiter monitors a value against a threshold (IEC
+//! 62056-6-2, class 71), and takes whole runs of samples on one side of it from these masks.
 #![tactic(auto)]
 
 mod lanes;

@@ -5,13 +5,14 @@ ghost use Rattle.std.specs.List.{prefix_len};
 ghost use Rattle.lane_sampler.specs.Masks.{IsMask, mask_bit};
 ghost use Rattle.lane_sampler.specs.Runs.{AreOnes, EndsAt, IsRun};
 
-/// How many ones stand in a mask from bit `at` up to the first zero or to `len`, which is at most 256; 0 where
-/// `at` is not below `len`.
+/// Returns the number of ones in a mask from bit `at` up to the first zero or to `len`, which is at
+/// most 256. Returns 0 if `at` is not below `len`.
 pub fn run_from(words: &[u64; 4], len: u16, at: u16) -> u16
     requires { len ≤ 256 }
     ensures run { IsRun words.now len at result }
 
-    // Of a mask of a test over values, it is how many values from `at` on pass one after another.
+    // For the mask of a test over values, this is the number of consecutive values from `at` on
+    // that pass.
     ensures passing { (test : ℕ → Bool) (values : List ℕ) →
         IsMask test values words.now → length values ≡ len →
         result ≡ prefix_len test (drop at values) }
@@ -21,7 +22,7 @@ pub fn run_from(words: &[u64; 4], len: u16, at: u16) -> u16
     end_of_run(words, len, at).min(len).saturating_sub(at)
 }
 
-// Where the ones from bit `at` end: at a zero, or at a word's end that is not before `len`.
+// Returns where the ones from bit `at` end: at a zero, or at a word's end that is not before `len`.
 fn end_of_run(words: &[u64; 4], len: u16, at: u16) -> u16
     requires { len ≤ 256 }
     ensures { EndsAt words.now len at result }
@@ -38,7 +39,7 @@ fn end_of_run(words: &[u64; 4], len: u16, at: u16) -> u16
     end
 }
 
-// How many ones stand from bit `at` up to the first zero or to the end of its word.
+// Returns the number of ones from bit `at` up to the first zero or to the end of its word.
 fn ones_in_word(words: &[u64; 4], at: u16) -> u16
     requires { at < 256 }
     ensures within { result ≤ 64 - at % 64 }

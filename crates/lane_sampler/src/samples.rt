@@ -11,24 +11,24 @@ use std::alloc::{AllocError, Global};
 use std::marker::Model;
 use thiserror::Error;
 
-/// How many values, or pairs of values, a block has at most.
+/// The maximum number of values, or of pairs of values, in a block.
 pub const MAX_VALUES: usize = 256;
 
-/// Why a block was not made.
+/// Why a block could not be created.
 #[derive(Clone, Copy, Debug, PartialEq, Eq, Error)]
 pub enum BlockMade {
-    /// More than 256 values.
+    /// There are more than 256 values or pairs.
     #[error("more than 256 values")]
     TooLong = 1,
-    /// No memory for the values.
+    /// Out of memory.
     #[error("out of memory")]
     Memory = 2,
-    /// Import and export values differ in number.
+    /// The number of import values differs from the number of export values.
     #[error("import and export values differ in number")]
     Uneven = 3,
 }
 
-/// The number of the fault, 1 to 3.
+/// Returns the number of the fault, 1 to 3.
 impl From<BlockMade> for u8 {
     ghost from_gives = { λ fault number. number ≡ fault_number fault };
 
@@ -42,23 +42,25 @@ impl From<BlockMade> for u8 {
 pub struct Scan {
     /// The threshold, in the unit of the values.
     pub threshold: u32,
-    /// Which values lie over it, and which under it.
+    /// Which values are over the threshold, and which under it.
     pub masks: Masks,
 }
 
 /// The scans of a block.
 #[derive(Clone, Copy, Debug, PartialEq, Eq)]
 pub struct Scans {
-    /// Of the import values.
+    /// The scan of the import values.
     pub import: Scan,
-    /// Of the export values, in a block of pairs.
+    /// The scan of the export values, in a block of pairs.
     pub export: Option<Scan>,
 }
 
-/// Up to 256 samples of the import power, or as many pairs of import and export power, in the order that
-/// they were taken; and the scans last made of them, which no contract sees.
+/// Up to 256 samples of the import power, or up to 256 pairs of import and export power, in the
+/// order in which they were taken. It also keeps the scans last made of them, which no contract
+/// sees.
 ///
-/// The scans lie at a place of their own, which is had with the block: so a block, and an event that holds one, is small to hand on.
+/// The scans are in a box of their own, allocated with the block, so that a block, and an event
+/// that holds one, is small to move.
 #[derive(Debug, Drop)]
 pub struct Block {
     import: Vec<u32>,
@@ -79,7 +81,8 @@ impl Model for Block {
 }
 
 impl Block {
-    /// A block of import values alone. Errors: `TooLong` over 256 values, else `Memory`.
+    /// Creates a block of import values alone. Errors, judged in this order: `TooLong` if there are
+    /// more than 256 values, `Memory` if out of memory.
     pub fn from_slice(alloc: Global, values: &[u32]) -> Result<Block, BlockMade>
         ensures made { IfOk result (λ block. block ≡ values_alone values.now) }
         ensures too_long { IsErrOf result BlockMade.TooLong ↔ (most_values < length values.now) }
@@ -97,8 +100,9 @@ impl Block {
         })
     }
 
-    /// A block of pairs, also where both slices are empty. Errors, judged in this order: `Uneven` where the
-    /// slices differ in length, `TooLong` over 256 pairs, `Memory`.
+    /// Creates a block of pairs, even if both slices are empty. Errors, judged in this order:
+    /// `Uneven` if the slices differ in length, `TooLong` if there are more than 256 pairs,
+    /// `Memory` if out of memory.
     pub fn from_pairs(alloc: Global, import: &[u32], export: &[u32]) -> Result<Block, BlockMade>
         ensures made { IfOk result (λ block. block ≡ pairs_of import.now export.now) }
         ensures uneven { IsErrOf result BlockMade.Uneven ↔ (length import.now ≢ length export.now) }
@@ -121,7 +125,7 @@ impl Block {
         })
     }
 
-    /// The import values, at most 256.
+    /// Returns the import values, at most 256.
     pub fn values(&self) -> &[u32]
         ensures values { result.now ≡ self.now.import }
         ensures few { length self.now.import ≤ most_values }
@@ -129,7 +133,8 @@ impl Block {
         &self.import
     }
 
-    /// The export values of a block of pairs, as many as the import ones; `None` for import values alone.
+    /// Returns the export values of a block of pairs, as many as import values, or `None` if the
+    /// block has import values alone.
     pub fn export(&self) -> Option<&[u32]>
         ensures values { option_copied result ≡ self.now.export }
         ensures even { IfSome result (λ values. length values.now ≡ length self.now.import) }
@@ -141,8 +146,8 @@ impl Block {
         }
     }
 
-    /// Scans the values at these thresholds, and keeps that scan in place of an earlier one. The export
-    /// threshold counts in a block of pairs alone.
+    /// Scans the values at these thresholds, and replaces an earlier scan. The export threshold is
+    /// used only in a block of pairs. Does not allocate.
     pub fn scan(&mut self, import_threshold: u32, export_threshold: u32)
         ensures { self.new ≡ self.old }
     {
@@ -155,8 +160,8 @@ impl Block {
         *self.scans = Some(scans);
     }
 
-    /// The scans last made, right for the values at the thresholds that they name. `None` before the first
-    /// `scan`.
+    /// Returns the scans last made, which are right for the values at the thresholds that they
+    /// name. Returns `None` before the first `scan`.
     pub fn scanned(&self) -> Option<&Scans>
         ensures right { IfSome result (λ scans. AreRightScans self.now scans.now) }
         ensures few { length self.now.import ≤ most_values }
@@ -168,7 +173,7 @@ impl Block {
         }
     }
 
-    /// A block of the same values, with the same scans.
+    /// Returns a block with the same values and scans, or an error if out of memory.
     pub fn try_clone(&self, alloc: Global) -> Result<Block, AllocError>
         ensures same { IfOk result (λ block. block ≡ self.now) }
     {
@@ -186,7 +191,7 @@ impl Block {
     }
 }
 
-// The scans of import values and, in a block of pairs, of export values.
+// Returns the scans of import values and, in a block of pairs, of export values.
 fn scans_of(
     import: &[u32],
     import_threshold: u32,

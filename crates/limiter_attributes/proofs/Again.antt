@@ -1,4 +1,4 @@
--- An attribute that is read is what a write of it sets.
+-- An attribute that was written reads as itself.
 use Rattle.std.proofs.Common.{◌≡◌, ℕ, ◌≤◌, true, nat_le, List, [], ◌∷◌, map, length, ok_or, Result, Ok, refl, ap, ap₂, ◌∙◌, arith}
 use Rattle.std.proofs.lemmas.Bool.Decides.{nat_tests}
 use Rattle.std.proofs.lemmas.List.{length-map}
@@ -23,37 +23,37 @@ use Rattle.limiter_attributes.specs.Reading.{profile_of, are_ids, max_groups, ju
 use Rattle.limiter_attributes.specs.Writing.{profile_data, groups_data, actions_data}
 use Rattle.limiter_attributes.proofs.Profiles.{profile_parts_again}
 
--- a profile of its parts
+-- a profile from its parts
 abbrev with_parts : ℕ × List ℕ × ℕ → Result Profile WriteFault
 with_parts parts = ok_or (result_ok (date_time_of parts.1)) Value >>= λ start. done WriteFault (record { id = parts.0; start = start; duration = parts.2 })
 
--- a profile that is written
+-- a profile that was written reads as itself
 pub profile_again : (profile : Profile) → IsDateTimeFields profile.start → profile_of (profile_data profile) ≡ Ok profile
 unfolding profile_of
 profile_again profile fits =
     ap (λ o. ok_or o Unmatched >>= with_parts) (profile_parts_again profile.id profile.duration (date_time_bytes profile.start) (twelve_bytes profile.start))
     ∙ ap (λ r. ok_or (result_ok r) Value >>= λ start. done WriteFault (record { id = profile.id; start = start; duration = profile.duration })) (date_time_again profile.start fits)
 
--- actions that are written
+-- actions that were written read as themselves
 pub actions_again : (actions : Actions) → actions_of (actions_data actions) ≡ Ok actions
 unfolding actions_of actions_data script_data
 actions_again actions = refl
 
--- each number that is written is a long-unsigned
+-- each written id is a long-unsigned
 ids_typed : (ids : List ℕ) → are_ids (map LongUnsigned ids) ≡ true
 ids_typed [] = refl
 ids_typed (id ∷ ids) = ids_typed ids
 
--- and of that number
+-- each written id reads as itself
 ids_again : (ids : List ℕ) → filter_map long_unsigned_of (map LongUnsigned ids) ≡ ids
 ids_again [] = refl
 ids_again (id ∷ ids) = ap (λ xs. id ∷ xs) (ids_again ids)
 
--- items, judged and read
+-- a group id list from its items: judged, then read
 abbrev with_items : List Data → Result (List ℕ) WriteFault
 with_items items = judged_groups items >> Ok (filter_map long_unsigned_of items)
 
--- group ids that are written
+-- a group id list that was written reads as itself
 pub groups_again : (ids : List ℕ) → length ids ≤ max_groups → groups_of (groups_data ids) ≡ Ok ids
 unfolding groups_of groups_data judged_groups
 groups_again ids few =

@@ -7,7 +7,7 @@ use Rattle.limiter_attributes.specs.Law.{IsInTable, IsMonitored}
 use Rattle.limiter_attributes.specs.declared.attribute.LimiterAttribute.{LimiterAttribute}
 use Rattle.limiter_attributes.specs.declared.attribute.LimiterAttribute.TheVariants.{MonitoredValue, ThresholdActive, ThresholdNormal, ThresholdEmergency, MinOverThresholdDuration, MinUnderThresholdDuration, EmergencyProfile, EmergencyProfileGroupIdList, EmergencyProfileActive, Actions}
 
--- each stands there, with the rights to it
+-- each attribute is in the table, with its access rights
 pub attribute_in_table : (which : Which) (attribute : LimiterAttribute) → IsInTable which attribute
 unfolding object_of class_attribute_of attribute_of rights_of
 attribute_in_table Import MonitoredValue = record { public = refl; management = refl }
@@ -31,7 +31,7 @@ attribute_in_table Export EmergencyProfileGroupIdList = record { public = refl; 
 attribute_in_table Export EmergencyProfileActive = record { public = refl; management = refl }
 attribute_in_table Export Actions = record { public = refl; management = refl }
 
--- the register that is monitored
+-- the monitored register is in the table
 pub monitored_in_table : (which : Which) → IsMonitored which
 unfolding object_of
 monitored_in_table Import = record { named = refl; classed = refl }

@@ -1,4 +1,4 @@
--- A limiter's logical name, and its attributes past that by their numbers (IEC 62056-6-2, class 71).
+-- A limiter's logical name, and the numbers of its attributes after that (IEC 62056-6-2, class 71).
 use Rattle.std.specs.Prelude.{ℕ, Bool, true, false, List, [], ◌∷◌, ◌==◌, find, Option}
 use Rattle.cosem_names.specs.Table.{obis}
 use Rattle.cosem_names.specs.declared.name.Obis.{Obis}
@@ -25,17 +25,17 @@ number_of EmergencyProfileGroupIdList = 9
 number_of EmergencyProfileActive = 10
 number_of Actions = 11
 
--- all of them: `LimiterAttribute::number` says that each is found
+-- all attributes: `LimiterAttribute::number` ensures that each is found by its number
 abbrev pub attributes : List LimiterAttribute
 attributes =
     MonitoredValue ∷ ThresholdActive ∷ ThresholdNormal ∷ ThresholdEmergency ∷ MinOverThresholdDuration ∷ MinUnderThresholdDuration
     ∷ EmergencyProfile ∷ EmergencyProfileGroupIdList ∷ EmergencyProfileActive ∷ Actions ∷ []
 
--- the attribute of this number
+-- the attribute of a number
 unfoldable pub attribute_numbered : ℕ → Option LimiterAttribute
 attribute_numbered number = find (λ attribute. number_of attribute == number) attributes
 
--- a number or a boolean, so that reading it takes no memory
+-- whether an attribute is a number or a boolean, so that reading it does not allocate
 abbrev pub is_plain : LimiterAttribute → Bool
 is_plain MonitoredValue = false
 is_plain ThresholdActive = true

@@ -1,5 +1,5 @@
--- The parts of a limiter's emergency profile and of its actions as they are written (IEC 62056-6-2, class 71, emergency_profile and actions): nothing where the type
--- is another.
+-- The parts of a limiter's emergency profile and of its actions as a client writes them (IEC
+-- 62056-6-2, class 71, emergency_profile and actions): nothing if a type differs.
 use Rattle.std.specs.Prelude.{ℕ, List, [], ◌∷◌, Option, Some, None}
 use Rattle.cosem_axdr.specs.declared.value.Data.{Data}
 use Rattle.cosem_axdr.specs.Forms.{structure_of, double_long_unsigned_of, long_unsigned_of}
@@ -7,7 +7,7 @@ use Rattle.cosem_names.specs.declared.scripts.NamedScript.{NamedScript}
 use Rattle.cosem_names.specs.Forms.{◌>>=◌, date_time_bytes_of}
 use Rattle.cosem_names.specs.Scripts.{script_of}
 
--- an emergency profile: a structure of id, start and duration
+-- the parts of an emergency profile: a structure of id, start and duration
 abbrev profile_parts_in : List Data → Option (ℕ × List ℕ × ℕ)
 profile_parts_in (id ∷ start ∷ duration ∷ []) = do
   number ← long_unsigned_of id
@@ -19,7 +19,8 @@ profile_parts_in _ = None
 abbrev pub profile_parts_of : Data → Option (ℕ × List ℕ × ℕ)
 profile_parts_of value = structure_of value >>= profile_parts_in
 
--- actions: a structure of the script that runs over the threshold and of that under it
+-- the parts of actions: a structure of the script that runs over the threshold and the one that
+-- runs under it
 abbrev scripts_with : List Data → Option (NamedScript × NamedScript)
 scripts_with (over ∷ under ∷ []) = do
   over_script ← script_of over

@@ -15,7 +15,7 @@ use Rattle.limiter_attributes.specs.declared.attribute.LimiterAttribute.TheVaria
 abbrev pub reference : Which → LimiterAttribute → AttrRef
 reference which attribute = record { class = class_id 71; name = limiter_name which; number = number_of attribute }
 
--- whether it is written
+-- whether an attribute may be written
 abbrev pub is_written : LimiterAttribute → Bool
 is_written MonitoredValue = false
 is_written ThresholdActive = false
@@ -28,12 +28,14 @@ is_written EmergencyProfileGroupIdList = true
 is_written EmergencyProfileActive = false
 is_written Actions = true
 
--- the public client has no access to it, and the management client reads it, and writes it where it is written
+-- the public client has no access to the attribute; the management client may read it, and may
+-- write it if it may be written
 pub record IsInTable (which : Which) (attribute : LimiterAttribute) : Type 0 where
   pub public : rights_of Public (reference which attribute) ≡ record { read = false; write = false }
   pub management : rights_of Management (reference which attribute) ≡ record { read = true; write = is_written attribute }
 
--- what a limiter monitors is the register of its direction, by that object's name and class
+-- a limiter monitors the register of its direction: the object table has that logical name, with
+-- class 3
 pub record IsMonitored (which : Which) : Type 0 where
   pub named : option_map (λ row. row.instance) (object_of (register_name which)) ≡ Some (Register which)
   pub classed : option_map (λ row. row.class) (object_of (register_name which)) ≡ Some (class_id 3)

@@ -1,4 +1,6 @@
--- A Data as an attribute of a limiter (IEC 62056-6-2, class 71), or why it is refused. Another type anywhere is told before any value: that order is this meter's.
+-- What a client writes to an attribute of a limiter (IEC 62056-6-2, class 71), or why it is
+-- refused. A wrong type anywhere is reported before any wrong value: that order is a rule of this
+-- meter.
 use Rattle.std.specs.Prelude.{ℕ, Bool, ◌&&◌, nat_le, List, length, Option, Some, None, is_some, ok_or, Result, Ok}
 use Rattle.std.specs.List.{list_all, filter_map}
 use Rattle.std.specs.Result.{result_ok}
@@ -21,7 +23,7 @@ use Rattle.limiter_attributes.specs.declared.setting.Setting.TheVariants as sett
 abbrev pub number_of : Data → Result ℕ WriteFault
 number_of value = ok_or (double_long_unsigned_of value) Unmatched
 
--- an emergency profile, whose start is a date-time without a fault
+-- an emergency profile, whose start is a date-time with each field in its range
 unfoldable pub profile_of : Data → Result Profile WriteFault
 profile_of value = do
   parts ← ok_or (profile_parts_of value) Unmatched
@@ -35,7 +37,8 @@ actions_of value = do
   guard (is_of_the_table scripts.0 && is_of_the_table scripts.1) Value
   Ok (record { over = scripts.0.selector; under = scripts.1.selector })
 
--- what a write of an attribute sets: nothing for those that aren't written, and for the group ids
+-- what a write of an attribute sets: nothing for attributes that are not written, and for the group
+-- ids
 unfoldable pub setting_of : LimiterAttribute → Data → Result (Option Setting) WriteFault
 setting_of attribute.MonitoredValue value = Ok None
 setting_of attribute.ThresholdActive value = Ok None
@@ -48,21 +51,21 @@ setting_of attribute.EmergencyProfileGroupIdList value = Ok None
 setting_of attribute.EmergencyProfileActive value = Ok None
 setting_of attribute.Actions value = actions_of value >>= λ actions. Ok (Some (setting.Actions actions))
 
--- each is a long-unsigned
+-- whether each item is a long-unsigned
 abbrev pub are_ids : List Data → Bool
 are_ids items = list_all (λ item. is_some (long_unsigned_of item)) items
 
--- the most group ids that a limiter has
+-- the maximum number of group ids that a limiter has
 abbrev pub max_groups : ℕ
 max_groups = 32
 
--- the fault of the Datas of group ids
+-- the fault of the items of a group id list
 unfoldable pub judged_groups : List Data → Result (Unit {0}) WriteFault
 judged_groups items = do
   guard (are_ids items) Unmatched
   guard (nat_le (length items) max_groups) Value
 
--- group ids
+-- a group id list
 unfoldable pub groups_of : Data → Result (List ℕ) WriteFault
 groups_of value = do
   items ← ok_or (array_of value) Unmatched

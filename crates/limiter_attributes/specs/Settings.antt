@@ -1,4 +1,4 @@
--- A limiter's settings by the attributes that set them (IEC 62056-6-2, class 71).
+-- A limiter's settings, by the attributes that set them (IEC 62056-6-2, class 71).
 use Rattle.std.specs.Prelude.{ℕ, List, Option, Some, None}
 use Rattle.limiter_core.specs.Counting.{no_run}
 use Rattle.limiter_core.specs.Settings.{new_settings}
@@ -9,7 +9,7 @@ use Rattle.limiter_attributes.specs.declared.attribute.LimiterAttribute.TheVaria
 use Rattle.limiter_attributes.specs.declared.setting.Setting.{Setting}
 use Rattle.limiter_attributes.specs.declared.setting.Setting.TheVariants.{NormalThreshold, EmergencyThreshold, MinOverDuration, MinUnderDuration, Profile, Actions}
 
--- settings after one of them was set
+-- the settings after one of them was set
 abbrev pub with_setting : Setting → Settings → Settings
 with_setting (NormalThreshold watts) settings = record settings { normal_threshold = watts }
 with_setting (EmergencyThreshold watts) settings = record settings { emergency_threshold = watts }
@@ -18,7 +18,8 @@ with_setting (MinUnderDuration seconds) settings = record settings { min_under_d
 with_setting (Profile profile) settings = record settings { profile = profile }
 with_setting (Actions actions) settings = record settings { actions = actions }
 
--- what an attribute sets, as it stands: nothing for those that aren't written, and for the group ids
+-- what an attribute sets at present: nothing for attributes that are not written, and for the group
+-- ids
 abbrev pub setting_at : LimiterAttribute → Settings → Option Setting
 setting_at attribute.MonitoredValue settings = None
 setting_at attribute.ThresholdActive settings = None

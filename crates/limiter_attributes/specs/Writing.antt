@@ -1,4 +1,4 @@
--- The attributes of a limiter as they are read (IEC 62056-6-2, class 71).
+-- The values of a limiter's attributes when read (IEC 62056-6-2, class 71).
 use Rattle.std.specs.Prelude.{ℕ, pos, List, [], ◌∷◌, map, Option}
 use Rattle.cosem_axdr.specs.declared.value.Data.{Data}
 use Rattle.cosem_axdr.specs.declared.value.Data.TheVariants.{OctetString, Boolean, DoubleLongUnsigned, LongUnsigned, Integer}
@@ -36,7 +36,7 @@ groups_data ids = array_with (map LongUnsigned ids)
 unfoldable pub actions_data : Actions → Data
 actions_data actions = structure_with (script_data (named actions.over) ∷ script_data (named actions.under) ∷ [])
 
--- an attribute of a limiter with these settings at a moment of the clock
+-- the value of an attribute of a limiter with these settings at a moment of the clock
 unfoldable pub data_at : Which → LimiterAttribute → Settings → Option ℕ → Data
 data_at which attribute.MonitoredValue settings moment = monitored_data which
 data_at which attribute.ThresholdActive settings moment = DoubleLongUnsigned (active_threshold settings moment)

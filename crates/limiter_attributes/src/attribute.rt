@@ -1,32 +1,33 @@
 ghost use Rattle.std.specs.Prelude.{◌≡◌, Some, IfSome};
 ghost use Rattle.limiter_attributes.specs.Attributes.{number_of, attribute_numbered};
 
-/// The attributes of a limiter past its logical name, each with its number.
+/// The attributes of a limiter after its logical name, each with its number (IEC 62056-6-2, class
+/// 71).
 #[derive(Clone, Copy, Debug, PartialEq, Eq)]
 pub enum LimiterAttribute {
-    /// Attribute 2, monitored_value.
+    /// Attribute 2, monitored_value: which attribute of which object is monitored.
     MonitoredValue = 2,
-    /// Attribute 3, threshold_active.
+    /// Attribute 3, threshold_active, in watts.
     ThresholdActive = 3,
-    /// Attribute 4, threshold_normal.
+    /// Attribute 4, threshold_normal, in watts.
     ThresholdNormal = 4,
-    /// Attribute 5, threshold_emergency.
+    /// Attribute 5, threshold_emergency, in watts.
     ThresholdEmergency = 5,
-    /// Attribute 6, min_over_threshold_duration.
+    /// Attribute 6, min_over_threshold_duration, in seconds.
     MinOverThresholdDuration = 6,
-    /// Attribute 7, min_under_threshold_duration.
+    /// Attribute 7, min_under_threshold_duration, in seconds.
     MinUnderThresholdDuration = 7,
-    /// Attribute 8, emergency_profile.
+    /// Attribute 8, emergency_profile: its group id, its start and its duration in seconds.
     EmergencyProfile = 8,
     /// Attribute 9, emergency_profile_group_id_list.
     EmergencyProfileGroupIdList = 9,
-    /// Attribute 10, emergency_profile_active.
+    /// Attribute 10, emergency_profile_active: a boolean.
     EmergencyProfileActive = 10,
-    /// Attribute 11, actions.
+    /// Attribute 11, actions: the scripts that run over and under the threshold.
     Actions = 11,
 }
 
-/// All attributes of a limiter past its logical name.
+/// The attributes of a limiter after its logical name, in the order of their numbers.
 pub(crate) const ATTRIBUTES: [LimiterAttribute; 10] = [
     LimiterAttribute::MonitoredValue,
     LimiterAttribute::ThresholdActive,
@@ -41,7 +42,7 @@ pub(crate) const ATTRIBUTES: [LimiterAttribute; 10] = [
 ];
 
 impl LimiterAttribute {
-    /// The number of the attribute, from 2 to 11.
+    /// Returns the number of the attribute, 2 to 11.
     #[tactic(auto, unfolding(crate::specs::Attributes::attribute_numbered))]
     pub fn number(self) -> u8
         ensures value { result ≡ number_of self }
@@ -50,7 +51,7 @@ impl LimiterAttribute {
         self as u8
     }
 
-    /// The attribute of this number, or None where it isn't 2 to 11.
+    /// Returns the attribute of a number, or `None` if the number is not 2 to 11.
     #[tactic(auto, unfolding(crate::specs::Attributes::attribute_numbered))]
     pub fn of_number(number: u8) -> Option<LimiterAttribute>
         ensures value { result ≡ attribute_numbered number }

@@ -17,7 +17,8 @@ fn are_ids(items: &[Data]) -> bool
     items.iter().all(|item| item.long_unsigned().is_some())
 }
 
-/// The fault of group ids: another type of one is told before their number.
+/// Judges the items of a written group id list: `Unmatched` if one is not a long-unsigned, then
+/// `Value` if there are more than `MAX_GROUPS`.
 #[tactic(auto, unfolding(crate::specs::Reading::judged_groups))]
 fn judge_groups(items: &[Data]) -> Result<(), WriteFault>
     ensures exact { result ≡ judged_groups items.now }
@@ -33,7 +34,7 @@ fn judge_groups(items: &[Data]) -> Result<(), WriteFault>
     }
 }
 
-/// The numbers of those items that are long-unsigned.
+/// Returns the numbers of the items that are long-unsigned.
 fn read_ids(alloc: Global, items: &[Data]) -> Result<Vec<u16>, AllocError>
     ensures ids { IfOk result (λ ids. ids.items ≡ filter_map long_unsigned_of items.now) }
     ensures few { IfOk result (λ ids. length ids.items ≤ length items.now) }
@@ -44,10 +45,12 @@ fn read_ids(alloc: Global, items: &[Data]) -> Result<Vec<u16>, AllocError>
         .collect(alloc)
 }
 
-/// Reads emergency_profile_group_id_list (attribute 9): an array of long-unsigned, 32 at most. They come as those of a
-/// new limiter, to be traded by `Limiter::swap_groups`.
+/// Reads emergency_profile_group_id_list (attribute 9) from the Data that a client writes: an array
+/// of at most 32 long-unsigned. The ids are those of a new limiter, so that `Limiter::swap_groups`
+/// can move them into the meter's without allocating.
 ///
-/// An item of another type is told before their number, and either before want of memory.
+/// Errors, judged in this order: `Unmatched` if the value is not an array or an item is not a
+/// long-unsigned, `Value` if there are more than 32 items, `Memory` if out of memory.
 #[tactic(auto, unfolding(crate::specs::Reading::groups_of))]
 pub fn read_groups(alloc: Global, value: &Data) -> Result<Limiter, WriteFault>
     ensures groups { IfOk result (λ limiter. groups_of value.now ≡ Ok limiter.settings.groups) }

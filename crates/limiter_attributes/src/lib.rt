@@ -1,7 +1,7 @@
-//! The attributes of a limiter (IEC 62056-6-2, class 71) as they are read and written as Data.
+//! The attributes of a limiter (IEC 62056-6-2, class 71) as Data, read and written.
 //!
-//! Numbers are watts and seconds. That a limiter has 32 group ids at most, and that its actions run scripts of the one
-//! script table, is this product's own.
+//! Numbers are watts and seconds. That a limiter has at most 32 group ids, and that its actions run
+//! scripts of the one script table, are rules of this product.
 #![tactic(auto)]
 
 mod attribute;

@@ -10,16 +10,21 @@ use cosem_datetime::read_date_time;
 use cosem_names::WriteFault;
 use limiter_core::{Actions, Profile};
 
-/// Reads a threshold in watts or a duration in seconds as attributes 4 to 7 of a limiter are written (IEC 62056-6-2,
-/// class 71): a double-long-unsigned. It takes no memory.
+/// Reads a threshold in watts or a duration in seconds from the Data that a client writes to
+/// attributes 4 to 7 of a limiter (IEC 62056-6-2, class 71): a double-long-unsigned, else
+/// `Unmatched`. Does not allocate.
 pub fn read_number(value: &Data) -> Result<u32, WriteFault>
     ensures { result ≡ number_of value.now }
 {
     value.double_long_unsigned().ok_or(WriteFault::Unmatched)
 }
 
-/// Reads an emergency profile as attribute 8 of a limiter is written (IEC 62056-6-2, class 71): a structure of
-/// long-unsigned id, octet-string or date-time start, and double-long-unsigned duration. It takes no memory.
+/// Reads an emergency profile from the Data that a client writes to emergency_profile, attribute 8
+/// of a limiter (IEC 62056-6-2, class 71): a structure of a long-unsigned id, an octet-string or
+/// date-time start, and a double-long-unsigned duration. Does not allocate.
+///
+/// Errors, judged in this order: `Unmatched` if a type differs, `Value` if a field of the start is
+/// out of its range.
 #[tactic(auto, unfolding(crate::specs::Reading::profile_of))]
 pub fn read_profile(value: &Data) -> Result<Profile, WriteFault>
     ensures exact { result ≡ profile_of value.now }
@@ -35,7 +40,8 @@ pub fn read_profile(value: &Data) -> Result<Profile, WriteFault>
     })
 }
 
-/// The scripts of both actions.
+/// Reads the selectors of both actions: `Unmatched` if a type differs, then `Value` if an action
+/// names another script table.
 #[tactic(auto, unfolding(crate::specs::Reading::actions_of))]
 fn read_actions(value: &Data) -> Result<Actions, WriteFault>
     ensures exact { result ≡ actions_of value.now }
@@ -51,13 +57,17 @@ fn read_actions(value: &Data) -> Result<Actions, WriteFault>
     })
 }
 
-/// Reads what a write of an attribute sets, or None for an attribute that isn't written or that takes memory: the group
-/// ids, which `read_groups` reads. It takes no memory.
+/// Reads what a write of an attribute sets. Returns `None` for an attribute that is not written,
+/// and for emergency_profile_group_id_list, which `read_groups` reads because it allocates. This
+/// function does not allocate.
 ///
-/// Thresholds and durations are double-long-unsigned. An emergency profile is a structure of long-unsigned id,
-/// octet-string or date-time start, and double-long-unsigned duration. Actions are a structure of two structures, each
-/// of the script table's logical name and a long-unsigned selector. Another type anywhere is told before any value that
-/// isn't taken: a start of an emergency profile out of its range, or an action of another script table.
+/// Thresholds and durations are double-long-unsigned. An emergency profile is a structure of a
+/// long-unsigned id, an octet-string or date-time start, and a double-long-unsigned duration.
+/// Actions are a structure of two structures, each of the script table's logical name and a
+/// long-unsigned selector.
+///
+/// Errors, judged in this order: `Unmatched` if a type differs anywhere, `Value` if a field of an
+/// emergency profile's start is out of its range or an action names another script table.
 #[tactic(auto, unfolding(crate::specs::Reading::setting_of))]
 pub fn read_setting(
     attribute: LimiterAttribute,

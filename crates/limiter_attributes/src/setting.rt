@@ -3,7 +3,7 @@ ghost use Rattle.limiter_attributes.specs.Settings.{with_setting};
 
 use limiter_core::{Actions, Limiter, Profile};
 
-/// What a write of an attribute sets, where that takes no memory.
+/// What a write of an attribute sets, if that does not allocate.
 #[derive(Clone, Copy, Debug)]
 pub enum Setting {
     /// `threshold_normal` (attribute 4), in watts.
@@ -21,7 +21,8 @@ pub enum Setting {
 }
 
 impl Setting {
-    /// Sets it of a limiter, whose other settings, clock, last sample and runs stay.
+    /// Sets it in a limiter. The other settings, the clock, the last sample and the runs do not
+    /// change.
     pub fn apply(self, limiter: &mut Limiter)
         ensures { limiter.new ≡ record limiter.old { settings = with_setting self limiter.old.settings } }
     {

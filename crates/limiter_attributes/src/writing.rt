@@ -13,7 +13,7 @@ use cosem_names::{NamedScript, Obis, Which};
 use limiter_core::{Actions, Limiter, Profile};
 use std::alloc::{AllocError, Global};
 
-/// The register whose value a limiter monitors.
+/// Returns the logical name of the register whose value a limiter monitors.
 fn register_name(which: Which) -> Obis
     ensures { result ≡ register_name which }
 {
@@ -23,7 +23,8 @@ fn register_name(which: Which) -> Obis
     }
 }
 
-/// The attribute that a limiter monitors: the value of its register.
+/// Writes monitored_value (attribute 2): the class, the logical name and the attribute number of
+/// the register's value.
 #[tactic(auto, unfolding(crate::specs::Writing::monitored_data))]
 fn write_monitored(alloc: Global, which: Which) -> Result<Data, AllocError>
     ensures { IfOk result (λ value. value ≡ monitored_data which) }
@@ -36,11 +37,12 @@ fn write_monitored(alloc: Global, which: Which) -> Result<Data, AllocError>
     ]?)))
 }
 
-/// An emergency profile as attribute 8 of a limiter is read (IEC 62056-6-2, class 71). Its start is an octet-string.
+/// Writes emergency_profile (attribute 8 of a limiter, IEC 62056-6-2, class 71) as Data. The start
+/// is an octet-string. Fails only if out of memory.
 #[tactic(auto, using(crate::proofs::Again::profile_again))]
 pub fn write_profile(alloc: Global, profile: &Profile) -> Result<Data, AllocError>
     ensures value { IfOk result (λ value. value ≡ profile_data profile.now) }
-    // Read again, it gives the profile back.
+    // Reading the Data returns the profile.
     ensures again { IfOk result (λ value. profile_of value ≡ Ok profile.now) }
 {
     let start = Octets::from_slice(alloc, &profile.start.bytes())?;
@@ -51,14 +53,14 @@ pub fn write_profile(alloc: Global, profile: &Profile) -> Result<Data, AllocErro
     ]?)))
 }
 
-/// Each number as a long-unsigned.
+/// Returns each number as a long-unsigned.
 fn write_ids(alloc: Global, ids: &[u16]) -> Result<Vec<Data>, AllocError>
     ensures { IfOk result (λ items. items.items ≡ map LongUnsigned ids.now) }
 {
     ids.iter().map(|id| Data::LongUnsigned(*id)).collect(alloc)
 }
 
-/// Group ids.
+/// Writes emergency_profile_group_id_list (attribute 9): an array of long-unsigned.
 #[tactic(auto, unfolding(crate::specs::Writing::groups_data), using(crate::proofs::Again::groups_again))]
 fn write_groups(alloc: Global, ids: &[u16]) -> Result<Data, AllocError>
     requires { length ids.now ≤ max_groups }
@@ -69,7 +71,8 @@ fn write_groups(alloc: Global, ids: &[u16]) -> Result<Data, AllocError>
     Ok(Data::Array(Items::from_vec(items)))
 }
 
-/// The scripts of both actions.
+/// Writes actions (attribute 11): a structure of two structures, each of a logical name and a
+/// selector.
 #[tactic(auto, unfolding(crate::specs::Writing::actions_data), using(crate::proofs::Again::actions_again))]
 fn write_actions(alloc: Global, actions: Actions) -> Result<Data, AllocError>
     ensures value { IfOk result (λ value. value ≡ actions_data actions) }
@@ -80,8 +83,9 @@ fn write_actions(alloc: Global, actions: Actions) -> Result<Data, AllocError>
     Ok(Data::Structure(Items::from_vec(vec![in alloc; over, under]?)))
 }
 
-/// Reads an attribute of a limiter. The start of an emergency profile is an octet-string. Attributes that are a number
-/// or a boolean, 3 to 7 and 10, take no memory.
+/// Returns the value of an attribute of a limiter as Data. The start of an emergency profile is an
+/// octet-string. Attributes that are a number or a boolean (3 to 7 and 10) do not allocate; the
+/// others fail only if out of memory.
 #[tactic(auto, unfolding(crate::specs::Writing::data_at, crate::specs::Reading::setting_of))]
 pub fn read_attribute(
     alloc: Global,
@@ -90,7 +94,7 @@ pub fn read_attribute(
     attribute: LimiterAttribute,
 ) -> Result<Data, AllocError>
     ensures value { IfOk result (λ value. value ≡ data_at which attribute limiter.now.settings limiter.now.moment) }
-    // Written again, it sets what the limiter has.
+    // Writing the value to the limiter sets what it already has.
     ensures again { IfOk result (λ value. setting_of attribute value ≡ Ok (setting_at attribute limiter.now.settings)) }
     ensures groups_again { attribute ≡ EmergencyProfileGroupIdList → IfOk result (λ value. groups_of value ≡ Ok limiter.now.settings.groups) }
     ensures sure { IsTrue (is_plain attribute) → IsOk result }

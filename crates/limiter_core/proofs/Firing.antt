@@ -1,4 +1,4 @@
--- One more row, seen by the counters.
+-- The counters after one more row.
 use Rattle.std.proofs.Common.{◌≡◌, ℕ, suc, ◌+◌, ◌≤◌, min, Bool, true, false, not, ◌&&◌, ◌||◌, cond, nat_lt, nat_le, if◌then◌else◌, List, [], ◌∷◌, drop, refl, ◌∙◌, ap, arith}
 use Rattle.std.proofs.lemmas.Bool.Decides.{nat_tests}
 use Rattle.limiter_core.specs.declared.count.Count.{Count}
@@ -6,7 +6,7 @@ use Rattle.limiter_core.specs.declared.kinds.Fire.TheVariants.{Quiet, Over, Unde
 use Rattle.limiter_core.specs.Rows.{Row, Entry, Side, OverThreshold, UnderThreshold, is_past, need, run, reaches, any_below, has_fired, fires, fire_of}
 use Rattle.limiter_core.specs.Counting.{cap, count_of, no_run, taken, fires_at}
 
--- counts of equal runs and flags are equal
+-- counts with equal runs and flags are equal
 pub same_count : (a b : Count) → a.run ≡ b.run → a.fired ≡ b.fired → a ≡ b
 same_count a b r f =
     let with_run : ℕ → Count = λ n. record { run = n; fired = a.fired } in
@@ -81,16 +81,16 @@ unfolding count_of fires
 fires_by true side row rows e h = ap (λ b. b && not (has_fired side rows)) (reaches_capped side row rows e (h e))
 fires_by false side row rows e h = ap (λ b. b && not (has_fired side rows)) (reaches_other side row rows e)
 
--- a row that is not past fires nothing
+-- a row that is not past its threshold does not fire
 pub fires_other : (side : Side) (row : Row) (rows : List Row) → is_past side row ≡ false → fires side (row ∷ rows) ≡ false
 unfolding fires
 fires_other side row rows e = ap (λ b. b && not (has_fired side rows)) (reaches_other side row rows e)
 
--- it fires exactly where the count does
+-- a row fires exactly if its count does
 pub fires_counted : (side : Side) (row : Row) (rows : List Row) → (is_past side row ≡ true → need side row ≤ cap) → fires side (row ∷ rows) ≡ fires_at (is_past side row) (need side row) (count_of side rows)
 fires_counted side row rows h = fires_by (is_past side row) side row rows refl h
 
--- what a row brings, by the counts before it
+-- what a row fires, by the counts before it
 pub fire_counted : (row : Row) (rows : List Row) → (is_past OverThreshold row ≡ true → need OverThreshold row ≤ cap) → (is_past UnderThreshold row ≡ true → need UnderThreshold row ≤ cap) →
     fire_of (row ∷ rows) ≡ (if fires_at (is_past OverThreshold row) (need OverThreshold row) (count_of OverThreshold rows) then Over
     else if fires_at (is_past UnderThreshold row) (need UnderThreshold row) (count_of UnderThreshold rows) then Under else Quiet)
@@ -99,7 +99,7 @@ fire_counted row rows over under =
     ap (λ b. if b then Over else if fires UnderThreshold (row ∷ rows) then Under else Quiet) (fires_counted OverThreshold row rows over)
     ∙ ap (λ b. if fires_at (is_past OverThreshold row) (need OverThreshold row) (count_of OverThreshold rows) then Over else if b then Under else Quiet) (fires_counted UnderThreshold row rows under)
 
--- before the first row, and at an entry into Connected, there are no runs
+-- before the first row, and at an entry into Connected, both runs are empty
 pub count_of_none : (side : Side) → count_of side [] ≡ no_run
 unfolding count_of run has_fired any_below
 count_of_none side = refl

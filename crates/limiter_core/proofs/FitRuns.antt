@@ -1,4 +1,4 @@
--- Runs that samples can give, as a test and in words.
+-- Runs that samples can give: the test and the meaning agree.
 use Rattle.std.proofs.Common.{◌≡◌, ℕ, zero, suc, ◌<◌, ◌≤◌, Bool, true, false, ◌&&◌, ◌||◌, ◌==◌, nat_lt, refl, arith}
 use Rattle.std.proofs.lemmas.Bool.Decides.{nat_tests}
 use Rattle.limiter_core.specs.Counting.{cap}
@@ -25,7 +25,7 @@ both_hold : (a b : Bool) → a ≡ true → b ≡ true → (a && b) ≡ true
 both_hold true b e f = f
 both_hold false b e f = e
 
--- the last value can lie over its threshold, or under it, where a run does
+-- whether the last value can be over its threshold, or under it, if a run is
 abbrev above_fits : ℕ → ℕ → ℕ → Bool
 above_fits last over under = over == 0 || (under == 0 && nat_lt 0 last)
 

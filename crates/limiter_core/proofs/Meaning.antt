@@ -1,4 +1,4 @@
--- What the rules over rows say.
+-- What the rules over rows mean.
 use Rattle.std.proofs.Common.{◌≡◌, ℕ, suc, zero, ◌<◌, Bool, true, false, ◌||◌, ◌⊎◌, inl, inr, List, [], ◌∷◌, drop, nat_lt, refl, ap, arith}
 use Rattle.limiter_core.specs.Rows.{Row, Sample, Entry, Side, OverThreshold, UnderThreshold, is_past, run, reaches, any_below, has_fired, fires}
 use Rattle.limiter_core.proofs.Firing.{fires_other}

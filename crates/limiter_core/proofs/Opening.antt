@@ -1,4 +1,4 @@
--- The rows of an opening have its counts.
+-- The rows of a restored limiter have its counts.
 use Rattle.std.proofs.Common.{◌≡◌, ℕ, suc, zero, ◌+◌, ◌-◌, ◌<◌, ◌≤◌, min, Bool, true, false, ◌||◌, ◌==◌, nat_lt, nat_le, if◌then◌else◌, [], replicate, refl, sym, ◌∙◌, ap, subst, arith}
 use Rattle.std.proofs.lemmas.Bool.Decides.{nat_tests}
 use Rattle.std.proofs.lemmas.List.Folds.{prefix_len-replicate}
@@ -60,7 +60,7 @@ fired_is : (b : Bool) (count : Count) → count.fired ≡ b → IsFitCount count
 fired_is true count e fit = let none = fit.none in let some : 0 < count.run = above_zero count.run (λ zero. cc (none zero)) in grind (arith, nat_tests)
 fired_is false count e fit = let full = fit.full in let within = fit.within in let less : count.run < cap = below_cap count.run within (λ all. cc (full all)) in grind (arith, nat_tests)
 
--- a fit count is that of as many samples past the threshold
+-- a fit count is that of a sample past the threshold, repeated as often as the run is long
 repeated : (side : Side) (row : Row) (count : Count) → is_past side row ≡ true → need side row ≡ opened_need count → IsFitCount count → count ≡ count_of side (replicate count.run row)
 unfolding count_of
 repeated side row count e n fit =
@@ -71,7 +71,7 @@ repeated side row count e n fit =
     (sym (fired_repeated side row count.run e (let P : ℕ → Type 0 = λ m. 0 < m in subst P (sym n) some)
     ∙ (ap (λ m. nat_le m count.run) n ∙ fired_is count.fired count refl fit)))
 
--- a count without a run is that of any samples on the other side
+-- samples on the other side end a run
 ended_by : (side : Side) (row : Row) (n : ℕ) → is_past side row ≡ false → count_of side (replicate n row) ≡ no_run
 ended_by side row zero e = count_of_none side
 ended_by side row (suc n) e = counted_by false side row (replicate n row) e (λ past. absurd (let apart : true ≡ false = sym past ∙ e in cc))
@@ -95,7 +95,7 @@ opened_if false state e fit =
       under = no_count state.under (fit.one some) fit.under_fits ∙ sym (ended_by UnderThreshold (one_over state.last state.over) state.over.run (not_under_one state.last));
     }
 
--- a limiter with fit counts stands for the rows of its opening
+-- a limiter with fit counts represents the rows that restore it
 pub opened : (state : State) → IsFit state.last state.over state.under → Keeps state (opened_rows state.last state.over state.under)
 unfolding opened_rows
 opened state fit = opened_if (state.over.run == 0) state refl fit

@@ -1,4 +1,4 @@
--- Many samples of one kind, seen by the counters.
+-- The counters after many samples of one kind.
 use Rattle.std.proofs.Common.{◌≡◌, ℕ, suc, ◌+◌, ◌-◌, ◌^◌, ◌<◌, ◌≤◌, min, Bool, true, false, not, ◌&&◌, ◌||◌, nat_lt, nat_le, if◌then◌else◌, ◌⊎◌, inl, inr, List, [], ◌∷◌, length, Option, refl, sym, ◌∙◌, ap, subst, arith}
 use Rattle.std.proofs.lemmas.Bool.Decides.{nat_tests}
 use Rattle.limiter_core.specs.declared.count.Count.{Count}
@@ -20,12 +20,12 @@ past Under OverThreshold = false
 past Under UnderThreshold = true
 past Equal _ = false
 
--- what a side needs
+-- the need of a side
 abbrev pub needed : Side → Limits → ℕ
 needed OverThreshold limits = limits.need_over
 needed UnderThreshold limits = limits.need_under
 
--- the needs are counted
+-- the needs are within the longest run that is counted
 abbrev pub AreCounted : Kind → Limits → Type 0
 AreCounted kind limits = (side : Side) → past kind side ≡ true → needed side limits ≤ cap
 
@@ -49,7 +49,7 @@ past_is kind OverThreshold limits value e =
 past_is kind UnderThreshold limits value e =
     (kind_bits kind (nat_lt limits.threshold value) (nat_lt value limits.threshold) (not_both limits.threshold value) e).1
 
--- there is room for n samples that fire nothing
+-- n more samples past the threshold do not fire
 abbrev pub Room : ℕ → ℕ → Count → Type 0
 Room n need count = (count.fired ≡ true) ⊎ ((count.fired ≡ false) × (n ≤ need - 1 - count.run))
 
@@ -89,7 +89,7 @@ room_after n need count (inr h) = inr (h.0, less_room n need count.run h.1)
 skipped_more : (n run : ℕ) → min (min (run + 1) cap + n) cap ≡ min (run + suc n) cap
 skipped_more n run = omega arith
 
--- both sides have room
+-- n more samples fire on neither side
 abbrev pub HasRoom : Kind → Limits → ℕ → List Row → Type 0
 HasRoom kind limits n rows = (side : Side) → past kind side ≡ true → Room n (needed side limits) (count_of side rows)
 
@@ -106,7 +106,7 @@ module _ (kind : Kind) (limits : Limits) (counted_needs : AreCounted kind limits
       counted UnderThreshold (row_of limits value) rows (need_counted UnderThreshold value k)
       ∙ ap (λ b. taken b (needed UnderThreshold limits) (count_of UnderThreshold rows)) (past_is kind UnderThreshold limits value k)
 
-  -- what one more sample brings
+  -- what one more sample fires
   pub one_fire : (value : ℕ) (rows : List Row) → kind_of limits.threshold value ≡ kind →
       fire_of (row_of limits value ∷ rows) ≡ (if fires_at (past kind OverThreshold) (needed OverThreshold limits) (count_of OverThreshold rows) then fire_past OverThreshold
       else if fires_at (past kind UnderThreshold) (needed UnderThreshold limits) (count_of UnderThreshold rows) then fire_past UnderThreshold else Quiet)
@@ -140,7 +140,7 @@ module _ (kind : Kind) (limits : Limits) (counted_needs : AreCounted kind limits
       let P : Count → Type 0 = λ c. Room n (needed side limits) c in
       subst P (sym (one_skipped n side value rows k e room)) (room_after n (needed side limits) (count_of side rows) (room side e))
 
-  -- where there is room, nothing fires
+  -- samples that `HasRoom` allows do not fire
   pub are_quiet : (values : List ℕ) (rows : List Row) → AreOfKind kind limits.threshold values → HasRoom kind limits (length values) rows → IsQuiet limits values rows
   are_quiet [] rows k room = tt
   are_quiet (value ∷ values) rows k room =
@@ -153,7 +153,7 @@ module _ (kind : Kind) (limits : Limits) (counted_needs : AreCounted kind limits
   more_skipped : (n : ℕ) (count : Count) → skipped n (skipped 1 count) ≡ skipped (suc n) count
   more_skipped n count = same_count (skipped n (skipped 1 count)) (skipped (suc n) count) (skipped_more n count.run) refl
 
-  -- a run goes on
+  -- a run continues
   pub run_after : (values : List ℕ) (rows : List Row) (side : Side) → past kind side ≡ true → AreOfKind kind limits.threshold values → HasRoom kind limits (length values) rows →
       count_of side (rows_after limits values rows) ≡ skipped (length values) (count_of side rows)
   run_after [] rows side e k room = none_skipped side rows
@@ -192,7 +192,7 @@ room_of Under state rows n keeps few OverThreshold e = cc
 room_of Under state rows n keeps few UnderThreshold e = room_before n (need_of state.settings.min_under_duration) state.under (count_of UnderThreshold rows) keeps.under few
 room_of Equal state rows n keeps few side e = cc
 
--- as many samples as fire nothing
+-- as many samples as `quiet_count` says do not fire
 pub quiet_up_to : (kind : Kind) (state : State) (rows : List Row) (values : List ℕ) → IsLimiter state → Keeps state rows → AreOfKind kind (limits_of state).threshold values →
     length values ≤ quiet_count kind state → IsQuiet (limits_of state) values rows
 quiet_up_to kind state rows values fit keeps k few =
@@ -216,7 +216,7 @@ room_for_all Under state rows n fit keeps all UnderThreshold e =
     room_always n (need_of state.settings.min_under_duration) state.under (count_of UnderThreshold rows) keeps.under (are_counted Under state fit UnderThreshold e) all
 room_for_all Equal state rows n fit keeps all side e = cc
 
--- where none would fire, any number is quiet
+-- if no sample would ever fire, any number of them does not
 pub quiet_for_ever : (kind : Kind) (state : State) (rows : List Row) (values : List ℕ) → IsLimiter state → Keeps state rows → AreOfKind kind (limits_of state).threshold values →
     quiet_count kind state ≡ 2 ^ 64 - 1 → IsQuiet (limits_of state) values rows
 quiet_for_ever kind state rows values fit keeps k all =
@@ -232,14 +232,14 @@ at_last n need run small is = grind (arith, nat_tests)
 and_both : (a b : Bool) → a ≡ true → b ≡ false → (a && not b) ≡ true
 and_both a b e f = ap (λ v. v && not b) e ∙ ap not f
 
--- the first sample past those that fire nothing
+-- the first sample after those that do not fire
 fires_then : (n need : ℕ) (count other : Count) → count ≡ other → need ≤ cap → n ≡ before need count → n < 2 ^ 64 - 1 → fires_at true need (skipped n other) ≡ true
 fires_then n need count other same small is few =
     let P : Count → Type 0 = λ c. fires_at true need (skipped n c) ≡ true in
     let found : (count.fired ≡ false) × (n ≡ need - 1 - count.run) = unfired_if count.fired n need count refl is few in
     subst P same (and_both (nat_le need (min (min (count.run + n) cap + 1) cap)) count.fired (at_last n need count.run small found.1) found.0)
 
--- one sample more than fire nothing
+-- one sample more than those that do not fire
 pub fires_next : (kind : Kind) (state : State) (rows : List Row) (values : List ℕ) (value : ℕ) → IsLimiter state → Keeps state rows → AreOfKind kind (limits_of state).threshold values →
     kind_of (limits_of state).threshold value ≡ kind → length values ≡ quiet_count kind state → length values < 2 ^ 64 - 1 →
     fire_of (row_of (limits_of state) value ∷ rows_after (limits_of state) values rows) ≡ fire_on kind
@@ -287,7 +287,7 @@ jumped_keeps Equal state rows values last fit keeps k some few = record {
   under = other_after Equal state rows values UnderThreshold refl fit k some;
 }
 
--- the counts after a run that fires nothing are those of its samples
+-- the counts after a run that does not fire are those of its samples
 pub keeps_after : (kind : Kind) (state new : State) (rows : List Row) (values : List ℕ) (n last : ℕ) → IsLimiter state → Keeps state rows → AreOfKind kind (limits_of state).threshold values →
     length values ≡ n → 0 < n → n ≤ quiet_count kind state → new ≡ jumped kind n last state → Keeps new (rows_after (limits_of state) values rows)
 keeps_after kind state new rows values n last fit keeps k e some few is =
@@ -306,7 +306,7 @@ fits_if false n need count e some small few fit = record {
   full = λ full. absurd (omega (arith, full, few));
 }
 
--- a count with samples that fire nothing is fit
+-- a fit count stays fit after samples that do not fire
 pub skip_fits : (n need : ℕ) (count : Count) → 0 < n → need ≤ cap → n ≤ before need count → IsFitCount count → IsFitCount (skipped n count)
 skip_fits n need count some small few fit = fits_if count.fired n need count refl some small few fit
 
@@ -321,7 +321,7 @@ threshold_small s moment normal emergency = one_small (is_active s moment) s.eme
 below_threshold : (t v : ℕ) → t < 2 ^ 32 → nat_lt v t ≡ true → v < 4294967295
 below_threshold t v small e = grind (arith, nat_tests)
 
--- a limiter that skips samples under the threshold
+-- a limiter stays a limiter after samples under the threshold that do not fire
 pub jumped_under : (state : State) (n last : ℕ) → 0 < n → n ≤ quiet_count Under state → kind_of (limits_of state).threshold last ≡ Under → IsLimiter state → IsLimiter (jumped Under n last state)
 jumped_under state n last some few k fit =
     let limits : Limits = limits_of state in
@@ -341,7 +341,7 @@ jumped_under state n last some few k fit =
       groups = fit.groups;
     }
 
--- the same, of the limiter's fields and what the counts have become
+-- a limiter stays one, given its fields and its new counts separately
 pub jump_under : (inside state : State) (over under : Count) (n last : ℕ) → inside ≡ state → over ≡ no_run → under ≡ skipped n inside.under → 0 < n → n ≤ quiet_count Under state →
     kind_of (limits_of state).threshold last ≡ Under → IsLimiter inside → IsLimiter (record { settings = inside.settings; moment = inside.moment; last = last; over = over; under = under })
 jump_under inside state over under n last is none skip some few k fit =

@@ -1,9 +1,9 @@
--- The counters that stand for all samples: one run and one flag a side.
+-- The counters that represent all samples: one run and one flag for each side.
 use Rattle.std.specs.Prelude.{ℕ, ◌+◌, ◌-◌, ◌^◌, min, Bool, false, not, ◌&&◌, ◌||◌, nat_le, if◌then◌else◌, List}
 use Rattle.limiter_core.specs.declared.count.Count.{Count}
 use Rattle.limiter_core.specs.Rows.{Row, Side, run, has_fired}
 
--- the greatest run that is counted, which is the need of the longest duration
+-- the longest run that is counted: the need of the longest duration
 abbrev pub cap : ℕ
 cap = 42949672950
 
@@ -21,14 +21,15 @@ taken past need count =
     then record { run = min (count.run + 1) cap; fired = count.fired || nat_le need (min (count.run + 1) cap) }
     else no_run
 
--- one more sample fires
+-- whether one more sample fires
 abbrev pub fires_at : Bool → ℕ → Count → Bool
 fires_at past need count = past && (nat_le need (min (count.run + 1) cap) && not count.fired)
 
--- the greatest number of samples past the threshold that fire nothing, or the greatest u64
+-- the number of further samples past the threshold that do not fire, or the greatest u64 if the run
+-- has fired
 abbrev pub before : ℕ → Count → ℕ
 before need count = if count.fired then 2 ^ 64 - 1 else need - 1 - count.run
 
--- the count after n samples that are past the threshold and fire nothing
+-- the count after n samples that are past the threshold and do not fire
 abbrev pub skipped : ℕ → Count → Count
 skipped n count = record { run = min (count.run + n) cap; fired = count.fired }

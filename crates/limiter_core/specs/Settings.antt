@@ -1,5 +1,6 @@
--- The rules of a limiter's settings (IEC 62056-6-2, class 71): the active threshold, the emergency profile and the needs. That the end of the profile's time is
--- left out, and that a second has ten samples, is this meter's.
+-- The rules of a limiter's settings (IEC 62056-6-2, class 71): the active threshold, the emergency
+-- profile and the needs. That the end of the profile's time is excluded, and that a second has ten
+-- samples, are rules of this meter.
 use Rattle.std.specs.Prelude.{ℕ, ◌+◌, ◌*◌, max, Bool, false, ◌&&◌, nat_lt, nat_le, ◌==◌, if◌then◌else◌, Option, Some, List, []}
 use Rattle.std.specs.List.{list_any}
 use Rattle.cosem_datetime.specs.Fields.{unspecified}
@@ -9,33 +10,35 @@ use Rattle.limiter_core.specs.declared.kinds.Kind.TheVariants.{Over, Under, Equa
 use Rattle.limiter_core.specs.declared.settings.Settings.{Settings}
 use Rattle.limiter_core.specs.Rows.{Row, Sample}
 
--- now is from start to start + duration, that end left out
+-- whether now is from start to start + duration, the end excluded
 abbrev pub is_within : Option ℕ → Option ℕ → ℕ → Bool
 is_within (Some now) (Some start) duration = nat_le start now && nat_lt now (start + duration)
 is_within _ _ _ = false
 
--- one of the ids is this one
+-- whether an id is in a list of ids
 abbrev pub is_among : ℕ → List ℕ → Bool
 is_among id ids = list_any (λ i. i == id) ids
 
--- the emergency profile is active: its group is among the limiter's, and a moment has come that lies in its time
+-- whether the emergency profile is active: its group is among the limiter's, and the clock's last
+-- moment is in its time
 unfoldable pub is_active : Settings → Option ℕ → Bool
 is_active s moment = is_among s.profile.id s.groups && is_within moment (moment_of s.profile.start) s.profile.duration
 
 unfoldable pub active_threshold : Settings → Option ℕ → ℕ
 active_threshold s moment = if is_active s moment then s.emergency_threshold else s.normal_threshold
 
--- the samples that a duration in seconds needs, at ten a second
+-- the number of samples that a duration in seconds needs, at ten a second and at least one
 abbrev pub need_of : ℕ → ℕ
 need_of duration = max 1 (10 * duration)
 
--- what a sample is judged by: a threshold, and how many samples a run over it and a run under it must have
+-- the limits that judge a sample: a threshold, and the number of samples that a run over it and a
+-- run under it must have
 pub record Limits : Type 0 where
   pub threshold : ℕ
   pub need_over : ℕ
   pub need_under : ℕ
 
--- the limits by these settings at a moment of the clock
+-- the limits that these settings give at a moment of the clock
 abbrev pub limits_at : Settings → Option ℕ → Limits
 limits_at s moment = record {
   threshold = active_threshold s moment;
@@ -43,11 +46,11 @@ limits_at s moment = record {
   need_under = need_of s.min_under_duration;
 }
 
--- a sample, and the limits at it
+-- the row of a sample under these limits
 abbrev pub row_of : Limits → ℕ → Row
 row_of limits value = Sample value limits.threshold limits.need_over limits.need_under
 
--- on which side of the threshold a value lies
+-- the side of the threshold on which a value is
 abbrev pub kind_of : ℕ → ℕ → Kind
 kind_of threshold value = if nat_lt threshold value then Over else if nat_lt value threshold then Under else Equal
 

@@ -1,4 +1,4 @@
--- A limiter as its callers see it, and the rows that it stands for.
+-- A limiter as its callers see it, and the rows that it represents.
 use Rattle.std.specs.Prelude.{◌≡◌, ℕ, ◌-◌, ◌<◌, ◌≤◌, ◌^◌, Bool, true, false, not, ◌&&◌, ◌||◌, ◌==◌, nat_lt, if◌then◌else◌, List, [], ◌∷◌, length, Option}
 use Rattle.limiter_core.specs.declared.kinds.Fire.{Fire}
 use Rattle.limiter_core.specs.declared.kinds.Fire.TheVariants.{Quiet}
@@ -10,7 +10,7 @@ use Rattle.limiter_core.specs.Counting.{cap, count_of, no_run, before, skipped}
 use Rattle.limiter_core.specs.Rows.{Row, OverThreshold, UnderThreshold, fire_of, fire_past}
 use Rattle.limiter_core.specs.Settings.{Limits, limits_at, row_of, need_of, kind_of}
 
--- the settings, the moment of the clock that has come last, the last sample and the two counts
+-- the settings, the last moment of the clock, the last sample and the two counts
 pub record State : Type 0 where
   pub settings : Settings
   pub moment : Option ℕ
@@ -27,13 +27,14 @@ pub record Keeps (state : State) (rows : List Row) : Type 0 where
   pub over : state.over ≡ count_of OverThreshold rows
   pub under : state.under ≡ count_of UnderThreshold rows
 
--- samples can give this count: no run has not fired, and the greatest run has
+-- samples can give this count: an empty run has not fired, and a run at the cap has
 pub record IsFitCount (count : Count) : Type 0 where
   pub within : count.run ≤ cap
   pub none : count.run ≡ 0 → count.fired ≡ false
   pub full : count.run ≡ cap → count.fired ≡ true
 
--- samples that end with the last one can give both counts: one run at most, of a value that some threshold lies under or over
+-- samples that end with `last` can give both counts: at most one run is not empty, and some
+-- threshold is under the last value (for a run over it) or over it (for a run under it)
 pub record IsFit (last : ℕ) (over under : Count) : Type 0 where
   pub over_fits : IsFitCount over
   pub under_fits : IsFitCount under
@@ -41,7 +42,7 @@ pub record IsFit (last : ℕ) (over under : Count) : Type 0 where
   pub above : 0 < over.run → 0 < last
   pub below : 0 < under.run → last < 4294967295
 
--- the same as a test of a count, and of both
+-- the tests that decide `IsFitCount` and `IsFit`
 abbrev pub is_fit_count : Count → Bool
 is_fit_count count = if count.run == 0 then not count.fired else if count.run == cap then count.fired else nat_lt count.run cap
 
@@ -49,7 +50,8 @@ unfoldable pub are_fit : ℕ → Count → Count → Bool
 are_fit last over under =
     is_fit_count over && is_fit_count under && (over.run == 0 || (under.run == 0 && nat_lt 0 last)) && (under.run == 0 || nat_lt last 4294967295)
 
--- what is so of every limiter: its counts are fit, its thresholds and durations are of 32 bits, and it has 32 groups at most
+-- what holds of every limiter: its counts are fit, its thresholds and durations have 32 bits, and
+-- it has at most 32 group ids
 pub record IsLimiter (state : State) : Type 0 where
   pub counts : IsFit state.last state.over state.under
   pub normal_threshold : state.settings.normal_threshold < 2 ^ 32
@@ -58,35 +60,36 @@ pub record IsLimiter (state : State) : Type 0 where
   pub under_duration : state.settings.min_under_duration < 2 ^ 32
   pub groups : length state.settings.groups ≤ 32
 
--- the rows after more samples under the same limits, the first of the values being the oldest
+-- the rows after more samples under the same limits, of which the first is the oldest
 abbrev pub rows_after : Limits → List ℕ → List Row → List Row
 rows_after limits [] rows = rows
 rows_after limits (value ∷ values) rows = rows_after limits values (row_of limits value ∷ rows)
 
--- none of the samples fires
+-- no sample fires
 abbrev pub IsQuiet : Limits → List ℕ → List Row → Type 0
 IsQuiet limits [] rows = Unit {0}
 IsQuiet limits (value ∷ values) rows =
     (fire_of (row_of limits value ∷ rows) ≡ Quiet) × IsQuiet limits values (row_of limits value ∷ rows)
 
--- every value lies on that side of the threshold
+-- every value is on that side of the threshold
 abbrev pub AreOfKind : Kind → ℕ → List ℕ → Type 0
 AreOfKind kind threshold [] = Unit {0}
 AreOfKind kind threshold (value ∷ values) = (kind_of threshold value ≡ kind) × AreOfKind kind threshold values
 
--- how many samples of a kind fire nothing, or the greatest u64 where none ever would
+-- the number of further samples of a kind that do not fire, or the greatest u64 if none would ever
+-- fire
 abbrev pub quiet_count : Kind → State → ℕ
 quiet_count Over state = before (need_of state.settings.min_over_duration) state.over
 quiet_count Under state = before (need_of state.settings.min_under_duration) state.under
 quiet_count Equal state = 2 ^ 64 - 1
 
--- what fires where samples of that kind fire
+-- what samples of that kind fire
 abbrev pub fire_on : Kind → Fire
 fire_on Over = fire_past OverThreshold
 fire_on Under = fire_past UnderThreshold
 fire_on Equal = Quiet
 
--- the limiter after n samples of a kind that fire nothing
+-- the limiter after n samples of a kind that do not fire
 abbrev pub jumped : Kind → ℕ → ℕ → State → State
 jumped Over n last state = record state { last = last; over = skipped n state.over; under = no_run }
 jumped Under n last state = record state { last = last; over = no_run; under = skipped n state.under }

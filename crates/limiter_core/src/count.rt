@@ -2,20 +2,21 @@ ghost use Rattle.std.specs.Prelude.{◌≡◌, ◌↔◌, IsTrue};
 ghost use Rattle.limiter_core.specs.Counting.{no_run, taken, fires_at, before, skipped};
 ghost use Rattle.limiter_core.specs.State.{IsFit, IsFitCount, is_fit_count, are_fit};
 
-/// The greatest run that is counted: the samples that a duration of 4,294,967,295 seconds needs.
+/// The longest run that is counted: 42,949,672,950 samples, the need of a duration of 4,294,967,295
+/// seconds.
 pub const RUN_LIMIT: u64 = 42_949_672_950;
 
 /// How long the value has been on one side of the threshold.
 #[derive(Clone, Copy, Debug, PartialEq, Eq)]
 pub struct Count {
-    /// The samples of the run, up to `RUN_LIMIT`.
+    /// The number of consecutive samples past the threshold, at most `RUN_LIMIT`.
     pub run: u64,
     /// Whether the run has fired.
     pub fired: bool,
 }
 
 impl Count {
-    /// No sample past the threshold.
+    /// Returns the count of an empty run.
     pub const fn none() -> Count
         ensures { result ≡ no_run }
     {
@@ -25,7 +26,8 @@ impl Count {
         }
     }
 
-    /// Counts a sample, and says whether it fires.
+    /// Counts a sample and returns whether it fires. `past` says whether it is past the threshold,
+    /// `need` how many samples the run needs to fire.
     pub(crate) fn take(&mut self, past: bool, need: u64) -> bool
         ensures count { self.new ≡ taken past need self.old }
         ensures fires { result ≡ fires_at past need self.old }
@@ -41,7 +43,8 @@ impl Count {
         fires
     }
 
-    /// How many samples past the threshold fire nothing.
+    /// Returns the number of further samples past the threshold that do not fire, or `u64::MAX` if
+    /// the run has fired.
     pub(crate) fn quiet_before(&self, need: u64) -> u64
         ensures { result ≡ before need self.now }
     {
@@ -51,14 +54,14 @@ impl Count {
         need.saturating_sub(1).saturating_sub(self.run)
     }
 
-    /// Counts that many samples past the threshold, which fire nothing.
+    /// Counts `samples` samples past the threshold that do not fire.
     pub(crate) fn skip(&mut self, samples: u64)
         ensures { self.new ≡ skipped samples self.old }
     {
         self.run = self.run.saturating_add(samples).min(RUN_LIMIT);
     }
 
-    /// Whether samples can give this count: no run has not fired, and the greatest has.
+    /// Whether samples can give this count: an empty run has not fired, and a run at the cap has.
     fn is_fit(&self) -> bool
         ensures test { result ≡ is_fit_count self.now }
         ensures meaning { IsTrue result ↔ IsFitCount self.now }
@@ -71,8 +74,9 @@ impl Count {
     }
 }
 
-/// Whether samples, of which the last is `last`, can give both counts: one run at most, and a value that can be on its
-/// side of a threshold.
+/// Whether samples, of which the last is `last`, can give both counts. At most one run is not
+/// empty, a run over the threshold needs `last` above 0, and one under it needs `last` below
+/// `u32::MAX`.
 #[tactic(auto, unfolding(crate::specs::State::are_fit))]
 pub fn are_fit(last: u32, over: Count, under: Count) -> bool
     ensures test { result ≡ are_fit last over under }

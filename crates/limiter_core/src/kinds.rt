@@ -1,21 +1,23 @@
-/// What a sample brings.
+/// What a sample fires.
 #[derive(Clone, Copy, Debug, PartialEq, Eq)]
 pub enum Fire {
-    /// No action is due.
+    /// No action: no run reaches its need with this sample, or it has fired already.
     Quiet,
-    /// The value has been over the threshold for as long as it must be: `action_over_threshold` is due.
+    /// `action_over_threshold`: the value has been over the threshold for
+    /// `min_over_threshold_duration`.
     Over,
-    /// The value has been under the threshold for as long as it must be: `action_under_threshold` is due.
+    /// `action_under_threshold`: the value has been under the threshold for
+    /// `min_under_threshold_duration`.
     Under,
 }
 
-/// How a sample lies to the active threshold.
+/// How a sample compares with the active threshold.
 #[derive(Clone, Copy, Debug, PartialEq, Eq)]
 pub enum Kind {
-    /// Greater.
+    /// Greater than the threshold.
     Over,
-    /// Less.
+    /// Less than the threshold.
     Under,
-    /// Neither.
+    /// Equal to the threshold, so past it on neither side.
     Equal,
 }

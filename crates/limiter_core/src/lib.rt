@@ -1,8 +1,9 @@
-//! The limiter of DLMS/COSEM (IEC 62056-6-2, class 71), as it decides over samples of a monitored value: it counts how
-//! long the value has stayed over or under the active threshold, and says at which sample an action is due.
+//! The limiter of DLMS/COSEM (IEC 62056-6-2, class 71), as it judges samples of a monitored value.
+//! It counts how long the value has been over or under the active threshold, and decides at which
+//! sample an action runs.
 //!
-//! Samples are `u32` watts, ten a second by definition. Contracts speak of the list of all samples ever taken; the code
-//! keeps two counters and two flags.
+//! Samples are `u32` watts, ten a second by definition. The contracts speak of the list of all
+//! samples so far; the code keeps two counters and two flags.
 #![tactic(auto)]
 
 mod count;

@@ -14,12 +14,12 @@ use std::alloc::{AllocError, Global};
 use std::marker::Model;
 use std::mem;
 
-/// A limiter (IEC 62056-6-2, class 71): its settings, the last moment of the clock, the last sample, and for each side of the threshold a run and
-/// whether that has fired.
+/// A limiter (IEC 62056-6-2, class 71): its settings, the last moment of the clock, the last
+/// sample, and for each side of the threshold a run and whether that has fired.
 #[derive(Debug, Drop)]
 pub struct Limiter {
     settings: Settings,
-    /// Seconds since 1 January 2000, or None before the first moment.
+    /// Seconds since 1 January 2000, or `None` before the first moment.
     moment: Option<u32>,
     last: u32,
     over: Count,
@@ -37,7 +37,7 @@ impl Model for Limiter {
 }
 
 impl Limiter {
-    /// A new limiter, with no samples. It takes no memory.
+    /// Returns a new limiter without samples. Does not allocate.
     #[tactic(auto, using(crate::proofs::Firing::count_of_none))]
     pub fn new(alloc: Global) -> Limiter
         ensures state { result ≡ record { settings = new_settings; moment = None; last = 0; over = no_run; under = no_run } }
@@ -46,7 +46,8 @@ impl Limiter {
         Limiter::of(Settings::new(alloc), None)
     }
 
-    /// A limiter of these settings and at this moment of the clock, with no samples. It takes no memory.
+    /// Returns a limiter with these settings at this moment of the clock (seconds since 1 January
+    /// 2000), without samples. Does not allocate.
     pub fn of(settings: Settings, moment: Option<u32>) -> Limiter
         requires { length settings.groups ≤ MAX_GROUPS }
         ensures { result ≡ record { settings = settings; moment = moment; last = 0; over = no_run; under = no_run } }
@@ -60,7 +61,7 @@ impl Limiter {
         }
     }
 
-    /// Takes a sample, in watts.
+    /// Takes a sample, in watts, and returns what it fires.
     #[tactic(auto, using(crate::proofs::Firing::fire_counted, crate::proofs::Firing::counted))]
     pub fn sample(&mut self, value: u32) -> Fire
         ensures rows { (rows : List Row) → Keeps self.old rows → Keeps self.new (row_of (limits_of self.old) value ∷ rows) }
@@ -84,7 +85,7 @@ impl Limiter {
         }
     }
 
-    /// The meter has entered Connected from another state: both runs end.
+    /// Ends both runs, because the switch has entered Connected from another state.
     #[tactic(auto, using(crate::proofs::Firing::count_of_entry))]
     pub fn closed(&mut self)
         ensures rows { (rows : List Row) → Keeps self.old rows → Keeps self.new (Entry ∷ rows) }
@@ -97,7 +98,8 @@ impl Limiter {
         self.under = ended;
     }
 
-    /// The greatest number of samples of a kind that fire nothing, by counter, flag and need.
+    /// Returns the number of further samples of a kind that do not fire, or `u64::MAX` if none
+    /// would ever fire.
     fn quiet_samples(&self, kind: Kind) -> u64
         ensures count { result ≡ quiet_count kind self.now }
         ensures limiter { IsLimiter self.now }
@@ -114,7 +116,8 @@ impl Limiter {
         }
     }
 
-    /// How many samples of a kind fire nothing: the greatest such number, or `u64::MAX` where none ever would.
+    /// Returns the number of further samples of a kind that do not fire: the greatest such number,
+    /// or `u64::MAX` if none would ever fire.
     #[tactic(auto, using(crate::proofs::Skipping::quiet_up_to, crate::proofs::Skipping::quiet_for_ever, crate::proofs::Skipping::fires_next))]
     pub fn before_fire(&self, kind: Kind) -> u64
         ensures count { result ≡ quiet_count kind self.now }
@@ -130,7 +133,7 @@ impl Limiter {
         self.quiet_samples(kind)
     }
 
-    /// Counts n samples of a kind, of which `last` is the last.
+    /// Counts `n` samples of a kind that do not fire; `last` is the last of them.
     #[tactic(auto, using(crate::proofs::Skipping::skip_fits))]
     fn jump(&mut self, kind: Kind, n: u64, last: u32)
         requires some { 0 < n }
@@ -156,8 +159,8 @@ impl Limiter {
         }
     }
 
-    /// Takes n samples of a kind that fire nothing, as n calls of `sample` do. `last` is the last of them; where n is 0
-    /// it is not looked at.
+    /// Takes `n` samples of a kind that do not fire, with the same result as `n` calls of `sample`.
+    /// `last` is the last of them, in watts; if `n` is 0 it is ignored.
     #[tactic(auto, using(crate::proofs::Skipping::quiet_up_to))]
     pub fn skip_run(&mut self, kind: Kind, n: u64, last: u32)
         requires quiet { n ≤ quiet_count kind self.old }
@@ -175,21 +178,22 @@ impl Limiter {
         }
     }
 
-    /// A moment of the clock has come, in seconds since 1 January 2000.
+    /// Sets the last moment of the clock, in seconds since 1 January 2000.
     pub fn at(&mut self, moment: u32)
         ensures { self.new ≡ record self.old { moment = Some moment } }
     {
         self.moment = Some(moment);
     }
 
-    /// The moment of the clock that has come last, in seconds since 1 January 2000, or None before the first.
+    /// Returns the last moment of the clock, in seconds since 1 January 2000, or `None` before the
+    /// first.
     pub fn moment(&self) -> Option<u32>
         ensures { result ≡ self.now.moment }
     {
         self.moment
     }
 
-    /// What is set.
+    /// Returns the settings: the attributes that clients write.
     pub fn settings(&self) -> &Settings
         ensures settings { result.now ≡ self.now.settings }
         ensures few { length result.now.groups ≤ MAX_GROUPS }
@@ -197,112 +201,113 @@ impl Limiter {
         &self.settings
     }
 
-    /// The active threshold (attribute 3), in watts.
+    /// Returns `threshold_active` (attribute 3), in watts.
     pub fn threshold(&self) -> u32
         ensures { result ≡ active_threshold self.now.settings self.now.moment }
     {
         self.settings.active_threshold(self.moment)
     }
 
-    /// Whether the emergency profile is active (attribute 10).
+    /// Returns `emergency_profile_active` (attribute 10): whether the emergency profile is active
+    /// at the last moment of the clock.
     pub fn emergency_active(&self) -> bool
         ensures { result ≡ is_active self.now.settings self.now.moment }
     {
         self.settings.is_active(self.moment)
     }
 
-    /// The last sample, in watts; 0 before the first.
+    /// Returns the last sample, in watts, or 0 before the first.
     pub fn value(&self) -> u32
         ensures { result ≡ self.now.last }
     {
         self.last
     }
 
-    /// `threshold_normal` (attribute 4), in watts.
+    /// Returns `threshold_normal` (attribute 4), in watts.
     pub fn normal_threshold(&self) -> u32
         ensures { result ≡ self.now.settings.normal_threshold }
     {
         self.settings.normal_threshold
     }
 
-    /// Sets `threshold_normal` (attribute 4), in watts. The runs stay.
+    /// Sets `threshold_normal` (attribute 4), in watts. The runs do not change.
     pub fn set_normal_threshold(&mut self, threshold: u32)
         ensures { self.new ≡ record self.old { settings = record self.old.settings { normal_threshold = threshold } } }
     {
         self.settings.normal_threshold = threshold;
     }
 
-    /// `threshold_emergency` (attribute 5), in watts.
+    /// Returns `threshold_emergency` (attribute 5), in watts.
     pub fn emergency_threshold(&self) -> u32
         ensures { result ≡ self.now.settings.emergency_threshold }
     {
         self.settings.emergency_threshold
     }
 
-    /// Sets `threshold_emergency` (attribute 5), in watts. The runs stay.
+    /// Sets `threshold_emergency` (attribute 5), in watts. The runs do not change.
     pub fn set_emergency_threshold(&mut self, threshold: u32)
         ensures { self.new ≡ record self.old { settings = record self.old.settings { emergency_threshold = threshold } } }
     {
         self.settings.emergency_threshold = threshold;
     }
 
-    /// `min_over_threshold_duration` (attribute 6), in seconds.
+    /// Returns `min_over_threshold_duration` (attribute 6), in seconds.
     pub fn min_over_duration(&self) -> u32
         ensures { result ≡ self.now.settings.min_over_duration }
     {
         self.settings.min_over_duration
     }
 
-    /// Sets `min_over_threshold_duration` (attribute 6), in seconds. The runs stay.
+    /// Sets `min_over_threshold_duration` (attribute 6), in seconds. The runs do not change.
     pub fn set_min_over_duration(&mut self, seconds: u32)
         ensures { self.new ≡ record self.old { settings = record self.old.settings { min_over_duration = seconds } } }
     {
         self.settings.min_over_duration = seconds;
     }
 
-    /// `min_under_threshold_duration` (attribute 7), in seconds.
+    /// Returns `min_under_threshold_duration` (attribute 7), in seconds.
     pub fn min_under_duration(&self) -> u32
         ensures { result ≡ self.now.settings.min_under_duration }
     {
         self.settings.min_under_duration
     }
 
-    /// Sets `min_under_threshold_duration` (attribute 7), in seconds. The runs stay.
+    /// Sets `min_under_threshold_duration` (attribute 7), in seconds. The runs do not change.
     pub fn set_min_under_duration(&mut self, seconds: u32)
         ensures { self.new ≡ record self.old { settings = record self.old.settings { min_under_duration = seconds } } }
     {
         self.settings.min_under_duration = seconds;
     }
 
-    /// `emergency_profile` (attribute 8).
+    /// Returns `emergency_profile` (attribute 8).
     pub fn profile(&self) -> Profile
         ensures { result ≡ self.now.settings.profile }
     {
         self.settings.profile
     }
 
-    /// Sets `emergency_profile` (attribute 8). The runs stay.
+    /// Sets `emergency_profile` (attribute 8). The runs do not change.
     pub fn set_profile(&mut self, profile: Profile)
         ensures { self.new ≡ record self.old { settings = record self.old.settings { profile = profile } } }
     {
         self.settings.profile = profile;
     }
 
-    /// `actions` (attribute 11).
+    /// Returns `actions` (attribute 11).
     pub fn actions(&self) -> Actions
         ensures { result ≡ self.now.settings.actions }
     {
         self.settings.actions
     }
 
-    /// Sets `actions` (attribute 11). The runs stay.
+    /// Sets `actions` (attribute 11). The runs do not change.
     pub fn set_actions(&mut self, actions: Actions)
         ensures { self.new ≡ record self.old { settings = record self.old.settings { actions = actions } } }
     {
         self.settings.actions = actions;
     }
 
-    /// `emergency_profile_group_id_list` (attribute 9).
+    /// Returns `emergency_profile_group_id_list` (attribute 9), at most `MAX_GROUPS` ids.
     pub fn groups(&self) -> &[u16]
         ensures ids { result.now ≡ self.now.settings.groups }
         ensures few { length result.now ≤ MAX_GROUPS }
@@ -310,7 +315,8 @@ impl Limiter {
         self.settings.groups.as_slice()
     }
 
-    /// Sets `emergency_profile_group_id_list` (attribute 9), of which it takes a copy. Without memory nothing changes.
+    /// Sets `emergency_profile_group_id_list` (attribute 9) to a copy of `ids`. Out of memory,
+    /// nothing changes.
     pub fn set_groups(&mut self, alloc: Global, ids: &[u16]) -> Result<(), AllocError>
         requires { length ids.now ≤ MAX_GROUPS }
         ensures ok { OnOk result (self.new ≡ record self.old { settings = record self.old.settings { groups = ids.now } }) }
@@ -321,7 +327,8 @@ impl Limiter {
         Ok(())
     }
 
-    /// Trades the group ids (attribute 9) of two limiters. It takes no memory.
+    /// Swaps the `emergency_profile_group_id_list` (attribute 9) of two limiters. Does not
+    /// allocate.
     pub fn swap_groups(&mut self, other: &mut Limiter)
         ensures own { self.new ≡ record self.old { settings = record self.old.settings { groups = other.old.settings.groups } } }
         ensures other { other.new ≡ record other.old { settings = record other.old.settings { groups = self.old.settings.groups } } }
@@ -329,7 +336,7 @@ impl Limiter {
         mem::swap(&mut self.settings.groups, &mut other.settings.groups);
     }
 
-    /// An equal limiter in memory of its own.
+    /// Returns an equal limiter with a copy of the group ids, or an error if out of memory.
     pub fn try_clone(&self, alloc: Global) -> Result<Limiter, AllocError>
         ensures { IfOk result (λ limiter. limiter ≡ self.now) }
     {
@@ -342,7 +349,7 @@ impl Limiter {
         })
     }
 
-    /// The run of samples over the threshold.
+    /// Returns the run of samples over the threshold.
     pub fn over_run(&self) -> Count
         ensures count { result ≡ self.now.over }
         ensures limiter { IsLimiter self.now }
@@ -350,7 +357,7 @@ impl Limiter {
         self.over
     }
 
-    /// The run of samples under the threshold.
+    /// Returns the run of samples under the threshold.
     pub fn under_run(&self) -> Count
         ensures count { result ≡ self.now.under }
         ensures limiter { IsLimiter self.now }
@@ -358,7 +365,8 @@ impl Limiter {
         self.under
     }
 
-    /// This limiter's settings with a last sample and runs that were written down, or None where no samples give these.
+    /// Returns a limiter with this one's settings and moment and with a saved last sample and saved
+    /// runs, or `None` if no samples give these runs.
     pub fn with_runs(self, last: u32, over: Count, under: Count) -> Option<Limiter>
         ensures fit { IsSome result ↔ IsFit last over under }
         ensures state { IfSome result (λ limiter. limiter ≡ record self { last = last; over = over; under = under }) }

@@ -5,24 +5,26 @@ use cosem_datetime::{DateTimeField, moment_of};
 use listed::Listed;
 use std::alloc::{AllocError, Global};
 
-/// The most group ids that a limiter holds.
+/// The maximum number of group ids that a limiter holds.
 pub const MAX_GROUPS: usize = 32;
 
-/// Samples in a second.
+/// Samples per second.
 const SAMPLES_PER_SECOND: u64 = 10;
 
-/// An emergency profile (attribute 8): the group of meters that it is for, its first moment and its length in seconds.
+/// `emergency_profile` (attribute 8): the group of meters that it is for, its first moment, and its
+/// length in seconds.
 #[derive(Clone, Copy, Debug)]
 pub struct Profile {
-    /// `emergency_profile_id`.
+    /// `emergency_profile_id`: the group of meters.
     pub id: u16,
-    /// `emergency_activation_time`.
+    /// `emergency_activation_time`: the first moment.
     pub start: DateTimeField,
     /// `emergency_duration`, in seconds.
     pub duration: u32,
 }
 
-/// The scripts that are run (attribute 11), each by its selector in the script table.
+/// `actions` (attribute 11): the scripts that a limiter runs, each by its selector in the script
+/// table.
 #[derive(Clone, Copy, Debug, PartialEq, Eq)]
 pub struct Actions {
     /// The selector of `action_over_threshold`.
@@ -31,7 +33,7 @@ pub struct Actions {
     pub under: u16,
 }
 
-/// What is set of a limiter: its attributes that are written.
+/// The settings of a limiter: its attributes that clients write.
 #[derive(Debug, Drop)]
 pub struct Settings {
     /// `threshold_normal` (attribute 4), in watts.
@@ -50,7 +52,8 @@ pub struct Settings {
     pub actions: Actions,
 }
 
-/// Whether the moment lies from `start` to `start + duration`, that end left out.
+/// Whether a moment is from `start` to `start + duration`, the end excluded. False before the first
+/// moment of the clock and if `start` names no second.
 fn is_in_time(moment: Option<u32>, start: Option<u32>, duration: u32) -> bool
     ensures { result ≡ is_within moment start duration }
 {
@@ -62,7 +65,7 @@ fn is_in_time(moment: Option<u32>, start: Option<u32>, duration: u32) -> bool
     }
 }
 
-/// The samples that a duration in seconds needs: ten a second, and one at least.
+/// Returns the number of samples that a duration in seconds needs: ten a second, and at least one.
 pub(crate) fn samples_of(duration: u32) -> u64
     ensures { result ≡ need_of duration }
 {
@@ -70,7 +73,8 @@ pub(crate) fn samples_of(duration: u32) -> u64
 }
 
 impl Settings {
-    /// The settings of a new limiter: both thresholds at their greatest, all else zero, empty or unspecified.
+    /// Returns the settings of a new limiter: both thresholds 4,294,967,295 W, everything else
+    /// zero, empty or unspecified.
     pub fn new(alloc: Global) -> Settings
         ensures { result ≡ new_settings }
     {
@@ -89,7 +93,7 @@ impl Settings {
         }
     }
 
-    /// Equal settings in memory of their own.
+    /// Returns equal settings with a copy of the group ids, or an error if out of memory.
     pub fn try_clone(&self, alloc: Global) -> Result<Settings, AllocError>
         ensures { IfOk result (λ settings. settings ≡ self.now) }
     {
@@ -105,7 +109,8 @@ impl Settings {
         })
     }
 
-    /// Whether the emergency profile is active at a moment of the clock, in seconds since 1 January 2000.
+    /// Whether the emergency profile is active at a moment of the clock, in seconds since 1 January
+    /// 2000.
     #[tactic(auto, unfolding(crate::specs::Settings::is_active))]
     pub(crate) fn is_active(&self, moment: Option<u32>) -> bool
         ensures { result ≡ is_active self.now moment }
@@ -115,7 +120,7 @@ impl Settings {
         among && is_in_time(moment, start, self.profile.duration)
     }
 
-    /// The threshold that is active at a moment.
+    /// Returns the threshold that is active at a moment of the clock, in watts.
     #[tactic(auto, unfolding(crate::specs::Settings::active_threshold))]
     pub(crate) fn active_threshold(&self, moment: Option<u32>) -> u32
         ensures { result ≡ active_threshold self.now moment }

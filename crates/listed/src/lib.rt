@@ -1,4 +1,4 @@
-//! A `Vec` that contracts see as a list: equality of values that hold one is equality of what they hold.
+//! A `Vec` that contracts see as a list: two values that hold one are equal if their items are.
 #![tactic(auto)]
 
 ghost use Rattle.std.specs.Prelude.{◌≡◌, ◌↔◌, [], ◌∷◌, ◌++◌, length, IsTrue, OnOk, OnErr, IfErr};
@@ -6,7 +6,7 @@ ghost use Rattle.std.specs.Prelude.{◌≡◌, ◌↔◌, [], ◌∷◌, ◌++�
 use std::alloc::{AllocError, AllocFailed, Global};
 use std::marker::Model;
 
-/// Values in memory of their own, in order. Contracts see the list of them, and no capacity.
+/// An owned sequence of items. Contracts see the list of the items, and no capacity.
 #[derive(Debug, Drop)]
 pub struct Listed<T> {
     items: Vec<T>,
@@ -21,7 +21,7 @@ impl<T> Model for Listed<T> {
 }
 
 impl<T> Listed<T> {
-    /// No items. It takes no memory until the first is put in.
+    /// Returns an empty sequence. Allocates only when the first item is added.
     pub fn new(alloc: Global) -> Listed<T>
         ensures { result ≡ [] }
     {
@@ -30,14 +30,14 @@ impl<T> Listed<T> {
         }
     }
 
-    /// The items of a `Vec`. It takes no memory.
+    /// Returns the items of a `Vec`. Does not allocate.
     pub fn from_vec(items: Vec<T>) -> Listed<T>
         ensures { result ≡ items.items }
     {
         Listed { items }
     }
 
-    /// The items as a `Vec`. It takes no memory.
+    /// Returns the items as a `Vec`. Does not allocate.
     pub fn into_vec(self) -> Vec<T>
         ensures { result.items ≡ self }
     {
@@ -45,28 +45,28 @@ impl<T> Listed<T> {
         items
     }
 
-    /// The items.
+    /// Returns the items as a slice.
     pub fn as_slice(&self) -> &[T]
         ensures { result.now ≡ self.now }
     {
         self.items.as_slice()
     }
 
-    /// How many items there are.
+    /// Returns the number of items.
     pub fn len(&self) -> usize
         ensures { result ≡ length self.now }
     {
         self.items.len()
     }
 
-    /// Whether there are none.
+    /// Whether there are no items.
     pub fn is_empty(&self) -> bool
         ensures { IsTrue result ↔ (self.now ≡ []) }
     {
         self.items.is_empty()
     }
 
-    /// Puts an item at the end, or gives it back where memory runs out.
+    /// Appends an item. Out of memory, nothing changes and the error returns the item.
     pub fn push(&mut self, item: T) -> Result<(), AllocFailed<T>>
         ensures ok { OnOk result (self.new ≡ self.old ++ item ∷ []) }
         ensures err { OnErr result (self.new ≡ self.old) }

@@ -5,7 +5,8 @@ use disconnect_control::{
 };
 use std::process::Abort;
 
-/// A trigger, its result, and what the switch then shows: its state, the number of that, and whether it is closed.
+/// A trigger, its result, and the switch after it: its state, the state's number, and whether the
+/// supply is on.
 type Step = (Trigger, ResultCode, (ControlState, u8, bool));
 
 const DISCONNECTED: (ControlState, u8, bool) = (ControlState::Disconnected, 0, false);
@@ -25,7 +26,7 @@ fn shown(control: &DisconnectControl) -> (ControlState, u8, bool) {
     (state, state.number(), control.output())
 }
 
-/// Takes these steps with a new switch of a mode, and hands it back.
+/// Applies these triggers to a new switch of a mode, checks each result, and returns the switch.
 fn check_steps(rt: &impl Abort, mode: ControlMode, steps: &[Step]) -> DisconnectControl {
     let mut control = in_mode(rt, mode);
     for (trigger, result, expected) in steps {
@@ -74,7 +75,7 @@ fn mode_0_is_taken_in_connected_alone(rt: HostRuntime) {
     );
 }
 
-/// A release by the meter itself, and its reconnection with that result.
+/// Checks a disconnection by the meter itself and a local reconnection with the result `given`.
 fn check_local(
     rt: &impl Abort,
     mode: ControlMode,
@@ -95,7 +96,7 @@ fn the_local_reconnection_is_of_modes_5_and_6(rt: HostRuntime) {
     check_local(&rt, ControlMode::Mode6, ResultCode::Success, CONNECTED);
 }
 
-/// Whether a number is one of a mode, and the mode has it.
+/// Whether a number is that of a mode, and the mode returns it.
 fn has_its_mode(number: u8) -> bool {
     match ControlMode::of_number(number) {
         Some(mode) => mode.number() == number,
@@ -111,7 +112,7 @@ fn modes_have_their_numbers(rt: HostRuntime) {
     assert!(rt; ControlMode::of_number(7).is_none());
 }
 
-/// An attribute of a switch, by its number.
+/// Returns the value of an attribute of a switch, by its number.
 fn attribute_of(control: &DisconnectControl, number: u8) -> Option<Data> {
     let attribute = ControlAttribute::of_number(number)?;
     Some(control.to_data(attribute))

@@ -6,7 +6,7 @@ const DATE: [u8; 5] = [0x07, 0xEC, 3, 26, 7];
 
 const DATE_TIME: [u8; 12] = [0x07, 0xEC, 3, 26, 7, 12, 30, 15, 0, 0, 60, 0x80];
 
-/// The fault that a byte gives at its place in a date-time.
+/// Returns the fault that a byte causes at its place in a date-time.
 fn expected_fault(at: usize, byte: u8) -> Option<PatternFault> {
     match (at, byte) {
         (0 | 1, _) | (_, 0xFF) => None,
@@ -17,7 +17,7 @@ fn expected_fault(at: usize, byte: u8) -> Option<PatternFault> {
     }
 }
 
-/// Whether a date-time has this fault, or without one is written as it was read.
+/// Whether reading a date-time fails with this fault or, without one, is written as it was read.
 fn is_read(text: &[u8; 12], fault: Option<PatternFault>) -> bool {
     match read_date_time(text) {
         Ok(field) => fault.is_none() && field.bytes() == *text,
@@ -46,7 +46,7 @@ fn every_value_of_each_byte(rt: HostRuntime) {
     }
 }
 
-/// Whether a deviation of these bits is written as it was read; none where it is not taken.
+/// Whether a deviation of these bits is written as it was read, or `None` if it is refused.
 fn is_written_back(bits: u16) -> Option<bool> {
     let [high, low] = bits.to_be_bytes();
     let mut text = DATE_TIME;
@@ -61,7 +61,8 @@ fn is_written_back(bits: u16) -> Option<bool> {
 #[test]
 fn every_deviation(rt: HostRuntime) {
     for bits in 0..=u16::MAX {
-        // -720 to 840 minutes, in two's complement, and the mark of a deviation that is not specified.
+        // -720 to 840 minutes, in two's complement, and the value for a deviation that is not
+        // specified.
         let is_taken = bits <= 840 || bits == 0x8000 || bits >= 0xFD30;
         let expected = if is_taken { Some(true) } else { None };
         assert!(rt; is_written_back(bits) == expected, "deviation {bits}");

@@ -1,4 +1,4 @@
-//! The worked values, which come from the meter's standard and a calendar.
+//! Worked values from the standard and a calendar.
 use cosem_datetime::{
     DateTimeField, EntryPattern, PatternFault, calendar_laws, moment_of, read_date, read_date_time,
     read_time,
@@ -25,7 +25,7 @@ fn matches_day(date: [u8; 5], midnight: u32) -> Result<bool, PatternFault> {
     Ok(entry(ANY_TIME, date)?.matches(midnight))
 }
 
-/// Wants that dates match the days that begin at these seconds, or don't.
+/// Checks whether dates match the days that begin at these seconds.
 fn check_days(rt: &impl Abort, rows: &[([u8; 5], u32, bool)]) {
     for (date, midnight, expected) in rows {
         assert!(*rt;
@@ -85,7 +85,7 @@ fn marks_of_the_day(rt: HostRuntime) {
     check_days(&rt, &LAST_DAYS_OF_MARCH);
 }
 
-/// Two seconds, and whether the last second of a month lies behind the first and not behind the second.
+/// Two seconds, and whether the last second of a month is after the first and not after the second.
 static INTERVALS: [(u32, u32, bool); 6] = [
     (888_710_398, 888_710_399, false),
     (888_796_798, 888_796_799, true),
@@ -154,7 +154,7 @@ fn times_are_compared_as_written(rt: HostRuntime) {
     }
 }
 
-/// The moment of a date-time.
+/// Returns the moment of a date-time.
 fn moment(text: [u8; 12]) -> Result<Option<u32>, PatternFault> {
     Ok(moment_of(&read_date_time(&text)?))
 }
@@ -166,7 +166,7 @@ static MOMENTS: [([u8; 12], Option<u32>); 20] = [
     ([0x07, 0xD0, 1, 1, 7, 0, 1, 40, 0, 0, 1, 0xFF], None),
     ([0x07, 0xD0, 1, 1, 6, 0, 1, 40, 0, 0xFF, 0xFF, 0], Some(40)),
     ([0x07, 0xD0, 1, 1, 6, 0, 1, 40, 0, 0xFF, 0xFE, 0], None),
-    // 31 December 1999, 23:30:00, 60 minutes on.
+    // 31 December 1999, 23:30:00, plus a deviation.
     ([0x07, 0xCF, 12, 31, 5, 23, 30, 0, 0, 0, 60, 0], Some(1_800)),
     ([0x07, 0xCF, 12, 31, 5, 23, 30, 0, 0, 0x80, 0, 0], None),
     ([0x07, 0xCF, 12, 31, 5, 23, 30, 0, 0, 0, 29, 0], None),
@@ -180,7 +180,7 @@ static MOMENTS: [([u8; 12], Option<u32>); 20] = [
         [0x08, 0x58, 2, 7, 0xFF, 6, 29, 15, 0, 0xFF, 0xFF, 0],
         Some(u32::MAX),
     ),
-    // No such date, and fields that are open.
+    // Dates that the calendar does not have, and fields that are not specified.
     ([0x07, 0xD1, 2, 29, 0xFF, 0, 0, 0, 0, 0, 0, 0], None),
     (
         [0x07, 0xD0, 2, 29, 0xFF, 0, 0, 0, 0, 0, 0, 0],

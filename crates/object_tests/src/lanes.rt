@@ -7,7 +7,7 @@ const NONE: [u64; 4] = [0; 4];
 
 const ALL: [u64; 4] = [u64::MAX; 4];
 
-// 0, 40, 80 and so on: value 125 is 5000.
+// Returns 0, 40, 80 and so on: value 125 is 5000.
 fn by_forties() -> [u32; 256] {
     let mut values = [0; 256];
     for i in 0..256 {
@@ -16,7 +16,7 @@ fn by_forties() -> [u32; 256] {
     values
 }
 
-// The masks of so many values, up to 64.
+// Returns the masks of `len` values, up to 64.
 fn few(over: u64, under: u64, len: u16) -> Masks {
     Masks {
         over: [over, 0, 0, 0],
@@ -31,7 +31,7 @@ fn an_equal_value_is_on_neither_side(rt: HostRuntime) {
     assert!(rt; classify(&[], 5000) == few(0, 0, 0));
 }
 
-// A mask, a place in it, and how many of its 256 bits from there on are ones.
+// A mask, a place in it, and the number of consecutive ones in its 256 bits from there on.
 static RUNS: [([u64; 4], u16, u16); 8] = [
     (ALL, 0, 256),
     (ALL, 64, 192),
@@ -77,7 +77,7 @@ fn both_classifiers_agree_at_each_length(rt: HostRuntime) {
     assert!(rt; masks.under == [u64::MAX, 0x1FFFFFFFFFFFFFFF, 0, 0]);
 }
 
-// The scan of a block of values alone.
+// Returns the scan of a block of import values alone.
 fn scan_of(values: &[u32; 256], threshold: u32) -> Scans {
     Scans {
         import: Scan {
@@ -96,7 +96,7 @@ fn is_scanned(block: &Block, expected: &Scans) -> bool {
     }
 }
 
-// Wants that a block of values alone keeps the scan that was made of it last.
+// Checks that a block of import values alone keeps the scan that was made of it last.
 fn check_scans(rt: &impl Abort, block: &mut Block, values: &[u32; 256]) {
     assert!(*rt; block.values() == values.as_slice());
     assert!(*rt; block.export().is_none() && block.scanned().is_none());
@@ -125,7 +125,7 @@ static EXPORTED: [u32; 3] = [30, 20, 10];
 // A threshold, and the values over and under it.
 type Sides = (u32, u64, u64);
 
-// The scan of so many pairs, up to 64.
+// Returns the scan of `len` pairs, up to 64.
 fn scan_of_pairs(len: u16, import: Sides, export: Sides) -> Scans {
     Scans {
         import: Scan {
@@ -139,12 +139,12 @@ fn scan_of_pairs(len: u16, import: Sides, export: Sides) -> Scans {
     }
 }
 
-// The scan at thresholds 2 and 10.
+// Returns the scan at thresholds 2 and 10.
 fn in_the_middle() -> Scans {
     scan_of_pairs(3, (2, 4, 1), (10, 3, 0))
 }
 
-// The scan at thresholds 4 and 2.
+// Returns the scan at thresholds 4 and 2.
 fn to_one_side() -> Scans {
     scan_of_pairs(3, (4, 0, 7), (2, 7, 0))
 }
@@ -165,7 +165,7 @@ fn is_copied(alloc: Global, block: &Block) -> Result<bool, Fail> {
     Ok(found)
 }
 
-// Whether a block of pairs has the scans that are made of it, and a copy too.
+// Whether a block of pairs, and a copy of it, have the scans that are made of it.
 fn are_kept(alloc: Global, block: &mut Block) -> Result<[bool; 4], Fail> {
     let has_pairs = has_pairs(block, &IMPORTED, &EXPORTED);
     block.scan(2, 10);
@@ -189,7 +189,7 @@ fn pairs_are_scanned_at_a_threshold_each(rt: HostRuntime) -> Result<(), Fail> {
     Ok(())
 }
 
-// Why no block is made of these values, or how many it has.
+// Creates a block of these values and returns its length, or the fault.
 fn made(alloc: Global, values: &[u32]) -> Result<usize, BlockMade> {
     let block = Block::from_slice(alloc, values)?;
     let len = block.values().len();
@@ -197,7 +197,7 @@ fn made(alloc: Global, values: &[u32]) -> Result<usize, BlockMade> {
     Ok(len)
 }
 
-// The same of pairs.
+// Creates a block of these pairs and returns its length, or the fault.
 fn made_of_pairs(alloc: Global, import: &[u32], export: &[u32]) -> Result<usize, BlockMade> {
     let block = Block::from_pairs(alloc, import, export)?;
     let len = block.values().len();
@@ -207,7 +207,7 @@ fn made_of_pairs(alloc: Global, import: &[u32], export: &[u32]) -> Result<usize,
 
 const LONG: [u32; 257] = [0; 257];
 
-// Import values, export values, and what comes of them.
+// Import values, export values, and the length of their block, or the fault.
 static LENGTHS: [(&[u32], &[u32], Result<usize, BlockMade>); 5] = [
     (&[0], &[0; 2], Err(BlockMade::Uneven)),
     (&LONG, &[0; 256], Err(BlockMade::Uneven)),
@@ -248,7 +248,7 @@ fn is_of_pairs(block: &mut Block) -> bool {
     has_pairs && is_scanned(block, &expected)
 }
 
-// Whether a block of no values alone has no pairs.
+// Whether an empty block of import values has no export values.
 fn is_of_values_alone(alloc: Global) -> Result<bool, BlockMade> {
     let block = Block::from_slice(alloc, &[])?;
     let has_none = block.export().is_none();

@@ -1,7 +1,10 @@
-//! Tests of the crates of names, times and objects below the core: `cosem_names`, `cosem_datetime`, `disconnect_control`, `limiter_core`, `lane_sampler`, `script_steps`,
-//! `action_schedule` and `limiter_attributes`: the worked values of names, dates, the switch, its limiters and their samples, and attributes as their texts are read and written.
+//! Tests of the crates of names, times and objects below the core: `cosem_names`, `cosem_datetime`,
+//! `disconnect_control`, `limiter_core`, `lane_sampler`, `script_steps`, `action_schedule` and
+//! `limiter_attributes`. They check worked values of names, dates, the switch, its limiters and
+//! their samples, and attributes as they are read and written.
 //!
-//! They stand apart from what they test, since a check of tests proves anew all that stands in their crate.
+//! The tests have a crate of their own, since checking tests proves anew all that is in their
+//! crate.
 #![tactic(auto)]
 
 #[cfg(test)]

@@ -1,4 +1,4 @@
-//! Attributes of limiters as they are read and written.
+//! Attributes of limiters, read and written.
 use crate::texts::{data, is_text};
 use cosem_axdr::Data;
 use cosem_names::Which;
@@ -18,7 +18,8 @@ const ACTIONS: &str = "020202020906\
     00000A006AFF12000102020906\
     00000A006AFF120102";
 
-// The calls under test, without their contracts: a test is run for what no clause says, and its own proof then has little to look at.
+// The calls under test, without their contracts. A test checks what no clause states, and without
+// them it is proved faster.
 fn shown(
     alloc: Global,
     which: Which,
@@ -62,7 +63,8 @@ fn is_read(
     }
 }
 
-/// The setting of an attribute by the Data of this text; none where there is no Data.
+/// Returns what writing this text's Data to an attribute sets, or its fault. `None` if the text is
+/// not Data.
 fn setting(
     alloc: Global,
     attribute: LimiterAttribute,
@@ -74,7 +76,7 @@ fn setting(
     Some(setting)
 }
 
-/// Writes an attribute with the Data of this text, and says whether it is taken.
+/// Writes the Data of this text to an attribute, and returns whether it is accepted.
 fn write(alloc: Global, limiter: &mut Limiter, attribute: LimiterAttribute, text: &str) -> bool {
     match setting(alloc, attribute, text) {
         Some(Ok(Some(setting))) => {
@@ -85,7 +87,7 @@ fn write(alloc: Global, limiter: &mut Limiter, attribute: LimiterAttribute, text
     }
 }
 
-/// A limiter with the group ids of this text.
+/// Returns a limiter with the group ids of this text.
 fn with_ids(alloc: Global, text: &str) -> Option<Limiter> {
     let value = data(alloc, text)?;
     let limiter = groups_of(alloc, &value).ok();
@@ -93,7 +95,7 @@ fn with_ids(alloc: Global, text: &str) -> Option<Limiter> {
     limiter
 }
 
-/// Writes the group ids with the Data of this text, and says whether they are taken.
+/// Writes the group ids of this text, and returns whether they are accepted.
 fn write_ids(alloc: Global, limiter: &mut Limiter, text: &str) -> bool {
     match with_ids(alloc, text) {
         Some(mut other) => {
@@ -105,7 +107,8 @@ fn write_ids(alloc: Global, limiter: &mut Limiter, text: &str) -> bool {
     }
 }
 
-/// The fault of a write of group ids with the Data of this text, if it has one; none where there is no Data.
+/// Returns the fault of writing the group ids of this text, if it has one. `None` if the text is
+/// not Data.
 fn ids_fault(alloc: Global, text: &str) -> Option<Option<SettingFault>> {
     let value = data(alloc, text)?;
     let fault = groups_of(alloc, &value).err();
@@ -113,7 +116,7 @@ fn ids_fault(alloc: Global, text: &str) -> Option<Option<SettingFault>> {
     Some(fault)
 }
 
-/// Adds so many items, all of them long-unsigned 5 but the last one.
+/// Appends `count` items: long-unsigned 5 each, but `last` is the last.
 fn push_ids(text: &mut String, count: u8, last: &str) -> Result<(), AllocError> {
     for _ in 1..count {
         text.push_str("120005")?;
@@ -121,7 +124,7 @@ fn push_ids(text: &mut String, count: u8, last: &str) -> Result<(), AllocError> 
     text.push_str(last)
 }
 
-/// An array of so many items, all of them long-unsigned 5 but the last one.
+/// Returns an array of `count` items: long-unsigned 5 each, but `last` is the last.
 fn ids_text(alloc: Global, count: u8, last: &str) -> Result<String, AllocError> {
     let mut text = format!(in alloc; "01{count:02X}")?;
     match push_ids(&mut text, count, last) {
@@ -133,21 +136,21 @@ fn ids_text(alloc: Global, count: u8, last: &str) -> Result<String, AllocError> 
     }
 }
 
-/// What is done with an import limiter, and what it then is to show.
+/// A step of a test of an import limiter.
 enum Step {
-    /// An attribute is written, and takes it.
+    /// A write of an attribute, which is accepted.
     Write(LimiterAttribute, &'static str),
-    /// The group ids are written.
+    /// A write of the group ids, which is accepted.
     WriteIds(&'static str),
-    /// The clock shows another moment.
+    /// A moment of the clock.
     At(u32),
-    /// A sample comes, and a script runs over the threshold, or doesn't.
+    /// A sample, and whether it runs the script over the threshold.
     Sample(u32, bool),
-    /// An attribute is read.
+    /// A read of an attribute, and the expected text.
     Read(LimiterAttribute, &'static str),
 }
 
-/// Takes a step, and says whether it went as it is to go.
+/// Takes a step, and returns whether it did as expected.
 fn take(alloc: Global, limiter: &mut Limiter, step: &Step) -> bool {
     match step {
         Step::Write(attribute, text) => write(alloc, limiter, *attribute, text),
@@ -161,7 +164,7 @@ fn take(alloc: Global, limiter: &mut Limiter, step: &Step) -> bool {
     }
 }
 
-/// Takes these steps with a new limiter.
+/// Takes these steps with a new limiter, and checks each.
 fn play(rt: &impl Abort, alloc: Global, steps: &[Step]) {
     let mut limiter = Limiter::new(alloc);
     for (place, step) in steps.iter().enumerate() {
@@ -323,7 +326,7 @@ fn actions_are_read_back(rt: HostRuntime) {
     drop(limiter);
 }
 
-/// Trades group ids for those of a limiter, and says what both then have.
+/// Swaps the group ids of two limiters, and returns whether both have what is expected.
 fn traded(limiter: &mut Limiter, other: &mut Limiter) -> [bool; 4] {
     swap_groups(limiter, other);
     [
@@ -334,7 +337,7 @@ fn traded(limiter: &mut Limiter, other: &mut Limiter) -> [bool; 4] {
     ]
 }
 
-/// Trades group ids of a text for those of a limiter, and says whether both then have what they are to have.
+/// Swaps a limiter's group ids for those of a text, and returns whether both have what is expected.
 fn is_traded(alloc: Global, limiter: &mut Limiter) -> bool {
     match with_ids(alloc, "0103120007120001120007") {
         Some(mut other) => {
@@ -346,7 +349,7 @@ fn is_traded(alloc: Global, limiter: &mut Limiter) -> bool {
     }
 }
 
-/// Writes as many group ids as a limiter has at most, and says whether it has them.
+/// Writes as many group ids as a limiter can hold, and returns whether it has them.
 fn is_filled(alloc: Global, limiter: &mut Limiter, full: &str) -> [bool; 4] {
     let attribute = LimiterAttribute::EmergencyProfileGroupIdList;
     [
@@ -357,7 +360,7 @@ fn is_filled(alloc: Global, limiter: &mut Limiter, full: &str) -> [bool; 4] {
     ]
 }
 
-/// Trades a limiter's group ids, of which there are none at first, and writes others, at last these.
+/// Swaps the group ids of a limiter that has none, writes an empty list, then `full`.
 fn trade(rt: &impl Abort, alloc: Global, limiter: &mut Limiter, full: &str) {
     let attribute = LimiterAttribute::ThresholdNormal;
     assert!(*rt; write(alloc, limiter, attribute, "0600000BB8"));
@@ -389,7 +392,7 @@ fn other_attributes_set_nothing(rt: HostRuntime) {
     }
 }
 
-/// No double-long-unsigned.
+/// Data that are not a double-long-unsigned.
 const NUMBERS_OF_OTHER_TYPES: [&str; 7] = [
     "00",
     "0500000001",
@@ -400,7 +403,7 @@ const NUMBERS_OF_OTHER_TYPES: [&str; 7] = [
     "02010600000001",
 ];
 
-/// No emergency profile.
+/// Data that are not an emergency profile.
 const PROFILES_OF_OTHER_TYPES: [&str; 11] = [
     "00",
     "0103120007090C07D00101FF00012800800000060000000A",
@@ -412,11 +415,11 @@ const PROFILES_OF_OTHER_TYPES: [&str; 11] = [
     "02031200070A0C07D00101FF00012800800000060000000A",
     "02031200071A07D00101FF060000000A",
     "0203120007090C07D00101FF0001280080000012000A",
-    // Types come before the thirteenth month.
+    // Types are judged before the thirteenth month.
     "0203120007090C07D00D01FF0001280080000012000A",
 ];
 
-/// A start with a month, a day or a time that there isn't.
+/// Starts with a month, a day or a time that does not exist.
 const STARTS_OUT_OF_RANGE: [&str; 7] = [
     "0203120007090C07D00D01FF00012800800000060000000A",
     "0203120007090C07D0FD01FF00012800800000060000000A",
@@ -427,7 +430,7 @@ const STARTS_OUT_OF_RANGE: [&str; 7] = [
     "02031200071907D00D01FF00012800800000060000000A",
 ];
 
-/// No two scripts.
+/// Data that are not two scripts.
 const ACTIONS_OF_OTHER_TYPES: [&str; 14] = [
     "00",
     "01020202090600000A006AFF1200010202090600000A006AFF120002",
@@ -442,11 +445,11 @@ const ACTIONS_OF_OTHER_TYPES: [&str; 14] = [
     "02020202090600000A006AFF11010202090600000A006AFF120002",
     "02020202090600000A006AFF1200010202090600000A006AFF1102",
     "02020202090600000A006AFF1200010202090500000A006A120002",
-    // Types come before the name of another table.
+    // Types are judged before the name of another table.
     "020202020906000060030AFF1200010202090600000A006AFF1102",
 ];
 
-/// Scripts of a table that isn't the meter's.
+/// Scripts of another script table than the meter's.
 const ACTIONS_OF_OTHER_TABLES: [&str; 4] = [
     "020202020906000060030AFF1200010202090600000A006AFF120002",
     "02020202090600000A006AFF12000102020906000060030AFF120002",
@@ -497,7 +500,7 @@ static REFUSED: [(LimiterAttribute, &[&str], SettingFault); 8] = [
     ),
 ];
 
-/// The fault of a write of an attribute with the Data of this text.
+/// Returns the fault of writing this text's Data to an attribute.
 fn fault(alloc: Global, attribute: LimiterAttribute, text: &str) -> Option<SettingFault> {
     match setting(alloc, attribute, text) {
         Some(Err(fault)) => Some(fault),
@@ -505,7 +508,7 @@ fn fault(alloc: Global, attribute: LimiterAttribute, text: &str) -> Option<Setti
     }
 }
 
-/// Wants this fault of an attribute for each of these texts.
+/// Checks that writing each of these texts to an attribute has this fault.
 fn check_faults(
     rt: &impl Abort,
     alloc: Global,
@@ -524,7 +527,7 @@ fn what_an_attribute_does_not_take_is_refused(rt: HostRuntime) {
     }
 }
 
-/// No group ids.
+/// Data that are not group ids.
 static IDS_OF_OTHER_TYPES: [&str; 7] = [
     "00",
     "120007",
@@ -543,15 +546,15 @@ fn group_ids_of_other_types_are_refused(rt: HostRuntime) {
     }
 }
 
-/// How many ids, the text of the last one, and the fault.
+/// The number of ids, the text of the last one, and the fault.
 static MANY_IDS: [(u8, &str, Option<SettingFault>); 3] = [
     (32, "120005", None),
     (33, "120005", Some(SettingFault::Value)),
-    // Types come before the number of ids.
+    // Types are judged before the number of ids.
     (33, "1105", Some(SettingFault::Unmatched)),
 ];
 
-/// The fault of so many ids, if they have one; none where there is no Data.
+/// Returns the fault of writing `count` ids, if they have one. `None` if the text is not Data.
 fn many_ids_fault(alloc: Global, count: u8, last: &str) -> Option<Option<SettingFault>> {
     let text = ids_text(alloc, count, last).ok()?;
     let found = ids_fault(alloc, text.as_str());

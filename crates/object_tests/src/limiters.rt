@@ -1,11 +1,11 @@
-//! The worked values: 5000 W held for a second is ten samples.
+//! Worked values: 5000 W held for a second is ten samples.
 use cosem_datetime::{PatternFault, read_date_time};
 use limiter_core::{Actions, Count, Fire, Kind, Limiter, Profile, RUN_LIMIT, Settings, are_fit};
 use std::alloc::{AllocError, Global};
 use std::process::Abort;
 use std::test::Fail;
 
-/// A limiter of 5000 W that acts after that many seconds over the threshold.
+/// Returns a limiter of 5000 W that fires after that many seconds over the threshold.
 fn limiter(alloc: Global, seconds: u32) -> Limiter {
     let mut limiter = Limiter::new(alloc);
     limiter.set_normal_threshold(5000);
@@ -13,7 +13,7 @@ fn limiter(alloc: Global, seconds: u32) -> Limiter {
     limiter
 }
 
-/// What the last of that many samples brings, where all before it bring nothing.
+/// Takes `samples` samples and returns what the last fires, or `None` if one before it fires.
 fn after_quiet(limiter: &mut Limiter, samples: u32, value: u32) -> Option<Fire> {
     for _ in 1..samples {
         if limiter.sample(value) != Fire::Quiet {
@@ -23,7 +23,7 @@ fn after_quiet(limiter: &mut Limiter, samples: u32, value: u32) -> Option<Fire> 
     Some(limiter.sample(value))
 }
 
-/// Skips samples of a kind; false where they may fire, or the last is not of that kind.
+/// Skips samples of a kind. Returns false if they may fire, or the last is not of that kind.
 fn skip(limiter: &mut Limiter, kind: Kind, n: u64, last: u32) -> bool {
     let threshold = limiter.threshold();
     if n > limiter.before_fire(kind) {
@@ -38,25 +38,25 @@ fn skip(limiter: &mut Limiter, kind: Kind, n: u64, last: u32) -> bool {
     true
 }
 
-/// What is done with a limiter, and what it then shows.
+/// A step of a test of a limiter, with what it then shows.
 enum Step {
-    /// So many samples of a value come, of which the last brings this, and those before it nothing.
+    /// That many samples of a value, of which the last fires this and those before it nothing.
     Samples(u32, u32, Fire),
-    /// So many samples of a kind are skipped, the last of which has this value.
+    /// Skips that many samples of a kind, the last of which has this value.
     Skip(Kind, u64, u32),
-    /// The switch is closed.
+    /// The switch enters Connected.
     Closed,
-    /// An action is to be due after so many seconds over the threshold.
+    /// Sets min_over_threshold_duration, in seconds.
     MinOver(u32),
-    /// An action is to be due after so many seconds under the threshold.
+    /// Sets min_under_threshold_duration, in seconds.
     MinUnder(u32),
-    /// So many samples of a kind bring nothing.
+    /// That many further samples of a kind do not fire.
     BeforeFire(Kind, u64),
-    /// The last sample was this.
+    /// The last sample is this.
     Value(u32),
 }
 
-/// Takes a step, and says whether it went as it is to go.
+/// Takes a step, and returns whether it did as expected.
 fn take(limiter: &mut Limiter, step: &Step) -> bool {
     match step {
         Step::Samples(samples, value, last) => {
@@ -80,7 +80,8 @@ fn take(limiter: &mut Limiter, step: &Step) -> bool {
     }
 }
 
-/// Takes these steps with a limiter that acts after that many seconds over the threshold.
+/// Takes these steps with a limiter that fires after that many seconds over the threshold, and
+/// checks each.
 fn play(rt: &impl Abort, alloc: Global, seconds: u32, steps: &[Step]) {
     let mut limiter = limiter(alloc, seconds);
     for (place, step) in steps.iter().enumerate() {
@@ -156,7 +157,8 @@ fn a_fired_run_of_any_length_is_skipped(rt: HostRuntime) {
     play(&rt, rt.alloc(), 0, &A_FIRED_RUN);
 }
 
-/// Gives a limiter without groups group 7 of another, and says what both then have.
+/// Moves group 7 of another limiter to one without groups, and returns whether both have what is
+/// expected.
 fn trade_groups(limiter: &mut Limiter, other: &mut Limiter) -> [bool; 2] {
     let has_group = other.groups() == [7].as_slice();
     limiter.swap_groups(other);
@@ -173,7 +175,7 @@ fn give_group(alloc: Global, limiter: &mut Limiter) -> Result<[bool; 2], AllocEr
     Ok(found)
 }
 
-/// Profile 7, from 1 January 2000, 00:01:40, for ten seconds.
+/// Returns profile 7, from 1 January 2000, 00:01:40, for ten seconds.
 fn profile() -> Result<Profile, PatternFault> {
     let start = read_date_time(&[0x07, 0xD0, 1, 1, 0xFF, 0, 1, 40, 0, 0x80, 0, 0])?;
     Ok(Profile {
@@ -193,7 +195,7 @@ fn is_prepared(limiter: &mut Limiter, profile: Profile) -> bool {
         && limiter.profile().duration == 10
 }
 
-/// Wants the emergency threshold from start on, and no longer than the duration.
+/// Checks that the emergency threshold is active from the start on, and only for the duration.
 fn check_moments(rt: &impl Abort, limiter: &mut Limiter) {
     for (moment, active, threshold) in [
         (99, false, 5000),
@@ -219,7 +221,8 @@ fn the_emergency_profile_ends_before_start_and_duration(rt: HostRuntime) -> Resu
     Ok(())
 }
 
-/// What the next sample of 5001 W brings a new limiter with such runs; none where they don't fit.
+/// Returns what the next sample of 5001 W fires in a new limiter with these runs, or `None` if
+/// samples cannot give them.
 fn next_fire(alloc: Global, last: u32, over: Count, under: Count) -> Option<Fire> {
     match limiter(alloc, 1).with_runs(last, over, under) {
         Some(mut limiter) => {
@@ -231,7 +234,7 @@ fn next_fire(alloc: Global, last: u32, over: Count, under: Count) -> Option<Fire
     }
 }
 
-/// The last sample and the runs of a limiter that had nine samples over the threshold.
+/// Returns the last sample and the runs of a limiter that took nine samples over the threshold.
 fn runs_of_nine(rt: &impl Abort, alloc: Global) -> (u32, Count, Count) {
     let mut limiter = limiter(alloc, 1);
     assert!(*rt; after_quiet(&mut limiter, 9, 5001) == Some(Fire::Quiet));
@@ -249,7 +252,7 @@ fn runs_are_written_down_and_read_back(rt: HostRuntime) {
     assert!(rt; next_fire(rt.alloc(), 5001, over, over).is_none());
 }
 
-/// Whether a new limiter has no threshold and no actions, and keeps those that are set.
+/// Whether a new limiter has the greatest threshold and no actions, and keeps those that are set.
 fn keeps_actions(limiter: &mut Limiter) -> [bool; 3] {
     let is_new = limiter.threshold() == 4_294_967_295 && limiter.value() == 0;
     let has_none = limiter.actions() == Actions { over: 0, under: 0 };
@@ -265,7 +268,7 @@ fn the_actions_are_kept(rt: HostRuntime) {
     drop(limiter);
 }
 
-/// A run of so many samples.
+/// Returns a run of that many samples.
 fn run(run: u64, fired: bool) -> Count {
     Count { run, fired }
 }
@@ -283,13 +286,13 @@ fn runs_fit_where_samples_can_give_them(rt: HostRuntime) {
     assert!(rt; !are_fit(5_001, run(RUN_LIMIT + 1, true), none));
 }
 
-/// A limiter of the settings of another, at a moment.
+/// Returns a limiter with the settings of another, at a moment.
 fn limiter_like(alloc: Global, other: &Limiter, moment: u32) -> Result<Limiter, AllocError> {
     let settings = other.settings().try_clone(alloc)?;
     Ok(Limiter::of(settings, Some(moment)))
 }
 
-/// Whether a limiter begins with these settings, at this moment, with no sample.
+/// Whether a limiter begins with these settings, at this moment, without a sample.
 fn begins(limiter: &Limiter, normal_threshold: u32, min_over_duration: u32, moment: u32) -> bool {
     let settings = limiter.settings();
     settings.normal_threshold == normal_threshold

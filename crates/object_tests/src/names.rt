@@ -51,7 +51,7 @@ static CLASSES: [(Obis, Option<ClassId>); 12] = [
     (UNKNOWN, None),
 ];
 
-/// The instance of a logical name.
+/// Returns the instance of a logical name.
 fn instance_of(name: Obis) -> Option<Instance> {
     match object(name) {
         Some(row) => Some(row.instance),
@@ -83,7 +83,8 @@ const WRITTEN: Rights = Rights {
     write: true,
 };
 
-/// An attribute by its object's name, its class and its number, and the rights of the public and of the management client.
+/// An attribute (its object's name, its class, its number), and the rights of the public and of the
+/// management client.
 static RIGHTS: [(Obis, u16, u8, Rights, Rights); 29] = [
     (ASSOCIATION, 15, 1, READ, READ),
     (ASSOCIATION, 15, 2, READ, READ),
@@ -132,7 +133,8 @@ fn each_level_has_its_rights(rt: HostRuntime) {
     assert!(rt; attribute(&attribute_of(70, DISCONNECT_CONTROL_NAME, 4)).is_some());
 }
 
-/// A method by its object's name, its class and its number, and whether the management client executes it.
+/// A method (its object's name, its class, its number), and whether the management client may
+/// execute it.
 static METHODS: [(Obis, u16, u8, bool); 8] = [
     (DISCONNECT_CONTROL_NAME, 70, 1, true),
     (DISCONNECT_CONTROL_NAME, 70, 2, true),
@@ -164,7 +166,7 @@ fn the_management_client_alone_executes(rt: HostRuntime) {
     }
 }
 
-/// Whether a number is one of a result, and the result has it.
+/// Whether a number is that of a result, and the result returns it.
 fn has_its_result(number: u8) -> bool {
     match ResultCode::of_code(number) {
         Some(code) => code.code() == number,
@@ -182,7 +184,7 @@ fn results_have_their_numbers(rt: HostRuntime) {
     }
 }
 
-/// A Data, and the logical name in it: an octet-string of six bytes has one, and no other Data.
+/// Data, and the logical name in it. Only an octet-string of six bytes has one.
 static NAMED: [(&str, Option<Obis>); 6] = [
     ("0906000060030AFF", Some(DISCONNECT_CONTROL_NAME)),
     ("09060001110000FF", Some(EXPORT_LIMITER)),
@@ -192,7 +194,7 @@ static NAMED: [(&str, Option<Obis>); 6] = [
     ("00", None),
 ];
 
-/// The logical name in the Data of a hexadecimal text; none where memory is wanting.
+/// Returns the logical name in the Data of a hexadecimal text. `None` if out of memory.
 fn name_of(alloc: Global, text: &str) -> Option<Option<Obis>> {
     let value = data(alloc, text)?;
     let name = name_in(&value);
@@ -207,8 +209,8 @@ fn a_logical_name_has_six_bytes(rt: HostRuntime) {
     }
 }
 
-/// A Data, and the script in it: its table, its selector, and whether that is the meter's table. A structure of an octet-string of six bytes and a long-unsigned
-/// has one, and no other Data.
+/// Data, and the script in it: its table, its selector, and whether that is the meter's table. Only
+/// a structure of an octet-string of six bytes and a long-unsigned has one.
 static SCRIPTS: [(&str, Option<(Obis, u16, bool)>); 5] = [
     (
         "0202090600000A006AFF120007",
@@ -223,7 +225,7 @@ static SCRIPTS: [(&str, Option<(Obis, u16, bool)>); 5] = [
     ("0102090600000A006AFF120007", None),
 ];
 
-/// The script in the Data of a hexadecimal text; none where memory is wanting.
+/// Returns the script in the Data of a hexadecimal text. `None` if out of memory.
 fn script_of(alloc: Global, text: &str) -> Option<Option<(Obis, u16, bool)>> {
     let value = data(alloc, text)?;
     let script = NamedScript::from_data(&value);
@@ -255,7 +257,7 @@ fn a_script_is_written_as_a_structure(rt: HostRuntime) {
     assert!(rt; is_script_written(rt.alloc(), 258, "0202090600000A006AFF120102"));
 }
 
-/// A Data, and how many bytes of a date-time, a date and a time stand in it.
+/// Data, and the lengths of the date-time, the date and the time in it, in bytes.
 static DATES: [(&str, Option<usize>, Option<usize>, Option<usize>); 7] = [
     ("090C07E80101010A0000FF800000", Some(12), None, None),
     ("1907E80101010A0000FF800000", Some(12), None, None),
@@ -266,7 +268,8 @@ static DATES: [(&str, Option<usize>, Option<usize>, Option<usize>); 7] = [
     ("090607E801010100", None, None, None),
 ];
 
-/// How many bytes stand in the Data of a hexadecimal text; none where memory is wanting.
+/// Returns the lengths of the date-time, the date and the time in the Data of a hexadecimal text.
+/// `None` if out of memory.
 fn lengths_of(alloc: Global, text: &str) -> Option<[Option<usize>; 3]> {
     let value = data(alloc, text)?;
     let count = |bytes: Option<&[u8]>| bytes.map(|it| it.len());
@@ -289,71 +292,80 @@ fn dates_and_times_stand_in_octet_strings_and_in_their_own_types(rt: HostRuntime
     }
 }
 
-/// Association LN, class 15, version 1: attributes 1 and 2 are read, and no method is there.
+/// Association LN, class 15, version 1: attributes 1 and 2 are read_only, and it has no methods.
 const ASSOCIATION_ENTRY: &[u8] = b"\x02\x04\x12\x00\x0F\x11\x01\x09\x06\x00\x00\x28\x00\x00\xFF\
     \x02\x02\x01\x02\x02\x03\x0F\x01\x16\x01\x00\x02\x03\x0F\x02\x16\x01\x00\x01\x00";
 
-/// The device name, class 1, version 0: attributes 1 and 2 are read, and no method is there.
+/// The device name, class 1, version 0: attributes 1 and 2 are read_only, and it has no methods.
 const DEVICE_NAME_ENTRY: &[u8] = b"\x02\x04\x12\x00\x01\x11\x00\x09\x06\x00\x00\x2A\x00\x00\xFF\
     \x02\x02\x01\x02\x02\x03\x0F\x01\x16\x01\x00\x02\x03\x0F\x02\x16\x01\x00\x01\x00";
 
-/// The script table, class 9, version 0, for the public client: attribute 1 is read, and nothing else is there for it.
+/// The script table, class 9, version 0, for the public client: attribute 1 is read_only, attribute
+/// 2 and method 1 are no_access.
 const PUBLIC_SCRIPTS_ENTRY: &[u8] = b"\x02\x04\x12\x00\x09\x11\x00\x09\x06\x00\x00\x0A\x00\x6A\xFF\
     \x02\x02\x01\x02\x02\x03\x0F\x01\x16\x01\x00\x02\x03\x0F\x02\x16\x00\x00\x01\x01\x02\x02\x0F\x01\x16\x00";
 
-/// The same for the management client: attribute 2 is read and written, and method 1 is executed.
+/// The script table, class 9, version 0, for the management client: attribute 1 is read_only,
+/// attribute 2 is read_and_write, and method 1 may be executed.
 const MANAGEMENT_SCRIPTS_ENTRY: &[u8] =
     b"\x02\x04\x12\x00\x09\x11\x00\x09\x06\x00\x00\x0A\x00\x6A\xFF\
     \x02\x02\x01\x02\x02\x03\x0F\x01\x16\x01\x00\x02\x03\x0F\x02\x16\x03\x00\x01\x01\x02\x02\x0F\x01\x16\x01";
 
-/// The start of a schedule's entry, class 22, version 0, up to the value group A of its logical name.
+/// The start of a schedule's entry, class 22, version 0, up to the value group A of its logical
+/// name.
 const SCHEDULE_START: &[u8] = b"\x02\x04\x12\x00\x16\x11\x00\x09\x06\x00";
 
-/// The rest of it behind the value group B, for the public client: attribute 1 is read, there is no access to
-/// attributes 2 to 4, and no method is there.
+/// The rest of a schedule's entry, after the value group B, for the public client: attribute 1 is
+/// read_only, attributes 2 to 4 are no_access, and it has no methods.
 const PUBLIC_SCHEDULE_REST: &[u8] = b"\x0F\x00\x01\xFF\
     \x02\x02\x01\x04\x02\x03\x0F\x01\x16\x01\x00\x02\x03\x0F\x02\x16\x00\x00\
     \x02\x03\x0F\x03\x16\x00\x00\x02\x03\x0F\x04\x16\x00\x00\x01\x00";
 
-/// The same for the management client: attributes 2 to 4 are read and written.
+/// The rest of a schedule's entry, after the value group B, for the management client: attribute 1
+/// is read_only, attributes 2 to 4 are read_and_write, and it has no methods.
 const MANAGEMENT_SCHEDULE_REST: &[u8] = b"\x0F\x00\x01\xFF\
     \x02\x02\x01\x04\x02\x03\x0F\x01\x16\x01\x00\x02\x03\x0F\x02\x16\x03\x00\
     \x02\x03\x0F\x03\x16\x03\x00\x02\x03\x0F\x04\x16\x03\x00\x01\x00";
 
-/// Disconnect control, class 70, version 0, for the public client: attributes 1 to 4 are read, and there is no
-/// access to methods 1 and 2.
+/// Disconnect control, class 70, version 0, for the public client: attributes 1 to 4 are read_only,
+/// and methods 1 and 2 are no_access.
 const PUBLIC_CONTROL_ENTRY: &[u8] = b"\x02\x04\x12\x00\x46\x11\x00\x09\x06\x00\x00\x60\x03\x0A\xFF\
     \x02\x02\x01\x04\x02\x03\x0F\x01\x16\x01\x00\x02\x03\x0F\x02\x16\x01\x00\
     \x02\x03\x0F\x03\x16\x01\x00\x02\x03\x0F\x04\x16\x01\x00\
     \x01\x02\x02\x02\x0F\x01\x16\x00\x02\x02\x0F\x02\x16\x00";
 
-/// The same for the management client: attribute 4 is read and written, and methods 1 and 2 are executed.
+/// Disconnect control, class 70, version 0, for the management client: attributes 1 to 3 are
+/// read_only, attribute 4 is read_and_write, and methods 1 and 2 may be executed.
 const MANAGEMENT_CONTROL_ENTRY: &[u8] =
     b"\x02\x04\x12\x00\x46\x11\x00\x09\x06\x00\x00\x60\x03\x0A\xFF\
     \x02\x02\x01\x04\x02\x03\x0F\x01\x16\x01\x00\x02\x03\x0F\x02\x16\x01\x00\
     \x02\x03\x0F\x03\x16\x01\x00\x02\x03\x0F\x04\x16\x03\x00\
     \x01\x02\x02\x02\x0F\x01\x16\x01\x02\x02\x0F\x02\x16\x01";
 
-/// The start of a register's entry, class 3, version 0, up to the value group B of its logical name.
+/// The start of a register's entry, class 3, version 0, up to the value group B of its logical
+/// name.
 const REGISTER_START: &[u8] = b"\x02\x04\x12\x00\x03\x11\x00\x09\x06\x01\x00";
 
-/// The rest of it behind the value group C: attributes 1 to 3 are read, and no method is there.
+/// The rest of a register's entry, after the value group C: attributes 1 to 3 are read_only, and it
+/// has no methods.
 const REGISTER_REST: &[u8] = b"\x07\x00\xFF\
     \x02\x02\x01\x03\x02\x03\x0F\x01\x16\x01\x00\x02\x03\x0F\x02\x16\x01\x00\
     \x02\x03\x0F\x03\x16\x01\x00\x01\x00";
 
-/// The start of a limiter's entry, class 71, version 0, up to the value group A of its logical name.
+/// The start of a limiter's entry, class 71, version 0, up to the value group A of its logical
+/// name.
 const LIMITER_START: &[u8] = b"\x02\x04\x12\x00\x47\x11\x00\x09\x06\x00";
 
-/// The rest of it behind the value group B, for the public client: attribute 1 is read, there is no access to attributes 2 to
-/// 11, and no method is there.
+/// The rest of a limiter's entry, after the value group B, for the public client: attribute 1 is
+/// read_only, attributes 2 to 11 are no_access, and it has no methods.
 const PUBLIC_LIMITER_REST: &[u8] = b"\x11\x00\x00\xFF\
     \x02\x02\x01\x0B\x02\x03\x0F\x01\x16\x01\x00\x02\x03\x0F\x02\x16\x00\x00\
     \x02\x03\x0F\x03\x16\x00\x00\x02\x03\x0F\x04\x16\x00\x00\x02\x03\x0F\x05\x16\x00\x00\
     \x02\x03\x0F\x06\x16\x00\x00\x02\x03\x0F\x07\x16\x00\x00\x02\x03\x0F\x08\x16\x00\x00\
     \x02\x03\x0F\x09\x16\x00\x00\x02\x03\x0F\x0A\x16\x00\x00\x02\x03\x0F\x0B\x16\x00\x00\x01\x00";
 
-/// The same for the management client: attributes 2, 3 and 10 are read, and the others read and written.
+/// The rest of a limiter's entry, after the value group B, for the management client: attributes 1
+/// to 3 and 10 are read_only, the others are read_and_write, and it has no methods.
 const MANAGEMENT_LIMITER_REST: &[u8] = b"\x11\x00\x00\xFF\
     \x02\x02\x01\x0B\x02\x03\x0F\x01\x16\x01\x00\x02\x03\x0F\x02\x16\x01\x00\
     \x02\x03\x0F\x03\x16\x01\x00\x02\x03\x0F\x04\x16\x03\x00\x02\x03\x0F\x05\x16\x03\x00\
@@ -429,7 +441,7 @@ static MANAGEMENT_LIST: [&[u8]; 29] = [
     MANAGEMENT_LIMITER_REST,
 ];
 
-/// Whether a text is made of these parts, one behind the other.
+/// Whether a text is the concatenation of these parts.
 fn is_made_of(text: &[u8], parts: &[&[u8]]) -> bool {
     let mut rest = text;
     for part in parts {
@@ -449,7 +461,7 @@ fn write_list(alloc: Global, level: Level, text: &mut Octets) -> Result<(), Allo
     written
 }
 
-/// The length of the object_list of a level, where it is made of these parts.
+/// Returns the length of the object_list of a level, or `None` if it is not made of these parts.
 fn list_len(alloc: Global, level: Level, parts: &[&[u8]]) -> Result<Option<usize>, AllocError> {
     let mut text = Octets::new(alloc);
     let written = write_list(alloc, level, &mut text);

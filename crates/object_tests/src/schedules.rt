@@ -1,4 +1,4 @@
-//! Schedules as they are written, read back, and fall due.
+//! Schedules: their attributes, read and written, and when they are due.
 use crate::texts::{data, is_text};
 use action_schedule::{ActionSchedule, ScheduleAttribute, ScheduleFault, ScheduleType};
 use cosem_axdr::Data;
@@ -18,10 +18,10 @@ const MARCH: u32 = 891_475_199;
 /// An attribute, the text that is written to it, and the fault of the write, if it has one.
 type Write = (ScheduleAttribute, &'static str, Option<ScheduleFault>);
 
-/// An attribute, and the text that it is written as.
+/// An attribute, and the text that it is read as.
 type Written = (ScheduleAttribute, &'static str);
 
-/// Whether an attribute is written as the bytes of this text.
+/// Whether an attribute is read as the bytes of this text.
 fn is_written(
     alloc: Global,
     schedule: &ActionSchedule,
@@ -38,14 +38,14 @@ fn is_written(
     }
 }
 
-/// Wants that attributes of a schedule are written as these texts.
+/// Checks that attributes of a schedule are read as these texts.
 fn check_written(rt: &impl Abort, alloc: Global, schedule: &ActionSchedule, expected: &[Written]) {
     for (attribute, text) in expected {
         assert!(*rt; is_written(alloc, schedule, *attribute, text), "{text}");
     }
 }
 
-/// Writes an attribute, and gives the fault of the write.
+/// Writes an attribute, and returns the fault of the write, if it has one.
 fn set(
     alloc: Global,
     schedule: &mut ActionSchedule,
@@ -59,7 +59,7 @@ fn set(
     }
 }
 
-/// The fault of a write of this text, if it has one; none where there is no Data.
+/// Returns the fault of writing this text, if it has one. `None` if the text is not Data.
 fn fault_of(
     alloc: Global,
     schedule: &mut ActionSchedule,
@@ -72,7 +72,7 @@ fn fault_of(
     Some(fault)
 }
 
-/// Wants these faults of writes to one schedule.
+/// Checks the faults of these writes to one schedule.
 fn check_faults(rt: &impl Abort, alloc: Global, schedule: &mut ActionSchedule, writes: &[Write]) {
     for (attribute, text, expected) in writes {
         let found = fault_of(alloc, schedule, *attribute, text);
@@ -80,7 +80,7 @@ fn check_faults(rt: &impl Abort, alloc: Global, schedule: &mut ActionSchedule, w
     }
 }
 
-/// Gives a schedule a type, and says whether it takes it.
+/// Writes the type of a schedule, and returns whether it is accepted.
 fn is_of_kind(schedule: &mut ActionSchedule, kind: u8) -> bool {
     let value = Data::Enum(kind);
     let is_taken = schedule.set_kind(&value).is_ok();
@@ -88,7 +88,7 @@ fn is_of_kind(schedule: &mut ActionSchedule, kind: u8) -> bool {
     is_taken
 }
 
-/// Gives a new schedule script 1, a type, and the entries of this text, and says whether it takes them.
+/// Writes script 1, a type, and the entries of this text, and returns whether they are accepted.
 fn is_prepared(alloc: Global, schedule: &mut ActionSchedule, kind: u8, entries: &str) -> bool {
     let script_fault = fault_of(alloc, schedule, ScheduleAttribute::ExecutedScript, SCRIPT);
     let has_kind = is_of_kind(schedule, kind);
@@ -96,7 +96,8 @@ fn is_prepared(alloc: Global, schedule: &mut ActionSchedule, kind: u8, entries: 
     script_fault == Some(None) && has_kind && entries_fault == Some(None)
 }
 
-/// The type of a schedule of the last second of each month, the moment before, the moment now, and whether it is due.
+/// The type of a schedule of the last second of each month, the moment before, the moment now, and
+/// whether the schedule is due.
 static DUE: [(u8, u32, u32, bool); 10] = [
     (1, 888_710_398, 888_710_399, false),
     (1, 888_710_399, 888_796_799, true),
@@ -107,12 +108,12 @@ static DUE: [(u8, u32, u32, bool); 10] = [
     (1, 883_612_800, 888_883_198, true),
     (1, 883_612_800, 888_883_199, false),
     (1, 883_612_800, 888_883_200, false),
-    // A schedule that doesn't fit its type is never due.
+    // A schedule that does not fit its type is never due.
     (2, 888_796_798, 888_796_799, false),
     (2, MARCH - 1, MARCH, false),
 ];
 
-/// Whether a schedule of the last second of each month is due; none where it isn't made.
+/// Whether a schedule of the last second of each month is due. `None` if it cannot be created.
 fn is_due(alloc: Global, kind: u8, previous: u32, now: u32) -> Option<bool> {
     let mut schedule = ActionSchedule::new(alloc);
     let is_prepared = is_prepared(alloc, &mut schedule, kind, LAST_SECOND);
@@ -129,16 +130,16 @@ fn the_last_second_of_a_month(rt: HostRuntime) {
     }
 }
 
-/// Two entries at the same time.
+/// Two entries with the same time, but for the hundredths.
 const SAME: &str = "010202020904173B3B00090507EC0319FF02020904173B3BFF090507EC031AFF";
 
-/// At other times.
+/// Two entries with different times.
 const OTHER: &str = "010202020904173B3B00090507EC0319FF02020904173B3A00090507EC031AFF";
 
-/// At any second.
+/// Two entries with an unspecified second.
 const OPEN: &str = "010202020904173BFF00090507EC0319FF02020904173BFF00090507EC031AFF";
 
-/// One of them at any hour.
+/// Two entries, one of which has an unspecified hour.
 const HALF_OPEN: &str = "010202020904FF3B0000090507EC0319FF02020904003B0000090507EC031AFF";
 
 const PLAIN: &str = "01010202090400000000090507EC0319FF";
@@ -153,7 +154,7 @@ const LAST_DAY: &str = "01010202090400000000090507EC03FE07";
 
 /// Types, entries, and whether a schedule with these entries fits the type.
 static FITS: [(u8, &str, bool); 26] = [
-    // One entry, or any number.
+    // Type 1 needs one entry, the others any number.
     (1, "0100", false),
     (1, LAST_SECOND, true),
     (
@@ -165,7 +166,7 @@ static FITS: [(u8, &str, bool); 26] = [
     (3, "0100", true),
     (4, "0100", true),
     (5, "0100", true),
-    // Times of types 2 and 3 are the same.
+    // The times of types 2 and 3 must be the same.
     (2, SAME, true),
     (3, SAME, true),
     (2, OPEN, true),
@@ -175,7 +176,7 @@ static FITS: [(u8, &str, bool); 26] = [
     (3, HALF_OPEN, false),
     (4, OTHER, true),
     (5, OTHER, true),
-    // Dates of types 2 and 4 are plain.
+    // The dates of types 2 and 4 must be plain.
     (2, PLAIN, true),
     (4, PLAIN, true),
     (2, ANY_YEAR, false),
@@ -188,7 +189,8 @@ static FITS: [(u8, &str, bool); 26] = [
     (2, LAST_SECOND, false),
 ];
 
-/// Whether a schedule of a type fits it with the entries of this text; none where it isn't made.
+/// Whether a schedule of a type fits it with the entries of this text. `None` if it cannot be
+/// created.
 fn is_fit(alloc: Global, kind: u8, entries: &str) -> Option<bool> {
     let mut schedule = ActionSchedule::new(alloc);
     let is_prepared = is_prepared(alloc, &mut schedule, kind, entries);
@@ -205,7 +207,7 @@ fn entries_fit_their_type(rt: HostRuntime) {
     }
 }
 
-/// What a schedule is apart from what is written.
+/// Returns a schedule's script and type.
 fn known(schedule: &ActionSchedule) -> (u16, ScheduleType) {
     (schedule.selector(), schedule.kind())
 }
@@ -228,7 +230,7 @@ fn a_new_schedule(rt: HostRuntime) {
     drop(schedule);
 }
 
-/// Entries of a time and a date, and not of octet-strings.
+/// Entries of the types time and date, instead of octet-strings.
 const LAST_SECOND_AS_A_TIME: &str = "010102021B173B3B001AFFFFFFFEFF";
 
 static OF_TYPE_3: [Written; 3] = [
@@ -249,7 +251,7 @@ fn attributes_are_written_back(rt: HostRuntime) {
 
 static OF_A_COPY: [Written; 1] = [(ScheduleAttribute::ExecutionTime, LAST_SECOND)];
 
-/// Wants that a copy of a schedule of no script has the entries of the last second.
+/// Checks that a copy of a schedule of the null script has the entries of the last second.
 fn check_copy(rt: &impl Abort, alloc: Global, schedule: &ActionSchedule) -> Result<(), AllocError> {
     let copy = schedule.try_clone(alloc)?;
     check_written(rt, alloc, &copy, &OF_A_COPY);
@@ -258,7 +260,7 @@ fn check_copy(rt: &impl Abort, alloc: Global, schedule: &ActionSchedule) -> Resu
     Ok(())
 }
 
-/// Trades the entries of a schedule for those of a new one, of which a copy is made.
+/// Swaps the entries of a schedule with those of a new one, and copies that.
 fn trade(rt: &impl Abort, alloc: Global, first: &mut ActionSchedule) -> Result<(), AllocError> {
     let mut second = ActionSchedule::new(alloc);
     first.swap_entries(&mut second);
@@ -277,7 +279,7 @@ fn entries_are_traded_and_copied(rt: HostRuntime) {
     drop(first);
 }
 
-/// The script of another table, a type that there isn't, an hour that there isn't, and no entries.
+/// A script of another table, a type and an hour that do not exist, and Data that are not entries.
 static REFUSED_WRITES: [Write; 4] = [
     (
         ScheduleAttribute::ExecutedScript,
@@ -361,7 +363,7 @@ static WRITES: [Write; 26] = [
     (ScheduleAttribute::Kind, "1606", Some(ScheduleFault::Value)),
     (ScheduleAttribute::Kind, "1601", None),
     (ScheduleAttribute::Kind, "1605", None),
-    // Entries of another type.
+    // Entries of a wrong type.
     (
         ScheduleAttribute::ExecutionTime,
         "0200",
@@ -412,7 +414,7 @@ static WRITES: [Write; 26] = [
         "010202020904180000000905FFFFFFFFFF02020904000000000A05FFFFFFFFFF",
         Some(ScheduleFault::Unmatched),
     ),
-    // Entries with a value that isn't taken.
+    // Entries with a value that is not accepted.
     (
         ScheduleAttribute::ExecutionTime,
         "01010202090400003C000905FFFFFFFFFF",
@@ -435,7 +437,7 @@ static WRITES: [Write; 26] = [
     ),
 ];
 
-/// The fault of a write to a new schedule, if it has one; none where there is no Data.
+/// Returns the fault of a write to a new schedule, if it has one. `None` if the text is not Data.
 fn new_fault(
     alloc: Global,
     attribute: ScheduleAttribute,
@@ -458,7 +460,7 @@ fn what_is_not_taken_is_refused(rt: HostRuntime) {
 /// Each midnight.
 const MIDNIGHT: &str = "02020904000000000905FFFFFFFFFF";
 
-/// So many entries of midnight, but the last one, which is `last`.
+/// Returns the text of `count` entries: midnight each, but `last` is the last.
 fn midnights(alloc: Global, count: u8, last: &str) -> Result<String, AllocError> {
     let mut text = format!(in alloc; "01{count:02X}")?;
     for _ in 1..count {
@@ -468,7 +470,7 @@ fn midnights(alloc: Global, count: u8, last: &str) -> Result<String, AllocError>
     Ok(text)
 }
 
-/// Wants this fault of so many entries of midnight, the last of which is another.
+/// Checks the fault of that many entries of midnight, the last of which is another.
 fn check_midnights(
     rt: &impl Abort,
     alloc: Global,
@@ -482,7 +484,7 @@ fn check_midnights(
     Ok(())
 }
 
-/// Wants that a schedule takes these entries of midnight, and is due at midnight.
+/// Checks that a schedule accepts these entries of midnight, and that it is due at midnight.
 fn check_due(rt: &impl Abort, alloc: Global, entries: &str) {
     let mut schedule = ActionSchedule::new(alloc);
     assert!(*rt; is_prepared(alloc, &mut schedule, 5, entries));
@@ -504,7 +506,7 @@ fn up_to_sixteen_entries_are_taken(rt: HostRuntime) -> Result<(), Fail> {
 #[test]
 fn sixteen_entries_at_most(rt: HostRuntime) -> Result<(), Fail> {
     check_midnights(&rt, rt.alloc(), (17, MIDNIGHT), ScheduleFault::Value)?;
-    // An entry of another type is told before their count.
+    // Types are judged before the number of entries.
     check_midnights(&rt, rt.alloc(), (17, "00"), ScheduleFault::Unmatched)?;
     Ok(())
 }

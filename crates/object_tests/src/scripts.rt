@@ -1,4 +1,4 @@
-//! Texts of script tables, and what they are read as and written back as.
+//! Script tables: what their texts are read as, and how they are written.
 use crate::texts::{data, is_text};
 use cosem_axdr::Data;
 use disconnect_control::ControlMode;
@@ -17,7 +17,8 @@ const TABLE: &str = "010102021200030102\
 /// A table of one script with one step.
 const ONE_STEP: &str = "010102021200010101";
 
-// The calls under test, without their contracts: a test is run for what no clause says, and its own proof then has little to look at.
+// The calls under test, without their contracts. A test checks what no clause states, and without
+// them it is proved faster.
 fn read(alloc: Global, value: &Data) -> Result<ScriptTable, ScriptFault> {
     ScriptTable::from_data(alloc, value)
 }
@@ -26,7 +27,7 @@ fn written(alloc: Global, table: &ScriptTable) -> Result<Data, AllocError> {
     table.to_data(alloc)
 }
 
-/// The table of a hexadecimal text.
+/// Returns the table of a hexadecimal text.
 fn table(alloc: Global, text: &str) -> Option<ScriptTable> {
     let value = data(alloc, text)?;
     let table = read(alloc, &value).ok();
@@ -34,7 +35,7 @@ fn table(alloc: Global, text: &str) -> Option<ScriptTable> {
     table
 }
 
-/// The fault of a hexadecimal text.
+/// Returns the fault of a hexadecimal text.
 fn fault(alloc: Global, text: &str) -> Option<ScriptFault> {
     let value = data(alloc, text)?;
     let fault = read(alloc, &value).err();
@@ -54,7 +55,7 @@ fn is_written(alloc: Global, table: &ScriptTable, text: &str) -> bool {
     }
 }
 
-/// Step `i` of a script, if it has one.
+/// Returns step `i` of a script, if it has one.
 fn step_of(table: &ScriptTable, selector: u16, i: u8) -> Option<Step> {
     let count = table.step_count(selector)?;
     if i < count {
@@ -64,12 +65,12 @@ fn step_of(table: &ScriptTable, selector: u16, i: u8) -> Option<Step> {
     }
 }
 
-/// The text of a table with one step of this text.
+/// Returns the text of a table with one step of this text.
 fn one_step_text(alloc: Global, step: &str) -> Option<String> {
     format!(in alloc; "{ONE_STEP}{step}").ok()
 }
 
-/// The fault of a table with one step of this text.
+/// Returns the fault of a table with one step of this text.
 fn step_fault(alloc: Global, step: &str) -> Option<ScriptFault> {
     let text = one_step_text(alloc, step)?;
     let fault = fault(alloc, text.as_str());
@@ -77,7 +78,7 @@ fn step_fault(alloc: Global, step: &str) -> Option<ScriptFault> {
     fault
 }
 
-/// Adds so many steps, all of them `step` but the last one, which is `last`.
+/// Appends `steps` steps: `step` each, but `last` is the last.
 fn push_steps(text: &mut String, steps: u8, step: &str, last: &str) -> Result<(), AllocError> {
     for _ in 1..steps {
         text.push_str(step)?;
@@ -85,7 +86,7 @@ fn push_steps(text: &mut String, steps: u8, step: &str, last: &str) -> Result<()
     text.push_str(last)
 }
 
-/// Adds the start of script `script`, which has so many steps.
+/// Appends the start of script `script`, which has `steps` steps.
 fn push_start(alloc: Global, text: &mut String, script: u8, steps: u8) -> Result<(), AllocError> {
     let start = format!(in alloc; "020212{script:04X}01{steps:02X}")?;
     let pushed = text.push_str(start.as_str());
@@ -93,7 +94,8 @@ fn push_start(alloc: Global, text: &mut String, script: u8, steps: u8) -> Result
     pushed
 }
 
-/// Adds so many scripts of so many steps, each of them `step`, but the last step of the last script, which is `last`.
+/// Appends `scripts` scripts of `steps` steps: `step` each, but the last step of the last script is
+/// `last`.
 fn push_scripts(
     alloc: Global,
     text: &mut String,
@@ -108,7 +110,8 @@ fn push_scripts(
     Ok(())
 }
 
-/// A table of so many scripts of so many steps, each of them the first, but the last step of the last script, which is the second.
+/// Returns the text of a table. `counts` has the number of scripts and of the steps of each; the
+/// steps are the first of `pair`, but the last step of the last script is the second.
 fn long_text(alloc: Global, counts: (u8, u8), pair: (&str, &str)) -> Result<String, AllocError> {
     let mut text = format!(in alloc; "01{:02X}", counts.0)?;
     match push_scripts(alloc, &mut text, counts, pair) {
@@ -124,7 +127,7 @@ const DISCONNECT: &str = "020516021200460906000060030AFF0F010F00";
 
 const EXPORT_DURATION: &str = "0205160112004709060001110000FF0F07060000000F";
 
-/// Whether a step, or none, is the one that is expected, seen by what Debug writes of both.
+/// Whether a step, or `None`, is the expected one: compares what Debug writes.
 fn is_step(alloc: Global, found: Option<Step>, expected: Option<Step>) -> Result<bool, AllocError> {
     let text = format!(in alloc; "{found:?}")?;
     let is_same = is_debug(alloc, expected, text.as_str());
@@ -132,7 +135,7 @@ fn is_step(alloc: Global, found: Option<Step>, expected: Option<Step>) -> Result
     is_same
 }
 
-/// Whether Debug writes this of a step, or of none.
+/// Whether Debug writes this of a step, or of `None`.
 fn is_debug(alloc: Global, step: Option<Step>, expected: &str) -> Result<bool, AllocError> {
     let text = format!(in alloc; "{step:?}")?;
     let is_same = text.as_str() == expected;
@@ -140,14 +143,14 @@ fn is_debug(alloc: Global, step: Option<Step>, expected: &str) -> Result<bool, A
     Ok(is_same)
 }
 
-/// Wants that scripts have so many steps, or aren't there.
+/// Checks the number of steps of scripts, or that a script does not exist.
 fn check_counts(rt: &impl Abort, table: &ScriptTable, counts: &[(u16, Option<u8>)]) {
     for (selector, count) in counts {
         assert!(*rt; table.step_count(*selector) == *count, "script {selector}");
     }
 }
 
-/// Wants that scripts have these steps at these places, or none.
+/// Checks the steps of scripts at these places, or that there is none.
 fn check_steps(
     rt: &impl Abort,
     alloc: Global,
@@ -163,7 +166,7 @@ fn check_steps(
     }
 }
 
-/// A copy of a table of a text.
+/// Returns a copy of the table of a text.
 fn copied(alloc: Global, text: &str) -> Option<ScriptTable> {
     let table = table(alloc, text)?;
     let copy = table.try_clone(alloc).ok();
@@ -213,7 +216,7 @@ const STEPS_OF_A_FULL_TABLE: [(u16, u8, Option<Step>); 2] = [
     (16, 7, Some(Step::WriteMinUnder(Which::Export, 15))),
 ];
 
-/// Wants sixteen scripts of eight steps.
+/// Checks a table of sixteen scripts of eight steps.
 fn check_full_table(rt: &impl Abort, alloc: Global, table: &ScriptTable) {
     for selector in 1..17u16 {
         assert!(*rt; table.step_count(selector) == Some(8), "script {selector}");
@@ -221,7 +224,7 @@ fn check_full_table(rt: &impl Abort, alloc: Global, table: &ScriptTable) {
     check_steps(rt, alloc, table, &STEPS_OF_A_FULL_TABLE);
 }
 
-/// Wants that a text is one of sixteen scripts of eight steps, and is written back.
+/// Checks that a text is a table of sixteen scripts of eight steps, and is written as it was read.
 fn check_full_text(rt: &impl Abort, alloc: Global, text: &str) -> Option<()> {
     let table = table(alloc, text)?;
     check_full_table(rt, alloc, &table);
@@ -239,7 +242,7 @@ fn a_full_table_is_read_and_written_back(rt: HostRuntime) -> Result<(), Fail> {
     Ok(())
 }
 
-/// Whether a table of that number of scripts, each of that number of steps, is read and written back.
+/// Whether a table of that many scripts, each of that many steps, is written as it was read.
 fn is_read_back(alloc: Global, counts: (u8, u8)) -> Result<bool, AllocError> {
     let text = long_text(alloc, counts, (DISCONNECT, DISCONNECT))?;
     let is_so = match table(alloc, text.as_str()) {
@@ -270,11 +273,11 @@ fn a_table_may_have_each_size(rt: HostRuntime) {
     }
 }
 
-/// How many scripts of how many steps, the last of which is another, and the fault.
+/// The number of scripts, the number of steps of each, the last step, and the fault.
 static TOO_LONG: [(u8, u8, &str, ScriptFault); 3] = [
     (17, 1, DISCONNECT, ScriptFault::Value),
     (1, 9, DISCONNECT, ScriptFault::Value),
-    // Another type is told before any value: the last step has a boolean as parameter.
+    // Types are judged before values: the last step has a boolean as parameter.
     (
         17,
         9,
@@ -283,7 +286,8 @@ static TOO_LONG: [(u8, u8, &str, ScriptFault); 3] = [
     ),
 ];
 
-/// The fault of a table of so many scripts of so many steps, the last of which is another.
+/// Returns the fault of a table of that many scripts, each of that many steps, the last of which is
+/// `last`.
 fn long_fault(alloc: Global, counts: (u8, u8), last: &str) -> Option<ScriptFault> {
     let text = long_text(alloc, counts, (DISCONNECT, last)).ok()?;
     let fault = fault(alloc, text.as_str());
@@ -300,12 +304,12 @@ fn a_table_has_limits(rt: HostRuntime) {
 }
 
 static REFUSED_TABLES: [(&str, ScriptFault); 11] = [
-    // Identifier 0 with a step that isn't listed, and then a Data that is no script.
+    // Identifier 0 with a step that is not listed, and then Data that is not a script.
     (
         "010202021200000101020516031200460906000060030AFF0F040000",
         ScriptFault::Unmatched,
     ),
-    // Scripts of another type.
+    // Scripts of a wrong type.
     ("0200", ScriptFault::Unmatched),
     ("120000", ScriptFault::Unmatched),
     ("01010100", ScriptFault::Unmatched),
@@ -313,7 +317,7 @@ static REFUSED_TABLES: [(&str, ScriptFault); 11] = [
     ("0101020312000101000100", ScriptFault::Unmatched),
     ("0101020211010100", ScriptFault::Unmatched),
     ("010102021200010200", ScriptFault::Unmatched),
-    // Identifiers are not 0 and stand once.
+    // Identifiers are not 0, and no two are the same.
     ("010102021200000100", ScriptFault::Value),
     (
         "0103020212000101000202120002010002021200010100",
@@ -330,7 +334,7 @@ fn tables_that_are_refused(rt: HostRuntime) {
 }
 
 static REFUSED_STEPS: [(&str, ScriptFault); 31] = [
-    // Steps of another type.
+    // Steps of a wrong type.
     (
         "010516011200460906000060030AFF0F041600",
         ScriptFault::Unmatched,
@@ -376,7 +380,7 @@ static REFUSED_STEPS: [(&str, ScriptFault); 31] = [
         "020516021200460906000060030AFF0F021100",
         ScriptFault::Unmatched,
     ),
-    // Profiles of another type.
+    // Profiles of a wrong type.
     (
         "0205160112004709060000110000FF0F080202120007090C07D00101FF00012800800000",
         ScriptFault::Unmatched,
@@ -397,7 +401,7 @@ static REFUSED_STEPS: [(&str, ScriptFault); 31] = [
         "0205160112004709060000110000FF0F080203120007090C07D0FD01FF0001280080000012000A",
         ScriptFault::Unmatched,
     ),
-    // Values that are not taken.
+    // Values that are not accepted.
     ("020516011200460906000060030AFF0F041607", ScriptFault::Value),
     (
         "0205160112004709060000110000FF0F080203120007090C07D0FD01FF00012800800000060000000A",
@@ -434,7 +438,7 @@ fn steps_that_are_refused(rt: HostRuntime) {
     }
 }
 
-/// The table with one step of this text.
+/// Returns the table with one step of this text.
 fn one_step_table(alloc: Global, step: &str) -> Option<ScriptTable> {
     let text = one_step_text(alloc, step)?;
     let table = table(alloc, text.as_str());
@@ -442,7 +446,7 @@ fn one_step_table(alloc: Global, step: &str) -> Option<ScriptTable> {
     table
 }
 
-/// The step of a text.
+/// Returns the step of a text.
 fn one_step(alloc: Global, step: &str) -> Option<Step> {
     let table = one_step_table(alloc, step)?;
     let found = step_of(&table, 1, 0);
@@ -505,7 +509,7 @@ fn is_one_step(alloc: Global, table: &ScriptTable, step: &str) -> bool {
     }
 }
 
-/// Whether a table with one step of the first text is written back with that of the second.
+/// Whether a table with one step of the first text is written with that of the second.
 fn is_written_back(alloc: Global, step: &str, back: &str) -> bool {
     match one_step_table(alloc, step) {
         Some(table) => {
@@ -552,7 +556,7 @@ fn is_profile(alloc: Global, profile: &Profile, value: &Data) -> bool {
     }
 }
 
-/// Whether a Data is profile 7 of ten seconds, and is written of it.
+/// Whether Data is profile 7 of ten seconds, and the profile is written as it.
 fn is_profile_7(alloc: Global, value: &Data) -> bool {
     match read_profile(value) {
         Ok(profile) => {

@@ -2,7 +2,7 @@
 use cosem_axdr::{Data, Octets};
 use std::alloc::Global;
 
-/// The Data at the start of some bytes.
+/// Returns the Data at the start of some bytes.
 fn read(alloc: Global, bytes: &[u8]) -> Option<Data> {
     match cosem_axdr::read(alloc, bytes) {
         Ok((value, _)) => Some(value),
@@ -10,12 +10,12 @@ fn read(alloc: Global, bytes: &[u8]) -> Option<Data> {
     }
 }
 
-/// The bytes of a hexadecimal text.
+/// Returns the bytes of a hexadecimal text.
 fn bytes(alloc: Global, text: &str) -> Option<Vec<u8>> {
     hex::decode(alloc, text).ok()
 }
 
-/// The Data of a hexadecimal text; none where memory is wanting.
+/// Returns the Data of a hexadecimal text. `None` if it is not Data, or if out of memory.
 pub(crate) fn data(alloc: Global, text: &str) -> Option<Data> {
     let bytes = bytes(alloc, text)?;
     let value = read(alloc, bytes.as_slice());
@@ -23,7 +23,7 @@ pub(crate) fn data(alloc: Global, text: &str) -> Option<Data> {
     value
 }
 
-/// Whether a Data is written as these bytes.
+/// Whether Data is written as these bytes.
 fn is_written(alloc: Global, value: &Data, bytes: &[u8]) -> bool {
     let mut written = Octets::new(alloc);
     let is_done = cosem_axdr::write(alloc, value, &mut written).is_ok();
@@ -32,7 +32,7 @@ fn is_written(alloc: Global, value: &Data, bytes: &[u8]) -> bool {
     found
 }
 
-/// Whether a Data is written as the bytes of this text.
+/// Whether Data is written as the bytes of this text.
 pub(crate) fn is_text(alloc: Global, value: &Data, text: &str) -> bool {
     match bytes(alloc, text) {
         Some(expected) => {

@@ -1,4 +1,4 @@
-//! Bytes that contracts see as a list: equality of values that hold them is equality of what they hold.
+//! Bytes that contracts see as a list: two values that hold them are equal if their bytes are.
 #![tactic(auto)]
 
 ghost use Rattle.std.specs.Prelude.{◌≡◌, ◌↔◌, [], ◌∷◌, ◌++◌, length, take, IsTrue, IfOk, OnOk, OnErr};
@@ -6,7 +6,7 @@ ghost use Rattle.std.specs.Prelude.{◌≡◌, ◌↔◌, [], ◌∷◌, ◌++�
 use std::alloc::{AllocError, Global};
 use std::marker::Model;
 
-/// Bytes in memory of their own. Contracts see the list of them, and no capacity.
+/// An owned sequence of bytes. Contracts see the list of the bytes, and no capacity.
 #[derive(Debug, Drop)]
 pub struct Octets {
     bytes: Vec<u8>,
@@ -21,7 +21,7 @@ impl Model for Octets {
 }
 
 impl Octets {
-    /// No bytes. It takes no memory until the first is put in.
+    /// Returns an empty sequence. Allocates only when the first byte is added.
     pub fn new(alloc: Global) -> Self
         ensures { result ≡ [] }
     {
@@ -30,14 +30,14 @@ impl Octets {
         }
     }
 
-    /// The bytes of a `Vec`. It takes no memory.
+    /// Returns the bytes of a `Vec`. Does not allocate.
     pub fn from_vec(bytes: Vec<u8>) -> Self
         ensures { result ≡ bytes.items }
     {
         Octets { bytes }
     }
 
-    /// The bytes as a `Vec`. It takes no memory.
+    /// Returns the bytes as a `Vec`. Does not allocate.
     pub fn into_vec(self) -> Vec<u8>
         ensures { result.items ≡ self }
     {
@@ -45,7 +45,7 @@ impl Octets {
         bytes
     }
 
-    /// A copy of bytes.
+    /// Returns a copy of bytes, or an error if out of memory.
     pub fn from_slice(alloc: Global, bytes: &[u8]) -> Result<Self, AllocError>
         ensures { IfOk result (λ octets. octets ≡ bytes.now) }
     {
@@ -54,28 +54,28 @@ impl Octets {
         })
     }
 
-    /// The bytes.
+    /// Returns the bytes as a slice.
     pub fn as_slice(&self) -> &[u8]
         ensures { result.now ≡ self.now }
     {
         self.bytes.as_slice()
     }
 
-    /// How many bytes there are.
+    /// Returns the number of bytes.
     pub fn len(&self) -> usize
         ensures { result ≡ length self.now }
     {
         self.bytes.len()
     }
 
-    /// Whether there are none.
+    /// Whether there are no bytes.
     pub fn is_empty(&self) -> bool
         ensures { IsTrue result ↔ (self.now ≡ []) }
     {
         self.bytes.is_empty()
     }
 
-    /// Puts a byte at the end.
+    /// Appends a byte. Out of memory, nothing changes.
     pub fn push(&mut self, byte: u8) -> Result<(), AllocError>
         ensures ok { OnOk result (self.new ≡ self.old ++ byte ∷ []) }
         ensures err { OnErr result (self.new ≡ self.old) }
@@ -84,7 +84,7 @@ impl Octets {
         Ok(())
     }
 
-    /// Puts bytes at the end, all of them or, where memory runs out, none.
+    /// Appends all of `bytes`. Out of memory, nothing changes.
     pub fn extend_from_slice(&mut self, bytes: &[u8]) -> Result<(), AllocError>
         ensures ok { OnOk result (self.new ≡ self.old ++ bytes.now) }
         ensures err { OnErr result (self.new ≡ self.old) }
@@ -92,14 +92,15 @@ impl Octets {
         self.bytes.extend_from_slice(bytes)
     }
 
-    /// Keeps the first `len` bytes and drops the others. With `len` bytes or fewer nothing changes.
+    /// Keeps the first `len` bytes and drops the others. If there are at most `len` bytes, nothing
+    /// changes.
     pub fn truncate(&mut self, len: usize)
         ensures { self.new ≡ take len self.old }
     {
         self.bytes.truncate(len);
     }
 
-    /// A copy of the bytes.
+    /// Returns a copy of the bytes, or an error if out of memory.
     pub fn try_clone(&self, alloc: Global) -> Result<Octets, AllocError>
         ensures { IfOk result (λ octets. octets ≡ self.now) }
     {

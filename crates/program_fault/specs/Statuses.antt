@@ -1,9 +1,10 @@
--- The exit status of a program that could not do its work.
+-- The exit status of a program that failed.
 use Rattle.std.specs.Prelude.{ℕ}
 use Rattle.program_fault.specs.declared.Fault.{Fault}
 use Rattle.program_fault.specs.declared.Fault.TheVariants.{Input, Read, Write, Listen, Memory, Turns}
 
--- 2 for what it was given, 3 for reading, writing and listening, 4 for memory and turns
+-- the exit status of a fault: 2 for input, 3 for reading, writing and listening, 4 for memory and
+-- turns
 abbrev pub status_of : Fault → ℕ
 status_of Input = 2
 status_of Read = 3

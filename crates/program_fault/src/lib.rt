@@ -1,4 +1,4 @@
-//! Why a program could not do its work: the word of the line `fault: WORD` on standard error, and the exit status.
+//! Why a program failed: the word of the line `fault: WORD` on standard error, and the exit status.
 #![tactic(auto)]
 
 ghost use Rattle.std.specs.Prelude.{◌≡◌};
@@ -6,31 +6,31 @@ ghost use Rattle.program_fault.specs.Statuses.{status_of};
 
 use thiserror::Error;
 
-/// Why a program could not do its work. It is shown as its word.
+/// Why a program failed. It is displayed as its word.
 #[derive(Clone, Copy, Debug, PartialEq, Eq, Error)]
 pub enum Fault {
-    /// Standard input, a password or a name is not what the command takes.
+    /// `input`: standard input, a password or a name is not valid for the command. Exit status 2.
     #[error("input")]
     Input,
-    /// Standard input could not be read.
+    /// `read`: standard input could not be read. Exit status 3.
     #[error("read")]
     Read,
-    /// Standard output could not be written.
+    /// `write`: standard output could not be written. Exit status 3.
     #[error("write")]
     Write,
-    /// No connection could be listened for.
+    /// `listen`: listening for connections failed. Exit status 3.
     #[error("listen")]
     Listen,
-    /// Memory ran out.
+    /// `memory`: out of memory. Exit status 4.
     #[error("memory")]
     Memory,
-    /// The meter takes no more calls.
+    /// `turns`: the meter accepts no more calls. Exit status 4.
     #[error("turns")]
     Turns,
 }
 
 impl Fault {
-    /// The exit status of the program: 2, 3 or 4.
+    /// Returns the exit status of the program: 2, 3 or 4.
     pub fn status(self) -> u8
         ensures { result ≡ status_of self }
     {

@@ -6,19 +6,20 @@ use Rattle.program_fault.specs.Statuses.{status_of}
 use Rattle.program_fault.specs.declared.Fault.{Fault}
 use Rattle.program_fault.specs.declared.Fault.TheVariants.{Input, Read, Write, Listen, Memory, Turns}
 
--- a command line can't be had: for want of memory, or a word of it is no text
+-- whether a fault is one of reading the command line: out of memory, or a word is not valid text
 abbrev pub is_of_words : Fault → Bool
 is_of_words Input = true
 is_of_words Memory = true
 is_of_words _ = false
 
--- a text can't be printed: for want of memory, or a write failed
+-- whether a fault is one of printing a text: out of memory, or a write failed
 abbrev pub is_of_texts : Fault → Bool
 is_of_texts Write = true
 is_of_texts Memory = true
 is_of_texts _ = false
 
--- help and the version are what was asked for; any other text tells that the command line is wrong
+-- the exit status without work: 0 for help and the version, which were asked for; 2 for any other
+-- text, which says that the command line is wrong
 abbrev pub status_without_work : ErrorKind → ℕ
 status_without_work DisplayHelp = 0
 status_without_work DisplayVersion = 0

@@ -1,4 +1,5 @@
-//! How each program begins and ends: the words of its command line, what comes of one that asks for no work, and the exit status.
+//! How each program begins and ends: the words of its command line, a command line that asks for no
+//! work, and the exit status.
 #![tactic(auto)]
 
 ghost use Rattle.std.specs.Prelude.{◌≡◌, true, IfOk, IfErr, IsOk, OnOk};
@@ -17,7 +18,7 @@ use std::process::ExitCode;
 use std::rt::Env;
 use std::{env, io};
 
-/// The fault of a command line that can't be had.
+/// Returns the fault of a command line that cannot be read.
 fn words_fault(kind: io::ErrorKind) -> Fault
     ensures { is_of_words result ≡ true }
 {
@@ -27,7 +28,8 @@ fn words_fault(kind: io::ErrorKind) -> Fault
     }
 }
 
-/// The words of the command line. Errors: `Memory`, and `Input` where a word is no text.
+/// Reads the words of the command line. Errors: `Input` if a word is not valid text, `Memory` if
+/// out of memory.
 pub fn words<R: Env + AllocGlobal>(rt: &R) -> Result<Vec<String>, Fault>
     ensures { IfErr result (λ fault. is_of_words fault ≡ true) }
 {
@@ -41,7 +43,8 @@ pub fn words<R: Env + AllocGlobal>(rt: &R) -> Result<Vec<String>, Fault>
     }
 }
 
-/// A command with one more argument, once the command is made; for want of memory there is none.
+/// Adds an argument to a command. On an error of `made`, or if out of memory, drops the argument
+/// and returns the error.
 pub fn with_argument<'a>(
     made: Result<Command<'a>, AllocError>,
     argument: Arg<'a>,
@@ -58,7 +61,8 @@ pub fn with_argument<'a>(
     }
 }
 
-/// A program's command with one of its subcommands, once that is made; for want of memory there is neither.
+/// Adds a subcommand to a program's command. On an error of `made`, or if out of memory, drops the
+/// command and returns the error.
 fn with_made<'a>(
     program: Command<'a>,
     made: Result<Command<'a>, AllocError>,
@@ -75,7 +79,8 @@ fn with_made<'a>(
     }
 }
 
-/// A program's command with one of its subcommands, once both are made; for want of memory there is neither.
+/// Adds a subcommand to a program's command. On an error of either, or if out of memory, drops both
+/// and returns the error.
 pub fn with_subcommand<'a>(
     program: Result<Command<'a>, AllocError>,
     made: Result<Command<'a>, AllocError>,
@@ -93,8 +98,9 @@ pub fn with_subcommand<'a>(
     }
 }
 
-/// Prints the text of a command line that asks for no work, and gives the exit status: 0 for help and the version, 2 where it is wrong. Errors: `Memory`, and
-/// `Write` where the text could not be printed.
+/// Prints the text of a command line that asks for no work, and returns the exit status: 0 for help
+/// and the version, 2 if the command line is wrong. Errors: `Memory` if out of memory, `Write` if
+/// the text could not be printed.
 pub fn without_work<R: Print + Eprint>(rt: &R, error: &Error) -> Result<u8, Fault>
     ensures status { IfOk result (λ status. status ≡ status_without_work (kind_of error.now)) }
     ensures fault { IfErr result (λ fault. is_of_texts fault ≡ true) }
@@ -108,7 +114,8 @@ pub fn without_work<R: Print + Eprint>(rt: &R, error: &Error) -> Result<u8, Faul
     }
 }
 
-/// Writes a whole text and flushes the output. Error: `Write`; some of the text may be written then.
+/// Writes a whole text and flushes the output. Returns `Write` if that fails; then part of the text
+/// may be written.
 pub fn print_text<W: Write>(output: &mut W, text: &[u8]) -> Result<(), Fault>
     ensures ok { OnOk result (Appends (W.contents output.old) (W.contents output.new) text.now) }
     ensures err { IfErr result (λ fault. fault ≡ Write) }
@@ -122,7 +129,7 @@ pub fn print_text<W: Write>(output: &mut W, text: &[u8]) -> Result<(), Fault>
     }
 }
 
-/// The first fault of two parts of the work, in this order.
+/// Returns the first fault of two parts of the work, in this order.
 pub fn first_fault(first: Result<(), Fault>, second: Result<(), Fault>) -> Result<(), Fault>
     ensures { result ≡ first_of first second }
 {
@@ -132,7 +139,7 @@ pub fn first_fault(first: Result<(), Fault>, second: Result<(), Fault>) -> Resul
     }
 }
 
-/// The line that reports a fault, without its end.
+/// Returns the line that reports a fault, without its line end.
 fn fault_line(fault: Fault) -> &'static str
     ensures { result.now ≡ fault_line fault }
 {
@@ -146,7 +153,8 @@ fn fault_line(fault: Fault) -> &'static str
     }
 }
 
-/// The exit status of what was done. A fault is reported in a line on standard error.
+/// Returns the exit status of the program: its own, or that of its fault. Reports a fault in a line
+/// on standard error.
 pub fn ended<R: Eprint>(rt: &R, done: Result<u8, Fault>) -> ExitCode
     ensures { exit_status result ≡ status_by done }
 {

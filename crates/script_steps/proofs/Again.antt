@@ -1,4 +1,4 @@
--- A table that is written is read again.
+-- A table that was written reads as itself.
 use Rattle.std.proofs.Common.{◌≡◌, ℕ, ◌==◌, true, not, ◌&&◌, nat_le, List, map, length, Some, ok_or, Result, Ok, Err, refl, ap, ap₂, ◌∙◌, arith}
 use Rattle.std.proofs.lemmas.List.{length-map}
 use Rattle.std.proofs.lemmas.Bool.Decides.{nat_tests}
@@ -27,7 +27,7 @@ use Rattle.script_steps.specs.declared.step.Step.{Step}
 use Rattle.script_steps.specs.declared.step.Step.TheVariants as step
 use Rattle.cosem_names.specs.declared.objects.Which.TheVariants.{Import, Export}
 
--- the parts of a step that is written
+-- the parts of a written step
 parts_again : (s : Step) → step_parts_of (step_data s) ≡ Some (address_of (action_of s), parameter_of s)
 unfolding step_data
 parts_again (step.WriteMode mode) = refl
@@ -44,7 +44,7 @@ parts_again (step.WriteProfile Export profile) = refl
 parts_again step.Disconnect = refl
 parts_again step.Reconnect = refl
 
--- the parameter of a step that is written
+-- the parameter of a written step reads as that step
 parameter_again : (s : Step) → IsStep s → step_with (action_of s) (parameter_of s) ≡ Ok s
 unfolding step_with mode_form
 parameter_again (step.WriteMode mode) fits = ap (λ o. ok_or o Value >>= λ m. done WriteFault (step.WriteMode m)) (mode_found mode)
@@ -56,17 +56,17 @@ parameter_again (step.WriteProfile which profile) fits = ap (λ r. r >>= λ p. d
 parameter_again step.Disconnect fits = refl
 parameter_again step.Reconnect fits = refl
 
--- a step of its parts
+-- a step from its parts
 abbrev with_action : Address × Data → Result Step WriteFault
 with_action parts = ok_or (action_at parts.0) Value >>= λ a. step_with a parts.1
 
--- a step that is written
+-- a written step reads as itself
 step_again : (s : Step) → IsStep s → step_of (step_data s) ≡ Ok s
 unfolding step_of
 step_again s fits =
     ap (λ o. ok_or o Unmatched >>= with_action) (parts_again s) ∙ ap (λ o. ok_or o Value >>= λ a. step_with a (parameter_of s)) (action_again (action_of s)) ∙ parameter_again s fits
 
--- the parts of a script that is written
+-- the parts of a written script
 script_parts_again : (s : Script) → script_parts_of (script_data s) ≡ Some (s.identifier, map step_data s.steps)
 unfolding script_data
 script_parts_again s = ap (λ items. Some (s.identifier, items)) (list_of_trees (map step_data s.steps))
@@ -79,11 +79,11 @@ judged_with parts = told step_of parts.1 >> (guard (not (parts.0 == 0) && nat_le
 within : (s : Script) → IsScript s → not (s.identifier == 0) && nat_le (length (map step_data s.steps)) max_steps ≡ true
 within s fits = grind (arith, nat_tests, fits.named, fits.few, length-map)
 
--- a script of its parts
+-- a script from its parts
 abbrev as_script : Result (ℕ × List Data) WriteFault → Result Script WriteFault
 as_script judged = judged >>= λ parts. Ok (record { identifier = parts.0; steps = values step_of parts.1 })
 
--- a script that is written
+-- a written script reads as itself
 script_again : (s : Script) → IsScript s → script_of (script_data s) ≡ Ok s
 unfolding script_of judged_script
 script_again s fits =
@@ -94,7 +94,7 @@ script_again s fits =
     ∙ ap (λ b. as_script (guard b Value >> done WriteFault parts)) (within s fits)
     ∙ ap (λ steps. done WriteFault (record { identifier = s.identifier; steps = steps })) are.are
 
--- the limits of a table hold of its Datas
+-- the limits of a table hold of its Data
 table_within : (scripts : List Script) → IsTable scripts → AreRead script_of (map script_data scripts) scripts
     → nat_le (length (map script_data scripts)) max_scripts && are_distinct identifier_of (map script_data scripts) ≡ true
 table_within scripts fits are =
@@ -107,7 +107,7 @@ table_within scripts fits are =
 abbrev with_items : List Data → Result (List Script) WriteFault
 with_items items = judged_scripts items >> Ok (values script_of items)
 
--- a table that is written
+-- a written table reads as itself
 pub table_again : (scripts : List Script) → IsTable scripts → table_of (data_of scripts) ≡ Ok scripts
 unfolding table_of data_of judged_scripts
 table_again scripts fits =
@@ -118,7 +118,7 @@ table_again scripts fits =
     ∙ ap (λ b. guard b Value >> done WriteFault (values script_of items)) (table_within scripts fits are)
     ∙ ap (λ xs. done WriteFault xs) are.are
 
--- a table that was written, if memory sufficed
+-- a table whose writing did not run out of memory reads as itself
 pub written_again : {E : Type 0} (result : Result Data E) (written scripts table : List Script) → IsTable scripts → written ≡ scripts → scripts ≡ table
     → IfOk result (λ value. value ≡ data_of written) → IfOk result (λ value. table_of value ≡ Ok table)
 written_again (Ok value) written scripts table fits same view is =

@@ -1,4 +1,4 @@
--- The listed steps, by what they name.
+-- The listed steps, by their addresses.
 use Rattle.std.proofs.Common.{◌≡◌, Some, refl}
 use Rattle.cosem_names.specs.Objects.{object_of, class_attribute_of, class_method_of, attribute_of, method_of, rights_of, may_execute_of}
 use Rattle.cosem_names.specs.declared.objects.Which.TheVariants.{Import, Export}
@@ -9,7 +9,7 @@ use Rattle.script_steps.specs.declared.action.Action.TheVariants.{Mode, Normal, 
 use Rattle.script_steps.specs.declared.step.Step.{Step}
 use Rattle.script_steps.specs.declared.step.Step.TheVariants as variant
 
--- each action is found by what it names
+-- each action is found by its address
 pub action_again : (action : Action) → action_at (address_of action) ≡ Some action
 unfolding action_at
 action_again Mode = refl
@@ -26,11 +26,11 @@ action_again (Profile Export) = refl
 action_again Disconnect = refl
 action_again Reconnect = refl
 
--- and each step by its action
+-- each step is found by its address
 pub step_listed : (step : Step) → IsListed step
 step_listed step = action_again (action_of step)
 
--- what it names stands in the table of the meter's objects
+-- the address of each step is in the table of the meter's objects
 pub step_in_table : (step : Step) → IsInTable step
 unfolding object_of class_attribute_of class_method_of attribute_of method_of rights_of may_execute_of
 step_in_table (variant.WriteMode mode) = record { named = refl; classed = refl; allowed = refl }
@@ -47,7 +47,7 @@ step_in_table (variant.WriteProfile Export profile) = record { named = refl; cla
 step_in_table variant.Disconnect = record { named = refl; classed = refl; allowed = refl }
 step_in_table variant.Reconnect = record { named = refl; classed = refl; allowed = refl }
 
--- of a limiter it is the attribute that the step writes
+-- a step that writes a limiter names the attribute that it writes
 pub step_named : (step : Step) → IsNamed step
 step_named (variant.WriteMode mode) = tt
 step_named (variant.WriteNormal Import watts) = refl

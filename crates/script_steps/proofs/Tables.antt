@@ -1,4 +1,4 @@
--- What is so of a table that was judged.
+-- What holds of a table that was judged.
 use Rattle.std.proofs.Common.{◌≡◌, ℕ, ◌==◌, ◌≤◌, Bool, true, false, not, ◌&&◌, ◌||◌, cond, nat_le, List, [], ◌∷◌, length, Option, Some, None, IfSome, ok_or, Result, Ok, Err, is_err, option_map, unwrap_or, refl, sym, ap, ap₂, ◌∙◌, arith, rules, tests}
 use Rattle.std.proofs.lemmas.List.Elements.{All-head, All-tail}
 use Rattle.std.specs.List.{All, list_any, find, cons_option}
@@ -19,12 +19,12 @@ found_or_rest : {A : Type 0} (P : A → Type 0) (b : Bool) (x : A) (rest : Optio
 found_or_rest P true x rest here there = here
 found_or_rest P false x rest here there = there
 
--- what is so of all is so of the one that is found
+-- what holds of all items holds of the one that is found
 pub found_fits : {A : Type 0} (P : A → Type 0) (p : A → Bool) (xs : List A) → All P xs → IfSome (find p xs) P
 found_fits P p [] all = tt
 found_fits P p (x ∷ xs) all = found_or_rest P (p x) x (find p xs) (All-head P x xs all) (found_fits P p xs (All-tail P x xs all))
 
--- the parts of a Data that a script was made of
+-- the parts of the Data that a script was made from
 pub judged_parts : (value : Data) (parts : ℕ × List Data) → judged_script value ≡ Ok parts → script_parts_of value ≡ Some parts
 unfolding judged_script
 judged_parts value parts e =
@@ -45,7 +45,7 @@ named value script e =
     let same = ok_is {F = WriteFault} (record { identifier = b.0.0; steps = values step_of b.0.1 }) script b.2 in
     sym (ap (λ (s : Script). s.identifier) same) ∙ sym (ap (λ o. unwrap_or (option_map (λ (parts : ℕ × List Data). parts.0) o) 0) (judged_parts value b.0 b.1))
 
--- the first of several Datas, and all others, have no fault
+-- if no item has a fault, neither the first nor any other has one
 first_read : (b : Bool) (rest : Bool) → b || rest ≡ false → (b ≡ false) × (rest ≡ false)
 first_read true rest e = absurd cc
 first_read false rest e = (refl, e)
@@ -55,11 +55,11 @@ is_read : (r : Result Script WriteFault) → is_err r ≡ false → (script : Sc
 is_read (Ok script) e = (script, refl)
 is_read (Err fault) e = absurd cc
 
--- the scripts of Datas, the first of which is one
+-- the scripts of several Data, the first of which is a script
 first_script : (item : Data) (items : List Data) (script : Script) → script_of item ≡ Ok script → values script_of (item ∷ items) ≡ script ∷ values script_of items
 first_script item items script e = ap (λ r. cons_option (result_ok r) (values script_of items)) e
 
--- a number is an identifier of a Data exactly where it is one of a script
+-- the Data have an identifier exactly if their scripts have it
 same_among : (items : List Data) (n : ℕ) → list_any (λ item. is_err (script_of item)) items ≡ false
     → list_any (λ item. identifier_of item == n) items ≡ list_any (λ script. script.identifier == n) (values script_of items)
 same_among [] n none = refl
@@ -69,7 +69,7 @@ same_among (item ∷ items) n none =
     ap₂ (λ (m : ℕ) (rest : Bool). (m == n) || rest) (sym (named item read.0 read.1)) (same_among items n split.1)
     ∙ ap (λ scripts. list_any (λ script. script.identifier == n) scripts) (sym (first_script item items read.0 read.1))
 
--- Datas have identifiers of their own exactly where their scripts have
+-- the Data have different identifiers exactly if their scripts have
 pub same_distinct : (items : List Data) → list_any (λ item. is_err (script_of item)) items ≡ false
     → are_distinct identifier_of items ≡ are_distinct (λ script. script.identifier) (values script_of items)
 same_distinct [] none = refl
@@ -80,7 +80,7 @@ same_distinct (item ∷ items) none =
     ∙ ap (λ n. not (list_any (λ script. script.identifier == n) (values script_of items)) && are_distinct (λ script. script.identifier) (values script_of items)) (sym (named item read.0 read.1))
     ∙ ap (λ scripts. are_distinct (λ script. script.identifier) scripts) (sym (first_script item items read.0 read.1))
 
--- there are as many scripts as Datas at most
+-- there are at most as many scripts as Data
 few_values : (items : List Data) → length (values script_of items) ≤ length items
 few_values [] = omega arith
 few_values (item ∷ items) = here (result_ok (script_of item)) (few_values items)
@@ -94,7 +94,7 @@ both : (a b : Bool) → a && b ≡ true → (a ≡ true) × (b ≡ true)
 both true b e = (refl, e)
 both false b e = absurd cc
 
--- the scripts of Datas that were judged are a table
+-- the scripts of judged Data are a table
 pub table_fits : (items : List Data) (u : Unit {0}) (scripts : List Script) → judged_scripts items ≡ Ok u → scripts ≡ values script_of items → All IsScript scripts → IsTable scripts
 unfolding judged_scripts
 table_fits items u scripts e is fit =

@@ -1,4 +1,5 @@
--- What a listed step names: its service, and the attribute or method of an object (IEC 62056-6-2, class 9, scripts).
+-- The address that a listed step names: its service, and the attribute or method of an object (IEC
+-- 62056-6-2, class 9, scripts).
 use Rattle.std.specs.Prelude.{ℤ, pos, ℕ, Bool, Option, List, [], ◌∷◌, ◌==◌, ◌&&◌, find}
 use Rattle.std.specs.Ordering.{int_eq}
 use Rattle.std.specs.Str.{bytes_eq}
@@ -19,19 +20,19 @@ write_attribute = 1
 abbrev pub execute_method : ℕ
 execute_method = 2
 
--- a write of an attribute of the disconnect control (class 70, 0.0.96.3.10.255)
+-- a write to an attribute of the disconnect control (class 70, 0.0.96.3.10.255)
 abbrev pub attribute_of : ℤ → Address
 attribute_of index = record { service = write_attribute; class = class_id 70; name = obis 0 0 96 3 10 255; index = index }
 
--- an execution of a method of it
+-- an execution of one of its methods
 abbrev pub method_of : ℤ → Address
 method_of index = record { service = execute_method; class = class_id 70; name = obis 0 0 96 3 10 255; index = index }
 
--- a write of an attribute of a limiter (class 71)
+-- a write to an attribute of a limiter (class 71)
 abbrev pub limiter_attribute_of : Which → ℤ → Address
 limiter_attribute_of which index = record { service = write_attribute; class = class_id 71; name = limiter_name which; index = index }
 
--- what a step of this action names
+-- the address that a step of this action names
 abbrev pub address_of : Action → Address
 address_of Mode = attribute_of (pos 4)  -- control_mode
 address_of (Normal which) = limiter_attribute_of which (pos 4)  -- threshold_normal
@@ -42,12 +43,12 @@ address_of (Profile which) = limiter_attribute_of which (pos 8)  -- emergency_pr
 address_of Disconnect = method_of (pos 1)  -- remote_disconnect
 address_of Reconnect = method_of (pos 2)  -- remote_reconnect
 
--- the same service, class, name and index
+-- whether two addresses have the same service, class, name and index
 abbrev pub is_address : Address → Address → Bool
 is_address one other =
     one.service == other.service && (one.class.0 == other.class.0 && (bytes_eq one.name.0 other.name.0 && int_eq one.index other.index))
 
--- the actions of the listed steps: each action that there is (`each_step_is_listed`)
+-- the actions of the listed steps: every action is one (`each_step_is_listed`)
 abbrev pub actions : List Action
 actions =
     Mode
@@ -55,7 +56,7 @@ actions =
     ∷ Normal Export ∷ Emergency Export ∷ MinOver Export ∷ MinUnder Export ∷ Profile Export
     ∷ Disconnect ∷ Reconnect ∷ []
 
--- the action of a listed step that names this
+-- the action of the listed step that names this address
 unfoldable pub action_at : Address → Option Action
 action_at address = find (λ action. is_address (address_of action) address) actions
 

@@ -1,11 +1,12 @@
--- The parts of a table, a script and a step (IEC 62056-6-2, class 9, scripts) as they are written: nothing where the type is another.
+-- The parts of a table, a script and a step (IEC 62056-6-2, class 9, scripts) as a client writes
+-- them: nothing if a type differs.
 use Rattle.std.specs.Prelude.{ℕ, List, [], ◌∷◌, Option, Some, None, option_map, unwrap_or}
 use Rattle.cosem_axdr.specs.declared.value.Data.{Data}
 use Rattle.cosem_axdr.specs.Forms.{array_of, structure_of, long_unsigned_of, enumerated_of, integer_of}
 use Rattle.cosem_names.specs.Forms.{◌>>=◌, name_of}
 use Rattle.script_steps.specs.declared.action.Address.{Address}
 
--- a step: a structure of service, class, logical name, index and parameter
+-- the parts of a step: a structure of service, class, logical name, index and parameter
 abbrev pub step_parts_in : List Data → Option (Address × Data)
 step_parts_in (service ∷ class ∷ name ∷ index ∷ parameter ∷ []) = do
   service_id ← enumerated_of service
@@ -18,7 +19,7 @@ step_parts_in _ = None
 abbrev pub step_parts_of : Data → Option (Address × Data)
 step_parts_of value = structure_of value >>= step_parts_in
 
--- a script: a structure of an identifier and an array of steps
+-- the parts of a script: a structure of an identifier and an array of steps
 abbrev pub script_parts_in : List Data → Option (ℕ × List Data)
 script_parts_in (identifier ∷ steps ∷ []) = do
   number ← long_unsigned_of identifier
@@ -29,6 +30,6 @@ script_parts_in _ = None
 abbrev pub script_parts_of : Data → Option (ℕ × List Data)
 script_parts_of value = structure_of value >>= script_parts_in
 
--- the identifier of a script, 0 where there is none
+-- the identifier of a script, or 0 if the value is not a script
 abbrev pub identifier_of : Data → ℕ
 identifier_of value = unwrap_or (option_map (λ parts. parts.0) (script_parts_of value)) 0

@@ -1,4 +1,5 @@
--- What a step names stands in the table of the meter's objects, and the management client may do it; of a limiter it is the attribute that the step writes.
+-- A step names an entry of the meter's object table that the management client may write or
+-- execute. A step that writes a limiter names the attribute that it writes.
 use Rattle.std.specs.Prelude.{◌≡◌, Bool, true, ◌==◌, ◌&&◌, ◌||◌, Some, option_map}
 use Rattle.std.specs.Int.{w8, cast_unsigned}
 use Rattle.cosem_names.specs.Objects.{object_of, rights_of, may_execute_of}
@@ -25,7 +26,7 @@ instance_of (WriteProfile which profile) = Limiter which
 instance_of Disconnect = DisconnectControl
 instance_of Reconnect = DisconnectControl
 
--- what a step names
+-- the address that a step names
 abbrev pub named_by : Step → Address
 named_by step = address_of (action_of step)
 
@@ -36,7 +37,7 @@ attribute_at address = record { class = address.class; name = address.name; numb
 abbrev pub method_at : Address → MethodRef
 method_at address = record { class = address.class; name = address.name; number = cast_unsigned w8 address.index }
 
--- whether a step writes an attribute; else it executes a method
+-- whether a step writes an attribute; otherwise it executes a method
 abbrev pub is_write : Step → Bool
 is_write step = (named_by step).service == write_attribute
 
@@ -47,19 +48,20 @@ attribute_named step = attribute_at (named_by step)
 abbrev pub method_named : Step → MethodRef
 method_named step = method_at (named_by step)
 
--- the management client may write the attribute, or execute the method
+-- whether the management client may write the attribute, or execute the method
 abbrev pub is_allowed : Address → Bool
 is_allowed address =
     (address.service == write_attribute && (rights_of Management (attribute_at address)).write)
     || (address.service == execute_method && may_execute_of Management (method_at address))
 
--- what a step names stands in the table: its object, by that object's name and class, and something that management may do with it
+-- the object table has the step's object, with its logical name and class, and management may do
+-- there what the step does
 pub record IsInTable (step : Step) : Type 0 where
   pub named : option_map (λ row. row.instance) (object_of (named_by step).name) ≡ Some (instance_of step)
   pub classed : option_map (λ row. row.class) (object_of (named_by step).name) ≡ Some (named_by step).class
   pub allowed : is_allowed (named_by step) ≡ true
 
--- a step that writes a limiter names that limiter's attribute
+-- a step that writes a limiter names the attribute that it writes
 abbrev pub IsNamed : Step → Type 0
 IsNamed (WriteMode mode) = Unit {0}
 IsNamed (WriteNormal which watts) = attribute_at (named_by (WriteNormal which watts)) ≡ reference which ThresholdNormal
@@ -70,6 +72,6 @@ IsNamed (WriteProfile which profile) = attribute_at (named_by (WriteProfile whic
 IsNamed Disconnect = Unit {0}
 IsNamed Reconnect = Unit {0}
 
--- a step is listed: what it names is its action's, and no other action's
+-- a step is listed: its address is that of its action, and of no other
 abbrev pub IsListed : Step → Type 0
 IsListed step = action_at (named_by step) ≡ Some (action_of step)

@@ -1,4 +1,4 @@
--- Durations of 32 bits in the steps of scripts.
+-- The durations in the steps of scripts have 32 bits.
 use Rattle.std.specs.Prelude.{◌<◌, List, [], ◌∷◌}
 use Rattle.script_steps.specs.declared.step.Script.{Script}
 use Rattle.script_steps.specs.declared.step.Step.{Step}

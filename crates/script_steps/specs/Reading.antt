@@ -1,5 +1,6 @@
--- A Data as a script table (IEC 62056-6-2, class 9, scripts): its scripts, or why it is refused. Another type anywhere is told before any value: that order is this
--- meter's.
+-- What a client writes to the script table (IEC 62056-6-2, class 9, scripts): its scripts, or why
+-- it is refused. A wrong type anywhere is reported before any wrong value: that order is a rule of
+-- this meter.
 use Rattle.std.specs.Prelude.{ℕ, Bool, true, not, ◌&&◌, ◌==◌, nat_le, List, [], ◌∷◌, length, ok_or, Result, Ok, Err}
 use Rattle.std.specs.List.{list_any}
 use Rattle.byte_reading.specs.Outcome.{◌>>=◌, ◌>>◌, guard}
@@ -19,7 +20,7 @@ use Rattle.script_steps.specs.declared.step.Script.{Script}
 use Rattle.script_steps.specs.declared.step.Step.{Step}
 use Rattle.script_steps.specs.declared.step.Step.TheVariants.{WriteMode, WriteNormal, WriteEmergency, WriteMinOver, WriteMinUnder, WriteProfile, Disconnect, Reconnect}
 
--- the most scripts of a table, and the most steps of a script
+-- the maximum number of scripts of a table, and of steps of a script
 abbrev pub max_scripts : ℕ
 max_scripts = 16
 
@@ -43,14 +44,14 @@ step_with (action.Profile which) parameter = profile_of parameter >>= λ profile
 step_with action.Disconnect parameter = method_parameter_of parameter >>= λ _. Ok Disconnect
 step_with action.Reconnect parameter = method_parameter_of parameter >>= λ _. Ok Reconnect
 
--- a step, which is of its type whatever its parameter is where it isn't listed
+-- a step; if it is not listed, the type of its parameter is not judged
 unfoldable pub step_of : Data → Result Step WriteFault
 step_of value = do
   parts ← ok_or (step_parts_of value) Unmatched
   action ← ok_or (action_at parts.0) Value
   step_with action parts.1
 
--- a script's identifier and the Datas of its steps, once these are judged
+-- a script's identifier and the Data of its steps, once these are judged
 unfoldable pub judged_script : Data → Result (ℕ × List Data) WriteFault
 judged_script value = do
   parts ← ok_or (script_parts_of value) Unmatched
@@ -58,18 +59,18 @@ judged_script value = do
   guard (not (parts.0 == 0) && nat_le (length parts.1) max_steps) Value
   Ok parts
 
--- a script: its identifier is not 0, and it has eight steps at most
+-- a script: its identifier is not 0, and it has at most eight steps
 unfoldable pub script_of : Data → Result Script WriteFault
 script_of value = do
   parts ← judged_script value
   Ok (record { identifier = parts.0; steps = values step_of parts.1 })
 
--- no two have the same number
+-- whether no two have the same number
 abbrev pub are_distinct : {A : Type 0} → (A → ℕ) → List A → Bool
 are_distinct number [] = true
 are_distinct number (x ∷ xs) = not (list_any (λ other. number other == number x) xs) && are_distinct number xs
 
--- the fault of the Datas of scripts: there are sixteen at most, each with an identifier of its own
+-- the fault of a table's scripts: there are at most sixteen, with different identifiers
 unfoldable pub judged_scripts : List Data → Result (Unit {0}) WriteFault
 judged_scripts items = do
   told script_of items

@@ -19,7 +19,7 @@ pub record IsScript (script : Script) : Type 0 where
   pub few : length script.steps ≤ max_steps
   pub fit : All IsStep script.steps
 
--- what is so of every script table
+-- what holds of every script table
 pub record IsTable (scripts : List Script) : Type 0 where
   pub few : length scripts ≤ max_scripts
   pub distinct : are_distinct (λ script. script.identifier) scripts ≡ true
@@ -33,11 +33,11 @@ null_script = 0
 abbrev pub script_at : ℕ → List Script → Option Script
 script_at identifier scripts = find (λ script. script.identifier == identifier) scripts
 
--- the steps of the script of a selector; every table has the null script
+-- the steps of the script that a selector selects; every table has the null script
 unfoldable pub steps_at : ℕ → List Script → Option (List Step)
 steps_at selector scripts =
     if selector == null_script then Some [] else option_map (λ script. script.steps) (script_at selector scripts)
 
--- the steps that run where a selector is executed: none where there is no such script
+-- the steps that run when a selector is executed: none if there is no such script
 abbrev pub running_steps : ℕ → List Script → List Step
 running_steps selector scripts = unwrap_or (steps_at selector scripts) []

@@ -1,4 +1,5 @@
--- A script table as it is read (IEC 62056-6-2, class 9, scripts): an array of scripts, each a structure of its identifier and an array of its steps.
+-- The value of a script table when read (IEC 62056-6-2, class 9, scripts): an array of scripts,
+-- each a structure of its identifier and an array of its steps.
 use Rattle.std.specs.Prelude.{pos, List, [], ◌∷◌, map}
 use Rattle.cosem_axdr.specs.declared.value.Data.{Data}
 use Rattle.cosem_axdr.specs.declared.value.Data.TheVariants.{OctetString, DoubleLongUnsigned, LongUnsigned, Enum, Integer}
@@ -11,7 +12,7 @@ use Rattle.script_steps.specs.declared.step.Script.{Script}
 use Rattle.script_steps.specs.declared.step.Step.{Step}
 use Rattle.script_steps.specs.declared.step.Step.TheVariants.{WriteMode, WriteNormal, WriteEmergency, WriteMinOver, WriteMinUnder, WriteProfile, Disconnect, Reconnect}
 
--- the parameter of a step: a method's is the integer 0
+-- the parameter of a step; that of a method is the integer 0
 abbrev pub parameter_of : Step → Data
 parameter_of (WriteMode mode) = Enum (mode_number mode)
 parameter_of (WriteNormal which watts) = DoubleLongUnsigned watts
@@ -22,7 +23,7 @@ parameter_of (WriteProfile which profile) = profile_data profile
 parameter_of Disconnect = Integer (pos 0)
 parameter_of Reconnect = Integer (pos 0)
 
--- a step of this address and parameter
+-- a step with this address and parameter
 abbrev pub addressed : Address → Data → Data
 addressed address parameter =
     structure_with (Enum address.service ∷ LongUnsigned address.class.0 ∷ OctetString address.name.0 ∷ Integer address.index ∷ parameter ∷ [])

@@ -1,8 +1,9 @@
-//! The scripts of a meter's script table (IEC 62056-6-2, class 9): the table as it is written and read back, and the
-//! steps of its scripts.
+//! The scripts of a meter's script table (IEC 62056-6-2, class 9): the table, read and written, and
+//! the steps of its scripts.
 //!
-//! A step writes an attribute, or executes a method, of the disconnect control or of one of the two limiters. Which of
-//! these a table may hold, and its limits of 16 scripts and eight steps each, are this product's own.
+//! A step writes an attribute, or executes a method, of the disconnect control or of one of the two
+//! limiters. Which steps a table may hold, and its limits of 16 scripts and of eight steps each,
+//! are rules of this product.
 #![tactic(auto)]
 
 mod action;

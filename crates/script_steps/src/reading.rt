@@ -17,7 +17,7 @@ use limiter_attributes::{read_number, read_profile};
 use listed::Listed;
 use std::alloc::{AllocError, Global};
 
-/// The parameter of a method: null-data or an integer.
+/// Reads the parameter of a method: null-data or an integer, else `Unmatched`.
 fn read_method_parameter(value: &Data) -> Result<(), WriteFault>
     ensures { result ≡ method_parameter_of value.now }
 {
@@ -27,7 +27,8 @@ fn read_method_parameter(value: &Data) -> Result<(), WriteFault>
     }
 }
 
-/// The step of an action, with its parameter.
+/// Reads the step of an action with its parameter: `Unmatched` if the parameter's type differs,
+/// then `Value` if the attribute does not accept the value.
 #[tactic(auto, unfolding(crate::specs::Reading::step_with))]
 fn step_with(action: Action, parameter: &Data) -> Result<Step, WriteFault>
     ensures exact { result ≡ step_with action parameter.now }
@@ -51,7 +52,8 @@ fn step_with(action: Action, parameter: &Data) -> Result<Step, WriteFault>
     })
 }
 
-/// A step.
+/// Reads a step. Errors, judged in this order: `Unmatched` if a type other than the parameter's
+/// differs, `Value` if the step is not listed, then the parameter's.
 #[tactic(auto, unfolding(crate::specs::Reading::step_of))]
 fn read_step(value: &Data) -> Result<Step, WriteFault>
     ensures exact { result ≡ step_of value.now }
@@ -62,7 +64,8 @@ fn read_step(value: &Data) -> Result<Step, WriteFault>
     step_with(action, parameter)
 }
 
-/// The identifier of a script, and its steps, once these are judged.
+/// Returns the identifier of a script and its steps, once all of them are judged. The steps' fault
+/// is reported first, then `Value` if the identifier is 0 or there are more than `MAX_STEPS` steps.
 #[tactic(auto, unfolding(crate::specs::Reading::judged_script))]
 fn judge_script(value: &Data) -> Result<(u16, &[Data]), WriteFault>
     ensures exact { result_map_both (λ parts. (parts.0, parts.1.now)) (λ fault. fault) result ≡ judged_script value.now }
@@ -76,7 +79,7 @@ fn judge_script(value: &Data) -> Result<(u16, &[Data]), WriteFault>
     Ok((identifier, steps))
 }
 
-/// The fault of a script.
+/// Judges a script without keeping it.
 #[tactic(auto, unfolding(crate::specs::Reading::script_of))]
 fn script_fault(value: &Data) -> Result<(), WriteFault>
     ensures { result ≡ result_map_both (λ script. tt) (λ fault. fault) (script_of value.now) }
@@ -92,7 +95,7 @@ fn is_identifier_of_any(items: &[Data], identifier: u16) -> bool
     items.iter().any(|item| identifier_in(item) == identifier)
 }
 
-/// Whether each script has an identifier of its own.
+/// Whether all scripts have different identifiers.
 fn are_distinct(items: &[Data]) -> bool
     ensures { result ≡ are_distinct identifier_of items.now }
 {
@@ -104,7 +107,8 @@ fn are_distinct(items: &[Data]) -> bool
     true
 }
 
-/// The fault that is told of the scripts, each by itself.
+/// Judges each script individually: `Unmatched` if any has a wrong type, then `Value` if any has a
+/// wrong value.
 fn judge_each_script(items: &[Data]) -> Result<(), WriteFault>
     ensures exact { result ≡ told script_of items.now }
     ensures no_memory { ¬ IsErrOf result WriteFault.Memory }
@@ -112,7 +116,8 @@ fn judge_each_script(items: &[Data]) -> Result<(), WriteFault>
     judge_each(items, |item| script_fault(item))
 }
 
-/// The fault of scripts: another type of one is told before any other.
+/// Judges a table's scripts: the fault of a script first, then `Value` if there are more than
+/// `MAX_SCRIPTS` or two have the same identifier.
 #[tactic(auto, unfolding(crate::specs::Reading::judged_scripts))]
 pub(crate) fn judge_scripts(items: &[Data]) -> Result<(), WriteFault>
     ensures exact { result ≡ judged_scripts items.now }
@@ -125,7 +130,7 @@ pub(crate) fn judge_scripts(items: &[Data]) -> Result<(), WriteFault>
     Ok(())
 }
 
-/// The steps that have no fault.
+/// Returns the steps that have no fault.
 fn read_steps(alloc: Global, items: &[Data]) -> Result<Listed<Step>, AllocError>
     ensures steps { IfOk result (λ steps. steps ≡ values step_of items.now) }
     ensures fit { IfOk result (λ steps. All IsStep steps) }
@@ -141,7 +146,7 @@ fn read_steps(alloc: Global, items: &[Data]) -> Result<Listed<Step>, AllocError>
     Ok(Listed::from_vec(steps))
 }
 
-/// A script, or None where it has a fault.
+/// Reads a script. Returns `None` if it has a fault.
 #[tactic(auto, unfolding(crate::specs::Reading::script_of, crate::specs::Reading::judged_script))]
 fn read_script(alloc: Global, value: &Data) -> Result<Option<Script>, AllocError>
     ensures script { IfOk result (λ script. script ≡ result_ok (script_of value.now)) }
@@ -154,7 +159,7 @@ fn read_script(alloc: Global, value: &Data) -> Result<Option<Script>, AllocError
     Ok(Some(Script { identifier, steps }))
 }
 
-/// The scripts that have no fault.
+/// Returns the scripts that have no fault.
 pub(crate) fn read_scripts(alloc: Global, items: &[Data]) -> Result<Listed<Script>, AllocError>
     ensures scripts { IfOk result (λ scripts. scripts ≡ values script_of items.now) }
     ensures fit { IfOk result (λ scripts. All IsScript scripts) }

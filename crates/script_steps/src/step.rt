@@ -3,7 +3,7 @@ use disconnect_control::ControlMode;
 use limiter_core::Profile;
 use listed::Listed;
 
-/// A step of a script: what it writes or executes.
+/// A step of a script: what it writes or executes (IEC 62056-6-2, class 9, scripts).
 #[derive(Clone, Copy, Debug)]
 pub enum Step {
     /// Writes `control_mode` of the disconnect control (class 70, attribute 4).
@@ -27,8 +27,8 @@ pub enum Step {
 /// A script: its identifier, and its steps in order.
 #[derive(Debug, Drop)]
 pub struct Script {
-    /// `script_identifier`, by which it is selected: not 0.
+    /// `script_identifier`, by which the script is selected: not 0.
     pub identifier: u16,
-    /// Eight steps at most.
+    /// The steps, in the order in which they run: at most `MAX_STEPS`.
     pub steps: Listed<Step>,
 }

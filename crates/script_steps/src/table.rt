@@ -13,16 +13,16 @@ use listed::Listed;
 use std::alloc::{AllocError, Global};
 use std::marker::Model;
 
-/// The most scripts that a table holds.
+/// The maximum number of scripts in a table.
 pub const MAX_SCRIPTS: usize = 16;
 
-/// The most steps that a script has.
+/// The maximum number of steps of a script.
 pub const MAX_STEPS: usize = 8;
 
 /// The selector of the null script, which every table has and which has no steps.
 pub const NULL_SCRIPT: u16 = 0;
 
-/// A script table (IEC 62056-6-2, class 9, attribute 2): scripts, each with an identifier of its own.
+/// A script table (IEC 62056-6-2, class 9, attribute 2): scripts with different identifiers.
 #[derive(Debug, Drop)]
 pub struct ScriptTable {
     scripts: Listed<Script>,
@@ -40,7 +40,7 @@ impl Model for ScriptTable {
     ghost invariant = { λ table. IsTable table.scripts };
 }
 
-/// A copy of scripts.
+/// Returns a copy of scripts.
 fn copy_scripts(alloc: Global, scripts: &[Script]) -> Result<Listed<Script>, AllocError>
     ensures { IfOk result (λ copies. copies ≡ scripts.now) }
 {
@@ -56,7 +56,7 @@ fn copy_scripts(alloc: Global, scripts: &[Script]) -> Result<Listed<Script>, All
 }
 
 impl ScriptTable {
-    /// A table without scripts. It takes no memory.
+    /// Returns a table without scripts. Does not allocate.
     pub fn new(alloc: Global) -> ScriptTable
         ensures { result ≡ [] }
     {
@@ -65,12 +65,13 @@ impl ScriptTable {
         }
     }
 
-    /// The table that a Data is the written form of: an array of scripts, each a structure of its identifier and an
-    /// array of its steps, each of these a structure of service_id, class_id, logical_name, index and parameter.
+    /// Reads a table from the Data that a client writes to attribute 2: an array of scripts, each a
+    /// structure of its identifier and an array of its steps. A step is a structure of service_id,
+    /// class_id, logical_name, index and parameter.
     ///
-    /// Another type anywhere is told before any value that isn't taken: too many scripts or steps, an identifier that is 0
-    /// or stands twice, a step that isn't listed, or a value that its attribute doesn't take. Either is told before want of
-    /// memory.
+    /// Errors, judged in this order: `Unmatched` if a type differs anywhere; `Value` if there are
+    /// too many scripts or steps, an identifier is 0 or occurs twice, a step is not listed, or its
+    /// attribute does not accept the value; `Memory` if out of memory.
     #[tactic(auto, unfolding(crate::specs::Reading::table_of))]
     pub fn from_data(alloc: Global, value: &Data) -> Result<ScriptTable, WriteFault>
         ensures ok { IfOk result (λ table. table_of value.now ≡ Ok table) }
@@ -84,17 +85,17 @@ impl ScriptTable {
         Ok(ScriptTable { scripts })
     }
 
-    /// The table as attribute 2 is read. A start of an emergency profile is an octet-string, the parameter of a method
-    /// the integer 0.
+    /// Returns the table as Data, as a client reads attribute 2. The start of an emergency profile
+    /// is an octet-string, the parameter of a method is the integer 0. Fails only if out of memory.
     pub fn to_data(&self, alloc: Global) -> Result<Data, AllocError>
         ensures value { IfOk result (λ value. value ≡ data_of self.now) }
-        // Written again, it gives the table back.
+        // Reading the Data returns the table.
         ensures again { IfOk result (λ value. table_of value ≡ Ok self.now) }
     {
         write_scripts(alloc, self.scripts.as_slice())
     }
 
-    /// The scripts, in order.
+    /// Returns the scripts, in order.
     pub fn scripts(&self) -> &[Script]
         ensures scripts { result.now ≡ self.now }
         ensures fit { IsTable self.now }
@@ -102,7 +103,7 @@ impl ScriptTable {
         self.scripts.as_slice()
     }
 
-    /// The script with this identifier.
+    /// Returns the script with this identifier, or `None` if the table has none.
     #[tactic(auto, using(crate::proofs::Tables::found_fits))]
     fn script(&self, identifier: u16) -> Option<&Script>
         ensures script { option_map (λ script. script.now) result ≡ script_at identifier self.now }
@@ -114,8 +115,9 @@ impl ScriptTable {
             .find(|script| script.identifier == identifier)
     }
 
-    /// How many steps the script of a selector has, or None where no script has that identifier. Selector 0 is the null
-    /// script, with no steps. It takes no memory.
+    /// Returns the number of steps of the script that a selector selects, or `None` if no script
+    /// has that identifier. Selector 0 selects the null script, which has no steps. Does not
+    /// allocate.
     #[tactic(auto, unfolding(crate::specs::Table::steps_at))]
     pub fn step_count(&self, selector: u16) -> Option<u8>
         ensures count { result ≡ option_map length (steps_at selector self.now) }
@@ -129,7 +131,7 @@ impl ScriptTable {
         Some(script.steps.len() as u8)
     }
 
-    /// Step `i` of the script of a selector; the first has number 0. It takes no memory.
+    /// Returns step `i` of the script that a selector selects, counted from 0. Does not allocate.
     #[tactic(auto, unfolding(crate::specs::Table::steps_at))]
     pub fn step(&self, selector: u16, i: u8) -> Step
         requires { i < length (running_steps selector self.now) }
@@ -142,7 +144,7 @@ impl ScriptTable {
         }
     }
 
-    /// A copy of the table, in memory of its own.
+    /// Returns a copy of the table, or an error if out of memory.
     pub fn try_clone(&self, alloc: Global) -> Result<ScriptTable, AllocError>
         ensures copy { IfOk result (λ table. table ≡ self.now) }
         ensures fit { IsTable self.now }

@@ -11,12 +11,12 @@ use Rattle.xdlms_blocks.specs.Sending.{block_after, is_last, after_next}
 use Rattle.xdlms_blocks.specs.Blocks.{AreBlocks, last_block, full_block, joined, unsent, pieces_in, pieces_of, unjoined, Joins, at_last, goes_on}
 use Rattle.xdlms_blocks.proofs.SendingLemmas.{take_whole}
 
--- these pieces are the blocks of what is left of a text
+-- these pieces are the blocks of the rest of a text
 pub record AreRest (size number : ℕ) (pieces : List Piece) (rest : List ℕ) : Type 0 where
   pub blocks : AreBlocks size number pieces
   pub whole : joined pieces ≡ rest
 
--- the next piece and those after it, by whether it is the last
+-- the next piece and those after it, by whether the next one is the last
 rest_by : (last : Bool) (size number : ℕ) (text : List ℕ) (later : List Piece) → 0 < size → number * size < length text
     → nat_le (length text) ((number + 1) * size) ≡ last → (last ≡ false → AreRest size (number + 1) later (drop ((number + 1) * size) text))
     → AreRest size number (record { last = last; number = number + 1; raw = block_after number size text } ∷ cond last [] later) (drop (number * size) text)
@@ -41,7 +41,7 @@ rest_by false size number text later some more is_last rest =
           ∙ take-append-drop size (drop (number * size) text);
     }
 
--- pieces that are given from a state on are the blocks of what is left
+-- the pieces returned from a state on are the blocks of the rest of the text
 rest_in : (most : ℕ) (s : Sending) → 0 < s.size → s.number * s.size < length s.text → length s.text ≤ s.number * s.size + most
     → AreRest s.size s.number (pieces_in most s) (drop (s.number * s.size) s.text)
 unfolding pieces_in
@@ -65,7 +65,7 @@ is_cut text size some fits = (rest_of_all text size some fits).blocks
 pub is_whole : (text : List ℕ) (size : ℕ) → 0 < length text → 0 < size → joined (pieces_of text size) ≡ text
 is_whole text size some fits = (rest_of_all text size some fits).whole
 
--- blocks that come in order are joined
+-- blocks that arrive in order are joined
 joins_from : (size number : ℕ) (pieces : List Piece) → AreBlocks size number pieces → (bytes : List ℕ) → length bytes + length (joined pieces) ≤ max_joined
     → Joins (record { number = number; bytes = bytes; is_open = true }) pieces (bytes ++ joined pieces)
 joins_from size _ _ (last_block number raw some fits) bytes short =
@@ -82,11 +82,11 @@ joins_from size _ _ (full_block number raw pieces full later) bytes short =
 pub is_joined : (size : ℕ) (pieces : List Piece) → AreBlocks size 0 pieces → length (joined pieces) ≤ max_joined → Joins unjoined pieces (joined pieces)
 is_joined size pieces blocks short = joins_from size 0 pieces blocks [] (omega arith)
 
--- one piece, whose mark and part are known
+-- one piece with a given mark and part
 piece_of : Bool → ℕ → List ℕ → Piece
 piece_of last number raw = record { last = last; number = number; raw = raw }
 
--- pieces that end here, and pieces that go on
+-- pieces that end here, and pieces that do not
 ends_here : (last : Bool) (number : ℕ) (raw part : List ℕ) (later : List Piece) → last ≡ true → raw ≡ part
     → piece_of last number raw ∷ cond last [] later ≡ piece_of true number part ∷ []
 ends_here true number raw part later is e = ap (λ (xs : List ℕ). piece_of true number xs ∷ []) e
@@ -97,12 +97,12 @@ goes_further : (last : Bool) (number : ℕ) (raw part : List ℕ) (later pieces 
 goes_further true number raw part later pieces is e same = absurd cc
 goes_further false number raw part later pieces is e same = cc
 
--- blocks have a byte at least
+-- blocks have at least one byte
 some_joined : (size number : ℕ) (pieces : List Piece) → 0 < size → AreBlocks size number pieces → 0 < length (joined pieces)
 some_joined size _ _ fits (last_block number raw some within) = omega (arith, length-append raw [])
 some_joined size _ _ fits (full_block number raw pieces full later) = omega (arith, length-append raw (joined pieces))
 
--- the blocks of what is left of a text are the pieces that are given
+-- the blocks of the rest of a text are the pieces that a transfer returns
 only_in : (size number : ℕ) (pieces : List Piece) → 0 < size → AreBlocks size number pieces → (most : ℕ) (text : List ℕ) (going : Bool)
     → drop (number * size) text ≡ joined pieces → length text ≤ number * size + most → pieces_in most (record { text = text; number = number; size = size; is_open = going }) ≡ pieces
 unfolding pieces_in piece_of

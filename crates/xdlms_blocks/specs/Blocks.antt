@@ -1,8 +1,11 @@
 -- The blocks of a text (IEC 62056-5-3, block transfer).
---     AreBlocks     pieces are the blocks of one text, in order: numbered by ones, each full but the last, and the last alone marked
---     joined        their parts, end to end
---     pieces_of     the pieces that a transfer gives, each asked for by the number of the one before
---     Joins         adding pieces in order gives no text before the last, and this text at the last
+--     AreBlocks     pieces are the blocks of one text, in order: numbered from one on, each of the
+--                   full size but the last, and only the last is marked as the last
+--     joined        the concatenation of their parts
+--     pieces_of     the pieces that a transfer returns if each is requested by the number of the
+--                   one before
+--     Joins         adding pieces in order returns no text before the last, and this text at the
+--                   last
 use Rattle.std.specs.Prelude.{◌≡◌, ℕ, zero, suc, ◌+◌, ◌<◌, ◌≤◌, true, false, List, [], ◌∷◌, length, Some, None, if◌then◌else◌}
 use Rattle.std.specs.List.{flat_map}
 use Rattle.xdlms_blocks.specs.declared.blocks.Piece.{Piece}
@@ -11,39 +14,40 @@ use Rattle.xdlms_blocks.specs.Transfer.{Sending, Joining}
 use Rattle.xdlms_blocks.specs.Sending.{is_last, next_piece, after_next}
 use Rattle.xdlms_blocks.specs.Joining.{added_text, after_added}
 
--- pieces are the blocks of `size` bytes that come after so many others
+-- pieces are the blocks of `size` bytes that follow the first `number` blocks
 pub data AreBlocks (size : ℕ) : ℕ → List Piece → Type 0 where
   last_block : (number : ℕ) (raw : List ℕ) → 0 < length raw → length raw ≤ size → AreBlocks size number (record { last = true; number = number + 1; raw = raw } ∷ [])
   full_block : (number : ℕ) (raw : List ℕ) (pieces : List Piece) → length raw ≡ size → AreBlocks size (number + 1) pieces → AreBlocks size number (record { last = false; number = number + 1; raw = raw } ∷ pieces)
 
--- the parts of a text, end to end
+-- the concatenation of the parts of a text
 abbrev pub joined : List Piece → List ℕ
 joined pieces = flat_map (λ piece. piece.raw) pieces
 
--- a text of which no block is given
+-- a text of which no block is sent
 abbrev pub unsent : List ℕ → ℕ → Sending
 unsent text size = record { text = text; number = 0; size = size; is_open = true }
 
--- the next pieces, so many at most, up to the last
+-- the next pieces, up to the last, and at most a given number of them
 unfoldable pub pieces_in : ℕ → Sending → List Piece
 pieces_in zero s = []
 pieces_in (suc most) s = next_piece s ∷ (if is_last s then [] else pieces_in most (after_next s))
 
--- all pieces of a text; each has a byte at least
+-- all pieces of a text; each has at least one byte
 unfoldable pub pieces_of : List ℕ → ℕ → List Piece
 pieces_of text size = pieces_in (length text) (unsent text size)
 
--- no block has come
+-- a transfer of which no block has arrived
 abbrev pub unjoined : Joining
 unjoined = record { number = 0; bytes = []; is_open = true }
 
--- a piece is refused by none of the faults
+-- a piece is accepted: no fault refuses it
 pub record IsDue (j : Joining) (piece : Piece) : Type 0 where
   pub going : j.is_open ≡ true
   pub next : piece.number ≡ j.number + 1
   pub short : length j.bytes + length piece.raw ≤ max_joined
 
--- adding pieces in order, from this state on, gives no text before the last and this text at the last
+-- adding pieces in order, from this state on, returns no text before the last and this text at the
+-- last
 pub data Joins : Joining → List Piece → List ℕ → Type 0 where
   at_last : (j : Joining) (piece : Piece) (text : List ℕ) → IsDue j piece → added_text piece.last piece.raw j ≡ Some text → Joins j (piece ∷ []) text
   goes_on : (j : Joining) (piece : Piece) (pieces : List Piece) (text : List ℕ) → IsDue j piece → added_text piece.last piece.raw j ≡ None → Joins (after_added piece.last piece.raw j) pieces text → Joins j (piece ∷ pieces) text

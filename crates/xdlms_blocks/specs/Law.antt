@@ -1,14 +1,14 @@
--- Laws of the blocks of a text.
+-- The laws of the blocks of a text.
 use Rattle.std.specs.Prelude.{◌≡◌, ℕ, ◌<◌, ◌≤◌, List, length}
 use Rattle.xdlms_blocks.specs.declared.blocks.Piece.{Piece}
 use Rattle.xdlms_blocks.specs.Limits.{max_joined}
 use Rattle.xdlms_blocks.specs.Blocks.{AreBlocks, joined, pieces_of, unjoined, Joins}
 
--- the pieces that are given are the blocks of the text
+-- the pieces that a transfer returns are the blocks of the text
 abbrev pub IsCut : Type 0
 IsCut = (text : List ℕ) (size : ℕ) → 0 < length text → 0 < size → AreBlocks size 0 (pieces_of text size)
 
--- end to end they are the text
+-- their concatenation is the text
 abbrev pub IsWhole : Type 0
 IsWhole = (text : List ℕ) (size : ℕ) → 0 < length text → 0 < size → joined (pieces_of text size) ≡ text
 
@@ -16,6 +16,6 @@ IsWhole = (text : List ℕ) (size : ℕ) → 0 < length text → 0 < size → jo
 abbrev pub IsOnly : Type 0
 IsOnly = (size : ℕ) (pieces : List Piece) → 0 < size → AreBlocks size 0 pieces → pieces ≡ pieces_of (joined pieces) size
 
--- blocks that come in order give the text that was cut
+-- blocks that arrive in order give the text that was cut
 abbrev pub IsJoined : Type 0
 IsJoined = (size : ℕ) (pieces : List Piece) → AreBlocks size 0 pieces → length (joined pieces) ≤ max_joined → Joins unjoined pieces (joined pieces)

@@ -1,4 +1,4 @@
--- The number of each fault.
+-- The numbers of the faults.
 use Rattle.std.specs.Prelude.{ℕ}
 use Rattle.xdlms_blocks.specs.declared.fault.BlockFault.{BlockFault}
 use Rattle.xdlms_blocks.specs.declared.fault.BlockFault.TheVariants as fault

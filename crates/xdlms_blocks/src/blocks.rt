@@ -1,17 +1,17 @@
 use octets::Octets;
 
-/// How many blocks a text may have.
+/// The maximum number of blocks of a text.
 pub(crate) const MAX_BLOCKS: usize = 4_294_967_295;
-/// How many bytes a text that is put together may have.
+/// The maximum length of a joined text, in bytes.
 pub(crate) const MAX_JOINED: usize = 8192;
 
-/// One block of a long text.
+/// One block of a long text (IEC 62056-5-3, DataBlock).
 #[derive(Debug, Drop)]
 pub struct Piece {
-    /// Whether the text ends with it.
+    /// Whether the block is the last of the text (last-block).
     pub last: bool,
-    /// Its number: 1 for the first, and for each other one more than for the one before.
+    /// The block's number (block-number): 1 for the first, and one more for each further block.
     pub number: u32,
-    /// Its part of the text.
+    /// The block's part of the text (raw-data).
     pub raw: Octets,
 }

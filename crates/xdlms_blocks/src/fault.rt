@@ -5,24 +5,24 @@ ghost use Rattle.xdlms_blocks.specs.declared.fault.BlockFault.TheVariants.{Memor
 use std::alloc::AllocError;
 use thiserror::Error;
 
-/// Why a transfer in blocks does not go on. All but `Memory` end it.
+/// Why a block transfer cannot continue. Every fault but `Memory` ends the transfer.
 #[derive(Clone, Copy, Debug, PartialEq, Eq, Error)]
 pub enum BlockFault {
-    /// The transfer is over.
+    /// The transfer has ended.
     #[error("no transfer goes on")]
     NoTransfer = 1,
-    /// The number is not that of the block that is due.
+    /// The block number is not the expected one.
     #[error("the number of another block")]
     WrongNumber = 2,
     /// The joined text would be longer than 8,192 bytes.
     #[error("blocks of more than 8,192 bytes")]
     TooLong = 3,
-    /// Memory ran out.
+    /// Out of memory. The transfer is unchanged, and the call can be repeated.
     #[error("out of memory")]
     Memory = 4,
 }
 
-/// The number of the fault, 1 to 4.
+/// Returns the number of the fault, 1 to 4.
 impl From<BlockFault> for u8 {
     ghost from_gives = { λ fault number. number ≡ fault_number fault };
 

@@ -8,11 +8,12 @@ use octets::Octets;
 use std::alloc::Global;
 use std::marker::Model;
 
-/// A long text that comes in blocks. Contracts see the number of the block last added, the bytes so far, and whether the transfer goes on.
+/// A long text that arrives in blocks. Contracts see the number of the block last added, the bytes
+/// so far, and whether the transfer is open.
 #[derive(Debug, Drop)]
 pub struct JoinBlocks {
     number: u32,
-    // None once the transfer is over.
+    // `None` after the transfer has ended.
     bytes: Option<Octets>,
 }
 
@@ -29,7 +30,7 @@ impl Model for JoinBlocks {
 }
 
 impl JoinBlocks {
-    /// A transfer of which no block has come. It takes no memory.
+    /// Returns a transfer of which no block has arrived. Does not allocate.
     pub fn new(alloc: Global) -> Self
         ensures { result ≡ record { number = 0; bytes = []; is_open = true } }
     {
@@ -39,7 +40,11 @@ impl JoinBlocks {
         }
     }
 
-    /// Adds a block, whose number is one more than that of the block before it and 1 for the first. At the last block it gives the joined text.
+    /// Adds a block, whose number is one more than that of the block before it, or 1 for the first.
+    /// Returns the joined text at the last block, and `None` before it.
+    ///
+    /// Errors, judged in this order: `NoTransfer` if the transfer has ended, `WrongNumber`,
+    /// `TooLong` if the text would be longer than 8,192 bytes, `Memory` if out of memory.
     pub fn add(&mut self, last: bool, number: u32, raw: &[u8]) -> Result<Option<Octets>, BlockFault>
         ensures no_transfer { IsErrOf result BlockFault.NoTransfer ↔ (self.old.is_open ≡ false) }
         ensures wrong_number { IsErrOf result BlockFault.WrongNumber ↔ ((self.old.is_open ≡ true) × (number ≢ self.old.number + 1)) }
@@ -48,7 +53,7 @@ impl JoinBlocks {
         ensures text { IfOk result (λ text. text ≡ added_text last raw.now self.old) }
         ensures ok { OnOk result (self.new ≡ after_added last raw.now self.old) }
 
-        // Want of memory changes nothing, and each other fault ends the transfer.
+        // Out of memory nothing changes; every other fault ends the transfer.
         ensures err { IfErr result (λ fault. self.new ≡ joining_by fault self.old) }
     {
         let Some(mut bytes) = self.bytes.take() else {

@@ -1,6 +1,7 @@
 ghost use Rattle.xdlms_blocks.specs.Law.{IsCut, IsWhole, IsOnly, IsJoined};
 
-/// A text is cut in one way: the pieces that are given are its blocks and no others are, end to end they are the text, and joined in order they give it again.
+/// A text is cut in one way. The pieces that a transfer returns are its blocks, and no other pieces
+/// are. Their concatenation is the text, and joining them in order returns it.
 pub fn one_text()
     ensures cut { IsCut }
     ensures whole { IsWhole }

@@ -8,8 +8,9 @@ use octets::Octets;
 use std::alloc::Global;
 use std::marker::Model;
 
-/// A long text that is sent in blocks, each when the one before is named. Contracts see the text, the number of the block last given, the raw bytes of a
-/// block, and whether the transfer goes on.
+/// A long text that is sent in blocks, each requested by the number of the block before it.
+/// Contracts see the text, the number of the block last returned, the number of raw bytes of a
+/// block, and whether the transfer is open.
 #[derive(Debug, Drop)]
 pub struct GetBlocks {
     text: Octets,
@@ -29,14 +30,15 @@ impl Model for GetBlocks {
 }
 
 impl GetBlocks {
-    /// Whether there are numbers for all blocks of `size` bytes that `raw` has.
+    /// Whether there are numbers for all blocks of `size` bytes of `raw`.
     pub fn has_numbers_for(raw: &[u8], size: u16) -> bool
         ensures { result ≡ nat_le (length raw.now) (max_blocks * size) }
     {
         raw.len() <= MAX_BLOCKS * usize::from(size)
     }
 
-    /// A transfer of `raw` in blocks of `size` bytes, 52 at least, of which none is given. It takes no memory.
+    /// Returns a transfer of `raw` in blocks of `size` bytes, at least 52, of which none is sent.
+    /// Does not allocate.
     pub fn new(raw: Octets, size: u16) -> Self
         requires size { min_block_size ≤ size }
         requires some { 0 < length raw }
@@ -51,7 +53,11 @@ impl GetBlocks {
         }
     }
 
-    /// The next block, where `after` is the number of the block last given, or 0 before the first.
+    /// Returns the next block. `after` is the number of the block last returned, or 0 before the
+    /// first.
+    ///
+    /// Errors, judged in this order: `NoTransfer` if the transfer has ended, `WrongNumber` if
+    /// `after` is another number, `Memory` if out of memory.
     pub fn next(&mut self, alloc: Global, after: u32) -> Result<Piece, BlockFault>
         ensures no_transfer { IsErrOf result BlockFault.NoTransfer ↔ (self.old.is_open ≡ false) }
         ensures wrong_number { IsErrOf result BlockFault.WrongNumber ↔ ((self.old.is_open ≡ true) × (after ≢ self.old.number)) }
@@ -59,7 +65,7 @@ impl GetBlocks {
         ensures piece { IfOk result (λ piece. piece ≡ next_piece self.old) }
         ensures ok { OnOk result (self.new ≡ after_next self.old) }
 
-        // Want of memory changes nothing, and each other fault ends the transfer.
+        // Out of memory nothing changes; every other fault ends the transfer.
         ensures err { IfErr result (λ fault. self.new ≡ sending_by fault self.old) }
     {
         if !self.is_open {

@@ -1,4 +1,4 @@
--- The fields are a limiter again after samples under the threshold.
+-- The fields form a limiter after samples under the threshold.
 use Rattle.std.proofs.Common.{◌∙◌, ◌≤◌, subst}
 use Rattle.limiter_core.specs.declared.kinds.Kind.{Kind}
 use Rattle.limiter_core.specs.State.{quiet_count}

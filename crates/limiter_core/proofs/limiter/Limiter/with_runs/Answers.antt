@@ -1,4 +1,4 @@
--- The new limiter stands for the rows of its opening.
+-- The new limiter represents the rows that restore it.
 use Rattle.std.proofs.Common.{rules}
 use Rattle.limiter_core.specs.State.{IsFit}
 use Rattle.limiter_core.proofs.Opening.{opened}
