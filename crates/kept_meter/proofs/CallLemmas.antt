@@ -1,4 +1,4 @@
--- A history of calls with one call more.
+-- The effect of one more call on a history of calls.
 use Rattle.std.proofs.Common.{◌≡◌, ℕ, List, [], ◌∷◌, ◌++◌, IfOk, OnErr, Result, Ok, Err, refl, sym, subst}
 use Rattle.std.proofs.lemmas.List.{map-append}
 use Rattle.std.specs.declared.alloc.AllocError.{AllocError}
@@ -15,7 +15,7 @@ use Rattle.kept_meter.specs.Calls.{Calls, told, Stands, HasCalls}
 told_more : (calls : Calls) (call : Entry Event Reply) → told (calls ++ call ∷ []) ≡ told calls ++ (call.event, call.reply) ∷ []
 told_more calls call = map-append (λ (c : Entry Event Reply). (c.event, c.reply)) calls (call ∷ [])
 
--- a recorder that took an event and answered it stands for a call more, whoever made it
+-- a recorder that took an event and replied has one more call, whichever port made it
 pub stands_on : (result : Result Reply AllocError) (old new : Recording) (origin : Opening) (event : Event) → IfOk result (Continues old new event)
     → IfOk result (λ (reply : Reply). (by : List ℕ) (calls : Calls) → Stands (record { recorder = old; origin = origin }) calls
     → Stands (record { recorder = new; origin = origin }) (calls ++ entry by event reply ∷ []))
@@ -24,11 +24,11 @@ stands_on (Ok reply) old new origin event continues = λ by calls stands.
     (continues.histories (told calls) (opened origin) stands)
 stands_on (Err error) old new origin event continues = tt
 
--- a recorder that has taken no event stands for no calls
+-- a recorder that has taken no event has no calls
 pub has_none : (recorder : Recording) (origin : Opening) → StandsForHistory recorder [] (opened origin) → HasCalls (record { recorder = recorder; origin = origin })
 has_none recorder origin stands = record { calls = []; stands = stands }
 
--- a recorder that took an event, or didn't, has its calls still
+-- a recorder still has its calls after an event that it took or refused
 pub has_still : (result : Result Reply AllocError) (old new : Recording) (origin : Opening) (event : Event) → IfOk result (Continues old new event) → OnErr result (new ≡ old)
     → HasCalls (record { recorder = old; origin = origin }) → HasCalls (record { recorder = new; origin = origin })
 has_still (Ok reply) old new origin event continues same has = record {

@@ -1,4 +1,4 @@
--- A recorder behind a lock may go to another thread.
+-- A recorder in a lock is `Send`.
 use denote.RattleType.{RattleType}
 use denote.Param.Send.{IsSend, sendable, recorded_send, struct_send}
 use denote.Struct.Declared.{shape}

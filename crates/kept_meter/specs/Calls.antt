@@ -1,4 +1,4 @@
--- The histories of calls that a recorder behind a lock stands for.
+-- The histories of calls that a recorder in a lock may have.
 use Rattle.std.specs.Prelude.{◌≡◌, List, map, IsTrue}
 use Rattle.turn_lock.specs.declared.turned.Entry.{Entry}
 use Rattle.relay_events.specs.declared.event.Event.{Event}
@@ -9,27 +9,27 @@ use Rattle.relay_core.specs.Opening.{opened}
 use Rattle.relay_recorder.specs.Histories.{Told, StandsForHistory, events_of, replies_of, replies_from}
 use Rattle.kept_meter.specs.KeptRecorder.{KeptRecorder}
 
--- the calls of all ports, the oldest first
+-- the calls of all ports, oldest first
 abbrev pub Calls : Type 0
 Calls = List (Entry Event Reply)
 
--- the events of the calls, and the replies that they got, whoever made them
+-- the events of the calls with their replies, without the port that made each
 abbrev pub told : Calls → List Told
 told calls = map (λ (call : Entry Event Reply). (call.event, call.reply)) calls
 
--- the replies are those of the run over the events, from the world that the opening tells of
+-- the replies are those of the run over the events, from the world of the opening
 abbrev pub IsLegal : Opening → Calls → Type 0
 IsLegal origin calls = replies_of (told calls) ≡ replies_from (opened origin) (events_of (told calls))
 
--- the recorder stands for the calls, from the world of its origin
+-- the recorder results from these calls, starting from the world of its origin
 abbrev pub Stands : KeptRecorder → Calls → Type 0
 Stands kept calls = StandsForHistory kept.recorder (told calls) (opened kept.origin)
 
--- there are calls that the recorder stands for
+-- There are calls that the recorder results from.
 pub record HasCalls (kept : KeptRecorder) : Type 0 where
   pub calls : Calls
   pub stands : Stands kept calls
 
--- the event takes no memory, so that it is always answered
+-- the event never runs out of memory, so that it always has a reply
 abbrev pub IsSure : Event → Type 0
 IsSure event = IsTrue (is_sure event)

@@ -10,9 +10,10 @@ use std::marker::Model;
 use std::snapshot::Snapshot;
 use turn_lock::Turned;
 
-/// A recorder that can lie behind a lock.
+/// A recorder that can be the value of a turn lock.
 ///
-/// Contracts see the recorder, and the origin of its history: the opening of the core that it had when it was put here.
+/// Contracts see the recorder and the origin of its history: the saved state of its core when this
+/// value was made.
 #[derive(Drop)]
 pub struct Kept {
     recorder: Recorder,
@@ -38,7 +39,8 @@ impl Model for Kept {
 }
 
 impl Kept {
-    /// A recorder that has no events, of a new meter or of one that goes on from an opening. It takes no memory.
+    /// Wraps a recorder that has no events, of a new meter or of one that continues from an
+    /// opening. Does not allocate.
     pub fn new(recorder: Recorder) -> Kept
         requires { recorder.events ≡ [] }
         ensures recorder { result.recorder ≡ recorder }
@@ -51,21 +53,21 @@ impl Kept {
         Kept { recorder, start }
     }
 
-    /// There are calls that it stands for. It takes no memory, and the recorder is only looked at.
+    /// Proves that there are calls that the recorder results from. Does nothing at run time.
     pub fn has_calls(&self)
         ensures { HasCalls self.now }
     {
         let _recorder = &self.recorder;
     }
 
-    /// The recorder.
+    /// Returns the recorder.
     pub fn recorder(&self) -> &Recorder
         ensures { result.now ≡ self.now.recorder }
     {
         &self.recorder
     }
 
-    /// The recorder, taken out.
+    /// Consumes the wrapper and returns the recorder.
     pub fn into_recorder(self) -> Recorder
         ensures { result ≡ self.recorder }
     {

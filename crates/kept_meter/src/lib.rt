@@ -1,6 +1,8 @@
-//! The meter's recorder as the value behind the server's lock: its calls, from any threads, stand in one legal history.
+//! The meter's recorder as the value of the server's lock: its calls, from any threads, are in one
+//! legal history.
 //!
-//! `specs/Calls.antt` says which histories of calls are legal, and which of them a [`Kept`] stands for.
+//! `specs/Calls.antt` states which histories of calls are legal, and which of them a [`Kept`] may
+//! have.
 #![tactic(auto)]
 
 mod kept;

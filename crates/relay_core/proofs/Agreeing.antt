@@ -30,18 +30,18 @@ use Rattle.script_steps.specs.declared.step.Step.{Step}
 use Rattle.script_steps.specs.declared.step.Step.TheVariants as step
 use Rattle.script_steps.specs.Table.{steps_at, script_at, running_steps}
 
--- calls with one result that end in worlds which agree, the first of them in range
+-- Two calls with equal results that end in worlds which agree, the first of them in range.
 pub record Alike (a b : Outcome) : Type 0 where
   pub code : a.code ≡ b.code
   pub world : Agree a.world b.world
   pub range : IsWorld a.world
 
--- what holds of every world with other rows holds of one that agrees
+-- what holds for every world with other rows holds for one that agrees
 pub of_rows : (P : World → Type 0) (v w : World) → Agree v w
     → ((rows others : List Row) → AreCountedAlike v.import.rows rows → AreCountedAlike v.export.rows others → P (with_rows rows others v)) → P w
 of_rows P v w agree all = subst P (sym agree.same) (all w.import.rows w.export.rows agree.import agree.export)
 
--- a world agrees with itself with other rows
+-- a world agrees with itself with other rows that are counted alike
 pub rows_agree : (v : World) (rows others : List Row) → AreCountedAlike v.import.rows rows → AreCountedAlike v.export.rows others
     → Agree v (with_rows rows others v)
 rows_agree v rows others i e = record { same = refl; import = i; export = e }
@@ -133,7 +133,7 @@ step_alike origin (step.WriteProfile which profile) v w small range agree = sett
 step_alike origin step.Disconnect v w small range agree = trigger_alike _ v w range agree
 step_alike origin step.Reconnect v w small range agree = trigger_alike _ v w range agree
 
--- of two pairs that are alike, the one that a test picks
+-- if two tests are equal and the choices are alike, what the tests choose is alike
 pub either_alike : (p q : Bool) (a b c d : Outcome) → p ≡ q → Alike a b → Alike c d → Alike (if p then a else c) (if q then b else d)
 either_alike p q a b c d is first second =
     let cases : (p : Bool) → Alike (if p then a else c) (if p then b else d) = λ p. elim p as (λ p. Alike (if p then a else c) (if p then b else d)) [ true ↦ first | false ↦ second ] in
@@ -148,7 +148,7 @@ script_alike origin (one ∷ steps) v w small range agree =
     either_alike _ _ _ _ _ _ (ap is_success first.code)
     (script_alike origin steps (at_step origin one v).world (at_step origin one w).world small.1 first.range first.world) first
 
--- the steps of a selector are in range
+-- the steps of a selector's script are in range
 found_in_range : (selector : ℕ) (scripts : List Script) → AreScriptsInRange scripts
     → IfSome (script_at selector scripts) (λ script. AreStepsInRange script.steps)
 found_in_range selector [] range = tt
@@ -182,11 +182,11 @@ running_in_range selector scripts range =
     λ o. elim o as (λ o. IfSome o AreStepsInRange → AreStepsInRange (unwrap_or o [])) [ None ↦ λ none. tt | Some steps ↦ λ some. some ] in
     of_some (steps_at selector scripts) (steps_in_range selector scripts range)
 
--- the need of a duration in range is counted
+-- the number of samples for a duration in range is at most the cap
 need_counted : (seconds : ℕ) → seconds < 4294967296 → need_of seconds ≤ cap
 need_counted seconds small = grind (arith, small)
 
--- one sample more
+-- one more sample keeps rows counted alike
 rows_alike : (settings : Settings) (now : Option ℕ) (value : ℕ) (xs ys : List Row) → AreInRange settings → AreCountedAlike xs ys
     → AreCountedAlike (row_of (limits_at settings now) value ∷ xs) (row_of (limits_at settings now) value ∷ ys)
 rows_alike settings now value xs ys range alike =
@@ -212,7 +212,7 @@ fires_alike settings now value xs ys range alike =
     ∙ ap (fire (count_of OverThreshold ys)) alike.under
     ∙ sym (fire_counted row ys (λ _. need_counted settings.min_over_duration range.over) (λ _. need_counted settings.min_under_duration range.under))
 
--- worlds that agree, the first of them in range
+-- Worlds that agree, the first of them in range.
 pub record AreAlike (v w : World) : Type 0 where
   pub world : Agree v w
   pub range : IsWorld v
@@ -234,7 +234,7 @@ fire_alike Quiet actions v w range agree = record { world = agree; range = range
 fire_alike Over actions v w range agree = selected_alike actions.over v w range agree
 fire_alike Under actions v w range agree = selected_alike actions.under v w range agree
 
--- what a sample does
+-- The effect of one sample on two worlds.
 pub record AreMeasuredAlike (x : Measurement) (v w : World) : Type 0 where
   pub fire : fire_at x v ≡ fire_at x w
   pub after : AreAlike (after_sample x v) (after_sample x w)
@@ -271,7 +271,7 @@ sample_of_alike Export value v rows others range i e =
     (after_fire fire settings.actions (record (with_rows rows others v) { export = with_sample v.moment value (with_rows rows others v).export })) in
     record { fire = fires; after = subst P fires after }
 
--- what samples do
+-- The effect of several samples on two worlds.
 pub record AreMetersAlike (a b : Metering) : Type 0 where
   pub firings : a.firings ≡ b.firings
   pub worlds : AreAlike a.world b.world

@@ -60,11 +60,11 @@ use Rattle.script_steps.specs.declared.step.Step.{Step}
 use Rattle.script_steps.specs.Reading.{table_of}
 use Rattle.script_steps.specs.Table.{steps_at, running_steps}
 
--- a call that changes nothing
+-- a call that changes nothing, in agreeing worlds
 refused_alike : (code : ResultCode) (v w : World) → IsWorld v → Agree v w → Alike (refused code v) (refused code w)
 refused_alike code v w range agree = record { code = refl; world = agree; range = range }
 
--- what is read of agreeing worlds
+-- reads of agreeing worlds give equal results
 own_value_alike : (level : Level) (instance : Instance) (number : ℕ) (v : World) (rows others : List Row)
     → own_value_in level instance number v ≡ own_value_in level instance number (with_rows rows others v)
 own_value_alike level Association number v rows others = refl
@@ -97,7 +97,7 @@ gets_alike level (item ∷ items) v w agree =
     ap (λ (one : GetResult). one ∷ get_results level items v) (get_alike level item.attr item.selected v w agree)
     ∙ ap (λ (rest : List GetResult). get_result level item.attr item.selected w ∷ rest) (gets_alike level items v w agree)
 
--- what is written to agreeing worlds
+-- writes to agreeing worlds
 setting_form_alike : (which : Which) (read : Result (Option Setting) WriteFault) (v w : World)
     → IfOk read (λ setting. IfSome setting IsSettingInRange) → IsWorld v → Agree v w
     → Alike (at_setting_form which read v) (at_setting_form which read w)
@@ -203,7 +203,7 @@ write_at_alike : (target : Result Instance ResultCode) (number : ℕ) (value : D
 write_at_alike (Err refusal) number value v w small range agree = refused_alike _ v w range agree
 write_at_alike (Ok instance) number value v w small range agree = write_alike instance number value v w small range agree
 
--- what is executed in agreeing worlds
+-- methods executed in agreeing worlds
 pulled_alike : (found : Option Trigger) (v w : World) → IsWorld v → Agree v w → Alike (at_pulled found v) (at_pulled found w)
 pulled_alike None v w range agree = refused_alike _ v w range agree
 pulled_alike (Some trigger) v w range agree = trigger_alike trigger v w range agree
@@ -244,7 +244,7 @@ button_alike v w range agree =
     let control : w.control ≡ v.control = ap (λ (u : World). u.control) agree.same in
     subst P (sym control) (trigger_alike (trigger v.control) v w range agree)
 
--- a moment in agreeing worlds
+-- a moment of the clock in agreeing worlds
 schedule_alike : (last now : ℕ) (schedule : ScheduleState) (v w : World) → IsWorld v → Agree v w
     → AreAlike (after_schedule last now schedule v) (after_schedule last now schedule w)
 unfolding after_schedule
@@ -303,11 +303,11 @@ moment_alike (Some last) now v w range agree =
     ] in
     cases (nat_lt now last) (now == last)
 
--- a call's outcome as a step
+-- calls that are alike are steps that are alike
 outcome_alike : (a b : Outcome) → Alike a b → GoAlike (stepped a) (stepped b)
 outcome_alike a b alike = record { reply = ap reply.Code alike.code; world = alike.world; range = alike.range }
 
--- each event
+-- every event, in agreeing worlds
 pub event_alike : (one : Event) (v w : World) → IsEvent one → IsWorld v → Agree v w → GoAlike (at_event one v) (at_event one w)
 unfolding at_event at_set at_execute at_samples at_moment
 event_alike (event.Get level attr selected) v w small range agree =

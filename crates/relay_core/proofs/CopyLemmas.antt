@@ -1,4 +1,4 @@
--- A core whose parts are copies.
+-- A core assembled from copies of a core's parts equals that core.
 use Rattle.std.proofs.Common.{◌≡◌, ℕ, List, ap, sym, ◌∙◌, subst}
 use Rattle.std.proofs.Props.{props}
 use Rattle.limiter_core.specs.State.{State}
@@ -8,7 +8,7 @@ use Rattle.relay_core.specs.World.{IsDeviceName}
 use Rattle.script_steps.specs.declared.step.Script.{Script}
 
 module _ (core : RelayCore) where
-  -- both limiters have one clock
+  -- both limiters have the same moment
   abbrev OneClock : State → State → Type 0
   OneClock import export = export.moment ≡ import.moment
 

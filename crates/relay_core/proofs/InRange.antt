@@ -1,4 +1,5 @@
--- What a value sets is in range, where its numbers are of their types' ranges.
+-- A setting decoded from a value is in range if the value's numbers are in the ranges of their
+-- types.
 use Rattle.std.proofs.Common.{◌≡◌, ℕ, ◌<◌, Some, IfSome, IfOk, Result, Ok, Err, refl}
 use Rattle.byte_reading.specs.Outcome.{◌>>=◌}
 use Rattle.byte_reading.proofs.OutcomeLemmas.{done}
@@ -16,12 +17,12 @@ use Rattle.script_steps.proofs.InRange.{table_in_range, read_some}
 use Rattle.script_steps.proofs.Within.{Within, number_within}
 use Rattle.script_steps.specs.Reading.{table_of}
 
--- what is so of each value that a reading can have is so of the one that it has
+-- what holds for each value that decoding can return holds for the one it returned
 if_read : {A F : Type 0} (P : A → Type 0) (read : Result A F) → ((x : A) → read ≡ Ok x → P x) → IfOk read P
 if_read P (Ok x) each = each x refl
 if_read P (Err fault) each = tt
 
--- what a reading sets
+-- the setting that a decoded value makes
 set_by : {A : Type 0} (read : Result A WriteFault) (make : A → Setting) → ((x : A) → read ≡ Ok x → IsSettingInRange (make x))
     → IfOk (read >>= λ x. done WriteFault (Some (make x))) (λ set. IfSome set IsSettingInRange)
 set_by (Ok x) make each = each x refl

@@ -17,26 +17,26 @@ use Rattle.script_steps.specs.declared.step.Step.{Step}
 use Rattle.script_steps.specs.declared.step.Step.TheVariants as step
 use Rattle.script_steps.specs.Table.{IsStep, IsScript, IsTable}
 
--- a limiter that was written down, with the rows of one that it stood for
+-- a limiter restored from its opening represents the same limiter, with the rows of the original
 metered_back : (limiter : State) (now : Option ℕ) (m : Metered) → MeteredStands limiter now m
     → m ≡ record (opened_limiter (limiter_opening_of limiter)) { rows = m.rows }
 metered_back limiter now m stands =
     let with : Settings → ℕ → Metered = λ settings last. record { settings = settings; last = last; rows = m.rows } in
     ap (λ (settings : Settings). with settings m.last) (sym stands.settings) ∙ ap (with limiter.settings) (sym stands.last)
 
--- the samples of an opening are counted as those were that it stands for
+-- the rows of an opened limiter are counted like the rows of the limiter that was saved
 counted_back : (limiter : State) (now : Option ℕ) (m : Metered) → IsFit limiter.last limiter.over limiter.under → MeteredStands limiter now m
     → AreCountedAlike (opened_rows limiter.last limiter.over limiter.under) m.rows
 counted_back limiter now m fit stands =
     let keeps = rows_opened limiter fit in
     record { over = sym keeps.over ∙ stands.rows.over; under = sym keeps.under ∙ stands.rows.under }
 
--- a limiter stands for the one that its opening tells of, at the moment that its clock has
+-- a limiter represents the one that its opening gives at the limiter's moment
 back_stands : (limiter : State) (now : Option ℕ) → IsFit limiter.last limiter.over limiter.under → limiter.moment ≡ now
     → MeteredStands limiter now (opened_limiter (limiter_opening_of limiter))
 back_stands limiter now fit clock = record { settings = refl; moment = clock; last = refl; rows = rows_opened limiter fit }
 
--- a core stands for the world that its opening tells of
+-- a core represents the world that its opening gives
 pub opening_stands : (core : RelayCore) → IsFit core.import.last core.import.over core.import.under
     → IsFit core.export.last core.export.over core.export.under → StandsFor core (opened (opening_of core))
 opening_stands core import_fit export_fit = record {
@@ -48,7 +48,7 @@ opening_stands core import_fit export_fit = record {
   schedules = refl;
 }
 
--- the world that a core's opening tells of agrees with every world that the core stands for
+-- the world that a core's opening gives agrees with every world that the core represents
 pub opening_agrees : (core : RelayCore) (w : World) → IsFit core.import.last core.import.over core.import.under
     → IsFit core.export.last core.export.over core.export.under → StandsFor core w → Agree (opened (opening_of core)) w
 opening_agrees core w import_fit export_fit stands =
@@ -70,7 +70,7 @@ opening_agrees core w import_fit export_fit stands =
       export = counted_back core.export w.moment w.export export_fit stands.export;
     }
 
--- the durations in the steps of every table are numbers of 32 bits
+-- the durations in the steps of every script table fit in 32 bits
 step_in_range : (one : Step) → IsStep one → IsStepInRange one
 step_in_range (step.WriteMode mode) fits = tt
 step_in_range (step.WriteNormal which watts) fits = tt

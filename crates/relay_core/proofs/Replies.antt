@@ -1,4 +1,4 @@
--- The reply to an event is of its kind.
+-- The reply to an event is of the event's kind.
 use Rattle.std.proofs.Common.{ℕ, Bool, true, false, nat_lt, ◌==◌, if◌then◌else◌, List, Option, Some, None}
 use Rattle.cosem_names.specs.declared.service.GetResult.{GetResult}
 use Rattle.cosem_names.specs.declared.service.GetResult.TheVariants as result
@@ -20,7 +20,7 @@ sampled_fits : (others : Option (List ℕ)) (firings : Firings) → IsOfSamples 
 sampled_fits None firings = tt
 sampled_fits (Some others) firings = tt
 
--- the first, the second or the third
+-- what holds for each of three replies holds for the one that two tests choose
 chosen_fits : (a b : Bool) (x y z : Stepped) → IsOfClock x.reply → IsOfClock y.reply → IsOfClock z.reply
     → IsOfClock (if a then x else if b then y else z).reply
 chosen_fits true b x y z first second third = first

@@ -1,4 +1,4 @@
--- A step of a script does what a request does that names the same.
+-- A step of a script has the effect of the request that names the same attribute or method.
 use Rattle.std.proofs.Common.{◌≡◌, Some, Result, Ok, refl, ap, sym}
 use Rattle.byte_reading.specs.Outcome.{◌>>=◌}
 use Rattle.cosem_names.specs.Objects.{object_of, class_attribute_of, class_method_of, attribute_of, method_of, rights_of, may_execute_of}
@@ -23,7 +23,7 @@ use Rattle.cosem_names.specs.declared.write_fault.WriteFault.{WriteFault}
 use Rattle.script_steps.specs.declared.step.Step.{Step}
 use Rattle.script_steps.specs.declared.step.Step.TheVariants as step
 
--- a write of an emergency profile, by what its Data was read as
+-- the effect of a write of an emergency profile, by the result of decoding its Data
 abbrev written : Which → World → Result Profile WriteFault → Outcome
 written which w read = at_setting_form which (read >>= λ profile. Ok (Some (setting.Profile profile))) w
 

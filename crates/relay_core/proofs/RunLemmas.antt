@@ -13,17 +13,17 @@ use Rattle.relay_core.specs.Runs.{line_of, line_at, world_after, lines_of, Runs,
 use Rattle.relay_core.specs.Stands.{StandsFor}
 use Rattle.relay_core.specs.World.{World, Stepped}
 
--- the world after two lists of events is that after the second, from that after the first
+-- the world after two lists of events is the world after the second, from the world after the first
 pub world_after-append : (xs ys : List Event) (w : World) → world_after (xs ++ ys) w ≡ world_after ys (world_after xs w)
 world_after-append [] ys w = refl
 world_after-append (x ∷ xs) ys w = world_after-append xs ys (at_event x w).world
 
--- the lines of two lists of events
+-- the lines of two lists of events, in sequence
 pub lines_of-append : (xs ys : List Event) (w : World) → lines_of (xs ++ ys) w ≡ lines_of xs w ++ lines_of ys (world_after xs w)
 lines_of-append [] ys w = refl
 lines_of-append (x ∷ xs) ys w = ap (λ lines. line_at x w ∷ lines) (lines_of-append xs ys (at_event x w).world)
 
--- a run takes one event more
+-- a run with one more event
 pub ran_more : (old now next : RelayCore) (events : List Event) (event : Event) (lines : List Line) (line : Line)
     → Runs old now events lines
     → ((w : World) → StandsFor now w → StandsFor next (at_event event w).world)
@@ -38,7 +38,7 @@ ran_more old now next events event lines line ran goes answers = record {
       ∙ sym (lines_of-append events (event ∷ []) w);
 }
 
--- the same for the first events of a list
+-- a run over the first i events of a list, with the next event
 pub ran_further : (old now next : RelayCore) (events : List Event) (i : ℕ) (event : Event) (lines : List Line) (line : Line)
     → i < length events
     → event ≡ get_or events i event
@@ -51,7 +51,7 @@ ran_further old now next events i event lines line below is ran goes answers =
     (sym (take_more events i event below ∙ ap (λ e. take i events ++ e ∷ []) (sym is)))
     (ran_more old now next (take i events) event lines line ran goes answers)
 
--- a line whose parts are those of a step
+-- a line equals the line of a step if its parts do
 pub same_line : (reply : Reply) (state : ControlState) (output : Bool) (s : Stepped)
     → reply ≡ s.reply → state ≡ s.world.control.state → output ≡ is_state s.world.control.state Connected
     → record { reply = reply; state = state; output = output } ≡ line_of s
@@ -59,7 +59,7 @@ same_line reply state output s e1 e2 e3 =
     let made : Reply → ControlState → Bool → Line = λ r st o. record { reply = r; state = st; output = o } in
     ap (λ r. made r state output) e1 ∙ ap (λ st. made s.reply st output) e2 ∙ ap (λ o. made s.reply s.world.control.state o) e3
 
--- a test that can't be true
+-- a Boolean that can't be true is false
 pub refuted : (b : Bool) → (IsTrue b → false ≡ true) → b ≡ false
 refuted true not_so = sym (not_so refl)
 refuted false not_so = refl

@@ -20,20 +20,20 @@ use Rattle.relay_core.specs.Stands.{StandsFor, MeteredStands}
 use Rattle.relay_core.specs.Taking.{Takes, AreAtMost, amid}
 use Rattle.relay_core.specs.World.{World, Metered, IsDeviceName}
 
--- the element that a list goes on with
+-- the next element of a list after the first i
 pub take_one : {A : Type 0} (xs : List A) (i : ℕ) (d : A) → i < length xs → take 1 (drop i xs) ≡ get_or xs i d ∷ []
 take_one [] i d below = absurd (omega (arith, below))
 take_one (x ∷ xs) zero d below = refl
 take_one (x ∷ xs) (suc i) d below = take_one xs i d (omega (arith, below))
 
--- fewer of the first ones
+-- the first n of the first m elements are the first n
 pub take_fewer : {A : Type 0} (n m : ℕ) (xs : List A) → n ≤ m → take n (take m xs) ≡ take n xs
 take_fewer zero m xs fewer = refl
 take_fewer (suc n) zero xs fewer = absurd (omega (arith, fewer))
 take_fewer (suc n) (suc m) [] fewer = refl
 take_fewer (suc n) (suc m) (x ∷ xs) fewer = ap (λ rest. x ∷ rest) (take_fewer n m xs (omega (arith, fewer)))
 
--- values over the threshold, and values under it
+-- values over the threshold are of the kind Over
 pub over_are_of_kind : (threshold : ℕ) (xs : List ℕ) → All (λ v. IsTrue (nat_lt threshold v)) xs → AreOfKind Over threshold xs
 over_are_of_kind threshold [] all = tt
 over_are_of_kind threshold (x ∷ xs) all =
@@ -49,7 +49,7 @@ under_are_of_kind threshold (x ∷ xs) all =
     let here : kind_of threshold x ≡ Under = grind (arith, below) in
     (here, under_are_of_kind threshold xs (All-tail P x xs all))
 
--- values that equal it
+-- values that equal the threshold are of the kind Equal
 equal_list : (threshold : ℕ) (xs : List ℕ) (n : ℕ) → n ≤ length xs → ((k : ℕ) → k < n → get_or xs k 0 ≡ threshold) → AreOfKind Equal threshold (take n xs)
 equal_list threshold xs zero within are = tt
 equal_list threshold [] (suc n) within are = absurd (omega (arith, within))
@@ -63,14 +63,14 @@ pub equal_are_of_kind : (threshold : ℕ) (values : List ℕ) (at n : ℕ) → a
 equal_are_of_kind threshold values at n within are =
     equal_list threshold (drop at values) n (omega (arith, within, length-drop at values)) (λ k below. get_or-drop at values k 0 ∙ are k below)
 
--- the first does not pass where none does
+-- if no element passes, the first does not
 none_passes : (test : ℕ → Bool) (x : ℕ) (xs : List ℕ) → prefix_len test (x ∷ xs) ≤ 0 → test x ≡ false
 none_passes test x xs none =
     let cases : (b : Bool) → (if b then 1 + prefix_len test xs else 0) ≤ 0 → b ≡ false =
     λ b. elim b as (λ b. (if b then 1 + prefix_len test xs else 0) ≤ 0 → b ≡ false) [ true ↦ λ some. absurd (omega (arith, some)) | false ↦ λ _. refl ] in
     cases (test x) none
 
--- a value that is neither over the threshold nor under it
+-- a value that is neither over nor under the threshold equals it
 pub neither_is_equal : (values : List ℕ) (at threshold : ℕ) → at < length values
     → prefix_len (λ v. nat_lt threshold v) (drop at values) ≤ 0 → prefix_len (λ v. nat_lt v threshold) (drop at values) ≤ 0
     → get_or values at 0 ≡ threshold
@@ -83,14 +83,14 @@ neither_is_equal values at threshold below over under =
     let not_under : nat_lt x threshold ≡ false = none_passes (λ v. nat_lt v threshold) x (drop (suc at) values) (subst Q front under) in
     grind (arith, not_over, not_under)
 
--- each of them is of the kind
+-- each element of a list of one kind is of that kind
 pub kind_at : (kind : Kind) (threshold : ℕ) (xs : List ℕ) (i d : ℕ) → i < length xs → AreOfKind kind threshold xs
     → kind_of threshold (get_or xs i d) ≡ kind
 kind_at kind threshold [] i d below are = absurd (omega (arith, below))
 kind_at kind threshold (x ∷ xs) zero d below are = are.0
 kind_at kind threshold (x ∷ xs) (suc i) d below are = kind_at kind threshold xs i d (omega (arith, below)) are.1
 
--- a limiter with more samples, all at one moment
+-- a limiter after more samples, all at one moment
 abbrev pub metered_after : Option ℕ → List ℕ → Metered → Metered
 metered_after now [] m = m
 metered_after now (value ∷ values) m = metered_after now values (with_sample now value m)
@@ -110,15 +110,15 @@ metered_after-last now (x ∷ []) (suc i) d m is = absurd (omega (arith, is))
 metered_after-last now (x ∷ y ∷ values) zero d m is = absurd (omega (arith, is))
 metered_after-last now (x ∷ y ∷ values) (suc i) d m is = metered_after-last now (y ∷ values) i d (with_sample now x m) (omega (arith, is))
 
--- the last sample of some
+-- the last of one or more samples
 pub last_of_some : (n last before now : ℕ) → 0 < n → now ≡ (if nat_lt 0 n then last else before) → now ≡ last
 last_of_some n last before now some is = grind (arith, some, is)
 
--- a limiter has the limits of the one that it stands for
+-- a limiter has the limits of the one that it represents
 same_limits : (limiter : State) (now : Option ℕ) (m : Metered) → MeteredStands limiter now m → limits_of limiter ≡ limits_at m.settings now
 same_limits limiter now m stands = cc (stands.settings, stands.moment)
 
--- a limiter that took samples as one
+-- a limiter that took several samples at once represents one that took them one by one
 pub metered_stands : (old new : State) (now : Option ℕ) (m : Metered) (values : List ℕ) → MeteredStands old now m
     → new.settings ≡ old.settings → new.moment ≡ old.moment → 0 < length values → new.last ≡ get_or values (length values - 1) 0
     → Keeps new (rows_after (limits_of old) values m.rows) → MeteredStands new now (metered_after now values m)
@@ -131,7 +131,7 @@ metered_stands old new now m values stands settings moment some last keeps = rec
       subst (Keeps new) (sym (metered_after-rows now values m)) (subst P (same_limits old now m stands) keeps);
 }
 
--- more samples, and then more
+-- the effect of two lists of samples, in sequence
 pub after_samples-append : (xs ys : List Measurement) (m : Metering) → after_samples (xs ++ ys) m ≡ after_samples ys (after_samples xs m)
 unfolding after_samples
 after_samples-append [] ys m = refl
@@ -167,7 +167,7 @@ takes_on old now next f g h xs ys first later =
       firings = λ w stands. later.firings (after_samples xs (amid w f)).world (first.world w stands) ∙ ap (λ (m : Metering). m.firings) (sym (both w stands));
     }
 
--- the samples of more values, and of more pairs
+-- the samples of further values, and of further pairs
 pub takes_values_on : (old now next : RelayCore) (f g h : Firings) (values : List ℕ) (at n : ℕ) → Takes old now f g (imports (take at values))
     → Takes now next g h (imports (take n (drop at values))) → Takes old next f h (imports (take (at + n) values))
 takes_values_on old now next f g h values at n first later =
@@ -205,7 +205,7 @@ takes_one old next f g x fire goes fires is = record {
   firings = λ w stands. is ∙ ap (λ (one : Fire). counted x.which one f) (fires w stands);
 }
 
--- no more than so often is no more than more often
+-- a bound on the firings also holds with a larger bound
 pub at_most_more : (n m : ℕ) (firings : Firings) → n ≤ m → AreAtMost n firings → AreAtMost m firings
 at_most_more n m firings more most = record {
   import_over = omega (arith, more, most.import_over);
@@ -214,7 +214,7 @@ at_most_more n m firings more most = record {
   export_under = omega (arith, more, most.export_under);
 }
 
--- a sample that brings nothing
+-- a sample that fires nothing
 pub measured-quiet : (x : Measurement) (w : World) (firings : Firings) → fire_at x w ≡ Quiet
     → measured x (amid w firings) ≡ amid (with_metered x.which (with_sample w.moment x.value (metered_of x.which w)) w) firings
 unfolding measured after_sample after_fire counted
@@ -225,7 +225,7 @@ measured-quiet x w firings quiet =
     } in
     ap go quiet
 
--- import values that bring nothing
+-- import values that fire nothing
 pub quiet_values : (values : List ℕ) (w : World) (firings : Firings) → IsQuiet (limits_at w.import.settings w.moment) values w.import.rows
     → after_samples (imports values) (amid w firings) ≡ amid (record w { import = metered_after w.moment values w.import }) firings
 unfolding after_samples fire_at
@@ -234,7 +234,7 @@ quiet_values (value ∷ values) w firings quiet =
     ap (after_samples (imports values)) (measured-quiet (record { which = Import; value = value }) w firings quiet.0)
     ∙ quiet_values values (record w { import = with_sample w.moment value w.import }) firings quiet.1
 
--- pairs of which neither value brings anything
+-- pairs that fire nothing
 pub quiet_pairs : (values others : List ℕ) (w : World) (firings : Firings) → length values ≡ length others
     → IsQuiet (limits_at w.import.settings w.moment) values w.import.rows → IsQuiet (limits_at w.export.settings w.moment) others w.export.rows
     → after_samples (pairs values others) (amid w firings)
@@ -250,7 +250,7 @@ quiet_pairs (value ∷ values) (other ∷ others) w firings even quiet other_qui
     ∙ ap (after_samples (pairs values others)) (measured-quiet (record { which = Export; value = other }) between firings other_quiet.0)
     ∙ quiet_pairs values others (record between { export = with_sample w.moment other w.export }) firings (omega (arith, even)) quiet.1 other_quiet.1
 
--- a core that took import values which bring nothing
+-- a core that took import values that fire nothing
 pub skipped_values : (old : RelayCore) (limiter : State) (values : List ℕ) (named : IsDeviceName old.device)
     (clock : old.export.moment ≡ limiter.moment) → 0 < length values
     → limiter.settings ≡ old.import.settings → limiter.moment ≡ old.import.moment → limiter.last ≡ get_or values (length values - 1) 0
@@ -279,7 +279,7 @@ skipped_values old limiter values named clock some settings moment last keeps qu
       firings = λ w stands. ap (λ (m : Metering). m.firings) (sym (after w stands));
     }
 
--- a core that took pairs which bring nothing
+-- a core that took pairs that fire nothing
 pub skipped_pairs : (old : RelayCore) (import export : State) (values others : List ℕ) (named : IsDeviceName old.device)
     (clock : export.moment ≡ import.moment) → 0 < length values → length others ≡ length values
     → import.settings ≡ old.import.settings → import.moment ≡ old.import.moment → import.last ≡ get_or values (length values - 1) 0

@@ -11,7 +11,7 @@ use Rattle.script_steps.specs.declared.step.Script.{Script}
 use Rattle.script_steps.specs.declared.step.Step.{Step}
 use Rattle.script_steps.specs.Table.{steps_at, running_steps}
 
--- a result that isn't success
+-- a result other than Success is not a success
 pub not_success : (code : ResultCode) → (code ≡ Success → ⊥) → is_success code ≡ false
 not_success Success other = absurd (other refl)
 not_success HardwareFault other = refl
@@ -26,7 +26,7 @@ not_success NoLongSetInProgress other = refl
 not_success DataBlockNumberInvalid other = refl
 not_success OtherReason other = refl
 
--- a script goes on after a step that succeeds
+-- a script continues after a step that succeeds
 pub at_script-more : (origin : Origin) (step : Step) (steps : List Step) (v : World) → Success ≡ (at_step origin step v).code
     → at_script origin (step ∷ steps) v ≡ at_script origin steps (at_step origin step v).world
 unfolding at_script
@@ -34,7 +34,7 @@ at_script-more origin step steps v code =
     let go : ResultCode → Outcome = λ c. if is_success c then at_script origin steps (at_step origin step v).world else at_step origin step v in
     sym (ap go code)
 
--- and stops at one that is refused
+-- a script stops at a step that is refused
 pub at_script-stops : (origin : Origin) (step : Step) (steps : List Step) (v : World) (code : ResultCode) → is_success code ≡ false
     → code ≡ (at_step origin step v).code → at_script origin (step ∷ steps) v ≡ at_step origin step v
 unfolding at_script
@@ -42,25 +42,25 @@ at_script-stops origin step steps v code refused is =
     let go : Bool → Outcome = λ b. if b then at_script origin steps (at_step origin step v).world else at_step origin step v in
     ap go (ap is_success (sym is) ∙ refused)
 
--- no step succeeds
+-- a script without steps succeeds
 pub at_script-none : (origin : Origin) (v : World) → at_script origin [] v ≡ record { world = v; code = Success }
 unfolding at_script
 at_script-none origin v = refl
 
--- a core from which the steps that are left end as the whole script does
+-- A core from which the remaining steps end as the whole script does.
 pub record Left (now : RelayCore) (origin : Origin) (steps : List Step) (outcome : Outcome) : Type 0 where
   pub world : World
   pub stands : StandsFor now world
   pub same : at_script origin steps world ≡ outcome
 
--- a core in the course of a script, before step i
+-- A core during a script, before step i.
 pub record Underway (old now : RelayCore) (origin : Origin) (selector i : ℕ) : Type 0 where
   pub scripts : now.scripts ≡ old.scripts
   pub schedules : now.schedules ≡ old.schedules
   pub so_far : (w : World) → StandsFor old w
       → Left now origin (drop i (running_steps selector old.scripts)) (at_script origin (running_steps selector old.scripts) w)
 
--- a core after a script, and its result
+-- A core after a script, and the script's result.
 pub record Ended (old next : RelayCore) (origin : Origin) (selector : ℕ) (result : ResultCode) : Type 0 where
   pub world : (w : World) → StandsFor old w → StandsFor next (at_script origin (running_steps selector w.scripts) w).world
   pub code : (w : World) → StandsFor old w → result ≡ (at_script origin (running_steps selector w.scripts) w).code
@@ -73,7 +73,7 @@ begun core origin selector = record {
   so_far = λ w stands. record { world = w; stands = stands; same = refl };
 }
 
--- what is left before a step, with that step in front
+-- what remains before a step, with that step first
 left_before : (old now : RelayCore) (origin : Origin) (selector i : ℕ) (step : Step)
     → drop i (running_steps selector now.scripts) ≡ step ∷ drop (i + 1) (running_steps selector now.scripts)
     → (under : Underway old now origin selector i) (w : World) → StandsFor old w
@@ -104,7 +104,7 @@ further old now next origin selector i step rest goes succeeds kept kept_too und
       };
 }
 
--- what ended from the old core's scripts ended from those of each world that it stands for
+-- a claim about the old core's scripts holds for each world that the core represents
 told_of_worlds : (old next : RelayCore) (origin : Origin) (selector : ℕ) (result : ResultCode)
     → ((w : World) → StandsFor old w → StandsFor next (at_script origin (running_steps selector old.scripts) w).world)
     → ((w : World) → StandsFor old w → result ≡ (at_script origin (running_steps selector old.scripts) w).code)
@@ -118,7 +118,7 @@ told_of_worlds old next origin selector result world code = record {
       subst P stands.scripts (code w stands);
 }
 
--- at a step that is refused
+-- after a step that is refused
 pub stopped : (old now next : RelayCore) (origin : Origin) (selector i : ℕ) (step : Step) (refused : ResultCode)
     → drop i (running_steps selector now.scripts) ≡ step ∷ drop (i + 1) (running_steps selector now.scripts)
     → ((w : World) → StandsFor now w → StandsFor next (at_step origin step w).world)
@@ -161,7 +161,7 @@ finished old now origin selector i counted under =
     let P : Outcome → Type 0 = λ o. Success ≡ o.code in
     subst P is refl)
 
--- a selector without a script has no steps to run
+-- a selector without a script has no steps
 pub no_script : (origin : Origin) (selector : ℕ) (scripts : List Script) (w : World) → None ≡ option_map length (steps_at selector scripts)
     → at_script origin (running_steps selector scripts) w ≡ record { world = w; code = Success }
 no_script origin selector scripts w none =

@@ -7,7 +7,7 @@ use Rattle.relay_core.specs.Moving.{moved, or_plain}
 use Rattle.relay_core.specs.World.{World}
 use Rattle.relay_core.specs.Writing.{at_list}
 
--- what was read apart of a list moves in what a write of it does
+-- the decoded list, moved in, has the effect of the write
 pub moved_list : (list : WrittenList) (read : Result Parts ResultCode) (w : World) → moved list (or_plain read) w ≡ (at_list list read w).world
 moved_list list (Ok parts) w = refl
 moved_list written.Scripts (Err refusal) w = refl

@@ -7,8 +7,9 @@ use Rattle.cosem_names.specs.declared.result_code.ResultCode.{ResultCode}
 use Rattle.cosem_names.specs.declared.result_code.ResultCode.TheVariants.{ObjectUndefined, ObjectClassInconsistent, ReadWriteDenied, ScopeOfAccessViolated}
 use Rattle.cosem_names.specs.Objects.{object_of}
 
--- the order of refusals of a call on an object that was sought by its name: the results are the standard's (IEC 62056-5-3, Data-Access-Result and Action-Result),
--- the order is this meter's
+-- The first refusal of a request for an object, in this meter's order, or the object. The result
+-- codes are those of IEC 62056-5-3, Data-Access-Result and Action-Result; the order is this meter's
+-- own.
 abbrev pub target_in : Option Object → ClassId → Bool → Bool → Result Instance ResultCode
 target_in None class allowed selected = Err ObjectUndefined
 target_in (Some object) class allowed selected =
@@ -17,7 +18,8 @@ target_in (Some object) class allowed selected =
     else if selected then Err ScopeOfAccessViolated
     else Ok object.instance
 
--- the object that a call reaches, or the first refusal: the name is unknown, the class isn't the object's,
--- there is no right to that number, or a part was asked for
+-- The object that a request names, or the first refusal: the name is unknown (ObjectUndefined), the
+-- class isn't the object's (ObjectClassInconsistent), the client has no right to that attribute or
+-- method (ReadWriteDenied), or the request has selective access.
 unfoldable pub target_of : Obis → ClassId → Bool → Bool → Result Instance ResultCode
 target_of name class allowed selected = target_in (object_of name) class allowed selected

@@ -20,30 +20,32 @@ use Rattle.relay_core.specs.World.{World, Outcome}
 use Rattle.script_steps.specs.declared.step.Step.{Step}
 use Rattle.script_steps.specs.Table.{steps_at}
 
--- the trigger that a method of the switch pulls (IEC 62056-6-2, class 70, remote_disconnect and remote_reconnect)
+-- the trigger of a method of the switch (IEC 62056-6-2, class 70, remote_disconnect and
+-- remote_reconnect), if it has that number
 unfoldable pub switch_trigger : ℕ → Option Trigger
 switch_trigger number = if number == 1 then Some RemoteDisconnect else if number == 2 then Some RemoteReconnect else None
 
--- the trigger that was found, if there is one
+-- the effect of a trigger, or ReadWriteDenied without one
 abbrev pub at_pulled : Option Trigger → World → Outcome
 at_pulled None w = record { world = w; code = ReadWriteDenied }
 at_pulled (Some trigger) w = at_trigger trigger w
 
--- a script that a client selects, if there is one
+-- the effect of the script that a client selects, or OtherReason if no script has the selector
 abbrev pub at_found : Option (List Step) → World → Outcome
 at_found None w = record { world = w; code = OtherReason }
 at_found (Some steps) w = at_script Remote steps w
 
--- an execution of the script of the selector that was given: a parameter of another type gives none
+-- the effect of executing a selector, or TypeUnmatched if the parameter had another type
 abbrev pub at_selected : Option ℕ → World → Outcome
 at_selected None w = record { world = w; code = TypeUnmatched }
 at_selected (Some selector) w = at_found (steps_at selector w.scripts) w
 
--- the script table's execute takes a long-unsigned, the selector (IEC 62056-6-2, class 9, execute)
+-- the effect of the script table's execute; its parameter is a long-unsigned, the selector (IEC
+-- 62056-6-2, class 9, execute)
 unfoldable pub at_execution : Option Data → World → Outcome
 at_execution parameter w = at_selected (option_and_then long_unsigned_of parameter) w
 
--- a method of an object; the switch's methods take any parameter or none
+-- the effect of an object's method; the switch's methods ignore their parameter
 unfoldable pub at_method : Instance → ℕ → Option Data → World → Outcome
 at_method Association number parameter w = record { world = w; code = ReadWriteDenied }
 at_method DeviceName number parameter w = record { world = w; code = ReadWriteDenied }
@@ -53,16 +55,17 @@ at_method (Schedule which) number parameter w = record { world = w; code = ReadW
 at_method DisconnectControl number parameter w = at_pulled (switch_trigger number) w
 at_method (Limiter which) number parameter w = record { world = w; code = ReadWriteDenied }
 
--- a method of an object that was reached
+-- the effect of a method, or the refusal if the object was not reached
 abbrev pub execute_at : Result Instance ResultCode → ℕ → Option Data → World → Outcome
 execute_at (Err refusal) number parameter w = record { world = w; code = refusal }
 execute_at (Ok instance) number parameter w = at_method instance number parameter w
 
--- a client's execution of a method
+-- the effect of a client's ACTION
 unfoldable pub at_execute : Level → MethodRef → Option Data → World → Outcome
 at_execute level method parameter w =
     execute_at (target_of method.name method.class (may_execute_of level method) false) method.number parameter w
 
--- a press of the button: it disconnects a connected switch and reconnects another, manually (IEC 62056-6-2, class 70, states and transitions)
+-- the effect of a press of the button, as a manual trigger: it disconnects a connected switch and
+-- reconnects any other (IEC 62056-6-2, class 70, states and transitions)
 unfoldable pub at_button : World → Outcome
 at_button w = at_trigger (if is_state w.control.state Connected then ManualDisconnect else ManualReconnect) w

@@ -1,4 +1,4 @@
--- Worlds that differ in their samples alone and count them alike: they can't be told apart.
+-- Worlds that differ only in their samples and count them alike: no reply distinguishes them.
 use Rattle.std.specs.Prelude.{◌≡◌, ◌<◌, List, IfOk, IfSome}
 use Rattle.cosem_axdr.specs.declared.value.Data.{Data}
 use Rattle.limiter_attributes.specs.declared.attribute.LimiterAttribute.{LimiterAttribute}
@@ -14,22 +14,22 @@ use Rattle.relay_core.specs.World.{World, Stepped}
 use Rattle.script_steps.specs.Ranges.{AreScriptsInRange}
 use Rattle.script_steps.specs.Reading.{table_of}
 
--- rows whose runs and fired flags are the same on both sides
+-- Rows with equal runs and equal fired flags on both sides.
 pub record AreCountedAlike (xs ys : List Row) : Type 0 where
   pub over : count_of OverThreshold xs ≡ count_of OverThreshold ys
   pub under : count_of UnderThreshold xs ≡ count_of UnderThreshold ys
 
--- a world with other rows
+-- the world with other rows
 abbrev pub with_rows : List Row → List Row → World → World
 with_rows rows others w = record w { import = record w.import { rows = rows }; export = record w.export { rows = others } }
 
--- worlds that are equal but for their rows, which are counted alike
+-- Worlds that are equal except for their rows, which are counted alike.
 pub record Agree (v w : World) : Type 0 where
   pub same : w ≡ with_rows w.import.rows w.export.rows v
   pub import : AreCountedAlike v.import.rows w.import.rows
   pub export : AreCountedAlike v.export.rows w.export.rows
 
--- durations are numbers of 32 bits
+-- Both durations fit in 32 bits.
 pub record AreInRange (settings : Settings) : Type 0 where
   pub over : settings.min_over_duration < 4294967296
   pub under : settings.min_under_duration < 4294967296
@@ -39,13 +39,13 @@ IsSettingInRange (MinOverDuration seconds) = seconds < 4294967296
 IsSettingInRange (MinUnderDuration seconds) = seconds < 4294967296
 IsSettingInRange _ = Unit {0}
 
--- a world whose durations are numbers of 32 bits, those in its scripts' steps too
+-- A world whose durations fit in 32 bits, those in its scripts' steps included.
 pub record IsWorld (w : World) : Type 0 where
   pub import : AreInRange w.import.settings
   pub export : AreInRange w.export.settings
   pub scripts : AreScriptsInRange w.scripts
 
--- a value whose durations are so, whatever attribute it is written to
+-- A value whose durations fit in 32 bits, whichever attribute it is written to.
 pub record IsValue (value : Data) : Type 0 where
   pub scripts : IfOk (table_of value) AreScriptsInRange
   pub setting : (attribute : LimiterAttribute) → IfOk (setting_of attribute value) (λ setting. IfSome setting IsSettingInRange)
@@ -54,7 +54,7 @@ abbrev pub IsEvent : Event → Type 0
 IsEvent (Set level attr selected value) = IsValue value
 IsEvent _ = Unit {0}
 
--- steps with one reply that end in worlds which agree, the first of them in range
+-- Two steps with equal replies that end in worlds which agree, the first of them in range.
 pub record GoAlike (a b : Stepped) : Type 0 where
   pub reply : a.reply ≡ b.reply
   pub world : Agree a.world b.world

@@ -18,11 +18,11 @@ abbrev pub reply_of : GetResult → Reply
 reply_of (result.Value value) = Value value
 reply_of (result.Code code) = Code code
 
--- a call's outcome, answered by its result
+-- the step of a call's outcome: its reply is the result code
 abbrev pub stepped : Outcome → Stepped
 stepped outcome = record { world = outcome.world; reply = Code outcome.code }
 
--- what an event does
+-- the effect of an event
 unfoldable pub at_event : Event → World → Stepped
 at_event (Get level attr selected) w = record { world = w; reply = reply_of (get_result level attr selected w) }
 at_event (GetList level items) w = record { world = w; reply = Values (get_results level items w) }
@@ -32,7 +32,7 @@ at_event Button w = stepped (at_button w)
 at_event (Samples block) w = at_samples block w
 at_event (Moment now) w = at_moment now w
 
--- the events that take no memory, so that they are always answered
+-- whether an event never allocates, so that it always has a reply
 unfoldable pub is_sure : Event → Bool
 is_sure (Get level attr selected) = reads_plainly level attr selected
 is_sure (GetList level items) = false

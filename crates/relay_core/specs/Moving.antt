@@ -1,4 +1,5 @@
--- The lists that a client writes, as they are read apart from the write itself: all that a write takes of memory is in them.
+-- The lists that a client writes. They are decoded separately from the write, because decoding them
+-- is all that a write needs memory for.
 use Rattle.std.specs.Prelude.{ℕ, Bool, List, Option, Some, None, Result, Ok, Err, ◌==◌, if◌then◌else◌}
 use Rattle.action_schedule.specs.Reading.{entries_of}
 use Rattle.action_schedule.specs.Schedule.{new_schedule}
@@ -34,7 +35,7 @@ list_numbered (Schedule which) number = if number == 4 then Some (written.Entrie
 list_numbered (Limiter which) number = if number == 9 then Some (written.Groups which) else None
 list_numbered _ number = None
 
--- scripts, entries and group ids that are moved in, or why they are refused
+-- the scripts, entries or group ids to move in, or the refusal
 abbrev pub scripts_part : Result (List Script) WriteFault → Result Parts ResultCode
 scripts_part (Ok scripts) = Ok (part.Scripts scripts)
 scripts_part (Err fault) = Err (fault_code fault)
@@ -47,13 +48,13 @@ abbrev pub groups_part : Result (List ℕ) WriteFault → Result Parts ResultCod
 groups_part (Ok ids) = Ok (part.Groups (limiter_with_groups ids))
 groups_part (Err fault) = Err (fault_code fault)
 
--- what a list is read as where it is written: the one reading of it
+-- the decoded list of a write, or the refusal
 abbrev pub list_read : WrittenList → Data → Result Parts ResultCode
 list_read written.Scripts value = scripts_part (table_of value)
 list_read (written.Entries which) value = entries_part (entries_of value)
 list_read (written.Groups which) value = groups_part (groups_of value)
 
--- the world with a list in its place
+-- the world with a list replaced by the decoded one
 abbrev pub moved : WrittenList → Parts → World → World
 moved written.Scripts (part.Scripts scripts) w = record w { scripts = scripts }
 moved (written.Entries which) (part.Entries schedule) w =
@@ -62,12 +63,12 @@ moved (written.Groups which) (part.Groups limiter) w =
     with_metered which (with_settings (record (metered_of which w).settings { groups = limiter.settings.groups }) (metered_of which w)) w
 moved _ _ w = w
 
--- a list that is refused moves nothing in
+-- the decoded list, or none if it was refused
 abbrev pub or_plain : Result Parts ResultCode → Parts
 or_plain (Ok parts) = parts
 or_plain (Err refusal) = part.Plain
 
--- what a write of an attribute moves in
+-- the list that a write of an attribute moves in, if any
 abbrev pub parts_read : Option WrittenList → Data → Parts
 parts_read None value = part.Plain
 parts_read (Some list) value = or_plain (list_read list value)
@@ -76,7 +77,7 @@ abbrev pub parts_at : Result Instance ResultCode → ℕ → Data → Parts
 parts_at (Err refusal) number value = part.Plain
 parts_at (Ok instance) number value = parts_read (list_numbered instance number) value
 
--- what a client's write moves in, and what an event does
+-- the list that a client's SET moves in, if any; and below, the one that an event moves in
 unfoldable pub set_parts : Level → AttrRef → Bool → Data → Parts
 set_parts level attr selected value = parts_at (target_of attr.name attr.class (rights_of level attr).write selected) attr.number value
 

@@ -1,4 +1,4 @@
--- The number of each fault.
+-- The numbers of the faults.
 use Rattle.std.specs.Prelude.{ℕ}
 use Rattle.relay_core.specs.declared.opening.OpeningFault.{OpeningFault}
 use Rattle.relay_core.specs.declared.opening.OpeningFault.TheVariants as fault

@@ -1,4 +1,4 @@
--- A core written down, and the world that an opening tells of.
+-- The saved state (opening) of a core, and the world that an opening gives.
 use Rattle.std.specs.Prelude.{◌≡◌, ◌≤◌, length}
 use Rattle.disconnect_control.specs.declared.state.ControlState.TheVariants.{Connected}
 use Rattle.disconnect_control.specs.declared.state.ControlMode.TheVariants.{Mode0}
@@ -9,11 +9,11 @@ use Rattle.relay_core.specs.declared.opening.Opening.{Opening}
 use Rattle.relay_core.specs.declared.relay.RelayCore.{RelayCore}
 use Rattle.relay_core.specs.World.{World, Metered}
 
--- a limiter written down
+-- the saved state of a limiter
 abbrev pub limiter_opening_of : State → LimiterOpening
 limiter_opening_of limiter = record { settings = limiter.settings; value = limiter.last; over = limiter.over; under = limiter.under }
 
--- a core written down
+-- the saved state of a core
 abbrev pub opening_of : RelayCore → Opening
 opening_of core = record {
   device = core.device;
@@ -26,11 +26,12 @@ opening_of core = record {
   schedules = core.schedules;
 }
 
--- the limiter that an opening tells of: in place of the samples that its runs counted it has as many samples of its last value
+-- the limiter that an opening gives; in place of the samples that its runs counted, it has the same
+-- number of samples of its last value
 abbrev pub opened_limiter : LimiterOpening → Metered
 opened_limiter o = record { settings = o.settings; last = o.value; rows = opened_rows o.value o.over o.under }
 
--- the world that an opening tells of
+-- the world that an opening gives
 abbrev pub opened : Opening → World
 opened o = record {
   device = o.device;
@@ -42,12 +43,13 @@ opened o = record {
   schedules = o.schedules;
 }
 
--- a limiter can be so: samples can give its runs, and it has 32 group ids at most
+-- A saved limiter that can occur: some samples give its runs, and it has at most 32 group ids.
 pub record IsFitLimiterOpening (o : LimiterOpening) : Type 0 where
   pub runs : IsFit o.value o.over o.under
   pub groups : length o.settings.groups ≤ 32
 
--- a core can be so: a device name of 1 to 16 bytes, mode 0 in Connected alone, and fit limiters
+-- A saved core that can occur: a device name of 1 to 16 bytes, mode 0 only in Connected, and
+-- limiters that can occur.
 pub record IsFitOpening (o : Opening) : Type 0 where
   pub device_some : 1 ≤ length o.device
   pub device_few : length o.device ≤ 16

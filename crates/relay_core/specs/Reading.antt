@@ -24,16 +24,17 @@ use Rattle.relay_core.specs.Schedules.{schedule_of}
 use Rattle.relay_core.specs.World.{World}
 use Rattle.script_steps.specs.Writing.{data_of}
 
--- an attribute that an object has, as a client reads it: there is no right to any other number
+-- the result of reading an attribute that the object may have; any other number is ReadWriteDenied
 abbrev pub shown : {A : Type 0} → (A → Data) → Option A → GetResult
 shown as_data None = Code ReadWriteDenied
 shown as_data (Some attribute) = Value (as_data attribute)
 
--- the same, of an object whose second attribute is its only one
+-- the result of reading an object whose only attribute besides the logical name is the second
 abbrev pub sole : ℕ → Data → GetResult
 sole number value = if number == 2 then Value value else Code ReadWriteDenied
 
--- the attributes of an object past its logical name, as a client of this level reads them (IEC 62056-6-2, classes 1, 3, 9, 15, 22, 70 and 71)
+-- the result of reading an attribute other than the logical name, for a client of this level (IEC
+-- 62056-6-2, classes 1, 3, 9, 15, 22, 70 and 71)
 abbrev pub own_value_in : Level → Instance → ℕ → World → GetResult
 own_value_in level Association number w = sole number (object_list_of level)
 own_value_in level DeviceName number w = sole number (OctetString w.device)
@@ -43,19 +44,20 @@ own_value_in level (Schedule which) number w = shown (λ attribute. schedule_dat
 own_value_in level DisconnectControl number w = shown (λ attribute. control_data attribute w.control) (control_attribute number)
 own_value_in level (Limiter which) number w = shown (λ attribute. limiter_data which attribute (metered_of which w).settings w.moment) (limiter_attribute number)
 
--- the value of an attribute: attribute 1 is the logical name, in every class (IEC 62056-6-2)
+-- the result of reading an attribute of an object; attribute 1 is the logical name in every class
+-- (IEC 62056-6-2)
 unfoldable pub value_in : Level → Instance → AttrRef → World → GetResult
 value_in level instance attr w = if attr.number == 1 then Value (OctetString attr.name.0) else own_value_in level instance attr.number w
 
--- what a read of an object that was reached gives
+-- the result of a read, or the refusal if the object was not reached
 abbrev pub read_at : Level → Result Instance ResultCode → AttrRef → World → GetResult
 read_at level (Err refusal) attr w = Code refusal
 read_at level (Ok instance) attr w = value_in level instance attr w
 
--- what a client of this level reads of an attribute
+-- the result of a client's GET
 unfoldable pub get_result : Level → AttrRef → Bool → World → GetResult
 get_result level attr selected w = read_at level (target_of attr.name attr.class (rights_of level attr).read selected) attr w
 
--- what it reads of several, all of them of one world
+-- the results of a client's GET with list, all of the same world
 abbrev pub get_results : Level → List AttributeSelection → World → List GetResult
 get_results level items w = map (λ item. get_result level item.attr item.selected w) items

@@ -8,7 +8,7 @@ use Rattle.relay_core.specs.Machine.{at_event, is_sure}
 use Rattle.relay_core.specs.Stands.{StandsFor}
 use Rattle.relay_core.specs.World.{World, Stepped}
 
--- the line of a step: its reply, and the switch after it
+-- the line of a step: its reply, and the switch's state and output after it
 abbrev pub line_of : Stepped → Line
 line_of s = record { reply = s.reply; state = s.world.control.state; output = is_state s.world.control.state Connected }
 
@@ -16,23 +16,24 @@ line_of s = record { reply = s.reply; state = s.world.control.state; output = is
 abbrev pub line_at : Event → World → Line
 line_at event w = line_of (at_event event w)
 
--- the world after events, one after the other
+-- the world after a list of events
 abbrev pub world_after : List Event → World → World
 world_after [] w = w
 world_after (event ∷ events) w = world_after events (at_event event w).world
 
--- the lines of events, one after the other
+-- the lines of a list of events
 abbrev pub lines_of : List Event → World → List Line
 lines_of [] w = []
 lines_of (event ∷ events) w = line_at event w ∷ lines_of events (at_event event w).world
 
--- a core ran through events: for every world that it stood for, it stands for the world after them, and
--- these are their lines
+-- A core ran through events: for every world that it represented, it represents the world after the
+-- events, and their lines are these.
 pub record Runs (old new : RelayCore) (events : List Event) (lines : List Line) : Type 0 where
   pub world : (w : World) → StandsFor old w → StandsFor new (world_after events w)
   pub answered : (w : World) → StandsFor old w → lines ≡ lines_of events w
 
--- a core ran through the first of these events and stopped, before it took any or at one that takes memory
+-- A core ran through the first of these events and stopped, either before the first event or at one
+-- that may allocate.
 pub record StopsEarly (old new : RelayCore) (events : List Event) (done : List Line) : Type 0 where
   pub count : ℕ
   pub within : count ≤ length events

@@ -1,5 +1,5 @@
--- Samples, one by one: each becomes its limiter's last one and stands among its rows, and a side that fires runs its script
--- before the next sample is taken.
+-- Samples, one by one. Each becomes its limiter's last sample and the newest of its rows. A side
+-- that fires runs its script before the next sample is taken.
 use Rattle.std.specs.Prelude.{ℕ, ◌+◌, List, [], ◌∷◌, Option, Some, None, map}
 use Rattle.cosem_names.specs.declared.objects.Which.{Which}
 use Rattle.cosem_names.specs.declared.objects.Which.TheVariants.{Import, Export}
@@ -23,11 +23,11 @@ pub record Measurement : Type 0 where
   pub which : Which
   pub value : ℕ
 
--- import values alone, in order
+-- import samples only, in order
 abbrev pub imports : List ℕ → List Measurement
 imports values = map (λ value. record { which = Import; value = value }) values
 
--- pairs in order: of each the import value, then the export value
+-- pairs in order, each as an import sample followed by an export sample
 abbrev pub pairs : List ℕ → List ℕ → List Measurement
 pairs (value ∷ values) (other ∷ others) =
     record { which = Import; value = value } ∷ record { which = Export; value = other } ∷ pairs values others
@@ -41,15 +41,16 @@ measurements_in values (Some others) = pairs values others
 abbrev pub measurements : Samples → List Measurement
 measurements samples = measurements_in samples.import samples.export
 
--- a limiter with one sample more, at a moment of the clock
+-- a limiter with one more sample, at a moment of the clock
 abbrev pub with_sample : Option ℕ → ℕ → Metered → Metered
 with_sample moment value m = record m { last = value; rows = row_of (limits_at m.settings moment) value ∷ m.rows }
 
--- what a sample brings
+-- which side a sample fires, if any
 unfoldable pub fire_at : Measurement → World → Fire
 fire_at x w = fire_of (with_sample w.moment x.value (metered_of x.which w)).rows
 
--- a side that fires runs the script of its action (IEC 62056-6-2, class 71, actions), as the meter itself does
+-- the world after a side has fired: the script of its action runs with the meter as its origin (IEC
+-- 62056-6-2, class 71, actions)
 unfoldable pub after_fire : Fire → Actions → World → World
 after_fire Quiet actions w = w
 after_fire Over actions w = (at_script Local (running_steps actions.over w.scripts) w).world
@@ -60,11 +61,11 @@ unfoldable pub after_sample : Measurement → World → World
 after_sample x w =
     after_fire (fire_at x w) (metered_of x.which w).settings.actions (with_metered x.which (with_sample w.moment x.value (metered_of x.which w)) w)
 
--- no side has fired
+-- the counts before the first sample: no side has fired
 abbrev pub no_firings : Firings
 no_firings = record { import_over = 0; import_under = 0; export_over = 0; export_under = 0 }
 
--- one firing more
+-- the counts with one more firing
 unfoldable pub counted : Which → Fire → Firings → Firings
 counted which Quiet firings = firings
 counted Import Over firings = record firings { import_over = firings.import_over + 1 }
@@ -72,12 +73,12 @@ counted Import Under firings = record firings { import_under = firings.import_un
 counted Export Over firings = record firings { export_over = firings.export_over + 1 }
 counted Export Under firings = record firings { export_under = firings.export_under + 1 }
 
--- the world amid the samples of a block, and how often each side has fired in it
+-- The world during a block of samples, and how often each side has fired in that block.
 pub record Metering : Type 0 where
   pub world : World
   pub firings : Firings
 
--- after one sample more, and after more
+-- the metering after one more sample, and below, after several
 unfoldable pub measured : Measurement → Metering → Metering
 measured x m = record { world = after_sample x m.world; firings = counted x.which (fire_at x m.world) m.firings }
 
@@ -85,12 +86,12 @@ unfoldable pub after_samples : List Measurement → Metering → Metering
 after_samples [] m = m
 after_samples (x ∷ xs) m = after_samples xs (measured x m)
 
--- the reply counts the firings of each side, of one limiter or of both
+-- the reply to a block: how often each side fired, for one limiter or for both
 abbrev pub sampled : Option (List ℕ) → Firings → Reply
 sampled None firings = Sampled firings.import_over firings.import_under
 sampled (Some others) firings = SampledBoth firings.import_over firings.import_under firings.export_over firings.export_under
 
--- what a block does
+-- the effect of a block of samples
 unfoldable pub at_samples : Samples → World → Stepped
 at_samples samples w =
     let m = after_samples (measurements samples) (record { world = w; firings = no_firings }) in

@@ -1,4 +1,5 @@
--- The four single action schedules, and their attributes as they are read and written (IEC 62056-6-2, class 22).
+-- The four single action schedules, and how their attributes are read and written (IEC 62056-6-2,
+-- class 22).
 use Rattle.std.specs.Prelude.{List, [], ◌∷◌, Option, Some, Result, Ok, Err}
 use Rattle.action_schedule.specs.declared.attribute.ScheduleAttribute.{ScheduleAttribute}
 use Rattle.action_schedule.specs.declared.attribute.ScheduleAttribute.TheVariants.{ExecutedScript, Kind}
@@ -20,7 +21,7 @@ schedule_of Second s = s.second
 schedule_of Third s = s.third
 schedule_of Fourth s = s.fourth
 
--- the schedules with another in its place
+-- the schedules with one of them replaced
 abbrev pub with_schedule : ScheduleNumber → Schedule → Schedules → Schedules
 with_schedule First schedule s = record s { first = schedule }
 with_schedule Second schedule s = record s { second = schedule }
@@ -31,12 +32,13 @@ with_schedule Fourth schedule s = record s { fourth = schedule }
 abbrev pub all_schedules : Schedules → List Schedule
 all_schedules s = s.first ∷ s.second ∷ s.third ∷ s.fourth ∷ []
 
--- the result of a write
+-- the result code of a write
 abbrev pub write_code : {A : Type 0} → Result A WriteFault → ResultCode
 write_code (Ok x) = Success
 write_code (Err fault) = fault_code fault
 
--- a schedule after a write of an attribute, and the result: its entries are written as a list
+-- a schedule after a write of an attribute other than its list of entries, and below, the result
+-- code
 unfoldable pub schedule_written : Option ScheduleAttribute → Data → Schedule → Schedule
 schedule_written (Some ExecutedScript) value schedule = with_selector (selector_of value) schedule
 schedule_written (Some Kind) value schedule = with_kind (kind_of value) schedule

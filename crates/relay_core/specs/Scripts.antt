@@ -1,4 +1,5 @@
--- What a script does (IEC 62056-6-2, class 9, scripts): its steps in order, up to and with the first that is refused.
+-- The effect of a script (IEC 62056-6-2, class 9, scripts): its steps in order, up to and including
+-- the first that is refused.
 use Rattle.std.specs.Prelude.{Bool, true, false, List, [], ◌∷◌, if◌then◌else◌}
 use Rattle.cosem_names.specs.declared.result_code.ResultCode.{ResultCode}
 use Rattle.cosem_names.specs.declared.result_code.ResultCode.TheVariants.{Success}
@@ -13,8 +14,8 @@ use Rattle.relay_core.specs.Writing.{at_mode, at_setting}
 use Rattle.script_steps.specs.declared.step.Step.{Step}
 use Rattle.script_steps.specs.declared.step.Step.TheVariants.{WriteMode, WriteNormal, WriteEmergency, WriteMinOver, WriteMinUnder, WriteProfile, Disconnect, Reconnect}
 
--- the trigger that a step's method pulls: a remote one where a client or a schedule runs the script, a local one where the
--- meter itself does (which is this meter's)
+-- the trigger of a disconnecting step: remote if a client or a schedule runs the script, local if
+-- the meter itself does (the distinction is this meter's own)
 abbrev pub disconnect_by : Origin → Trigger
 disconnect_by Remote = RemoteDisconnect
 disconnect_by Local = LocalDisconnect
@@ -23,7 +24,7 @@ abbrev pub reconnect_by : Origin → Trigger
 reconnect_by Remote = RemoteReconnect
 reconnect_by Local = LocalReconnect
 
--- a step acts as the same write or method would
+-- the effect of a step, which is that of the same write or method
 unfoldable pub at_step : Origin → Step → World → Outcome
 at_step origin (WriteMode mode) w = at_mode mode w
 at_step origin Disconnect w = at_trigger (disconnect_by origin) w
@@ -38,7 +39,7 @@ abbrev pub is_success : ResultCode → Bool
 is_success Success = true
 is_success _ = false
 
--- steps in order: a refused one is the last, and its code is the result
+-- the effect of steps in order: a refused one is the last, and its code is the result
 unfoldable pub at_script : Origin → List Step → World → Outcome
 at_script origin [] w = record { world = w; code = Success }
 at_script origin (step ∷ steps) w =

@@ -3,14 +3,16 @@ use Rattle.relay_core.specs.declared.relay.RelayCore.{RelayCore}
 use Rattle.limiter_core.specs.State.{State, Keeps}
 use Rattle.relay_core.specs.World.{World, Metered}
 
--- a limiter stands for one with all its samples, and for a moment of the clock: it counts the runs of those samples
+-- A limiter represents one with all its samples, at a moment of the clock: it has the runs of those
+-- samples.
 pub record MeteredStands (limiter : State) (now : Option ℕ) (m : Metered) : Type 0 where
   pub settings : limiter.settings ≡ m.settings
   pub moment : limiter.moment ≡ now
   pub last : limiter.last ≡ m.last
   pub rows : Keeps limiter m.rows
 
--- a core stands for a world: it holds all that the world is, the moment in each limiter, and counts in place of its samples
+-- A core represents a world: it has all that the world has, with the moment in each limiter, and
+-- the runs of the samples instead of the samples.
 pub record StandsFor (core : RelayCore) (w : World) : Type 0 where
   pub device : core.device ≡ w.device
   pub control : core.control ≡ w.control

@@ -1,4 +1,5 @@
--- A trigger of the supply switch (IEC 62056-6-2, class 70, states and transitions). That a limiter's runs end where the switch comes into Connected is this meter's.
+-- Triggers of the supply switch (IEC 62056-6-2, class 70, states and transitions). That a limiter's
+-- runs end when the switch enters Connected is this meter's own rule.
 use Rattle.std.specs.Prelude.{Bool, not, ◌∷◌, ◌&&◌, if◌then◌else◌}
 use Rattle.disconnect_control.specs.declared.state.ControlState.TheVariants.{Connected}
 use Rattle.disconnect_control.specs.declared.state.Trigger.{Trigger}
@@ -11,16 +12,17 @@ use Rattle.relay_core.specs.World.{World, Metered, Outcome}
 abbrev pub with_entry : Metered → Metered
 with_entry m = record m { rows = Entry ∷ m.rows }
 
--- the switch has come into Connected from another state
+-- whether the switch has entered Connected from another state
 abbrev pub enters : Control → Control → Bool
 enters before after = not (is_state before.state Connected) && is_state after.state Connected
 
--- a world whose switch was so before: an entry into Connected is a row of both limiters
+-- the world after a change of the switch that was `before`: if it entered Connected, both limiters
+-- have the entry as their newest row
 unfoldable pub noted_since : Control → World → World
 noted_since before w =
     if enters before w.control then record w { import = with_entry w.import; export = with_entry w.export } else w
 
--- a world with its switch changed
+-- the world with its switch changed
 abbrev pub with_control : Control → World → World
 with_control control w = noted_since w.control (record w { control = control })
 

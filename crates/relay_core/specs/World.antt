@@ -11,15 +11,15 @@ use Rattle.relay_events.specs.declared.reply.Reply.{Reply}
 use Rattle.relay_core.specs.declared.schedules.Schedules.{Schedules}
 use Rattle.script_steps.specs.declared.step.Script.{Script}
 
--- a limiter: its settings, its last sample, and a row for each sample that it ever took and for each entry into Connected,
--- the newest first
+-- A limiter: its settings, its last sample, and a row for every sample it ever took and for every
+-- entry into Connected, newest first.
 pub record Metered : Type 0 where
   pub settings : Settings
   pub last : ℕ
   pub rows : List Row
 
--- the meter: its device name, its supply switch, the last moment of its clock, the limiters of the imported and of the
--- exported power, its scripts and its schedules
+-- The meter: its device name, its supply switch, the last moment of its clock, the limiters of
+-- imported and of exported power, its scripts and its schedules.
 pub record World : Type 0 where
   pub device : List ℕ
   pub control : Control
@@ -33,12 +33,12 @@ pub record World : Type 0 where
 abbrev pub IsDeviceName : List ℕ → Type 0
 IsDeviceName device = (1 ≤ length device) × (length device ≤ 16)
 
--- what a call does: the world after it, and its result
+-- The effect of a call: the world after it, and its result code.
 pub record Outcome : Type 0 where
   pub world : World
   pub code : ResultCode
 
--- what an event does: the world after it, and its reply
+-- The effect of an event: the world after it, and its reply.
 pub record Stepped : Type 0 where
   pub world : World
   pub reply : Reply
@@ -47,11 +47,11 @@ pub record Stepped : Type 0 where
 abbrev pub new_schedules : Schedules
 new_schedules = record { first = new_schedule; second = new_schedule; third = new_schedule; fourth = new_schedule }
 
--- a new limiter has taken no sample
+-- a new limiter, which has taken no sample
 abbrev pub new_metered : Metered
 new_metered = record { settings = new_settings; last = 0; rows = [] }
 
--- a new meter of this name
+-- a new meter of this device name
 abbrev pub new_world : List ℕ → World
 new_world device = record {
   device = device;

@@ -1,4 +1,4 @@
--- What a client's write does (IEC 62056-5-3, SET; IEC 62056-6-2, classes 9, 22, 70 and 71).
+-- The effect of a client's write (IEC 62056-5-3, SET; IEC 62056-6-2, classes 9, 22, 70 and 71).
 use Rattle.std.specs.Prelude.{ℕ, Bool, Option, Some, None, Result, Ok, Err}
 use Rattle.action_schedule.specs.Attributes.{attribute_numbered as schedule_attribute}
 use Rattle.action_schedule.specs.declared.attribute.ScheduleAttribute.{ScheduleAttribute}
@@ -32,11 +32,11 @@ use Rattle.relay_core.specs.Moving.{list_numbered, list_read, moved}
 use Rattle.relay_core.specs.Schedules.{schedule_of, with_schedule, schedule_written, schedule_code}
 use Rattle.relay_core.specs.World.{World, Outcome}
 
--- a write that is refused changes nothing
+-- the outcome of a refused write, which changes nothing
 abbrev pub refused : ResultCode → World → Outcome
 refused code w = record { world = w; code = code }
 
--- a write of the mode, which the switch's state may refuse
+-- the effect of a write of the mode, which is refused in some states of the switch
 unfoldable pub at_mode : ControlMode → World → Outcome
 at_mode mode w = record { world = record w { control = with_mode mode w.control }; code = mode_result mode w.control }
 
@@ -44,12 +44,12 @@ abbrev pub at_mode_form : Result ControlMode WriteFault → World → Outcome
 at_mode_form (Err fault) w = refused (fault_code fault) w
 at_mode_form (Ok mode) w = at_mode mode w
 
--- a write of an attribute of the switch: its mode alone is written
+-- the effect of a write to the switch; only its mode can be written
 abbrev pub at_control : Option ControlAttribute → Data → World → Outcome
 at_control (Some attribute.ControlMode) value w = at_mode_form (mode_form value) w
 at_control _ value w = refused ReadWriteDenied w
 
--- a setting of a limiter
+-- the effect of a setting of a limiter
 unfoldable pub at_setting : Which → Setting → World → Outcome
 at_setting which setting w = record {
   world = with_metered which (with_settings (with_setting setting (metered_of which w).settings) (metered_of which w)) w;
@@ -61,24 +61,24 @@ at_setting_form which (Err fault) w = refused (fault_code fault) w
 at_setting_form which (Ok None) w = refused ReadWriteDenied w
 at_setting_form which (Ok (Some setting)) w = at_setting which setting w
 
--- a write of an attribute of a limiter that isn't its list of group ids
+-- the effect of a write to a limiter, of an attribute other than its list of group ids
 abbrev pub at_limiter : Which → Option LimiterAttribute → Data → World → Outcome
 at_limiter which None value w = refused ReadWriteDenied w
 at_limiter which (Some attribute) value w = at_setting_form which (setting_of attribute value) w
 
--- a write of an attribute of a schedule that isn't its list of entries
+-- the effect of a write to a schedule, of an attribute other than its list of entries
 unfoldable pub at_schedule : ScheduleNumber → Option ScheduleAttribute → Data → World → Outcome
 at_schedule which attribute value w = record {
   world = record w { schedules = with_schedule which (schedule_written attribute value (schedule_of which w.schedules)) w.schedules };
   code = schedule_code attribute value;
 }
 
--- a write of a list: what was read of it, or why it is refused
+-- the effect of a write of a list: the decoded list replaces it, or the write is refused
 abbrev pub at_list : WrittenList → Result Parts ResultCode → World → Outcome
 at_list list (Err code) w = refused code w
 at_list list (Ok parts) w = record { world = moved list parts w; code = Success }
 
--- a write of an attribute of an object that is no list
+-- the effect of a write to an object, of an attribute that is no list
 abbrev pub at_plain : Instance → ℕ → Data → World → Outcome
 at_plain Association number value w = refused ReadWriteDenied w
 at_plain DeviceName number value w = refused ReadWriteDenied w
@@ -92,15 +92,15 @@ abbrev pub at_attribute : Option WrittenList → Instance → ℕ → Data → W
 at_attribute None instance number value w = at_plain instance number value w
 at_attribute (Some list) instance number value w = at_list list (list_read list value) w
 
--- a write of an attribute of an object
+-- the effect of a write to an object
 unfoldable pub at_write : Instance → ℕ → Data → World → Outcome
 at_write instance number value w = at_attribute (list_numbered instance number) instance number value w
 
--- a write of an object that was reached
+-- the effect of a write, or the refusal if the object was not reached
 abbrev pub write_at : Result Instance ResultCode → ℕ → Data → World → Outcome
 write_at (Err refusal) number value w = refused refusal w
 write_at (Ok instance) number value w = at_write instance number value w
 
--- a client's write of an attribute
+-- the effect of a client's SET
 unfoldable pub at_set : Level → AttrRef → Bool → Data → World → Outcome
 at_set level attr selected value w = write_at (target_of attr.name attr.class (rights_of level attr).write selected) attr.number value w

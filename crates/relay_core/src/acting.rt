@@ -14,7 +14,7 @@ use cosem_axdr::Data;
 use cosem_names::{Instance, Level, MethodRef, ResultCode, may_execute};
 use disconnect_control::Trigger;
 
-/// The trigger that a method of the switch pulls.
+/// Returns the trigger of a method of the switch, or `None` if the switch has no such method.
 #[tactic(auto, unfolding(crate::specs::Acting::switch_trigger))]
 fn switch_trigger(number: u8) -> Option<Trigger>
     ensures { result ≡ switch_trigger number }
@@ -27,7 +27,8 @@ fn switch_trigger(number: u8) -> Option<Trigger>
 }
 
 impl RelayCore {
-    /// Tells the limiters where Connected has been entered; `was_on` says whether the supply was on before.
+    /// Ends the runs of both limiters if the switch has entered Connected. `was_on` says whether
+    /// the supply was on before.
     #[tactic(auto, unfolding(crate::specs::Switch::noted_since))]
     fn note_entry(&mut self, was_on: bool)
         ensures world { (w : World) (before : Control) → StandsFor self.old w → was_on ≡ is_state before.state Connected
@@ -42,7 +43,7 @@ impl RelayCore {
         self.export.closed();
     }
 
-    /// Pulls a trigger of the switch.
+    /// Applies a trigger to the switch.
     #[tactic(auto, unfolding(crate::specs::Switch::at_trigger))]
     pub(crate) fn pull(&mut self, trigger: Trigger) -> ResultCode
         ensures world { (w : World) → StandsFor self.old w → StandsFor self.new (at_trigger trigger w).world }
@@ -56,7 +57,7 @@ impl RelayCore {
         code
     }
 
-    /// Runs the script that a client selects by a long-unsigned.
+    /// Executes the script whose selector is the parameter, a long-unsigned.
     #[tactic(auto, unfolding(crate::specs::Acting::at_execution))]
     fn execute_script(&mut self, parameter: &Option<Data>) -> ResultCode
         ensures world { (w : World) → StandsFor self.old w → StandsFor self.new (at_execution parameter.now w).world }
@@ -74,7 +75,7 @@ impl RelayCore {
         }
     }
 
-    /// A method of an object.
+    /// Executes a method of an object.
     #[tactic(auto, unfolding(crate::specs::Acting::at_method))]
     fn call(&mut self, instance: Instance, number: u8, parameter: &Option<Data>) -> ResultCode
         ensures world { (w : World) → StandsFor self.old w → StandsFor self.new (at_method instance number parameter.now w).world }
@@ -90,7 +91,7 @@ impl RelayCore {
         }
     }
 
-    /// A client's execution of a method.
+    /// Executes a client's ACTION.
     #[tactic(auto, unfolding(crate::specs::Acting::at_execute))]
     pub(crate) fn execute(
         &mut self,
@@ -107,7 +108,7 @@ impl RelayCore {
         }
     }
 
-    /// A press of the button: it disconnects a connected switch, and reconnects another.
+    /// Handles a press of the button: disconnects a connected switch and reconnects any other.
     #[tactic(auto, unfolding(crate::specs::Acting::at_button))]
     pub(crate) fn press(&mut self) -> ResultCode
         ensures world { (w : World) → StandsFor self.old w → StandsFor self.new (at_button w).world }

@@ -13,24 +13,27 @@ ghost use Rattle.relay_core.specs.declared.scripts.Origin.TheVariants.{Remote};
 ghost use Rattle.script_steps.specs.Table.{IsStep};
 ghost use Rattle.script_steps.specs.declared.step.Step.{Step};
 
-/// Worlds that agree give equal replies to every event, and worlds that agree. So what a limiter does hangs on nothing of its
-/// samples but its runs and whether they have fired.
+/// Proves that worlds which agree give equal replies to every event, and end in worlds which agree.
+/// So a limiter's behaviour depends on nothing in its samples except its runs and whether they have
+/// fired.
 pub fn worlds_agree()
     ensures { (event : Event) (v w : World) → IsEvent event → IsWorld v → Agree v w → GoAlike (at_event event v) (at_event event w) }
 {}
 
-/// What a value sets has durations of 32 bits, where its numbers are of their types' ranges.
+/// Proves that a setting decoded from a value has durations of 32 bits if the value's numbers are
+/// in the ranges of their types.
 pub fn values_are_in_range()
     ensures { (value : Data) → IsWithin (tree_of value) → IsValue value }
 {}
 
-/// In every world each event has a reply of its kind.
+/// Proves that in every world the reply to an event is of the event's kind.
 pub fn replies_fit()
     ensures { (event : Event) (w : World) → Fits event (at_event event w).reply }
 {}
 
-/// A step of a script that a client or a schedule runs does what a request of management does that names the same: the SET of that attribute with that
-/// value, or the ACTION of that method (IEC 62056-6-2, class 9).
+/// Proves that a step of a script that a client or a schedule runs has the effect of the management
+/// client's request that names the same: the SET of that attribute with that value, or the ACTION
+/// of that method (IEC 62056-6-2, class 9).
 pub fn steps_are_requests()
     ensures { (step : Step) (w : World) → IsStep step → at_step Remote step w ≡ at_request step w }
 {}

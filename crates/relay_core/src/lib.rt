@@ -1,7 +1,8 @@
-//! The meter's core: every event that reaches it, one after the other, and its reply.
+//! The meter's core: it takes events one at a time and replies to each.
 //!
-//! `specs/World.antt` says what the meter is, `specs/Machine.antt` what an event does to it, and
-//! `specs/Runs.antt` what a list of events does. A `RelayCore` stands for a world and does the same.
+//! `specs/World.antt` states what the meter is, `specs/Machine.antt` the effect of an event, and
+//! `specs/Runs.antt` the effect of a list of events. A `RelayCore` represents a world and behaves
+//! as that world does.
 #![tactic(auto)]
 
 mod access;

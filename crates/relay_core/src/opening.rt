@@ -16,13 +16,13 @@ use script_steps::ScriptTable;
 use std::alloc::{AllocError, AllocFailed, Global};
 use thiserror::Error;
 
-/// The most bytes that a device name, the logical device name (IEC 62056-6-2), has here.
+/// The largest length of the logical device name (IEC 62056-6-2) in this meter, in bytes.
 pub const MAX_DEVICE_NAME: usize = 16;
 
-/// A limiter as an opening tells it: what is set, the last sample and both runs.
+/// The saved state of a limiter: its settings, its last sample and both runs.
 #[derive(Debug, Drop)]
 pub struct LimiterOpening {
-    /// What is set.
+    /// The settings.
     pub settings: Settings,
     /// The last sample, in watts; 0 before the first.
     pub value: u32,
@@ -32,10 +32,10 @@ pub struct LimiterOpening {
     pub under: Count,
 }
 
-/// A core written down: all of its state, with the runs in place of its samples.
+/// The saved state of a core: all of its state, with the runs instead of the samples.
 #[derive(Debug, Drop)]
 pub struct Opening {
-    /// The device name.
+    /// The logical device name, 1 to 16 bytes.
     pub device: Octets,
     pub state: ControlState,
     pub mode: ControlMode,
@@ -48,14 +48,14 @@ pub struct Opening {
     pub schedules: Schedules,
 }
 
-/// Why an opening gives no core.
+/// Why an opening could not be restored.
 #[derive(Clone, Copy, Debug, PartialEq, Eq, Error)]
 pub enum OpeningFault {
-    /// No core is so: a device name that isn't of 1 to 16 bytes, mode 0 outside Connected, more than 32 group ids, or runs
-    /// that no samples give.
+    /// No core can have this state: the device name isn't 1 to 16 bytes, the mode is 0 outside
+    /// Connected, a limiter has more than 32 group ids, or no samples give its runs.
     #[error("an opening that no core has")]
     Unfit = 1,
-    /// Memory ran out.
+    /// Out of memory.
     #[error("out of memory")]
     Memory = 2,
 }
@@ -90,7 +90,7 @@ impl<T: Drop> From<AllocFailed<T>> for OpeningFault {
 }
 
 impl LimiterOpening {
-    /// A limiter written down.
+    /// Saves the state of a limiter.
     fn of(alloc: Global, limiter: &Limiter) -> Result<LimiterOpening, AllocError>
         ensures opening { IfOk result (λ opening. opening ≡ limiter_opening_of limiter.now) }
         ensures runs { IfOk result (λ _. IsFit limiter.now.last limiter.now.over limiter.now.under) }
@@ -106,7 +106,7 @@ impl LimiterOpening {
         })
     }
 
-    /// Whether a limiter can be so.
+    /// Whether a limiter can have this state.
     fn is_fit(&self) -> bool
         ensures { IsTrue result ↔ IsFitLimiterOpening self.now }
     {
@@ -114,7 +114,7 @@ impl LimiterOpening {
         few && are_fit(self.value, self.over, self.under)
     }
 
-    /// The limiter that was written down, with its clock at a moment.
+    /// Restores the limiter, with its clock at a moment.
     fn limiter(&self, alloc: Global, moment: Option<u32>) -> Result<Limiter, AllocError>
         requires { IsFitLimiterOpening self.now }
         ensures same { IfOk result (λ limiter. limiter_opening_of limiter ≡ self.now) }
@@ -129,7 +129,7 @@ impl LimiterOpening {
 }
 
 impl RelayCore {
-    /// The core written down.
+    /// Saves the state of the core.
     #[tactic(auto, using(crate::proofs::OpeningLemmas::table_in_range))]
     fn written_down(&self, alloc: Global) -> Result<Opening, AllocError>
         ensures opening { IfOk result (λ opening. opening ≡ opening_of self.now) }
@@ -154,8 +154,9 @@ impl RelayCore {
         })
     }
 
-    /// The core written down, which [`from_opening`](RelayCore::from_opening) takes back. The world that it tells of can't be
-    /// told apart from any that the core stands for, and its numbers are in their ranges.
+    /// Saves the state of the core, which [`from_opening`](RelayCore::from_opening) restores. No
+    /// reply distinguishes the world that the opening gives from any that the core represents, and
+    /// the opening's numbers are in their ranges. Fails if out of memory.
     pub fn to_opening(&self, alloc: Global) -> Result<Opening, AllocError>
         ensures opening { IfOk result (λ opening. opening ≡ opening_of self.now) }
         ensures fit { IfOk result IsFitOpening }
@@ -166,8 +167,7 @@ impl RelayCore {
         Ok(opening)
     }
 
-    /// Every core stands for the world that it tells of when it is written down. It takes no memory, and the core is only
-    /// looked at.
+    /// Proves that the core represents the world that its opening gives. Does nothing at run time.
     pub fn stands_for_its_opening(&self)
         ensures { StandsFor self.now (opened (opening_of self.now)) }
     {
@@ -175,7 +175,8 @@ impl RelayCore {
         let _export = self.export.over_run();
     }
 
-    /// The core that was written down. Errors: `Unfit` where no core is so, else `Memory`.
+    /// Restores a core from an opening. Errors, in this order: `Unfit` if no core can have this
+    /// state, `Memory` if out of memory.
     pub fn from_opening(alloc: Global, opening: &Opening) -> Result<RelayCore, OpeningFault>
         ensures unfit { IsErrOf result OpeningFault.Unfit ↔ (¬ IsFitOpening opening.now) }
         ensures fit { IfOk result (λ _. IsFitOpening opening.now) }
@@ -198,7 +199,7 @@ impl RelayCore {
         })
     }
 
-    /// The core that a fit opening tells of, for a caller that knows that it is fit.
+    /// Restores a core from an opening that the caller knows to be fit.
     pub fn of_fit_opening(alloc: Global, opening: &Opening) -> Result<RelayCore, AllocError>
         requires { IsFitOpening opening.now }
         ensures { IfOk result (λ core. StandsFor core (opened opening.now)) }
@@ -211,7 +212,7 @@ impl RelayCore {
     }
 }
 
-/// Equals of what a core has of lists.
+/// Returns copies of the core's lists: the device name, the scripts and the schedules.
 fn copied(
     alloc: Global,
     device: &Octets,
@@ -229,7 +230,7 @@ fn copied(
 }
 
 impl Opening {
-    /// The switch that was written down, or None where no core is as the opening tells.
+    /// Returns the saved switch, or `None` if no core can have the opening's state.
     fn fit_control(&self) -> Option<DisconnectControl>
         ensures fit { IsSome result ↔ IsFitOpening self.now }
         ensures control { IfSome result (λ control. control ≡ record { state = self.now.state; mode = self.now.mode }) }
@@ -243,7 +244,7 @@ impl Opening {
         DisconnectControl::of(self.state, self.mode)
     }
 
-    /// Both limiters, that of the import and that of the export.
+    /// Restores both limiters: import, then export.
     fn limiters(&self, alloc: Global) -> Result<(Limiter, Limiter), AllocError>
         requires { IsFitOpening self.now }
         ensures import { IfOk result (λ both. limiter_opening_of both.0 ≡ self.now.import) }

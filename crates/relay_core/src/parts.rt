@@ -19,20 +19,21 @@ use relay_events::Event;
 use script_steps::ScriptTable;
 use std::alloc::{AllocError, Global};
 
-/// The owned values that an event's write moves in. All that such a write takes of memory is in them.
+/// The decoded list that an event's write moves in. Decoding it is all that such a write needs
+/// memory for.
 #[derive(Debug, Drop)]
 pub enum Parts {
-    /// None: the event is no write of a list, or a write that is refused.
+    /// Nothing to move in: the event doesn't write a list, or the write is refused.
     Plain,
     /// The scripts of the script table.
     Scripts(ScriptTable),
-    /// The group ids of a limiter, in one that is else new.
+    /// The group ids of a limiter, in an otherwise new limiter.
     Groups(Limiter),
-    /// The entries of a schedule, in one that is else new.
+    /// The entries of a schedule, in an otherwise new schedule.
     Entries(ActionSchedule),
 }
 
-/// The attributes that are lists, which alone take memory where they are written.
+/// The attributes that are lists: only writes to these allocate.
 #[derive(Clone, Copy)]
 pub(crate) enum WrittenList {
     /// `scripts` of the script table (IEC 62056-6-2, class 9, attribute 2).
@@ -44,7 +45,7 @@ pub(crate) enum WrittenList {
 }
 
 impl WrittenList {
-    /// The list that an attribute is, if it is one.
+    /// Returns the list that an attribute is, or `None` if it is no list.
     pub(crate) fn of_number(instance: Instance, number: u8) -> Option<WrittenList>
         ensures { result ≡ list_numbered instance number }
     {
@@ -57,7 +58,7 @@ impl WrittenList {
     }
 }
 
-/// The scripts that are moved in, or why they are refused.
+/// Decodes scripts. The inner result is the refusal's code.
 fn read_scripts(alloc: Global, value: &Data) -> Result<Result<Parts, ResultCode>, AllocError>
     ensures { IfOk result (λ parts. parts ≡ scripts_part (table_of value.now)) }
 {
@@ -69,7 +70,7 @@ fn read_scripts(alloc: Global, value: &Data) -> Result<Result<Parts, ResultCode>
     })
 }
 
-/// The entries that are moved in, or why they are refused.
+/// Decodes the entries of a schedule. The inner result is the refusal's code.
 fn read_entries(alloc: Global, value: &Data) -> Result<Result<Parts, ResultCode>, AllocError>
     ensures { IfOk result (λ parts. parts ≡ entries_part (entries_of value.now)) }
 {
@@ -82,7 +83,7 @@ fn read_entries(alloc: Global, value: &Data) -> Result<Result<Parts, ResultCode>
     })
 }
 
-/// The group ids that are moved in, or why they are refused.
+/// Decodes the group ids of a limiter. The inner result is the refusal's code.
 fn read_group_ids(alloc: Global, value: &Data) -> Result<Result<Parts, ResultCode>, AllocError>
     ensures { IfOk result (λ parts. parts ≡ groups_part (groups_of value.now)) }
 {
@@ -94,7 +95,7 @@ fn read_group_ids(alloc: Global, value: &Data) -> Result<Result<Parts, ResultCod
     })
 }
 
-/// What is moved in of a list that is written, or why it is refused.
+/// Decodes a list that is written. The inner result is the refusal's code.
 pub(crate) fn read_list(
     alloc: Global,
     list: WrittenList,
@@ -109,7 +110,7 @@ pub(crate) fn read_list(
     }
 }
 
-/// What a write of an attribute moves in.
+/// Decodes the list that a write of an attribute moves in, if any.
 fn read_parts(
     alloc: Global,
     instance: Instance,
@@ -128,7 +129,7 @@ fn read_parts(
     }
 }
 
-/// What a client's write moves in.
+/// Decodes the list that a client's SET moves in, if any.
 #[tactic(auto, unfolding(crate::specs::Moving::set_parts, crate::specs::Memory::writes_plainly))]
 fn read_set_parts(
     alloc: Global,
@@ -147,7 +148,8 @@ fn read_set_parts(
 }
 
 impl RelayCore {
-    /// The owned values that an event's write moves in, for `RelayCore::advance`.
+    /// Decodes the list that an event's write moves in, for [`advance`](RelayCore::advance). Fails
+    /// if out of memory, and never for a sure event.
     #[tactic(auto, unfolding(crate::specs::Machine::is_sure))]
     pub fn parts(alloc: Global, event: &Event) -> Result<Parts, AllocError>
         ensures parts { IfOk result (λ parts. parts ≡ parts_of event.now) }

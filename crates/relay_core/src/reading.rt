@@ -23,7 +23,7 @@ use listed::Listed;
 use std::alloc::{AllocError, Global};
 
 impl RelayCore {
-    /// An attribute of the switch past its logical name.
+    /// Reads an attribute of the switch other than the logical name.
     fn control_value(&self, number: u8) -> GetResult
         ensures { (w : World) → StandsFor self.now w → result ≡ shown (λ attribute. control_data attribute w.control) (control_attribute number) }
     {
@@ -33,7 +33,7 @@ impl RelayCore {
         }
     }
 
-    /// An attribute of a register past its logical name.
+    /// Reads an attribute of a register other than the logical name.
     fn register_value(
         &self,
         alloc: Global,
@@ -51,7 +51,7 @@ impl RelayCore {
         Ok(GetResult::Value(data))
     }
 
-    /// An attribute of a limiter past its logical name.
+    /// Reads an attribute of a limiter other than the logical name.
     fn limiter_value(
         &self,
         alloc: Global,
@@ -69,7 +69,7 @@ impl RelayCore {
         Ok(GetResult::Value(data))
     }
 
-    /// An attribute of an object past its logical name, for a client of this level.
+    /// Reads an attribute of an object other than the logical name, for a client of this level.
     fn own_value(
         &self,
         alloc: Global,
@@ -97,7 +97,7 @@ impl RelayCore {
         Ok(GetResult::Value(data))
     }
 
-    /// The value of an attribute, for a client of this level.
+    /// Reads an attribute of an object, for a client of this level.
     #[tactic(auto, unfolding(crate::specs::Reading::value_in))]
     fn attribute_value(
         &self,
@@ -116,7 +116,7 @@ impl RelayCore {
         self.own_value(alloc, level, instance, attr.number)
     }
 
-    /// What a client of this level reads of an attribute.
+    /// Handles a client's GET.
     #[tactic(auto, unfolding(crate::specs::Reading::get_result, crate::specs::Memory::reads_plainly))]
     pub(crate) fn get(
         &self,
@@ -134,7 +134,7 @@ impl RelayCore {
         }
     }
 
-    /// What a client of this level reads of several attributes.
+    /// Handles a client's GET with list.
     pub(crate) fn get_list(
         &self,
         alloc: Global,

@@ -9,8 +9,8 @@ use limiter_core::Limiter;
 use script_steps::ScriptTable;
 use std::alloc::{AllocError, Global};
 
-/// The state of the meter: its name, its supply switch, its limiters, each with the last moment of the clock, its scripts
-/// and its schedules.
+/// The state of the meter: its device name, its supply switch, its limiters (each with the last
+/// moment of the clock), its scripts and its schedules.
 #[derive(Debug, Drop)]
 pub struct RelayCore {
     pub(crate) device: Octets,
@@ -33,8 +33,10 @@ impl RelayCore {
     ghost use Rattle.relay_core.specs.World.{World, new_world};
     ghost use Rattle.relay_core.specs.Stands.{StandsFor, MeteredStands};
 
-    /// A new meter of this device name, 1 to 16 bytes: connected, in mode 0, without scripts, with no
-    /// schedule that is ever due, with limiters whose thresholds are at their greatest, and no sample or moment has come.
+    /// Makes a new meter. `device` is its logical device name, 1 to 16 bytes. The switch is
+    /// connected, in mode 0; there are no scripts; no schedule is ever due; the limiters'
+    /// thresholds are the greatest possible; and no sample or moment has arrived. Fails if out of
+    /// memory.
     pub fn new(alloc: Global, device: &Octets) -> Result<RelayCore, AllocError>
         requires { IsDeviceName device.now }
         ensures { IfOk result (λ core. StandsFor core (new_world device.now)) }
@@ -49,7 +51,7 @@ impl RelayCore {
         })
     }
 
-    /// Equal limiters: that of the import and that of the export.
+    /// Returns copies of the limiters: import, then export.
     fn copied_limiters(&self, alloc: Global) -> Result<(Limiter, Limiter), AllocError>
         ensures import { IfOk result (λ copies. copies.0 ≡ self.now.import) }
         ensures export { IfOk result (λ copies. copies.1 ≡ self.now.export) }
@@ -59,7 +61,7 @@ impl RelayCore {
         Ok((import, export))
     }
 
-    /// An equal script table and equal schedules.
+    /// Returns copies of the script table and the schedules.
     pub(crate) fn copied_lists(&self, alloc: Global) -> Result<(ScriptTable, Schedules), AllocError>
         ensures scripts { IfOk result (λ copies. copies.0 ≡ self.now.scripts) }
         ensures schedules { IfOk result (λ copies. copies.1 ≡ self.now.schedules) }
@@ -69,7 +71,7 @@ impl RelayCore {
         Ok((scripts, schedules))
     }
 
-    /// An equal core in memory of its own.
+    /// Returns a copy of the core. Fails if out of memory.
     pub fn try_copy(&self, alloc: Global) -> Result<RelayCore, AllocError>
         ensures { IfOk result (λ copy. copy ≡ self.now) }
     {
@@ -86,7 +88,7 @@ impl RelayCore {
         })
     }
 
-    /// One of the limiters.
+    /// Returns one of the limiters.
     pub(crate) fn limiter(&self, which: Which) -> &Limiter
         ensures { (w : World) → StandsFor self.now w → MeteredStands result.now w.moment (metered_of which w) }
     {
@@ -96,57 +98,57 @@ impl RelayCore {
         }
     }
 
-    /// The state of the supply switch.
+    /// Returns the state of the supply switch (IEC 62056-6-2, class 70, control_state).
     pub fn state(&self) -> ControlState
         ensures { (w : World) → StandsFor self.now w → result ≡ w.control.state }
     {
         self.control.state()
     }
 
-    /// The mode of the supply switch.
+    /// Returns the mode of the supply switch (IEC 62056-6-2, class 70, control_mode).
     pub fn mode(&self) -> ControlMode
         ensures { (w : World) → StandsFor self.now w → result ≡ w.control.mode }
     {
         self.control.mode()
     }
 
-    /// Whether the supply is on: exactly in Connected.
+    /// Whether the supply is on: exactly if the state is Connected.
     pub fn output(&self) -> bool
         ensures { (w : World) → StandsFor self.now w → result ≡ is_state w.control.state Connected }
     {
         self.control.output()
     }
 
-    /// The last moment of the clock, in seconds since 2000-01-01 00:00:00 of the meter's time, or None before the
-    /// first.
+    /// Returns the last moment of the clock, in seconds since 2000-01-01 00:00:00 of the meter's
+    /// time, or `None` before the first.
     pub fn last_moment(&self) -> Option<u32>
         ensures { (w : World) → StandsFor self.now w → result ≡ w.moment }
     {
         self.import.moment()
     }
 
-    /// The last sample of the imported power, in watts; 0 before the first.
+    /// Returns the last sample of imported power, in watts; 0 before the first.
     pub fn value(&self) -> u32
         ensures { (w : World) → StandsFor self.now w → result ≡ w.import.last }
     {
         self.import.value()
     }
 
-    /// The last sample of a limiter, in watts; 0 before the first.
+    /// Returns the last sample of a limiter, in watts; 0 before the first.
     pub fn value_of(&self, which: Which) -> u32
         ensures { (w : World) → StandsFor self.now w → result ≡ (metered_of which w).last }
     {
         self.limiter(which).value()
     }
 
-    /// The active threshold of the import limiter, in watts.
+    /// Returns the active threshold of the import limiter, in watts.
     pub fn threshold(&self) -> u32
         ensures { (w : World) → StandsFor self.now w → result ≡ active_threshold w.import.settings w.moment }
     {
         self.import.threshold()
     }
 
-    /// The active threshold of a limiter, in watts.
+    /// Returns the active threshold of a limiter, in watts.
     pub fn threshold_of(&self, which: Which) -> u32
         ensures { (w : World) → StandsFor self.now w → result ≡ active_threshold (metered_of which w).settings w.moment }
     {

@@ -13,8 +13,8 @@ use relay_events::{Event, Events, Line, Lines, Reply};
 use std::alloc::{AllocError, Global};
 
 impl RelayCore {
-    /// Takes an event and answers it. An event that only reads leaves the core as it was. Where memory runs out the core is as it was too, as though the event had
-    /// not come.
+    /// Applies an event and returns the reply. An event that only reads leaves the core unchanged.
+    /// If out of memory, the core is unchanged too, as if the event had not arrived.
     #[tactic(auto, unfolding(crate::specs::Machine::at_event, crate::specs::Machine::is_sure))]
     pub fn step(&mut self, alloc: Global, event: &Event) -> Result<Reply, AllocError>
         ensures world { OnOk result ((w : World) → StandsFor self.old w → StandsFor self.new (at_event event.now w).world) }
@@ -59,7 +59,8 @@ impl RelayCore {
 }
 
 impl RelayCore {
-    /// The state after an event whose owned values were read apart, with no reply. It takes no memory.
+    /// Applies an event whose list, if it writes one, was decoded before; returns no reply. Does
+    /// not allocate.
     #[tactic(auto, unfolding(crate::specs::Machine::at_event))]
     pub fn advance(&mut self, event: &Event, parts: Parts)
         requires { parts ≡ parts_of event.now }
@@ -97,15 +98,15 @@ impl RelayCore {
     }
 }
 
-/// A run that stopped for want of memory: the lines of the events before it stopped. The core stands after
-/// just these.
+/// The error of a run that ran out of memory: the lines of the events before it stopped. The core
+/// has taken exactly these events.
 #[derive(Debug, Drop)]
 pub struct RunStop {
     pub done: Lines,
 }
 
-/// Takes an event, and gives its line: the reply to it, and the switch after it. Where memory runs out the core is as it was, as
-/// though the event had not come.
+/// Applies an event and returns its line: the reply, and the switch's state and output after it. If
+/// out of memory, the core is unchanged, as if the event had not arrived.
 pub fn line_after(core: &mut RelayCore, alloc: Global, event: &Event) -> Result<Line, AllocError>
     ensures world { OnOk result ((w : World) → StandsFor core.old w → StandsFor core.new (at_event event.now w).world) }
     ensures line { IfOk result (λ line. (w : World) → StandsFor core.old w → line ≡ line_at event.now w) }
@@ -120,11 +121,12 @@ pub fn line_after(core: &mut RelayCore, alloc: Global, event: &Event) -> Result<
     })
 }
 
-/// Takes events one after the other. The line of each has its reply, and the state and the supply output after
-/// it. So for every interleaving of remote calls, button presses, sample blocks and clock moments, each line is what the
-/// mode and transition tables and the limiters' rules over all samples so far say.
+/// Applies events one after the other. The line of each has its reply, and the state and the supply
+/// output after it. So for every interleaving of remote calls, button presses, sample blocks and
+/// clock moments, each line is what the mode and transition tables and the limiters' rules over all
+/// samples so far say.
 ///
-/// Where memory runs out, the run stops before the event that wanted it, or before the first.
+/// If out of memory, the run stops before the event that needed it, or before the first event.
 pub fn run(core: &mut RelayCore, alloc: Global, events: &Events) -> Result<Lines, RunStop>
     ensures ok { IfOk result (λ lines. Runs core.old core.new events.now lines) }
     ensures stop { IfErr result (λ stop. StopsEarly core.old core.new events.now stop.done) }

@@ -24,7 +24,7 @@ pub(crate) struct Firings {
 }
 
 impl Firings {
-    /// Before the first sample of a block.
+    /// Returns the counts before the first sample of a block: all 0.
     fn none() -> Firings
         ensures firings { result ≡ no_firings }
         ensures none { AreAtMost 0 result }
@@ -37,7 +37,7 @@ impl Firings {
         }
     }
 
-    /// Counts what one more sample has brought.
+    /// Counts the firing of one more sample, if it fired.
     #[tactic(auto, unfolding(crate::specs::Sampling::counted))]
     pub(crate) fn count(&mut self, which: Which, fire: Fire)
         requires { AreAtMost 512 self.old }
@@ -55,7 +55,7 @@ impl Firings {
 }
 
 impl RelayCore {
-    /// Runs the script of a side that has fired, as the meter itself does.
+    /// Runs the script of a side that has fired, with the meter itself as its origin.
     #[tactic(auto, unfolding(crate::specs::Sampling::after_fire))]
     fn react(&mut self, fire: Fire, actions: Actions)
         ensures { (w : World) → StandsFor self.old w → StandsFor self.new (after_fire fire actions w) }
@@ -71,7 +71,7 @@ impl RelayCore {
         }
     }
 
-    /// Takes a sample of a limiter, in watts. Where a side fires its script runs.
+    /// Takes a sample of a limiter, in watts. If a side fires, its script runs.
     #[tactic(auto, unfolding(crate::specs::Sampling::after_sample, crate::specs::Sampling::fire_at))]
     pub(crate) fn take_sample(&mut self, which: Which, value: u32) -> Fire
         ensures world { (w : World) → StandsFor self.old w → StandsFor self.new (after_sample (record { which = which; value = value }) w) }
@@ -93,7 +93,7 @@ impl RelayCore {
         }
     }
 
-    /// Takes import values alone, and counts the firings. The scan, if there is one, serves as long as its threshold is the
+    /// Takes import samples only, and counts the firings. A scan is used while its threshold is the
     /// active one.
     fn take_values(&mut self, values: &[u32], scan: Option<Scan>) -> Firings
         requires few { length values.now ≤ 256 }
@@ -110,8 +110,8 @@ impl RelayCore {
         firings
     }
 
-    /// Takes pairs, and counts the firings. The scans, if there are any, serve as long as their thresholds are the active
-    /// ones.
+    /// Takes pairs of samples, and counts the firings. Each scan is used while its threshold is the
+    /// active one.
     fn take_pairs(
         &mut self,
         values: &[u32],
@@ -137,7 +137,7 @@ impl RelayCore {
         firings
     }
 
-    /// Takes the samples of a block, and counts the firings.
+    /// Takes the samples of a block, and returns the reply with the firings.
     #[tactic(auto, unfolding(crate::specs::Sampling::at_samples))]
     pub(crate) fn take_block(&mut self, block: &Block) -> Reply
         ensures world { (w : World) → StandsFor self.old w → StandsFor self.new (at_samples block.now w).world }

@@ -30,7 +30,7 @@ pub struct Schedules {
 }
 
 impl Schedules {
-    /// The schedules of a new meter: none is ever due.
+    /// Returns the schedules of a new meter: none is ever due.
     pub(crate) fn new(alloc: Global) -> Schedules
         ensures { result ≡ new_schedules }
     {
@@ -42,7 +42,7 @@ impl Schedules {
         }
     }
 
-    /// One of the schedules.
+    /// Returns one of the schedules.
     pub(crate) fn get(&self, which: ScheduleNumber) -> &ActionSchedule
         ensures { result.now ≡ schedule_of which self.now }
     {
@@ -54,7 +54,7 @@ impl Schedules {
         }
     }
 
-    /// Equal schedules in memory of their own.
+    /// Returns copies of the schedules.
     pub(crate) fn try_clone(&self, alloc: Global) -> Result<Schedules, AllocError>
         ensures { IfOk result (λ copy. copy ≡ self.now) }
     {
@@ -71,7 +71,7 @@ impl Schedules {
     }
 }
 
-/// Equal schedules to two.
+/// Returns copies of two schedules.
 fn copied_pair(
     alloc: Global,
     one: &ActionSchedule,
@@ -84,7 +84,7 @@ fn copied_pair(
     beside(copy, other.try_clone(alloc))
 }
 
-/// An attribute of a schedule past its logical name.
+/// Reads an attribute of a schedule other than the logical name.
 pub(crate) fn read_schedule(
     alloc: Global,
     schedule: &ActionSchedule,
@@ -99,7 +99,7 @@ pub(crate) fn read_schedule(
     Ok(GetResult::Value(schedule.to_data(alloc, attribute)?))
 }
 
-/// The result of a write that takes no memory.
+/// Returns the result code of a write that doesn't allocate.
 fn code_of(answer: Result<(), WriteFault>) -> ResultCode
     ensures { result ≡ write_code answer }
 {
@@ -127,7 +127,7 @@ fn write_kind(schedule: &mut ActionSchedule, value: &Data) -> ResultCode
     code_of(schedule.set_kind(value))
 }
 
-/// Writes an attribute of a schedule that isn't its list of entries.
+/// Writes an attribute of a schedule other than its list of entries.
 #[tactic(auto, unfolding(crate::specs::Schedules::schedule_written, crate::specs::Schedules::schedule_code))]
 fn write_attribute(schedule: &mut ActionSchedule, number: u8, value: &Data) -> ResultCode
     ensures schedule { schedule.new ≡ schedule_written (attribute_numbered number) value.now schedule.old }
@@ -141,7 +141,7 @@ fn write_attribute(schedule: &mut ActionSchedule, number: u8, value: &Data) -> R
 }
 
 impl RelayCore {
-    /// Writes an attribute of one of the schedules that isn't its list of entries.
+    /// Writes an attribute of one of the schedules other than its list of entries.
     #[tactic(auto, unfolding(crate::specs::Writing::at_schedule))]
     pub(crate) fn write_schedule(
         &mut self,
@@ -160,7 +160,8 @@ impl RelayCore {
         }
     }
 
-    /// Moves the entries of another schedule into one of these.
+    /// Moves the entries of another schedule into one of these; `other` has the old ones
+    /// afterwards.
     pub(crate) fn trade_entries(&mut self, which: ScheduleNumber, other: &mut ActionSchedule)
         ensures { (w : World) → StandsFor self.old w → StandsFor self.new (moved (written.Entries which) (part.Entries other.old) w) }
     {

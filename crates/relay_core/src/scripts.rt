@@ -20,7 +20,7 @@ pub(crate) enum Origin {
 }
 
 impl Origin {
-    /// The trigger of a step that disconnects.
+    /// Returns the trigger of a step that disconnects.
     fn disconnect(self) -> Trigger
         ensures { result ≡ disconnect_by self }
     {
@@ -30,7 +30,7 @@ impl Origin {
         }
     }
 
-    /// The trigger of a step that reconnects.
+    /// Returns the trigger of a step that reconnects.
     fn reconnect(self) -> Trigger
         ensures { result ≡ reconnect_by self }
     {
@@ -42,7 +42,7 @@ impl Origin {
 }
 
 impl RelayCore {
-    /// A step of a script: the same write or method as a client's.
+    /// Performs a step of a script, as the client's write or method would.
     #[tactic(auto, unfolding(crate::specs::Scripts::at_step))]
     fn act(&mut self, origin: Origin, step: Step) -> ResultCode
         ensures world { (w : World) → StandsFor self.old w → StandsFor self.new (at_step origin step w).world }
@@ -72,7 +72,7 @@ impl RelayCore {
         }
     }
 
-    /// The script of a selector; none has no steps.
+    /// Runs the script of a selector. A selector without a script runs no steps.
     #[tactic(auto, using(crate::proofs::ScriptLemmas::no_script))]
     pub(crate) fn run_script(&mut self, origin: Origin, selector: u16) -> ResultCode
         ensures world { (w : World) → StandsFor self.old w → StandsFor self.new (at_script origin (running_steps selector w.scripts) w).world }
@@ -85,7 +85,8 @@ impl RelayCore {
         }
     }
 
-    /// The steps of a selector's script, of which there are `count`, up to and with the first that is refused.
+    /// Runs the steps of a selector's script, up to and including the first that is refused.
+    /// `count` is the number of steps.
     pub(crate) fn run_steps(&mut self, origin: Origin, selector: u16, count: u8) -> ResultCode
         requires { count ≡ length (running_steps selector self.old.scripts) }
         ensures world { (w : World) → StandsFor self.old w → StandsFor self.new (at_script origin (running_steps selector w.scripts) w).world }

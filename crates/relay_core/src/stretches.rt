@@ -1,4 +1,4 @@
-//! Stretches of samples that are taken at once: those of one kind that fire nothing.
+//! Stretches of samples of one kind that fire nothing, taken all at once.
 
 ghost use Rattle.std.specs.Prelude.{◌≡◌, ℕ, ◌+◌, ◌*◌, ◌<◌, ◌≤◌, length, take, drop, slice_index_or, IfSome};
 ghost use Rattle.lane_sampler.specs.Scans.{IsRightScan};
@@ -13,7 +13,7 @@ use cosem_names::Which;
 use lane_sampler::{Scan, classify, run_from};
 use limiter_core::{Kind, Limiter};
 
-/// A scan of the values at this threshold: the one that is there, or a new one where that is of another threshold.
+/// Returns a scan of the values at this threshold: `scan` if it has this threshold, else a new one.
 pub(crate) fn scan_at(scan: Option<Scan>, values: &[u32], threshold: u32) -> Scan
     requires few { length values.now ≤ 256 }
     requires right { IfSome scan (IsRightScan values.now) }
@@ -29,7 +29,7 @@ pub(crate) fn scan_at(scan: Option<Scan>, values: &[u32], threshold: u32) -> Sca
     }
 }
 
-/// How many values from `at` on equal the threshold, one behind the other.
+/// Returns the number of consecutive values from index `at` that equal the threshold.
 fn equal_run(values: &[u32], threshold: u32, at: usize) -> usize
     requires { at ≤ length values.now }
     ensures within { at + result ≤ length values.now }
@@ -43,7 +43,8 @@ fn equal_run(values: &[u32], threshold: u32, at: usize) -> usize
     end - at
 }
 
-/// The kind of the value at `at`, and how many of that kind stand in a row from there on.
+/// Returns the kind of the value at index `at`, and the number of consecutive values of that kind
+/// from there.
 fn run_at(values: &[u32], scan: &Scan, at: usize) -> (Kind, usize)
     requires few { length values.now ≤ 256 }
     requires within { at < length values.now }
@@ -64,7 +65,7 @@ fn run_at(values: &[u32], scan: &Scan, at: usize) -> (Kind, usize)
     (Kind::Equal, equal_run(values, scan.threshold, at))
 }
 
-/// How many of that many samples of a kind fire nothing.
+/// Returns how many of the next `count` samples of a kind fire nothing.
 fn quiet_of(limiter: &Limiter, kind: Kind, count: usize) -> usize
     ensures quiet { result ≤ quiet_count kind limiter.now }
     ensures within { result ≤ count }
@@ -74,7 +75,7 @@ fn quiet_of(limiter: &Limiter, kind: Kind, count: usize) -> usize
 }
 
 impl RelayCore {
-    /// Takes import values of one kind that fire nothing.
+    /// Takes import samples of one kind that fire nothing.
     fn skip_values(&mut self, kind: Kind, values: &[u32])
         requires some { 0 < length values.now }
         requires quiet { length values.now ≤ quiet_count kind self.old.import }
@@ -85,7 +86,8 @@ impl RelayCore {
         self.import.skip_run(kind, values.len() as u64, last);
     }
 
-    /// Takes pairs of which the import values are of one kind, and the export values, and none fires.
+    /// Takes pairs that fire nothing, with all import samples of one kind and all export samples of
+    /// one kind.
     fn skip_pairs(&mut self, kind: Kind, values: &[u32], other_kind: Kind, others: &[u32])
         requires some { 0 < length values.now }
         requires even { length others.now ≡ length values.now }
@@ -101,8 +103,8 @@ impl RelayCore {
             .skip_run(other_kind, count as u64, others[count - 1]);
     }
 
-    /// Takes the import values from `at` on that are of one kind and fire nothing, or the next one where that fires. It
-    /// tells how many it took.
+    /// Takes the import samples from index `at` that are of one kind and fire nothing, or only the
+    /// next one if it fires. Returns how many it took.
     pub(crate) fn take_stretch(
         &mut self,
         values: &[u32],
@@ -131,8 +133,8 @@ impl RelayCore {
         1
     }
 
-    /// Takes the pairs from `at` on that are of one kind for each limiter and fire nothing, or the next one where one of its
-    /// two values fires. It tells how many it took.
+    /// Takes the pairs from index `at` that are of one kind for each limiter and fire nothing, or
+    /// only the next pair if one of its samples fires. Returns how many it took.
     pub(crate) fn take_stretch_of_pairs(
         &mut self,
         values: &[u32],

@@ -17,7 +17,7 @@ use limiter_attributes::{LimiterAttribute, Setting, read_setting};
 use std::alloc::{AllocError, Global};
 
 impl RelayCore {
-    /// Writes the mode, which the switch's state may refuse.
+    /// Writes the mode; some states of the switch refuse it.
     #[tactic(auto, unfolding(crate::specs::Writing::at_mode))]
     pub(crate) fn write_mode(&mut self, mode: ControlMode) -> ResultCode
         ensures world { (w : World) → StandsFor self.old w → StandsFor self.new (at_mode mode w).world }
@@ -28,7 +28,7 @@ impl RelayCore {
         self.control.set_mode(mode)
     }
 
-    /// Sets a limiter.
+    /// Applies a setting to a limiter.
     #[tactic(auto, unfolding(crate::specs::Writing::at_setting))]
     pub(crate) fn set_limiter(&mut self, which: Which, setting: Setting) -> ResultCode
         ensures world { (w : World) → StandsFor self.old w → StandsFor self.new (at_setting which setting w).world }
@@ -43,7 +43,7 @@ impl RelayCore {
         ResultCode::Success
     }
 
-    /// Writes an attribute of a limiter that isn't its list of group ids.
+    /// Writes an attribute of a limiter other than its list of group ids.
     fn write_limiter(&mut self, which: Which, number: u8, value: &Data) -> ResultCode
         ensures world { (w : World) → StandsFor self.old w → StandsFor self.new (at_limiter which (attribute_numbered number) value.now w).world }
         ensures code { (w : World) → StandsFor self.old w → result ≡ (at_limiter which (attribute_numbered number) value.now w).code }
@@ -58,7 +58,7 @@ impl RelayCore {
         }
     }
 
-    /// Moves scripts in.
+    /// Moves the script table in.
     fn move_scripts(&mut self, parts: Parts)
         ensures { (w : World) → StandsFor self.old w → StandsFor self.new (moved WrittenList.Scripts parts w) }
     {
@@ -89,7 +89,7 @@ impl RelayCore {
         }
     }
 
-    /// Moves a list in. One that was refused moves nothing.
+    /// Moves a list in, or nothing if the list was refused.
     fn move_in(&mut self, list: WrittenList, parts: Parts)
         ensures { (w : World) → StandsFor self.old w → StandsFor self.new (moved list parts w) }
     {
@@ -100,7 +100,7 @@ impl RelayCore {
         }
     }
 
-    /// Writes an attribute of the switch.
+    /// Writes an attribute of the switch; only its mode can be written.
     fn write_control(&mut self, number: u8, value: &Data) -> ResultCode
         ensures world { (w : World) → StandsFor self.old w → StandsFor self.new (at_control (control_attribute number) value.now w).world }
         ensures code { (w : World) → StandsFor self.old w → result ≡ (at_control (control_attribute number) value.now w).code }
@@ -156,7 +156,7 @@ impl RelayCore {
         }
     }
 
-    /// Writes an attribute of an object, whose list has been read apart.
+    /// Writes an attribute of an object whose list, if it is one, was decoded before.
     #[tactic(auto, unfolding(crate::specs::Writing::at_write), using(crate::proofs::WriteLemmas::moved_list))]
     fn write_by(&mut self, instance: Instance, number: u8, value: &Data, parts: Parts)
         requires { parts ≡ parts_read (list_numbered instance number) value.now }
@@ -171,7 +171,7 @@ impl RelayCore {
         }
     }
 
-    /// A client's write of an attribute.
+    /// Handles a client's SET.
     #[tactic(auto, unfolding(crate::specs::Writing::at_set, crate::specs::Memory::writes_plainly))]
     pub(crate) fn set(
         &mut self,
@@ -192,7 +192,7 @@ impl RelayCore {
         }
     }
 
-    /// A client's write, whose list has been read apart.
+    /// Handles a client's SET whose list, if it writes one, was decoded before.
     #[tactic(auto, unfolding(crate::specs::Writing::at_set, crate::specs::Moving::set_parts))]
     pub(crate) fn set_by(
         &mut self,

@@ -5,7 +5,7 @@ use Rattle.relay_events.specs.declared.event.Event.TheVariants.{Get, GetList, Se
 use Rattle.relay_events.specs.declared.reply.Reply.{Reply}
 use Rattle.relay_events.specs.declared.reply.Reply.TheVariants.{Value, Values, Code, Sampled, SampledBoth, Ran, Stale}
 
--- the events that only read
+-- whether an event only reads
 abbrev pub is_read : Event → Bool
 is_read (Get level attr selected) = true
 is_read (GetList level items) = true
@@ -15,7 +15,7 @@ is_read Button = false
 is_read (Samples block) = false
 is_read (Moment now) = false
 
--- the kind of a reply
+-- whether a reply is of this kind
 abbrev pub IsCode : Reply → Type 0
 IsCode (Code code) = ⊤
 IsCode _ = ⊥
@@ -39,8 +39,8 @@ IsOfClock (Ran count) = ⊤
 IsOfClock (Stale last) = ⊤
 IsOfClock _ = ⊥
 
--- the kind of reply that an event has: a Get a value or a code, a GetList values, Samples and a Moment their own, any other
--- event a code
+-- whether the reply is of the event's kind: a value or a code for a Get, values for a GetList,
+-- counts for Samples, a count or Stale for a Moment, a code for any other event
 abbrev pub Fits : Event → Reply → Type 0
 Fits (Get level attr selected) reply = IsValueOrCode reply
 Fits (GetList level items) reply = AreValues reply

@@ -7,17 +7,17 @@ use lane_sampler::Block;
 use listed::Listed;
 use std::alloc::{AllocError, Global};
 
-/// What reaches the meter: a client's call, a press of the button, a block of samples or a moment of its clock. Each is
-/// one step of the core.
+/// An input of the meter: a client's request, a press of the button, a block of power samples or a
+/// moment of the clock. Each is one step of the core.
 #[derive(Debug, Drop)]
 pub enum Event {
-    /// GET: a client reads an attribute, `selected` where it asks for a part of it.
+    /// GET: a client reads an attribute. `selected` says whether the request has selective access.
     Get {
         level: Level,
         attr: AttrRef,
         selected: bool,
     },
-    /// GET with list: a client reads several attributes at one moment.
+    /// GET with list: a client reads several attributes in one step.
     GetList {
         level: Level,
         items: Listed<AttributeSelection>,
@@ -37,16 +37,16 @@ pub enum Event {
     },
     /// A press of the meter's button.
     Button,
-    /// Samples of the imported power, or of both, in watts.
+    /// Samples of the imported power, or of imported and exported power, in watts.
     Samples(Block),
-    /// A moment of the clock has come: seconds since 2000-01-01 00:00:00 of the meter's time.
+    /// The clock has reached this moment: seconds since 2000-01-01 00:00:00 in the meter's time.
     Moment(u32),
 }
 
 /// Events in order.
 pub type Events = Listed<Event>;
 
-/// A copy of a parameter, if there is one.
+/// Returns a copy of a parameter, if there is one.
 fn copied_parameter(alloc: Global, parameter: &Option<Data>) -> Result<Option<Data>, AllocError>
     ensures { IfOk result (λ copy. copy ≡ parameter.now) }
 {
@@ -57,14 +57,14 @@ fn copied_parameter(alloc: Global, parameter: &Option<Data>) -> Result<Option<Da
 }
 
 impl Event {
-    /// Whether it only reads: a GET.
+    /// Whether the event only reads: a GET or a GET with list.
     pub fn is_read(&self) -> bool
         ensures { result ≡ is_read self.now }
     {
         matches!(self, Event::Get { .. } | Event::GetList { .. })
     }
 
-    /// An equal event in memory of its own.
+    /// Returns a copy of the event. Fails if out of memory.
     pub fn try_copy(&self, alloc: Global) -> Result<Event, AllocError>
         ensures { IfOk result (λ copy. copy ≡ self.now) }
     {

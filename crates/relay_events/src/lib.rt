@@ -1,6 +1,8 @@
-//! What reaches a meter, and what it answers: the events of its core, their replies, and the lines of a run.
+//! The inputs of a meter and its replies: the events of its core, their replies, and the lines of a
+//! run.
 //!
-//! What an event does is `relay_core`'s. `session_core` and `trace_lines` name events and replies alone, and stand on no core.
+//! What an event does is defined in `relay_core`. `session_core` and `trace_lines` use events and
+//! replies only, and depend on no core.
 #![tactic(auto)]
 
 mod event;

@@ -3,36 +3,36 @@ use cosem_names::{GetResult, ResultCode};
 use disconnect_control::ControlState;
 use listed::Listed;
 
-/// What the core answers to an event.
+/// The core's reply to an event.
 #[derive(Debug, Drop)]
 pub enum Reply {
     /// To a Get: the value of the attribute.
     Value(Data),
     /// To a GetList: a result for each item, in order.
     Values(Listed<GetResult>),
-    /// To a Set, an Execute or a Button: its result. To a Get: why the attribute isn't read.
+    /// To a Set, an Execute or a Button: its result. To a Get: why the attribute was not read.
     Code(ResultCode),
-    /// To Samples of the imported power alone: how often each side of its limiter has fired.
+    /// To Samples of imported power only: how often each side of its limiter fired.
     Sampled {
         over: u16,
         under: u16,
     },
-    /// To Samples of both: how often each side of each limiter has fired.
+    /// To Samples of imported and exported power: how often each side of each limiter fired.
     SampledBoth {
         over: u16,
         under: u16,
         export_over: u16,
         export_under: u16,
     },
-    /// To a Moment: how many schedules were due.
+    /// To a Moment: the number of schedules that were due.
     Ran(u8),
-    /// To a Moment before the last one, which changes nothing: the last one.
+    /// To a Moment earlier than the last one, which changes nothing: the last moment.
     Stale {
         last: u32,
     },
 }
 
-/// A line of a run: the reply to an event, and the switch after it.
+/// One line of a run: the reply to an event, and the switch's state and output after it.
 #[derive(Debug, Drop)]
 pub struct Line {
     pub reply: Reply,

@@ -1,4 +1,4 @@
--- Histories go on.
+-- What one more event does to a recorder's history.
 use Rattle.std.proofs.Common.{◌≡◌, ℕ, zero, suc, ◌-◌, List, [], ◌∷◌, ◌++◌, length, take, drop, map, refl, ap, sym, ◌∙◌, subst}
 use Rattle.std.proofs.lemmas.List.{map_push}
 use Rattle.circular_buffer.specs.Buffer.{Buffer, buffer, keep_last}
@@ -15,7 +15,7 @@ use Rattle.relay_recorder.specs.Recording.{Recording, recording, all_but_last}
 use Rattle.relay_recorder.specs.Histories.{Told, events_of, replies_of, replies_from, StandsForHistory, HasHistory, Continues}
 use Rattle.relay_recorder.proofs.Pushed.{keep_last-more, all_but_last-more}
 
--- the replies of a run with one event more
+-- the replies of a run with one more event
 replies_from-push : (events : List Event) (event : Event) (origin : World)
     → replies_from origin (events ++ event ∷ []) ≡ replies_from origin events ++ (at_event event (world_after events origin)).reply ∷ []
 replies_from-push events event origin =
@@ -23,7 +23,8 @@ replies_from-push events event origin =
     ap (map reply_in) (lines_of-append events (event ∷ []) origin)
     ∙ map_push reply_in (lines_of events origin) (line_at event (world_after events origin))
 
--- the core took the event, the answer is the machine's, the event was kept, and the opening core took what was pushed out
+-- If the core took the event, the reply is the machine's, the event was kept and the opening core
+-- took what was pushed out, the recorder continues its histories.
 pub continues : (old new : Recording) (event : Event) (reply : Reply)
     → ((w : World) → StandsFor old.core w → StandsFor new.core (at_event event w).world)
     → ((w : World) → StandsFor old.core w → reply ≡ (at_event event w).reply)
@@ -65,7 +66,7 @@ continues old new event reply core_goes answers kept opening_goes same = record 
       };
 }
 
--- the same of the parts of a recorder
+-- `continues`, for the parts of a recorder
 pub applied : (core opening next next_opening : RelayCore) (kept ring : Buffer Event) (event newest : Event) (reply : Reply)
     → ((w : World) → StandsFor core w → StandsFor next (at_event event w).world)
     → ((w : World) → StandsFor core w → reply ≡ (at_event event w).reply)
@@ -79,7 +80,7 @@ applied core opening next next_opening kept ring event newest reply core_goes an
     (λ w stands. subst (λ (e : Event). StandsFor next_opening (world_after (all_but_last kept.capacity (kept.items ++ e ∷ [])) w)) same (opening_goes w stands))
     (ap (λ (b : Buffer Event). b.capacity) pushed)
 
--- nothing is taken of no events, and nothing is left of them
+-- no event is dropped from an empty list, and none remains in it
 take_of_none : (n : ℕ) → take n (events_of []) ≡ []
 take_of_none zero = refl
 take_of_none (suc n) = refl
@@ -88,7 +89,7 @@ drop_of_none : (n : ℕ) → drop n (events_of []) ≡ []
 drop_of_none zero = refl
 drop_of_none (suc n) = refl
 
--- a recorder that has taken no event stands for the empty history
+-- a recorder that has taken no event has the empty history
 pub begins : (core opening : RelayCore) (ring : Buffer Event) (origin : World) → StandsFor core origin → opening ≡ core → ring.items ≡ []
     → HasHistory (recording core opening ring)
 begins core opening ring origin stands same empty = record {
@@ -103,7 +104,7 @@ begins core opening ring origin stands same empty = record {
   };
 }
 
--- a recorder that took an event has a history still
+-- a recorder that had a history and took an event has a history
 pub goes_on : (old new : Recording) (event : Event) (reply : Reply) → Continues old new event reply → HasHistory old → HasHistory new
 goes_on old new event reply continues has = record {
   history = has.history ++ (event, reply) ∷ [];

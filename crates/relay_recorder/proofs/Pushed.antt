@@ -1,4 +1,4 @@
--- What a full ring does with one more item.
+-- The effect of pushing one more item onto a full ring.
 use Rattle.std.proofs.Common.{◌≡◌, ℕ, ◌+◌, ◌-◌, ◌<◌, ◌≤◌, Bool, true, false, List, [], ◌∷◌, ◌++◌, length, take, drop, get_or, Option, None, Some, refl, ap, sym, ◌∙◌, arith, ltb-true, ltb-false}
 use Rattle.std.specs.Prelude.{nat_lt, slice_get, if◌then◌else◌}
 use Rattle.std.specs.Option.{option_to_list}
@@ -9,25 +9,26 @@ use Rattle.circular_buffer.specs.Buffer.{keep_last}
 use Rattle.relay_recorder.specs.Recording.{all_but_last}
 
 module _ {X : Type 0} where
-  -- one more item stands behind the last ones
+  -- the list with one more item is its items before the last n, then the last n, then the new item
   parted : (n : ℕ) (xs : List X) (x : X) → xs ++ x ∷ [] ≡ all_but_last n xs ++ (keep_last n xs ++ x ∷ [])
   parted n xs x =
       ap (λ l. l ++ x ∷ []) (sym (take-append-drop (length xs - n) xs))
       ∙ append_assoc (all_but_last n xs) (keep_last n xs) (x ∷ [])
 
-  -- all that stands before the last ones still does
+  -- where the last n items begin, in terms of the parts before the push
   cut_at : (n : ℕ) (xs : List X) (x : X) → length (xs ++ x ∷ []) - n ≡ length (all_but_last n xs) + (length (keep_last n xs ++ x ∷ []) - n)
   cut_at n xs x =
       let within : length xs - n ≤ length xs = omega arith in
       omega (arith, length_push xs x, length_push (keep_last n xs) x, length-drop (length xs - n) xs, length-take-le (length xs - n) xs within)
 
-  -- the last items, with one more, are the last of them and it
+  -- the last n items of a longer list are those of its last n items and the new one
   pub keep_last-more : (n : ℕ) (xs : List X) (x : X) → keep_last n (xs ++ x ∷ []) ≡ keep_last n (keep_last n xs ++ x ∷ [])
   keep_last-more n xs x =
       (λ i. drop (cut_at n xs x i) (parted n xs x i))
       ∙ drop-append-add (all_but_last n xs) (keep_last n xs ++ x ∷ []) (length (keep_last n xs ++ x ∷ []) - n)
 
-  -- before the last items, with one more, stand those that stood before them and those that it pushes out
+  -- the items before the last n of a longer list: those before, then those that the new item pushes
+  -- out
   pub all_but_last-more : (n : ℕ) (xs : List X) (x : X)
       → all_but_last n (xs ++ x ∷ []) ≡ all_but_last n xs ++ all_but_last n (keep_last n xs ++ x ∷ [])
   all_but_last-more n xs x =
@@ -52,13 +53,13 @@ module _ {X : Type 0} where
       let one : length (xs ++ x ∷ []) - n ≡ 1 = omega (arith, length_push xs x, ltb-false (length xs) n test) in
       ap (λ k. take k (xs ++ x ∷ [])) one ∙ first_item (xs ++ x ∷ []) ∙ ap option_to_list (sym is)
 
-  -- what a push gives back is what it pushes out
+  -- the item that a push returns is the one that it pushes out
   pub pushed_out : (n : ℕ) (xs : List X) (x : X) (r : Option X) → length xs ≤ n
       → r ≡ (if nat_lt (length xs) n then None else slice_get (xs ++ x ∷ []) 0)
       → all_but_last n (xs ++ x ∷ []) ≡ option_to_list r
   pushed_out n xs x r within is = pushed_by n xs x r (nat_lt (length xs) n) refl within is
 
-  -- the first items and the next one
+  -- the first i + 1 items are the first i and the item at i
   pub take_got : (xs : List X) (i : ℕ) (x : X) → slice_get xs i ≡ Some x → take (i + 1) xs ≡ take i xs ++ x ∷ []
   take_got xs i x got =
       let below : i < length xs = slice_get_within xs i x got in

@@ -1,4 +1,4 @@
--- The kept events run again from a world that agrees with the one before them.
+-- The kept events run again, from a world that agrees with the one before them.
 use Rattle.std.proofs.Common.{◌≡◌, ℕ, zero, suc, ◌+◌, ◌-◌, ◌≤◌, List, [], ◌∷◌, ◌++◌, length, map, drop, refl, ap, sym, ◌∙◌, arith}
 use Rattle.std.proofs.lemmas.List.{length-drop, length-take-le, length-map, take-append-drop}
 use lib.Seq.{drop-append-add}
@@ -39,7 +39,7 @@ lines_length : (events : List Event) (w : World) → length (lines_of events w) 
 lines_length [] w = refl
 lines_length (event ∷ events) w = ap suc (lines_length events (at_event event w).world)
 
--- behind the lines of the events before the last ones stand those of the last ones
+-- the lines of a run are those of the events before the last n, followed by those of the last n
 last_lines : (n : ℕ) (events : List Event) (w : World)
     → drop (length events - length (keep_last n events)) (lines_of events w) ≡ lines_of (keep_last n events) (world_after (all_but_last n events) w)
 last_lines n events w =
@@ -58,7 +58,8 @@ drop_map f zero (x ∷ xs) = refl
 drop_map f (suc n) [] = refl
 drop_map f (suc n) (x ∷ xs) = drop_map f n xs
 
--- what was written down agrees with the world before the kept events, so they run from it as they did
+-- The exported opening agrees with the world before the kept events, so they run from it as they
+-- did in the history.
 pub runs_again : (r : Recording) (history : List Told) (origin world : World) → StandsForHistory r history origin → AreEvents r.events → IsWorld world
     → ((w : World) → StandsFor r.opening w → Agree world w) → RunsAgain r history origin world
 runs_again r history origin world stands small range agrees =

@@ -1,23 +1,23 @@
--- A recorder as its callers see it.
+-- The view that callers have of a recorder.
 use Rattle.std.specs.Prelude.{◌≡◌, ℕ, ◌-◌, ◌≤◌, List, [], length, take}
 use Rattle.circular_buffer.specs.Buffer.{Buffer}
 use Rattle.relay_events.specs.declared.event.Event.{Event}
 use Rattle.relay_core.specs.declared.relay.RelayCore.{RelayCore}
 
--- the core that stands now, the core that stood before the kept events, the kept events with the oldest first, and how many
--- may be kept
+-- The current core, the core before the kept events, the kept events (oldest first), and how many
+-- may be kept.
 pub record Recording : Type 0 where
   pub core : RelayCore
   pub opening : RelayCore
   pub events : List Event
   pub capacity : ℕ
 
--- the same, of the parts of a recorder
+-- the view of a recorder that consists of these parts
 abbrev pub recording : RelayCore → RelayCore → Buffer Event → Recording
 recording core opening kept = record { core = core; opening = opening; events = kept.items; capacity = kept.capacity }
 
--- what is so of every recorder: it has room for 1 to 1,024 events and keeps no more, and before the first one both cores are
--- the same
+-- What holds for every recorder: its capacity is 1 to 1,024 events, it keeps no more, and while it
+-- keeps none the two cores are equal.
 pub record IsRecording (r : Recording) : Type 0 where
   pub some : 1 ≤ r.capacity
   pub few : r.capacity ≤ 1024

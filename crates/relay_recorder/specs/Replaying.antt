@@ -1,4 +1,4 @@
--- What a recorder's export plays.
+-- What a recorder's exported trace replays.
 use Rattle.std.specs.Prelude.{◌≡◌, ◌-◌, List, [], ◌∷◌, length, drop}
 use Rattle.relay_core.specs.Agreeing.{IsEvent}
 use Rattle.relay_events.specs.declared.event.Event.{Event}
@@ -7,17 +7,17 @@ use Rattle.relay_core.specs.World.{World}
 use Rattle.relay_recorder.specs.Histories.{Told, StandsForHistory, events_of, replies_of, replies_from}
 use Rattle.relay_recorder.specs.Recording.{Recording}
 
--- events whose durations are numbers of 32 bits
+-- each duration in these events fits in 32 bits
 abbrev pub AreEvents : List Event → Type 0
 AreEvents [] = Unit {0}
 AreEvents (event ∷ events) = IsEvent event × AreEvents events
 
--- from this world the kept events run as they did in a history: the lines are the last ones of its run, and the replies are
--- those that it told
+-- Run from `world`, the kept events give the last lines of the history's run, and the history's
+-- last replies.
 pub record RunsAgain (r : Recording) (history : List Told) (origin world : World) : Type 0 where
   pub lines : lines_of r.events world ≡ drop (length history - length r.events) (lines_of (events_of history) origin)
   pub replies : replies_from world r.events ≡ drop (length history - length r.events) (replies_of history)
 
--- from this world the kept events run as they did in every history that the recorder stands for
+-- run from `world`, the kept events run as they did in every history that the recorder results from
 abbrev pub Replays : Recording → World → Type 0
 Replays r world = (history : List Told) (origin : World) → StandsForHistory r history origin → RunsAgain r history origin world

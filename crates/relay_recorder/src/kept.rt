@@ -11,8 +11,8 @@ use relay_core::{Parts, RelayCore};
 use relay_events::Event;
 use std::marker::Model;
 
-/// An event, and the owned values that its write moves in: they were read when it came, so that a core can take it later
-/// without memory.
+/// A kept event with the owned values that it writes. They were decoded when the event arrived, so
+/// that the opening core can take it later without allocating.
 #[derive(Debug, Drop)]
 pub(crate) struct Kept {
     event: Event,
@@ -35,7 +35,7 @@ impl Model for Kept {
 }
 
 impl Kept {
-    /// An event with its owned values.
+    /// Returns the event with its owned values.
     pub(crate) fn new(event: Event, parts: Parts) -> Kept
         requires { parts ≡ parts_of event }
         ensures { result ≡ event }
@@ -43,14 +43,14 @@ impl Kept {
         Kept { event, parts }
     }
 
-    /// The event.
+    /// Returns the event.
     pub(crate) fn event(&self) -> &Event
         ensures { result.now ≡ self.now }
     {
         &self.event
     }
 
-    /// Lets a core take the event. It takes no memory.
+    /// Applies the event to a core. Does not allocate.
     fn advance(self, core: &mut RelayCore)
         ensures { (w : World) → StandsFor core.old w → StandsFor core.new (world_after (self ∷ []) w) }
     {
@@ -60,10 +60,11 @@ impl Kept {
     }
 }
 
-/// The last events, the oldest first.
+/// The kept events, oldest first.
 pub(crate) type Ring = HeapCircularBuffer<Kept>;
 
-/// Keeps an event. Where there is no room for one more, the oldest is kept no longer, and the opening core takes it.
+/// Appends an event to the ring. If the ring is full, removes the oldest and applies it to the
+/// opening core.
 pub(crate) fn keep(ring: &mut Ring, opening: &mut RelayCore, newest: Kept)
     requires { length ring.old.items ≤ ring.old.capacity }
     ensures ring { ring.new ≡ buffer (keep_last ring.old.capacity (ring.old.items ++ newest ∷ [])) ring.old.capacity }

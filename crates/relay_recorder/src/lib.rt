@@ -1,6 +1,7 @@
-//! What happened to a meter: its last events, and the core that stood before them.
+//! A meter's recorder: the core, its last events, and the core as it was before them.
 //!
-//! `specs/Recording.antt` says what a recorder keeps, and `specs/Histories.antt` which histories it stands for.
+//! `specs/Recording.antt` states what a recorder keeps, and `specs/Histories.antt` which histories
+//! it may have.
 #![tactic(auto)]
 
 mod kept;

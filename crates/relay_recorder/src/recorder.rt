@@ -19,7 +19,7 @@ use relay_events::{Event, Events, Reply};
 use std::alloc::{AllocError, Global};
 use std::marker::Model;
 
-/// A core that keeps the last events that it took, and the core that stood before these.
+/// A core, the last events that it took, and the core as it was before them.
 #[derive(Debug, Drop)]
 pub struct Recorder {
     core: RelayCore,
@@ -44,8 +44,9 @@ impl Model for Recorder {
 }
 
 impl Recorder {
-    /// A recorder of a new meter of this device name, 1 to 16 bytes, that keeps at most `capacity` events, 1 to 1,024. All
-    /// the memory that it keeps them in is taken here.
+    /// Makes a recorder of a new meter. `device` is the logical device name, 1 to 16 bytes;
+    /// `capacity`, 1 to 1,024, is the number of events it keeps. Allocates all memory for these
+    /// events.
     pub fn new(alloc: Global, device: &Octets, capacity: u16) -> Result<Recorder, AllocError>
         requires device { IsDeviceName device.now }
         requires capacity { (1 ≤ capacity) × (capacity ≤ 1024) }
@@ -57,8 +58,9 @@ impl Recorder {
         Recorder::from_core(alloc, core, capacity)
     }
 
-    /// A recorder that goes on from this core and keeps at most `capacity` events, 1 to 1,024; none has come yet. All the
-    /// memory that it keeps them in is taken here. Where memory runs out the core is let go.
+    /// Makes a recorder, without events, that continues from this core. `capacity`, 1 to 1,024, is
+    /// the number of events it keeps. Allocates all memory for these events. If out of memory,
+    /// drops the core.
     pub fn from_core(alloc: Global, core: RelayCore, capacity: u16) -> Result<Recorder, AllocError>
         requires { (1 ≤ capacity) × (capacity ≤ 1024) }
         ensures core { IfOk result (λ recorder. recorder.core ≡ core) }
@@ -88,9 +90,9 @@ impl Recorder {
         }
     }
 
-    /// Takes an event, answers it and keeps it. Where as many events are kept as may be, the oldest is kept no longer, and
-    /// the opening core takes it. Where memory runs out all is as before, as though the event had not come; a sure event
-    /// takes no memory.
+    /// Applies an event, keeps it and returns the reply. If `capacity` events are kept already,
+    /// removes the oldest and applies it to the opening core. If out of memory, nothing has
+    /// changed, as if the event had not arrived. A sure event never runs out of memory.
     pub fn apply(&mut self, alloc: Global, event: Event) -> Result<Reply, AllocError>
         ensures history { IfOk result (Continues self.old self.new event) }
         ensures kept { OnOk result (self.new.events ≡ keep_last self.old.capacity (self.old.events ++ event ∷ [])) }
@@ -105,21 +107,22 @@ impl Recorder {
         Ok(reply)
     }
 
-    /// There is a history that the recorder stands for. It takes no memory, and the recorder is only looked at.
+    /// Proves that the recorder results from some history. Does nothing at run time.
     pub fn has_a_history(&self)
         ensures { HasHistory self.now }
     {
         let _core = &self.core;
     }
 
-    /// The core that stands now.
+    /// Returns the current core.
     pub fn core(&self) -> &RelayCore
         ensures { result.now ≡ self.now.core }
     {
         &self.core
     }
 
-    /// The core that stood before the first kept event. While none came it is the core that stands now.
+    /// Returns the core as it was before the first kept event: the current core while no event is
+    /// kept.
     pub fn opening(&self) -> &RelayCore
         ensures opening { result.now ≡ self.now.opening }
         ensures unused { self.now.events ≡ [] → result.now ≡ self.now.core }
@@ -127,7 +130,7 @@ impl Recorder {
         &self.opening
     }
 
-    /// How many events are kept.
+    /// Returns the number of kept events.
     pub fn count(&self) -> u16
         ensures count { result ≡ length self.now.events }
         ensures within { result ≤ self.now.capacity }
@@ -136,7 +139,7 @@ impl Recorder {
         self.kept.len() as u16
     }
 
-    /// The kept event at an index; the oldest is at 0.
+    /// Returns the kept event at index `i`; the oldest is at 0.
     pub fn event(&self, i: u16) -> &Event
         requires { i < length self.now.events }
         ensures { slice_get self.now.events i ≡ Some result.now }
@@ -144,7 +147,7 @@ impl Recorder {
         self.kept.get(usize::from(i)).unwrap().event()
     }
 
-    /// Equal events to those that are kept, in order, in memory of their own.
+    /// Returns copies of the kept events, in order.
     fn copied_events(&self, alloc: Global) -> Result<Events, AllocError>
         ensures { IfOk result (λ events. events ≡ self.now.events) }
     {
@@ -155,9 +158,11 @@ impl Recorder {
         Ok(events)
     }
 
-    /// The core before the kept events written down, and these. From the world that the opening tells of they run as they did: in
-    /// every history that the recorder stands for, with the same lines and the replies that [`apply`](Recorder::apply) gave. That
-    /// world can't be told apart from any that the core before the kept events stands for.
+    /// Exports a trace: the opening (the saved state of the core before the kept events) and copies
+    /// of these events. Run from that opening, the events give the same lines as in every history
+    /// that the recorder may have, with the replies that [`apply`](Recorder::apply) returned. The
+    /// opening's state can't be distinguished from the state that the core before the kept events
+    /// was in. Fails if out of memory.
     pub fn export(&self, alloc: Global) -> Result<Trace, AllocError>
         ensures opening { IfOk result (λ trace. trace.opening ≡ opening_of self.now.opening) }
         ensures fit { IfOk result (λ trace. IsFitOpening trace.opening) }

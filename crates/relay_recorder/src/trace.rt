@@ -1,7 +1,7 @@
 use relay_core::Opening;
 use relay_events::Events;
 
-/// A run written down: the core before its first event, and the events in order.
+/// A recorded run: the saved state of the core before its first event, and the events in order.
 #[derive(Debug, Drop)]
 pub struct Trace {
     pub opening: Opening,

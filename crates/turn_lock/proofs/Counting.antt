@@ -1,4 +1,4 @@
--- The tests' counter: one more call is counted.
+-- The tests' counter: each further call counts one more.
 use Rattle.std.proofs.Common.{◌≡◌, ℕ, List, [], ◌∷◌, ◌++◌, subst}
 use Rattle.turn_lock.specs.declared.turned.Entry.{Entry}
 use Rattle.turn_lock.specs.History.{entry}

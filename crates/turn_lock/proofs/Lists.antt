@@ -4,7 +4,7 @@ use Rattle.std.proofs.lemmas.List.{append-nil, append_assoc, append_cancel_left}
 use Rattle.turn_lock.specs.declared.turned.Entry.{Entry}
 use Rattle.turn_lock.specs.History.{StartsWith, IsAmong, is_same, IsFuture, entry, calls_by}
 
--- a test that does not pass fails
+-- a Boolean that is not true is false
 pub not_true : (b : Bool) → (b ≡ true → ⊥) → b ≡ false
 not_true true n = absurd (n refl)
 not_true false n = refl
@@ -20,7 +20,7 @@ module _ {A : Type 0} where
   pub starts_trans : (xs ys zs : List A) → StartsWith xs ys → StartsWith ys zs → StartsWith xs zs
   starts_trans xs ys zs a b = (b.0 ++ a.0, a.1 ∙ (ap (λ l. l ++ a.0) b.1 ∙ append_assoc zs b.0 a.0))
 
-  -- a longer list begins with the same
+  -- appending to a list keeps its beginning
   pub starts_more : (xs ys rest : List A) → StartsWith xs ys → StartsWith (xs ++ rest) ys
   starts_more xs ys rest a = (a.0 ++ rest, ap (λ l. l ++ rest) a.1 ∙ append_assoc ys a.0 rest)
 
@@ -50,17 +50,17 @@ module _ {E R : Type 0} where
   calls_by-append p [] ys = refl
   calls_by-append p (x ∷ xs) ys = tail_calls (is_same x.by p) x (calls_by p (xs ++ ys)) (calls_by p xs) (calls_by p ys) (calls_by-append p xs ys)
 
-  -- a call of the port's own comes last
+  -- appending a call of port p appends it to p's calls
   pub calls_by-own : (p : List ℕ) (xs : List (Entry E R)) (e : E) (r : R) → calls_by p (xs ++ entry p e r ∷ []) ≡ calls_by p xs ++ entry p e r ∷ []
   calls_by-own p xs e r = let x : Entry E R = entry p e r in
       calls_by-append p xs (x ∷ []) ∙ ap (λ (b : Bool). calls_by p xs ++ (if b then x ∷ [] else [])) (is_same-refl p)
 
-  -- another port's call leaves the port's calls
+  -- appending a call of another port leaves the port's calls unchanged
   pub calls_by-other : (q p : List ℕ) (xs : List (Entry E R)) (e : E) (r : R) → q ≢ p → calls_by q (xs ++ entry p e r ∷ []) ≡ calls_by q xs
   calls_by-other q p xs e r n = let x : Entry E R = entry p e r in
       calls_by-append q xs (x ∷ []) ∙ (ap (λ (b : Bool). calls_by q xs ++ (if b then x ∷ [] else [])) (not_true (is_same p q) (λ t. n (sym (is_same-true p q t)))) ∙ append-nil (calls_by q xs))
 
-  -- the calls in the beginning of a history are the beginning of the calls
+  -- if a history begins with another, its calls of p begin with the other's calls of p
   pub calls_by-starts : (p : List ℕ) (xs ys : List (Entry E R)) → StartsWith xs ys → StartsWith (calls_by p xs) (calls_by p ys)
   calls_by-starts p xs ys a = (calls_by p a.0, ap (calls_by p) a.1 ∙ calls_by-append p ys a.0)
 
@@ -82,18 +82,18 @@ has_front-true [] q e = (q, refl)
 has_front-true (x ∷ xs) [] e = cc
 has_front-true (x ∷ xs) (y ∷ ys) e = let t = both_true (x == y) (has_front xs ys) e in let a = eqb-true x y t.0 in let b = has_front-true xs ys t.1 in (b.0, λ i. sym a i ∷ b.1 i)
 
--- no future number is the port's own
+-- no future number is the port's own number
 pub future-not-self : (p : List ℕ) (k : ℕ) (q : List ℕ) → IsFuture p k q → q ≢ p
 future-not-self p k q f e = let l : length (p ++ f.0 ∷ f.1) ≡ length p = ap length (sym f.2 ∙ e) in absurd (omega (arith, length-append p (f.0 ∷ f.1), l))
 
 pub future_sooner : (p : List ℕ) (k : ℕ) (q : List ℕ) → IsFuture p (k + 1) q → IsFuture p k q
 future_sooner p k q f = (f.0, f.1, f.2, omega arith)
 
--- what begins with the next number is a future number
+-- a number that begins with p and the next split count is a future number
 pub front_is_future : (p : List ℕ) (k : ℕ) (q : List ℕ) → StartsWith q (p ++ k ∷ []) → IsFuture p k q
 front_is_future p k q a = (k, a.0, a.1 ∙ append_assoc p (k ∷ []) a.0, le_refl k)
 
--- and no number that comes after the next one
+-- no number of a split after the next one begins with p and the next split count
 pub future-not-front : (p : List ℕ) (k : ℕ) (q : List ℕ) → IsFuture p (k + 1) q → has_front (p ++ k ∷ []) q ≡ false
 future-not-front p k q f = not_true _ (λ t. let a = has_front-true (p ++ k ∷ []) q t in
     let e : f.0 ∷ f.1 ≡ k ∷ a.0 = append_cancel_left p (f.0 ∷ f.1) (k ∷ a.0) (sym f.2 ∙ (a.1 ∙ append_assoc p (k ∷ []) a.0)) in let same : f.0 ≡ k = cc in absurd (omega arith))
@@ -101,7 +101,7 @@ future-not-front p k q f = not_true _ (λ t. let a = has_front-true (p ++ k ∷ 
 pub apart-not-front : (p : List ℕ) (k : ℕ) (q : List ℕ) → ¬ IsFuture p k q → has_front (p ++ k ∷ []) q ≡ false
 apart-not-front p k q n = not_true _ (λ t. n (front_is_future p k q (has_front-true (p ++ k ∷ []) q t)))
 
--- one of two lists has the number
+-- a member of two joined lists is in the first, is the element between them, or is in the second
 pub among-append : (q p : List ℕ) (xs ys : List (List ℕ)) → IsAmong q (xs ++ p ∷ ys) → IsAmong q xs ⊎ ((q ≡ p) ⊎ IsAmong q ys)
 among-append q p [] ys m = inr m
 among-append q p (x ∷ xs) ys m = ⊎_elim (λ e. inl (inl e)) (λ r. ⊎_elim (λ a. inl (inr a)) inr (among-append q p xs ys r)) m

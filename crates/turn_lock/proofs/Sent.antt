@@ -1,4 +1,4 @@
--- A port and a note may go to another thread where the value may.
+-- A port and a note are `Send` if the value is.
 use denote.RattleType.{RattleType}
 use denote.Param.Send.{IsSend, sendable}
 use Rattle.std.proofs.Crossing.{crosses}

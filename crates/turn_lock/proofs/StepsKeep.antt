@@ -1,4 +1,4 @@
--- Each step on the table keeps its rule, and tells what its play says.
+-- Each step on the table preserves the invariant, and changes the seat's view as its play says.
 use Rattle.std.proofs.Common.{◌≡◌, ◌≢◌, ◌⊎◌, ℕ, zero, suc, ◌+◌, ◌%◌, ◌^◌, ◌<◌, ◌≤◌, eqb, ◌==◌, Bool, true, false, if◌then◌else◌, List, [], ◌∷◌, ◌++◌, length, get_or, set, sym, refl, ap, ◌∙◌, subst, inl, inr, ⊎_elim, arith, le_refl, eq-eqb, ne_eqb, length-append, Option, Some, None}
 use mathlib.Core.Logic.{dite}
 use mathlib.Core.Option.{none, some, some-injective, some-ne-none}
@@ -23,7 +23,7 @@ use Rattle.turn_lock.specs.Calls.{Watches}
 use Rattle.turn_lock.specs.Plays.{added, posed, spent_view, divided_view, born_view, noted_view, counted_view, met_view, settled, drew, saw, Watched, looked, Ended, ended, Merged, merged, Takes, reached, closed}
 use Rattle.turn_lock.proofs.Lists.{starts_refl, starts_more, starts_length, calls_by-own, calls_by-other, calls_none, has_front, has_front-append, future-not-self, future_sooner, front_is_future, future-not-front, apart-not-front, among-append}
 
--- the function that is v at k, and f elsewhere
+-- the function f, with the value v at k
 abbrev put : (ℕ → ℕ) → ℕ → ℕ → ℕ → ℕ
 put f k v j = if j == k then v else f j
 
@@ -33,7 +33,7 @@ put_here f k v = ap (λ (b : Bool). if b then v else f k) (eq-eqb k k refl)
 put_else : (f : ℕ → ℕ) (k v j : ℕ) → j ≢ k → put f k v j ≡ f j
 put_else f k v j n = ap (λ (b : Bool). if b then v else f j) (ne_eqb j k n)
 
--- the numbers of the seat `other` go to the seat i
+-- the numbers of seat `other` now belong to seat i
 abbrev passed_on : (List ℕ → ℕ) → ℕ → ℕ → List ℕ → ℕ
 passed_on h other i q = if h q == other then i else h q
 
@@ -43,7 +43,7 @@ passed_here h other i q e = ap (λ (b : Bool). if b then i else h q) (eq-eqb (h 
 passed_else : (h : List ℕ → ℕ) (other i j : ℕ) (q : List ℕ) → j ≢ other → h q ≡ j → passed_on h other i q ≡ j
 passed_else h other i j q n e = ap (λ (b : Bool). if b then i else h q) (ne_eqb (h q) other (λ x. n (sym e ∙ x))) ∙ e
 
--- the numbers that begin with c go to the seat i
+-- the numbers that begin with c now belong to seat i
 abbrev forked : (List ℕ → ℕ) → List ℕ → ℕ → List ℕ → ℕ
 forked h c i q = if has_front c q then i else h q
 
@@ -53,7 +53,7 @@ forked_here h c i q e = ap (λ (b : Bool). if b then i else h q) e
 forked_else : (h : List ℕ → ℕ) (c : List ℕ) (i : ℕ) (q : List ℕ) → has_front c q ≡ false → forked h c i q ≡ h q
 forked_else h c i q e = ap (λ (b : Bool). if b then i else h q) e
 
--- the last of a longer list, or one of those before it
+-- an element of a list with one more is the last or is in the list before
 at_end : {A : Type 0} (l : List A) (a b : A) (j : ℕ) → get_elem? (l ++ a ∷ []) j ≡ some b → (get_elem? l j ≡ some b) ⊎ ((j ≡ length l) × (a ≡ b))
 at_end [] a b zero e = inr (refl, some-injective a b e)
 at_end [] a b (suc j) e = absurd (some-ne-none b (sym e))
@@ -69,13 +69,13 @@ module _ {E R : Type 0} where
   added_other q p xs None n = ap (calls_by q) (append-nil xs)
   added_other q p xs (Some l) n = calls_by-other q p xs l.0.value l.1.value n
 
-  -- a turn adds one call at most
+  -- a turn adds at most one call
   added_few : (p : List ℕ) (xs : List (Entry E R)) (l : Option (Snapshot E × Snapshot R)) → length (xs ++ added p l) ≤ length xs + 1
   added_few p xs None = omega (arith, length-append xs (added p None))
   added_few p xs (Some l) = omega (arith, length-append xs (added p (Some l)))
 
 module _ {E R O : Type 0} where
-  -- what a stage says of the seat that was taken in, and d where it says nothing
+  -- what a Met stage knows about the seat that was taken in, or d for any other stage
   abbrev met_of : Bool × Known E R O → Stage E R O → Bool × Known E R O
   met_of d (Met b u) = (b, u)
   met_of d _ = d
@@ -84,7 +84,7 @@ module _ {E R O : Type 0} where
   turn_of d (Waiting n) = n
   turn_of d _ = d
 
-  -- the turn that a stage has, and d where it has none
+  -- the turn that a stage holds, or d if it holds none
   abbrev held_of : ℕ → Stage E R O → ℕ
   held_of d (Turn n) = n
   held_of d _ = d
@@ -114,23 +114,23 @@ module _ {T E R O : Type 0} (origin : T → O) (stands : T → List (Entry E R) 
   abbrev Stand : Mo → ℕ → Known E R O → Stage E R O → Type 0
   Stand = Staged origin stands first
 
-  -- the table at a moment, as data
+  -- the table's state at a moment
   abbrev canon : Mo → List V → St
   canon m vs = record { words = m.ticket ∷ m.serving ∷ []; homes = m.home ∷ []; views = vs }
 
   kept : (m : Mo) (vs : List V) → F m vs → Rule (canon m vs)
   kept m vs f = record { now = m; words_are = refl; homes_are = refl; facts = f }
 
-  -- a claim about any table that meets the rule need only be shown at each moment
+  -- a claim about every table that satisfies the invariant need only be shown for each moment
   by_moment : (P : St → Type 0) → ((m : Mo) (vs : List V) → F m vs → P (canon m vs)) → (s : St) → Rule s → P s
   by_moment P h s r = let same : canon r.now s.views ≡ s = λ k. record { words = sym r.words_are k; homes = sym r.homes_are k; views = s.views } in subst P same (h r.now s.views r.facts)
 
-  -- what holds of each seat, where the seat i has the view w
+  -- what holds for each seat once seat i has the view w
   seats : (K : ℕ → V → Type 0) (vs : List V) (i : ℕ) (w : V) → K i w → ((j : ℕ) (d : V) → j ≢ i → get_elem? vs j ≡ some d → K j d) → (j : ℕ) (d : V) → get_elem? (set vs i w) j ≡ some d → K j d
   seats K vs i w mine others j d e = ⊎_elim (λ (t : (j ≡ i) × (w ≡ d)). subst (λ (x : ℕ × V). K x.0 x.1) (λ k. (sym t.0 k, t.1 k)) mine)
       (λ (t : (j ≢ i) × (get_elem? vs j ≡ some d)). others j d t.0 t.1) (at_set vs i j w d e)
 
-  -- a step of the seat i that goes from one moment to another
+  -- a step of seat i that leads from one moment to another
   moves : (m m' : Mo) (vs : List V) (i : ℕ) (w : V) → F m vs → m'.serving ≤ m'.ticket → m'.ticket ≤ most_turns + m'.closed → m'.closed ≤ 1 → legal m'.start m'.whole → length m'.whole ≤ m'.serving
       → IsHome origin stands m' ⊎ (m'.serving < m'.ticket) → Fit m' i w → ((j : ℕ) (d : V) → j ≢ i → Fit m j d → Fit m' j d) → F m' (set vs i w)
   moves m m' vs i w f range few once lawful counted held mine others = record {
@@ -143,14 +143,14 @@ module _ {T E R O : Type 0} (origin : T → O) (stands : T → List (Entry E R) 
     fits = seats (Fit m') vs i w mine (λ j d n at. others j d n (f.fits j d at));
   }
 
-  -- a step that changes the view of the seat i alone
+  -- a step that changes only the view of seat i
   stays : (m : Mo) (vs : List V) (i : ℕ) (w : V) → F m vs → Fit m i w → F m (set vs i w)
   stays m vs i w f mine = moves m m vs i w f f.range f.few f.once f.lawful f.counted f.held mine (λ _ _ _ x. x)
 
   at_stage : (m : Mo) (i : ℕ) (v : V) (stage : Stage E R O) → Fit m i v → Stand m i v.known stage → Fit m i (posed v stage)
   at_stage m i v stage f st = record { named = f.named; seen = f.seen; drawn = f.drawn; served = f.served; lone = f.lone; staged = st; port = f.port }
 
-  -- what a port knows that has seen all
+  -- a port's knowledge after it has seen the longest history
   abbrev informed : Mo → Known E R O → Known E R O
   informed m k = record k { seen = m.whole; drawn = m.ticket }
 
@@ -224,7 +224,7 @@ module _ {T E R O : Type 0} (origin : T → O) (stands : T → List (Entry E R) 
       let d : length m.whole ≤ m.serving = f.counted in let e : length me.0.known.seen ≤ length m.whole = starts_length m.whole me.0.known.seen fit.seen in
       (counted_view me.0 m.serving, counts m id me.0 fit, (refl, fit.served, omega arith, omega arith)))
 
-  -- the draw of a turn by the seat i
+  -- the moment after seat i has drawn a turn
   abbrev after_draw : Mo → ℕ → ℕ → Mo
   after_draw m i new = record m { ticket = new; owner = put m.owner m.ticket i }
 
@@ -260,11 +260,11 @@ module _ {T E R O : Type 0} (origin : T → O) (stands : T → List (Entry E R) 
       (w, keeps, tt, kept (after_draw m id new) (set vs id w) (draws_at id me old new m vs f (f.fits id me.0 at) up few hit), ((λ _. refl), λ miss. absurd (miss hit))))
       (λ miss. (me.0, keeps, tt, kept m (set vs id me.0) (stays m vs id me.0 f (f.fits id me.0 at)), ((λ hit. absurd (miss hit)), λ _. refl))))
 
-  -- the slot is out with the seat whose turn has come
+  -- the moment after the seat whose turn has come has taken the slot
   abbrev after_take : Mo → Mo
   after_take m = record m { home = none }
 
-  -- two seats are not alone
+  -- a seat that is one of two is not alone
   not_lone : {X : Type 0} (m : Mo) (i j : ℕ) (v d : V) → j ≢ i → Fit m i v → Fit m j d → m.lone ≡ true → X
   not_lone m i j v d other f g lone = absurd (other (g.lone lone ∙ sym (f.lone lone)))
 
@@ -323,7 +323,7 @@ module _ {T E R O : Type 0} (origin : T → O) (stands : T → List (Entry E R) 
         λ k is'. let same : n ≡ k = ap (turn_of n) (sym is ∙ is') in ((λ hit. absurd (miss (hit ∙ sym same))), λ _. refl),
       )))
 
-  -- the turn of the port p has ended, and the slot is back with x
+  -- the moment after port p's turn has ended and the slot has x again
   abbrev after_end : Mo → List ℕ → T → Option (Snapshot E × Snapshot R) → Mo
   after_end m p x l = record m { serving = m.serving + 1; whole = m.whole ++ added p l; home = some (full x l) }
 
@@ -412,7 +412,7 @@ module _ {T E R O : Type 0} (origin : T → O) (stands : T → List (Entry E R) 
     ends slots id n me x l port is carried begun stood = subst (λ (cs : List (ℕ × Sl)). Allows Rule slots id (me.0, cs) 1 (λ q. (q + 1) % 2 ^ 64) (ended legal (step slots 1 1 0 none) (me.0, cs))) (sym carried)
         (ends_with slots id n me.0 x l port is begun stood)
 
-    -- the table as it is made
+    -- the moment at which the table is made
     abbrev first_moment : T → Mo
     first_moment x = record { ticket = 0; serving = 0; start = origin x; whole = []; home = some (full x None); holder = λ _. 0; owner = λ _. 0; lone = true; closed = 0 }
 
@@ -442,7 +442,7 @@ module _ {T E R O : Type 0} (origin : T → O) (stands : T → List (Entry E R) 
           fits = λ i v at. ⊎_elim (λ (e : get_elem? [] i ≡ some v). absurd (some-ne-none v (sym e))) (λ (t : (i ≡ 0) × (w ≡ v)). subst (λ (z : ℕ × V). Fit m z.0 z.1) (λ c. (sym t.0 c, t.1 c)) mine) (at_end [] w v i at);
         }) (le_refl 0) (omega arith) (omega arith) (law x [] empty) (le_refl 0) (inl home) mine (λ _ _ _ g. g))
 
-  -- the lock is closed, and the value taken for good
+  -- the moment after the lock was closed and its value taken
   abbrev after_close : Mo → Mo
   after_close m = record m { ticket = m.ticket + 1; home = none; closed = 1 }
 
@@ -496,7 +496,7 @@ module _ {T E R O : Type 0} (origin : T → O) (stands : T → List (Entry E R) 
         ((λ hit. absurd (miss hit)), λ _. (watched m id me Idle me.1 fit port f.lawful, refl, omega arith, refl, refl)),
       )))
 
-  -- what a port knows that has merged what it took in
+  -- a port's knowledge after it has merged what the other seat knew
   abbrev merged_known : Mo → Known E R O → Bool → Known E R O → Known E R O
   merged_known m k b u = record k { joined = (if b then k.joined ++ u.number ∷ u.joined else k.joined); seen = m.whole; drawn = m.ticket }
 
@@ -537,7 +537,7 @@ module _ {T E R O : Type 0} (origin : T → O) (stands : T → List (Entry E R) 
         (refl, λ b' u' is'. subst (λ (z : Bool × Known E R O). Merged legal z.0 z.1 me.0.known w) (ap (met_of (b, u)) (sym is ∙ is')) met),
       ))
 
-  -- two seats where there was one
+  -- the moment after a seat was split
   abbrev after_split : Mo → List ℕ → ℕ → Mo
   after_split m c new = record m { holder = forked m.holder c new; lone = false }
 
@@ -556,7 +556,7 @@ module _ {T E R O : Type 0} (origin : T → O) (stands : T → List (Entry E R) 
   tell_staged m j k pair (SawServing q) h = h
   tell_staged m j k pair (Met b u) h = h
 
-  -- the rule once a new seat with the view w has come
+  -- the invariant after a new seat with the view w was added
   comes : (m m' : Mo) (vs : List V) (i : ℕ) (v w : V) → F m vs → m'.serving ≡ m.serving → m'.ticket ≡ m.ticket → m'.closed ≡ m.closed → m'.start ≡ m.start → m'.whole ≡ m.whole → m'.home ≡ m.home
       → Fit m' i v → Fit m' (length (set vs i v)) w → ((j : ℕ) (d : V) → j ≢ i → Fit m j d → Fit m' j d) → F m' (set vs i v ++ w ∷ [])
   comes m m' vs i v w f serving ticket end start whole home mine theirs others =
@@ -579,7 +579,7 @@ module _ {T E R O : Type 0} (origin : T → O) (stands : T → List (Entry E R) 
     abbrev Forked : Mo
     Forked = after_split m (next_number k) new
 
-    -- a number of another seat stays with it
+    -- numbers of another seat still belong to it
     theirs_stay : (j : ℕ) (q : List ℕ) → j ≢ i → m.holder q ≡ j → Forked.holder q ≡ j
     theirs_stay j q other h = forked_else m.holder (next_number k) new q (apart-not-front k.number k.splits q (λ t. other (sym h ∙ (mine.future q t).0))) ∙ h
 
@@ -608,7 +608,7 @@ module _ {T E R O : Type 0} (origin : T → O) (stands : T → List (Entry E R) 
       };
     }
 
-    -- the port that was split keeps its own numbers
+    -- the port that was split still owns its numbers
     own_stays : (q : List ℕ) → IsOwn k q → Forked.holder q ≡ i
     own_stays q o = let n : has_front (next_number k) q ≡ false = apart-not-front k.number k.splits q (λ t. ⊎_elim (λ e. future-not-self k.number k.splits q t e) (λ a. (mine.apart q a).1 t) o) in
         forked_else m.holder (next_number k) new q n ∙ (mine.own q o).0
@@ -629,7 +629,7 @@ module _ {T E R O : Type 0} (origin : T → O) (stands : T → List (Entry E R) 
       };
     }
 
-    -- what the new port may come to give begins with its number
+    -- numbers that begin with the new port's number belong to the new seat
     front_of_child : (q : List ℕ) → StartsWith q (next_number k) → (Forked.holder q ≡ new) × (calls_by q m.whole ≡ [])
     front_of_child q a = (forked_here m.holder (next_number k) new q (ap (has_front (next_number k)) a.1 ∙ has_front-append (next_number k) a.0), (mine.future q (front_is_future k.number k.splits q a)).1)
 
@@ -666,7 +666,7 @@ module _ {T E R O : Type 0} (origin : T → O) (stands : T → List (Entry E R) 
       record { named = fit.named; seen = fit.seen; drawn = omega arith; served = omega arith; lone = λ e. never e; staged = tt; port = λ e. never e }
       (λ j d other g. told_fit m j d g (tell_staged m j d.known (not_lone m id j v d other fit g) d.stage g.staged))))
 
-  -- the numbers of the seat `other` are the seat i's
+  -- the moment at which the numbers of seat `other` belong to seat i
   abbrev after_join : Mo → ℕ → ℕ → Mo
   after_join m other i = record m { holder = passed_on m.holder other i }
 
@@ -696,7 +696,7 @@ module _ {T E R O : Type 0} (origin : T → O) (stands : T → List (Entry E R) 
     };
   }
 
-  -- what a port knows of the seat that it took in
+  -- a port's knowledge of the seat that it took in
   join_met : (m : Mo) (other i : ℕ) (v w : V) → i ≢ other → v.is_port ≡ true → Fit m i v → Fit m other w
       → Stand (after_join m other i) i v.known (Met w.is_port w.known)
   join_met m other i v w apart port f g = let mine = f.port port in (

@@ -1,4 +1,4 @@
--- What a port promises over several steps.
+-- What a port knows after several steps.
 use Rattle.std.proofs.Common.{◌≡◌, ◌≤◌, List, [], ◌∷◌, ◌++◌, Some, None, sym, refl, ap, ◌∙◌, subst, inl, inr, ⊎_elim, arith, le_refl}
 use Rattle.std.proofs.lemmas.List.{append-nil}
 use Rattle.std.specs.declared.snapshot.Snapshot.{Snapshot}
@@ -11,14 +11,14 @@ use Rattle.turn_lock.specs.Plays.{Ended}
 use Rattle.turn_lock.proofs.Lists.{starts_refl, starts_trans}
 
 module _ {E R O : Type 0} {legal : O → List (Entry E R) → Type 0} where
-  -- a port that takes no step has watched
+  -- taking no step is watching
   pub watches_refl : (k : Known E R O) → IsLegal legal k → Watches legal k k
   watches_refl k lawful = record {
     sees = record { origin = refl; number = refl; splits = refl; drawn = le_refl k.drawn; served = le_refl k.served; seen = starts_refl k.seen; lawful = lawful; own = λ q o. refl };
     joined = refl;
   }
 
-  -- one that watched and then watched has watched
+  -- watching twice in a row is watching
   pub watches_trans : (k l m : Known E R O) → Watches legal k l → Watches legal l m → Watches legal k m
   watches_trans k l m a b = let s = a.sees in let t = b.sees in record {
     sees = record {
@@ -34,7 +34,7 @@ module _ {E R O : Type 0} {legal : O → List (Entry E R) → Type 0} where
     joined = b.joined ∙ a.joined;
   }
 
-  -- one whose turn added nothing has watched
+  -- a port whose turn added nothing has watched
   pub watches_turned : (k : Known E R O) (v w : View E R O) → Watches legal k v.known → Ended legal None v w → Watches legal k w.known
   watches_turned k v w a ended = let t = a.sees in let is = ended.view in record {
     sees = record {
@@ -51,7 +51,7 @@ module _ {E R O : Type 0} {legal : O → List (Entry E R) → Type 0} where
     joined = ap (λ x. x.known.joined) is ∙ a.joined;
   }
 
-  -- one whose turn added an entry has made that call
+  -- a port whose turn added an entry has made that call
   pub called_turned : (k : Known E R O) (v w : View E R O) (e : Snapshot E) (r : Snapshot R) → Watches legal k v.known → Ended legal (Some (e, r)) v w → Called legal k e.value r.value w.known
   called_turned k v w e r a ended = let t = a.sees in let is = ended.view in record {
     origin = ap (λ x. x.known.origin) is ∙ t.origin;

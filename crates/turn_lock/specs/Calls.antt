@@ -1,4 +1,4 @@
--- What the public calls promise of what a port knows: `k` before the call, `l` after it.
+-- What the public calls promise about a port's knowledge: `k` is before the call, `l` after it.
 use Rattle.std.specs.Prelude.{◌≡◌, ℕ, ◌+◌, ◌<◌, ◌≤◌, List, [], ◌∷◌, ◌++◌, length, Option, Some, Result, Ok, Err}
 use Rattle.turn_lock.specs.declared.turned.Entry.{Entry}
 use Rattle.turn_lock.specs.declared.known.Known.{Known}
@@ -8,11 +8,12 @@ use Rattle.call_fault.specs.declared.fault.CallFault.TheVariants.{Memory, Exhaus
 use Rattle.turn_lock.specs.History.{StartsWith, IsAmong, entry, calls_by}
 use Rattle.turn_lock.specs.Rule.{IsOwn}
 
--- the port has an origin, from which the history that it has seen is legal
+-- the port has an origin, and the history it has seen is legal from that origin
 abbrev pub IsLegal : {E R O : Type 0} → (O → List (Entry E R) → Type 0) → Known E R O → Type 0
 IsLegal {E} {R} {O} legal k = (o : O) × (k.origin ≡ Some o) × legal o k.seen
 
--- A legal history was seen that begins with the one seen before and has no further call of the port's number or of one joined into it
+-- The port has seen a legal history that begins with the one it saw before and has no further call
+-- of the port's own number or of a number joined into it.
 pub record Sees {E R O : Type 0} (legal : O → List (Entry E R) → Type 0) (k l : Known E R O) : Type 0 where
   pub origin : l.origin ≡ k.origin
   pub number : l.number ≡ k.number
@@ -23,12 +24,14 @@ pub record Sees {E R O : Type 0} (legal : O → List (Entry E R) → Type 0) (k 
   pub lawful : IsLegal legal l
   pub own : (q : List ℕ) → IsOwn k q → calls_by q l.seen ≡ calls_by q k.seen
 
--- the same, and nothing was joined in
+-- Like `Sees`, and no port was joined in.
 pub record Watches {E R O : Type 0} (legal : O → List (Entry E R) → Type 0) (k l : Known E R O) : Type 0 where
   pub sees : Sees legal k l
   pub joined : l.joined ≡ k.joined
 
--- A legal history was seen that begins with the one seen before and ends with the call, which is the only further one of the port's number. There is no further one of a number joined into it
+-- The port has seen a legal history that begins with the one it saw before and ends with this call,
+-- the only further call of the port's number. No further call has a number that was joined into the
+-- port.
 pub record Called {E R O : Type 0} (legal : O → List (Entry E R) → Type 0) (k : Known E R O) (event : E) (reply : R) (l : Known E R O) : Type 0 where
   pub origin : l.origin ≡ k.origin
   pub number : l.number ≡ k.number
@@ -41,41 +44,44 @@ pub record Called {E R O : Type 0} (legal : O → List (Entry E R) → Type 0) (
   pub own : calls_by k.number l.seen ≡ calls_by k.number k.seen ++ entry k.number event reply ∷ []
   pub others : (q : List ℕ) → IsAmong q k.joined → calls_by q l.seen ≡ calls_by q k.seen
 
--- why a call was refused: its event is not sure, or so many turns as the bound were read to be drawn
+-- The cause of a refusal: `Memory` only if the event may allocate, `Exhausted` only if the port has
+-- read that at least `bound` turns were drawn.
 abbrev pub IsCause : {E R O : Type 0} → (E → Type 0) → E → ℕ → Known E R O → CallFault → Type 0
 IsCause sure event bound l Memory = ¬ sure event
 IsCause sure event bound l Exhausted = bound ≤ l.drawn
 
--- A call that ends with a reply or out of memory ends a turn of its own: one that was drawn after
--- the last turn that the port had read of
+-- A call that returns a reply or `Memory` ends a turn of its own, drawn after the last turn that
+-- the port had read of.
 abbrev pub EndsTurn : {E R O : Type 0} → Known E R O → Known E R O → Result R CallFault → Type 0
 EndsTurn k l (Ok reply) = k.drawn < l.drawn
 EndsTurn k l (Err Memory) = k.drawn < l.drawn
 EndsTurn k l (Err Exhausted) = Unit {0}
 
--- why a lock was not closed: so many turns were read to have ended, one for each call that the port had seen at least, and
--- then more were read to be drawn
+-- Why a lock was not closed: the port read that `served` turns had ended, at least one for each
+-- call it had seen, and then that more had been drawn.
 pub record IsBusy {E R O : Type 0} (k l : Known E R O) (busy : Busy) : Type 0 where
   pub served : busy.served ≡ l.served
   pub counted : length k.seen ≤ busy.served
   pub drawn : busy.drawn ≡ l.drawn
   pub more : busy.served < busy.drawn
 
--- the port after a split
+-- the parent port's knowledge after a split
 abbrev pub divided : {E R O : Type 0} → Known E R O → Known E R O
 divided k = record k { splits = k.splits + 1 }
 
--- the port that was split off: its number is the old one, followed by the old count of splits
+-- the new port's knowledge after a split: its number is the parent's, followed by the parent's
+-- count of splits before
 abbrev pub born : {E R O : Type 0} → Known E R O → Known E R O
 born k = record { origin = k.origin; number = k.number ++ k.splits ∷ []; splits = 0; joined = []; seen = k.seen; drawn = 0; served = 0 }
 
--- the port saw all that the note tells, and both have one origin
+-- The port has seen all that the note has, and both have the same origin.
 pub record Meets {E R O : Type 0} (legal : O → List (Entry E R) → Type 0) (k : Known E R O) (origin : Option O) (note : List (Entry E R)) (l : Known E R O) : Type 0 where
   pub watches : Watches legal k l
   pub told : StartsWith l.seen note
   pub same : origin ≡ k.origin
 
--- The port took in the port u, which has the same origin: its number, those joined into it, and all that it had seen, with no further call of these numbers
+-- The port has taken in the port `u`, which has the same origin: its number, the numbers joined
+-- into it, and all that it had seen. There is no further call of these numbers.
 pub record Joins {E R O : Type 0} (legal : O → List (Entry E R) → Type 0) (k u l : Known E R O) : Type 0 where
   pub sees : Sees legal k l
   pub joined : l.joined ≡ k.joined ++ u.number ∷ u.joined
@@ -84,7 +90,8 @@ pub record Joins {E R O : Type 0} (legal : O → List (Entry E R) → Type 0) (k
   pub same : u.origin ≡ k.origin
   pub theirs : (q : List ℕ) → IsOwn u q → calls_by q l.seen ≡ calls_by q u.seen
 
--- the value stands for a legal history that begins with all that the port had seen, with no further call of its number or of one joined into it
+-- The value results from a legal history that begins with all that the port had seen and has no
+-- further call of the port's number or of a number joined into it.
 pub record Yields {T E R O : Type 0} (origin : T → O) (stands : T → List (Entry E R) → Type 0) (legal : O → List (Entry E R) → Type 0) (k : Known E R O) (x : T) : Type 0 where
   pub begun : k.origin ≡ Some (origin x)
   pub whole : List (Entry E R)

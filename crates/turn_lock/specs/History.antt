@@ -11,14 +11,15 @@ abbrev pub IsAmong : List ℕ → List (List ℕ) → Type 0
 IsAmong q [] = ⊥
 IsAmong q (p ∷ ps) = (q ≡ p) ⊎ IsAmong q ps
 
--- whether two numbers are the same
+-- whether two port numbers are equal
 abbrev pub is_same : List ℕ → List ℕ → Bool
 is_same [] [] = true
 is_same [] (y ∷ ys) = false
 is_same (x ∷ xs) [] = false
 is_same (x ∷ xs) (y ∷ ys) = (x == y) && is_same xs ys
 
--- q is the number of a port that the port p may still come to have: p, then a count of k or more, then anything
+-- q is the number of a port that a later split of p, or of its descendants, may make: p, then a
+-- split count of at least k, then anything
 abbrev pub IsFuture : List ℕ → ℕ → List ℕ → Type 0
 IsFuture p k q = (j : ℕ) × (rest : List ℕ) × (q ≡ p ++ j ∷ rest) × (k ≤ j)
 

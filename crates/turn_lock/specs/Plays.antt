@@ -1,4 +1,5 @@
--- What each step on the table tells the seat that takes it: `m` is the seat before, `n` the number found, `m'` the seat after.
+-- How each step on the table changes the view of the seat that takes it: `m` is the seat before,
+-- `n` the number it found, `m'` the seat after.
 use Rattle.std.specs.Prelude.{◌≡◌, ◌≢◌, ℕ, ◌+◌, ◌<◌, ◌≤◌, Bool, true, false, if◌then◌else◌, List, [], ◌∷◌, ◌++◌, length, Option, Some, None}
 use Rattle.std.specs.declared.snapshot.Snapshot.{Snapshot}
 use Rattle.atomic_table.specs.Table.{Me, Step}
@@ -14,16 +15,16 @@ use Rattle.turn_lock.specs.History.{StartsWith, IsAmong, entry, calls_by}
 use Rattle.turn_lock.specs.Rule.{most_turns, full, IsOwn}
 use Rattle.turn_lock.specs.Calls.{IsLegal, Sees, Watches, divided, born}
 
--- two words and one slot
+-- a table of two words and one slot
 abbrev pub IsSized : TableId → Type 0
 IsSized z = (z.words ≡ 2) × (z.slots ≡ 1)
 
--- what the end of a turn adds to the history: the entry of the port p, or nothing
+-- the entries that the end of a turn adds to the history: the entry of port p, or none
 abbrev pub added : {E R : Type 0} → List ℕ → Option (Snapshot E × Snapshot R) → List (Entry E R)
 added p None = []
 added p (Some l) = entry p l.0.value l.1.value ∷ []
 
--- what the slot that a seat took last says of the turn
+-- the entry of the last turn, from the slot that the seat took last
 abbrev pub last_of : {T E R : Type 0} → List (ℕ × Slot T E R) → Option (Snapshot E × Snapshot R)
 last_of [] = None
 last_of (x ∷ xs) = x.1.last
@@ -32,16 +33,16 @@ last_of (x ∷ xs) = x.1.last
 abbrev pub hollow : {T E R : Type 0} → Slot T E R
 hollow = record { value = None; last = None }
 
--- the seat is a port's, at this stage, and holds these slots
+-- the seat is a port's, is at this stage and holds these slots
 abbrev pub IsReady : {T E R O : Type 0} → Seat (Slot T E R) (View E R O) → Stage E R O → List (ℕ × Slot T E R) → Type 0
 IsReady s stage carried = (s.me.0.is_port ≡ true) × (s.me.0.stage ≡ stage) × (s.me.1 ≡ carried)
 
 module _ {E R O : Type 0} where
-  -- the view at another stage
+  -- the view with its stage replaced
   abbrev pub posed : View E R O → Stage E R O → View E R O
   posed v stage = record v { stage = stage }
 
-  -- what is left of a seat that was joined into another
+  -- the view of a seat after it was joined into another
   abbrev pub spent_view : View E R O
   spent_view = record { known = record { origin = None; number = []; splits = 0; joined = []; seen = []; drawn = 0; served = 0 }; is_port = false; stage = Idle }
 
@@ -51,11 +52,11 @@ module _ {E R O : Type 0} where
   abbrev pub born_view : View E R O → View E R O
   born_view v = record { known = born v.known; is_port = true; stage = Young }
 
-  -- what a note knows
+  -- the view of a note: the origin and the history, no number
   abbrev pub noted_view : View E R O → View E R O
   noted_view v = record { known = record { origin = v.known.origin; number = []; splits = 0; joined = []; seen = v.known.seen; drawn = 0; served = 0 }; is_port = false; stage = Idle }
 
-  -- the view of a seat that has read that so many turns have ended
+  -- the view of a seat that has read that `n` turns have ended
   abbrev pub counted_view : View E R O → ℕ → View E R O
   counted_view v n = record v { known = record v.known { served = n }; stage = SawServing n }
 
@@ -79,7 +80,7 @@ module _ {T E R O : Type 0} where
   saw st m n m' = (m' ≡ (counted_view m.0 n, m.1)) × (m.0.known.served ≤ n) × (length m.0.known.seen ≤ n) × (n ≤ most_turns + 1)
 
 module _ {E R O : Type 0} (legal : O → List (Entry E R) → Type 0) where
-  -- what the end of a turn did
+  -- How the end of a turn changes the seat's view.
   pub record Ended (l : Option (Snapshot E × Snapshot R)) (v w : View E R O) : Type 0 where
     pub view : w ≡ record v { stage = Idle; known = record v.known { seen = v.known.seen ++ added v.known.number l } }
     pub lawful : IsLegal legal w.known
@@ -87,7 +88,8 @@ module _ {E R O : Type 0} (legal : O → List (Entry E R) → Type 0) where
     pub others : (q : List ℕ) → IsAmong q v.known.joined → calls_by q w.known.seen ≡ calls_by q v.known.seen
     pub within : (turn : ℕ) → v.stage ≡ Turn turn → length w.known.seen ≤ turn + 1
 
-  -- what a load tells a seat that has taken in another
+  -- The view after the load that follows a join. `u` is the seat taken in, and `b` whether it was a
+  -- port.
   pub record Merged (b : Bool) (u k : Known E R O) (w : View E R O) : Type 0 where
     pub port : w.is_port ≡ true
     pub staged : w.stage ≡ Idle
@@ -99,7 +101,7 @@ module _ {E R O : Type 0} (legal : O → List (Entry E R) → Type 0) where
     pub theirs : b ≡ true → (q : List ℕ) → IsOwn u q → calls_by q w.known.seen ≡ calls_by q u.seen
 
 module _ {T E R O : Type 0} (legal : O → List (Entry E R) → Type 0) where
-  -- the seat is a port's still, at this stage, and has watched
+  -- The seat is still a port's, is at this stage and has only watched.
   pub record Watched (stage : Stage E R O) (m m' : Sat T E R O) : Type 0 where
     pub port : m'.0.is_port ≡ true
     pub staged : m'.0.stage ≡ stage
@@ -115,7 +117,7 @@ module _ {T E R O : Type 0} (legal : O → List (Entry E R) → Type 0) where
   merged st m n m' = (m'.1 ≡ m.1) × ((b : Bool) (u : Known E R O) → m.0.stage ≡ Met b u → Merged legal b u m.0.known m'.0)
 
 module _ {T E R O : Type 0} (origin : T → O) (stands : T → List (Entry E R) → Type 0) (legal : O → List (Entry E R) → Type 0) where
-  -- the seat has the slot with a value that stands for all that was seen
+  -- The seat has taken the slot, and the value in it results from all that the seat has seen.
   pub record Takes (stage : Stage E R O) (m m' : Sat T E R O) : Type 0 where
     pub watched : Watched legal stage m m'
     pub value : T

@@ -1,4 +1,5 @@
--- The rule of the table: what holds of its words, its slot and all views between any two steps.
+-- The invariant of the table: what holds for its words, its slot and all views between any two
+-- steps.
 use Rattle.std.specs.Prelude.{◌≡◌, ◌≢◌, ◌⊎◌, ℕ, ◌+◌, ◌^◌, ◌<◌, ◌≤◌, Bool, true, List, [], ◌∷◌, length, Option, Some, None}
 use mathlib.Core.Option.{some, none}
 use mathlib.Core.Option as maybe
@@ -13,11 +14,11 @@ use Rattle.turn_lock.specs.declared.known.Stage.TheVariants.{New, Young, Idle, W
 use Rattle.turn_lock.specs.declared.board.Slot.{Slot}
 use Rattle.turn_lock.specs.History.{StartsWith, IsAmong, IsFuture, calls_by}
 
--- a lock is made for at most so many turns
+-- the largest bound that a lock may be made with
 abbrev pub most_turns : ℕ
 most_turns = 2 ^ 62
 
--- what a port knows when its lock has been made
+-- the first port's knowledge right after `Shared::new`
 abbrev pub opened : {E R O : Type 0} → O → Known E R O
 opened o = record { origin = Some o; number = []; splits = 0; joined = []; seen = []; drawn = 0; served = 0 }
 
@@ -27,11 +28,13 @@ newcomer o = record { known = opened o; is_port = true; stage = New }
 abbrev pub full : {T E R : Type 0} → T → Option (Snapshot E × Snapshot R) → Slot T E R
 full x l = record { value = Some x; last = l }
 
--- q is the port's own number, or was joined into it
+-- q is the port's own number or one joined into it
 abbrev pub IsOwn : {E R O : Type 0} → Known E R O → List ℕ → Type 0
 IsOwn k q = (q ≡ k.number) ⊎ IsAmong q k.joined
 
--- The table at one moment. `whole` is the longest history, `home` the slot where no seat has it, `holder` the seat that a number belongs to, and `owner` the seat that drew a turn. `lone` says that there is the first seat alone, and `closed` is 1 once the lock was closed
+-- The table at one moment. `whole` is the longest history, `home` the slot if no seat holds it,
+-- `holder` the seat that a port number belongs to, `owner` the seat that drew a turn. `lone` says
+-- that the first seat is the only one and has taken no step; `closed` is 1 once the lock is closed.
 pub record Moment (T E R O : Type 0) : Type 0 where
   pub ticket : ℕ
   pub serving : ℕ
@@ -44,15 +47,15 @@ pub record Moment (T E R O : Type 0) : Type 0 where
   pub closed : ℕ
 
 module _ {T E R O : Type 0} (origin : T → O) (stands : T → List (Entry E R) → Type 0) where
-  -- the value is in the slot, and stands for the history
+  -- the value is in the slot and results from the history
   abbrev pub IsHome : Moment T E R O → Type 0
   IsHome m = (x : T) × (l : Option (Snapshot E × Snapshot R)) × (m.home ≡ some (full x l)) × stands x m.whole × (origin x ≡ m.start) × (m.closed ≡ 0)
 
-  -- the seat i drew the turn n, which has not ended
+  -- seat i drew turn n, which has not ended
   abbrev pub Holds : Moment T E R O → ℕ → ℕ → Type 0
   Holds m i n = (m.serving ≤ n) × (n < m.ticket) × (m.owner n ≡ i)
 
-  -- what a seat knows by its stage. `first` is the value that the lock was made over
+  -- What a seat knows at its stage. `first` is the value that the lock was made with.
   abbrev pub Staged : T → Moment T E R O → ℕ → Known E R O → Stage E R O → Type 0
   Staged first m i k New = (m.lone ≡ true) × (m.home ≡ some (full first None))
   Staged first m i k Young = calls_by k.number k.seen ≡ []
@@ -64,14 +67,15 @@ module _ {T E R O : Type 0} (origin : T → O) (stands : T → List (Entry E R) 
       × (u.drawn ≤ m.ticket)
       × (b ≡ true → (q : List ℕ) → IsOwn u q → (m.holder q ≡ i) × (calls_by q m.whole ≡ calls_by q u.seen) × (q ≢ k.number) × ¬ IsFuture k.number k.splits q)
 
--- Of its own numbers a port has seen all calls; of those that it may come to give there are none; and they all differ
+-- A port has seen all calls of its own numbers. The numbers that its later splits may give have no
+-- calls, and all these numbers are distinct.
 pub record IsPort {E R O : Type 0} (start : O) (holder : List ℕ → ℕ) (i : ℕ) (whole : List (Entry E R)) (k : Known E R O) : Type 0 where
   pub begun : k.origin ≡ Some start
   pub own : (q : List ℕ) → IsOwn k q → (holder q ≡ i) × (calls_by q whole ≡ calls_by q k.seen)
   pub future : (q : List ℕ) → IsFuture k.number k.splits q → (holder q ≡ i) × (calls_by q whole ≡ [])
   pub apart : (q : List ℕ) → IsAmong q k.joined → (q ≢ k.number) × ¬ IsFuture k.number k.splits q
 
--- the view of the seat i fits the moment
+-- The view of seat i agrees with the moment.
 pub record Fits {T E R O : Type 0} (origin : T → O) (stands : T → List (Entry E R) → Type 0) (first : T) (m : Moment T E R O) (i : ℕ) (v : View E R O) : Type 0 where
   pub named : (o : O) → v.known.origin ≡ Some o → o ≡ m.start
   pub seen : StartsWith m.whole v.known.seen
@@ -81,7 +85,8 @@ pub record Fits {T E R O : Type 0} (origin : T → O) (stands : T → List (Entr
   pub staged : Staged origin stands first m i v.known v.stage
   pub port : v.is_port ≡ true → IsPort m.start m.holder i m.whole v.known
 
--- The longest history is legal and has one call at most of each turn that has ended, the value is at home or a turn is held, and each view fits
+-- The longest history is legal and has at most one call for each turn that has ended; the value is
+-- in the slot or a turn is held; each view agrees with the moment.
 pub record Facts {T E R O : Type 0} (origin : T → O) (stands : T → List (Entry E R) → Type 0) (legal : O → List (Entry E R) → Type 0) (first : T) (m : Moment T E R O) (views : List (View E R O)) : Type 0 where
   pub range : m.serving ≤ m.ticket
   pub few : m.ticket ≤ most_turns + m.closed
@@ -91,7 +96,7 @@ pub record Facts {T E R O : Type 0} (origin : T → O) (stands : T → List (Ent
   pub held : IsHome origin stands m ⊎ (m.serving < m.ticket)
   pub fits : (i : ℕ) (v : View E R O) → get_elem? views i ≡ some v → Fits origin stands first m i v
 
--- the rule
+-- The invariant.
 pub record Keeps {T E R O : Type 0} (origin : T → O) (stands : T → List (Entry E R) → Type 0) (legal : O → List (Entry E R) → Type 0) (first : T) (s : State (Slot T E R) (View E R O)) : Type 0 where
   pub now : Moment T E R O
   pub words_are : s.words ≡ now.ticket ∷ now.serving ∷ []

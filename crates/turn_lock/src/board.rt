@@ -1,7 +1,7 @@
-//! The table that the ports of one lock share, and its rule.
+//! The table that the ports of one lock share, and its invariant.
 //!
-//! Word 0 counts the turns that were drawn, word 1 those that have ended. Slot 0 has the value,
-//! or nothing while a turn is held, and the event and reply of the last turn.
+//! Word 0 counts the turns drawn, word 1 the turns ended. Slot 0 has the value, or nothing while a
+//! turn is held, and the event and reply of the last turn.
 use crate::known::View;
 use crate::lodged::Lodged;
 use crate::turned::Turned;
@@ -10,27 +10,28 @@ use std::alloc::Global;
 use std::marker::PhantomData;
 use std::snapshot::Snapshot;
 
-/// The word that counts the drawn turns.
+/// The word that counts the turns drawn.
 pub(crate) const TICKET: usize = 0;
 
-/// The word that counts the ended turns.
+/// The word that counts the turns ended.
 pub(crate) const SERVING: usize = 1;
 
 /// The only slot.
 pub(crate) const HOME: usize = 0;
 
-/// The most turns that a lock may be made for.
+/// The largest bound on turns that a lock may be made with: 2^62.
 pub const MOST_TURNS: u64 = 1 << 62;
 
-/// What the slot holds. `last` has no bytes but its tag: it tells the step that ends a turn which
-/// entry the turn adds to the history, if any.
+/// The slot's content. `last` is the event and the reply of the last turn, as snapshots without
+/// bytes (only the tag takes space): from it the step that ends a turn knows which entry to add to
+/// the history, if any.
 #[derive(Drop)]
 pub struct Slot<T, E, R> {
     pub value: Option<Lodged<T>>,
     pub last: Option<(Snapshot<E>, Snapshot<R>)>,
 }
 
-/// The rule of the table.
+/// The type that names the table's invariant.
 pub struct Turns<T> {
     value: PhantomData<T>,
 }
@@ -47,7 +48,7 @@ impl<T: Turned> TableRule<
     ghost first = { λ key. newcomer (T.origin key.value) };
 }
 
-/// The table, with its memory.
+/// The table with the memory it owns.
 pub type Board<T> = Table<
     Slot<T, <T as Turned>::Event, <T as Turned>::Reply>,
     View<<T as Turned>::Event, <T as Turned>::Reply, <T as Turned>::Origin>,
@@ -56,7 +57,7 @@ pub type Board<T> = Table<
     Global,
 >;
 
-/// What is stepped on.
+/// The table's shared words and slots, on which steps are taken.
 pub type Top<T> = Words<
     Slot<T, <T as Turned>::Event, <T as Turned>::Reply>,
     View<<T as Turned>::Event, <T as Turned>::Reply, <T as Turned>::Origin>,
@@ -64,7 +65,7 @@ pub type Top<T> = Words<
     Turns<T>,
 >;
 
-/// What a port steps with.
+/// A port's or a note's seat at the table.
 pub type Place<T> = Seat<
     Slot<T, <T as Turned>::Event, <T as Turned>::Reply>,
     View<<T as Turned>::Event, <T as Turned>::Reply, <T as Turned>::Origin>,

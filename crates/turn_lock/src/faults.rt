@@ -1,7 +1,7 @@
-//! The refusal of the close.
+//! The error of `Shared::close`.
 use thiserror::Error;
 
-/// Why a lock was not closed: more turns were drawn than had ended.
+/// The error of a lock that can't be closed: more turns were drawn than had ended.
 #[derive(Clone, Copy, Debug, PartialEq, Eq, Error)]
 #[error("{drawn} turns were drawn, and {served} have ended")]
 pub struct Busy {

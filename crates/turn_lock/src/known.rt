@@ -1,14 +1,14 @@
-//! What a seat at the table knows. Values of these types exist in contracts and proofs alone.
+//! What a seat at the table knows. Values of these types exist only in contracts and proofs.
 use crate::turned::Entry;
 use std::collections::LinkedList;
 
-/// What contracts see of a port.
+/// A port's knowledge, as contracts see it.
 ///
-/// `origin` is the origin of the value that the lock was made over (`None` where a port was joined
-/// into another and is spent). `number` names the port: the first port's is empty. `splits` counts
-/// the ports that were split off, `joined` has the numbers of those that were joined in. `seen` is the
-/// history that the port has seen, `drawn` the greatest count of drawn turns that it has read, and
-/// `served` the last count of ended turns that it has read to close the lock.
+/// `origin` is the origin of the value that the lock was made with (`None` if the port was joined
+/// into another). `number` identifies the port; the first port's is empty. `splits` counts the
+/// ports split off from it, and `joined` has the numbers of those joined in. `seen` is the history
+/// that the port has seen, `drawn` the greatest count of drawn turns that it has read, and `served`
+/// the last count of ended turns that it has read in order to close the lock.
 pub struct Known<E, R, O> {
     pub origin: Option<O>,
     pub number: LinkedList<u64>,
@@ -19,25 +19,25 @@ pub struct Known<E, R, O> {
     pub served: u64,
 }
 
-/// What a seat is about to do.
+/// What a seat does next.
 pub enum Stage<E, R, O> {
-    /// The first seat, before its first step: the slot has the value that the table was made with.
+    /// The first seat before its first step: the slot has the value that the table was made with.
     New,
     /// A seat that was split off, before its first step: no call in the history is its own.
     Young,
     /// Between two calls.
     Idle,
-    /// It drew this turn, and waits for it.
+    /// It has drawn this turn and waits for it.
     Waiting(u64),
-    /// It has this turn, and the slot.
+    /// It holds this turn and the slot.
     Turn(u64),
-    /// It read that so many turns have ended.
+    /// It has read that this number of turns have ended.
     SawServing(u64),
-    /// It took in another seat, a port or a note, that knew this.
+    /// It has taken in another seat: whether that was a port, and what it knew.
     Met(bool, Known<E, R, O>),
 }
 
-/// What a seat knows: a port's, or a note's, and what it is about to do.
+/// A seat's view: its knowledge, whether it is a port's or a note's, and what it does next.
 pub struct View<E, R, O> {
     pub known: Known<E, R, O>,
     pub is_port: bool,

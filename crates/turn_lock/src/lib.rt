@@ -1,4 +1,4 @@
-//! A fair lock round one value, whose calls stand in one legal history.
+//! A lock around one value, for any number of threads. All calls are in one legal history.
 #![tactic(auto)]
 
 mod board;

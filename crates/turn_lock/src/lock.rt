@@ -1,4 +1,4 @@
-//! How a lock is made, and how its value comes back.
+//! Making a lock, and closing it to get its value back.
 ghost use Rattle.std.specs.Prelude.{◌≡◌, ◌<◌, ◌≤◌, [], ◌∷◌, Some, None, IfOk, IfErr};
 ghost use Rattle.std.specs.Arc.{arc_value};
 ghost use Rattle.turn_lock.specs.declared.known.Stage.TheVariants.{New};
@@ -18,7 +18,7 @@ use std::marker::Model;
 use std::snapshot::Snapshot;
 use std::sync::Arc;
 
-/// The right to close a lock. Contracts see which lock it is. It has no bytes: the value lies with the ports.
+/// The right to close a lock. Contracts see its lock. It has no bytes: the ports own the value.
 #[derive(Drop)]
 pub struct Shared<T: Turned> {
     lock: Snapshot<Board<T>>,
@@ -34,7 +34,7 @@ impl<T: Turned> Model for Shared<T> {
     ghost view = { λ s. s.lock.value.shared.table_id };
 }
 
-// The value of a table whose first seat has taken no step.
+// Returns the value of a table whose first seat has taken no step.
 fn regain<T: Turned>(table: Board<T>, place: Place<T>) -> T
     requires table { place.table_id ≡ table.shared.table_id }
     requires size { table.shared.table_id.slots ≡ 1 }
@@ -47,7 +47,7 @@ fn regain<T: Turned>(table: Board<T>, place: Place<T>) -> T
     slot.value.unwrap().into_value()
 }
 
-// The table with its first seat, or the value.
+// Makes the table and its first seat. If out of memory, returns the value.
 fn lay<T: Turned>(alloc: Global, value: T) -> Result<(Arc<Board<T>, Global>, Place<T>), T>
     requires { T.stands value [] }
     ensures ok { IfOk result (λ t. (t.1.table_id ≡ (arc_value t.0).shared.table_id) × IsSized t.1.table_id × (t.1.me ≡ (newcomer (T.origin value), []))) }
@@ -77,8 +77,8 @@ fn lay<T: Turned>(alloc: Global, value: T) -> Result<(Arc<Board<T>, Global>, Pla
 }
 
 impl<T: Turned> Shared<T> {
-    /// A lock over the value, for `bound` turns, and its first port. For want of memory the value
-    /// comes back.
+    /// Makes a lock around the value, for `bound` turns (1 to 2^62), and its first port. If out of
+    /// memory, returns the value.
     pub fn new(alloc: Global, value: T, bound: u64) -> Result<(Shared<T>, Port<T>), (AllocError, T)>
         requires bound { (0 < bound) × (bound ≤ most_turns) }
         requires empty { T.stands value [] }
@@ -103,11 +103,12 @@ impl<T: Turned> Shared<T> {
         }
     }
 
-    /// Takes the value out for good, by a port of this lock. It waits for nobody.
+    /// Closes the lock and returns its value. `port` is a port of this lock. Never waits.
     ///
-    /// `Busy`: it read that so many turns had ended, and then that more were drawn; as many turns had
-    /// ended as the port has seen calls, or more. The lock and the port come back. At `Ok` ports that were not joined find no turn any more: they wait, or are
-    /// Exhausted.
+    /// Returns `Busy`, with the lock and the port, if more turns had been drawn than had ended: the
+    /// port read the count of ended turns, at least one for each call it had seen, and then a
+    /// greater count of drawn turns. After `Ok`, a call on a port that was not joined waits forever
+    /// or returns `Exhausted`.
     pub fn close(self, port: Port<T>) -> Result<T, (Busy, Shared<T>, Port<T>)>
         requires { port.lock ≡ self }
         ensures ok { IfOk result (λ x. Yields T.origin T.stands T.legal port.known x) }

@@ -1,4 +1,4 @@
-//! A value at a place of its own in memory.
+//! A value in an allocation of its own.
 ghost use Rattle.std.specs.Prelude.{◌≡◌, ℕ, List, [], ◌∷◌, ◌++◌, IfOk, IfErr};
 ghost use Rattle.turn_lock.specs.declared.turned.Entry.{Entry};
 ghost use Rattle.turn_lock.specs.History.{entry};
@@ -7,7 +7,7 @@ use crate::turned::Turned;
 use std::alloc::{AllocError, AllocFailed, Global};
 use std::marker::Model;
 
-/// A value at a place of its own: whoever hands it on moves its address alone. Contracts see the value.
+/// A boxed value: moving it moves only its address. Contracts see the value.
 #[derive(Drop)]
 pub struct Lodged<T> {
     inner: Box<T>,
@@ -20,7 +20,7 @@ impl<T> Model for Lodged<T> {
 }
 
 impl<T> Lodged<T> {
-    /// Finds a place for the value. For want of memory the value comes back.
+    /// Allocates memory for the value. If out of memory, returns the value.
     pub(crate) fn new(alloc: Global, value: T) -> Result<Lodged<T>, AllocFailed<T>>
         ensures ok { IfOk result (λ lodged. lodged ≡ value) }
         ensures err { IfErr result (λ failed. failed.value ≡ value) }
@@ -29,7 +29,7 @@ impl<T> Lodged<T> {
         Ok(Lodged { inner })
     }
 
-    /// The value.
+    /// Returns the value and frees its memory.
     pub(crate) fn into_value(self) -> T
         ensures { result ≡ self }
     {
@@ -38,7 +38,7 @@ impl<T> Lodged<T> {
 }
 
 impl<T: Turned> Lodged<T> {
-    /// Has the value take an event, as [`Turned::turn`] does.
+    /// Applies an event to the value, as [`Turned::turn`] does.
     pub(crate) fn turn(&mut self, alloc: Global, event: T::Event) -> Result<T::Reply, AllocError>
         ensures same { T.origin self.new ≡ T.origin self.old }
         ensures ok { IfOk result (λ r. (by : List ℕ) (h : List (Entry T.Event T.Reply)) → T.stands self.old h → T.stands self.new (h ++ entry by event r ∷ [])) }

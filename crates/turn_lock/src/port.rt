@@ -1,4 +1,4 @@
-//! Ports, through which threads call the value, and the notes that ports write to one another.
+//! Ports, through which threads call the value, and the notes that one port writes for another.
 ghost use Rattle.std.specs.Prelude.{◌≡◌, ◌≤◌, ◌++◌, [], ◌∷◌, length, IfOk, IfErr, OnOk, OnErr};
 ghost use Rattle.turn_lock.specs.History.{calls_by};
 ghost use Rattle.turn_lock.specs.Calls.{IsLegal, Called, Watches, IsCause, EndsTurn, divided, born, Meets, Joins};
@@ -11,9 +11,9 @@ use std::alloc::{AllocError, Global};
 use std::marker::Model;
 use std::sync::{Arc, Wait};
 
-/// A thread's way to the value behind a lock.
+/// A thread's handle to the value of a lock.
 ///
-/// Contracts see which lock it belongs to, the lock's bound, and what the port knows.
+/// Contracts see its lock, the lock's bound on turns, and the port's knowledge.
 #[derive(Drop)]
 pub struct Port<T: Turned> {
     pub(crate) table: Arc<Board<T>, Global>,
@@ -37,7 +37,7 @@ impl<T: Turned> Model for Port<T> {
     ghost invariant = { λ p. (p.place.table_id ≡ (arc_value p.table).shared.table_id) × IsSized p.place.table_id × IsReady p.place Idle [] × IsLegal T.legal p.place.me.0.known × (p.bound ≤ most_turns) };
 }
 
-/// A history that a port had seen, to be shown to another port of the same lock.
+/// A record of the history that a port had seen, for another port of the same lock to read.
 #[derive(Drop)]
 pub struct Note<T: Turned> {
     pub(crate) place: Place<T>,
@@ -56,18 +56,20 @@ impl<T: Turned> Model for Note<T> {
 }
 
 impl<T: Turned> Port<T> {
-    /// Every port has an origin, which is the lock's, and has seen a history that is legal from it. It does nothing.
+    /// Proves that the port has the lock's origin and has seen a history that is legal from it.
+    /// Does nothing at run time.
     pub fn has_a_legal_history(&self)
         ensures { IsLegal T.legal self.now.known }
     {
         let _bound = self.bound;
     }
 
-    /// Waits for a turn and has the value take the event.
+    /// Waits for a turn and applies the event to the value.
     ///
-    /// At `Ok` the port has seen a legal history that begins with all that it had seen and ends with
-    /// this call. `Memory`: the turn wanted memory, and is used up. `Exhausted`: the port has read that
-    /// as many turns were drawn as the lock was made for. After either the value is as it was.
+    /// After `Ok` the port has seen a legal history that begins with all that it had seen and ends
+    /// with this call. Errors: `Memory` if the value's turn ran out of memory, which uses up the
+    /// turn; `Exhausted` if the port has read that all turns of the lock's bound were drawn. After
+    /// an error the value is unchanged.
     pub fn call<W: Wait>(
         &mut self,
         rt: &W,
@@ -84,9 +86,10 @@ impl<T: Turned> Port<T> {
         call_at(&table.shared, &mut self.place, rt, alloc, self.bound, event)
     }
 
-    /// A second port, which has seen the same history and has made no call. It can go to another thread.
+    /// Makes a second port, which has seen the same history and has made no call. It can be sent to
+    /// another thread.
     ///
-    /// It answers `AllocError` where the lock can't have another owner, and then nothing has changed.
+    /// Returns `AllocError`, with nothing changed, if the lock can't have another owner.
     pub fn split(&mut self) -> Result<Port<T>, AllocError>
         ensures lock { (self.new.lock ≡ self.old.lock) × (self.new.bound ≡ self.old.bound) }
         ensures this { OnOk result (self.new.known ≡ divided self.old.known) }
@@ -106,7 +109,7 @@ impl<T: Turned> Port<T> {
         }
     }
 
-    /// A note of all that this port has seen.
+    /// Writes a note of all that this port has seen.
     pub fn tell(&mut self) -> Note<T>
         ensures this { self.new ≡ self.old }
         ensures note { (result.lock ≡ self.old.lock) × (result.origin ≡ self.old.known.origin) × (result.seen ≡ self.old.known.seen) }
@@ -116,7 +119,7 @@ impl<T: Turned> Port<T> {
         Note { place }
     }
 
-    /// Takes in a note of the same lock: the port has now seen all that the note tells.
+    /// Reads a note of the same lock: the port has now seen all that the note records.
     pub fn meet(&mut self, note: Note<T>)
         requires { note.lock ≡ self.old.lock }
         ensures lock { (self.new.lock ≡ self.old.lock) × (self.new.bound ≡ self.old.bound) }
@@ -127,8 +130,8 @@ impl<T: Turned> Port<T> {
         take_in(&table.shared, &mut self.place, place);
     }
 
-    /// Takes in another port of the same lock, with its number and those joined into it, and has now
-    /// seen all that it had seen.
+    /// Takes in another port of the same lock, with its number and those joined into it. The port
+    /// has now seen all that the other had seen.
     pub fn join(&mut self, port: Port<T>)
         requires { port.lock ≡ self.old.lock }
         ensures lock { (self.new.lock ≡ self.old.lock) × (self.new.bound ≡ self.old.bound) }

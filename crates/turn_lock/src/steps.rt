@@ -1,4 +1,4 @@
-//! The steps that the calls of a port are made of, each a step or two on the table.
+//! The operations that the calls of a port consist of. Each is one or two steps on the table.
 ghost use Rattle.std.specs.Prelude.{◌≡◌, ℕ, ◌+◌, ◌<◌, ◌≤◌, [], ◌∷◌, ◌++◌, Some, None, length, IfOk, IfErr, OnOk, IfSome, IfNone, IsTrue, IsFalse, Option};
 ghost use Rattle.std.specs.declared.snapshot.Snapshot.{Snapshot};
 ghost use Rattle.turn_lock.specs.declared.known.Stage.TheVariants.{Young, Idle, Waiting, Turn};
@@ -19,10 +19,10 @@ use std::snapshot::Snapshot;
 use std::sync::Wait;
 use std::time::Duration;
 
-/// The longest sleep of a waiting call between two looks, in microseconds.
+/// The longest sleep of a waiting call between two reads of the word, in microseconds.
 const NAP: u64 = 50;
 
-/// The first step of a seat.
+/// Takes a seat's first step.
 pub(crate) fn settle<T: Turned>(top: &Top<T>, place: &mut Place<T>)
     requires table { (place.old.table_id ≡ top.now.table_id) × IsSized top.now.table_id }
     ensures seat { (place.new.table_id ≡ place.old.table_id) × (place.new.me ≡ (posed place.old.me.0 Idle, place.old.me.1)) }
@@ -31,7 +31,7 @@ pub(crate) fn settle<T: Turned>(top: &Top<T>, place: &mut Place<T>)
     top.load::<Settle>(place, SERVING);
 }
 
-/// Reads how many turns were drawn.
+/// Returns the number of turns drawn.
 fn look<T: Turned>(top: &Top<T>, place: &mut Place<T>) -> u64
     requires table { (place.old.table_id ≡ top.now.table_id) × IsSized top.now.table_id }
     requires ready { IsReady place.old Idle [] }
@@ -42,7 +42,7 @@ fn look<T: Turned>(top: &Top<T>, place: &mut Place<T>) -> u64
     top.load::<Look<T>>(place, TICKET)
 }
 
-/// Draws this turn, unless another was drawn before.
+/// Draws turn number `turn`, unless it has been drawn already. Returns whether it did.
 fn try_draw<T: Turned>(top: &Top<T>, place: &mut Place<T>, turn: u64) -> bool
     requires table { (place.old.table_id ≡ top.now.table_id) × IsSized top.now.table_id }
     requires bound { turn < most_turns }
@@ -53,8 +53,8 @@ fn try_draw<T: Turned>(top: &Top<T>, place: &mut Place<T>, turn: u64) -> bool
     top.compare_exchange::<Draw>(place, TICKET, turn, turn + 1) == turn
 }
 
-/// Waits a while: spins at first, then yields the processor, and then sleeps until another turn than
-/// `served` is served, for `NAP` at most, since no turn's end wakes anybody.
+/// Waits for a moment: spins at first, then yields the processor, then sleeps until the count of
+/// ended turns is no longer `served`, for at most `NAP`, because the end of a turn wakes nobody.
 fn pause<T: Turned, W: Wait>(top: &Top<T>, rt: &W, backoff: &Backoff, served: u64)
     requires { IsSized top.now.table_id }
 {
@@ -70,8 +70,8 @@ fn pause<T: Turned, W: Wait>(top: &Top<T>, rt: &W, backoff: &Backoff, served: u6
     }
 }
 
-/// Draws a turn, unless `bound` turns were drawn. It draws only where all drawn turns have ended, so
-/// no thread holds up the others before it runs.
+/// Draws a turn, or returns `None` if `bound` turns were drawn. Draws only when all drawn turns
+/// have ended, so that a thread that is not running never blocks the others.
 pub(crate) fn draw<T: Turned, W: Wait>(
     top: &Top<T>,
     place: &mut Place<T>,
@@ -102,7 +102,7 @@ pub(crate) fn draw<T: Turned, W: Wait>(
     unreachable!()
 }
 
-/// Takes the slot, if the seat's turn has come.
+/// Takes the slot if the seat's turn has come. Returns whether it did.
 fn try_reach<T: Turned>(top: &Top<T>, place: &mut Place<T>, turn: u64) -> bool
     requires table { (place.old.table_id ≡ top.now.table_id) × IsSized top.now.table_id }
     requires waiting { IsReady place.old (Waiting turn) [] }
@@ -128,7 +128,7 @@ fn take_out<T: Turned>(top: &Top<T>, place: &mut Place<T>) -> Lodged<T>
     top.exchange(place, HOME, empty).value.unwrap()
 }
 
-/// Puts this into the slot, which the seat holds.
+/// Puts `slot` into the slot, which the seat holds.
 fn put_back<T: Turned>(top: &Top<T>, place: &mut Place<T>, slot: Slot<T, T::Event, T::Reply>)
     requires table { (place.old.table_id ≡ top.now.table_id) × IsSized top.now.table_id }
     requires holds { place.old.me.1 ≡ (0, hollow) ∷ [] }
@@ -137,7 +137,7 @@ fn put_back<T: Turned>(top: &Top<T>, place: &mut Place<T>, slot: Slot<T, T::Even
     drop(top.exchange(place, HOME, slot));
 }
 
-/// Waits for the turn, and takes the value. A turn that `draw` drew has come at the first look.
+/// Waits for the turn and takes the value. A turn that `draw` returned has come at the first look.
 pub(crate) fn reach<T: Turned, W: Wait>(
     top: &Top<T>,
     place: &mut Place<T>,
@@ -161,7 +161,7 @@ pub(crate) fn reach<T: Turned, W: Wait>(
     unreachable!()
 }
 
-/// Puts the value back and ends the turn, with the entry that `last` names, if any.
+/// Puts the value back and ends the turn, adding the entry in `last`, if any, to the history.
 pub(crate) fn end_turn<T: Turned>(
     top: &Top<T>,
     place: &mut Place<T>,
@@ -184,7 +184,7 @@ pub(crate) fn end_turn<T: Turned>(
     top.fetch_add::<End<T>>(place, SERVING, 1);
 }
 
-/// One call: draws a turn, waits for it, has the value take the event, and ends the turn.
+/// Makes one call: draws a turn, waits for it, applies the event to the value, and ends the turn.
 pub(crate) fn call_at<T: Turned, W: Wait>(
     top: &Top<T>,
     place: &mut Place<T>,
@@ -220,7 +220,7 @@ pub(crate) fn call_at<T: Turned, W: Wait>(
     }
 }
 
-/// Splits a port off.
+/// Splits off a port's seat.
 pub(crate) fn divide<T: Turned>(top: &Top<T>, place: &mut Place<T>) -> Place<T>
     requires table { (place.old.table_id ≡ top.now.table_id) × IsSized top.now.table_id }
     requires ready { IsReady place.old Idle [] }
@@ -233,7 +233,7 @@ pub(crate) fn divide<T: Turned>(top: &Top<T>, place: &mut Place<T>) -> Place<T>
     child
 }
 
-/// Writes a note of what the port has seen.
+/// Splits off a note's seat, which has seen what the port has seen.
 pub(crate) fn write_note<T: Turned>(top: &Top<T>, place: &mut Place<T>) -> Place<T>
     requires table { (place.old.table_id ≡ top.now.table_id) × IsSized top.now.table_id }
     requires ready { IsReady place.old Idle [] }
@@ -243,7 +243,7 @@ pub(crate) fn write_note<T: Turned>(top: &Top<T>, place: &mut Place<T>) -> Place
     top.split_seat::<Tell>(place)
 }
 
-/// Takes in another seat, and sees all that it had seen.
+/// Joins another seat into this one, which has then seen all that the other had seen.
 pub(crate) fn take_in<T: Turned>(top: &Top<T>, place: &mut Place<T>, other: Place<T>)
     requires table { (place.old.table_id ≡ top.now.table_id) × (other.table_id ≡ top.now.table_id) × IsSized top.now.table_id }
     requires ready { IsReady place.old Idle [] × (other.me.1 ≡ []) }
@@ -254,7 +254,7 @@ pub(crate) fn take_in<T: Turned>(top: &Top<T>, place: &mut Place<T>, other: Plac
     top.load::<Merge<T>>(place, SERVING);
 }
 
-/// Draws the last turn where all that were drawn have ended, and takes the value.
+/// Draws the last turn if all drawn turns have ended, and takes the value. Else returns `Busy`.
 pub(crate) fn draw_last<T: Turned>(top: &Top<T>, place: &mut Place<T>) -> Result<T, Busy>
     requires table { (place.old.table_id ≡ top.now.table_id) × IsSized top.now.table_id }
     requires ready { IsReady place.old Idle [] }

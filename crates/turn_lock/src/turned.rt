@@ -1,4 +1,4 @@
-//! What may lie behind the lock: values that take events one at a time and answer each.
+//! The trait of values that a lock can hold: they take one event at a time and reply to each.
 ghost use Rattle.std.specs.Prelude.{◌≡◌, ℕ, List, [], ◌∷◌, ◌++◌, IfOk, IfErr};
 ghost use Rattle.turn_lock.specs.declared.turned.Entry.{Entry};
 ghost use Rattle.turn_lock.specs.History.{entry};
@@ -6,20 +6,20 @@ ghost use Rattle.turn_lock.specs.History.{entry};
 use std::alloc::{AllocError, Global};
 use std::collections::LinkedList;
 
-/// One call in a history: the number of the port that made it, its event, and the reply that it got.
+/// One call in a history: the number of the port that made it, its event, and its reply.
 ///
-/// Histories exist in contracts alone; no value of this type is made.
+/// Histories exist only in contracts; no value of this type is made.
 pub struct Entry<E, R> {
     pub by: LinkedList<u64>,
     pub event: E,
     pub reply: R,
 }
 
-/// A value that stands for a history of calls, and takes one event at a time.
+/// A value that results from a history of calls and takes one event at a time.
 ///
-/// `origin` is where the value started, which no turn changes. `legal` says which histories could
-/// have happened from an origin, and `stands` that the value is the one that a history leaves: it
-/// holds of legal histories alone. `sure` names the events whose turn never wants memory.
+/// `origin` is the value's initial state, which no turn changes. `legal` says which histories are
+/// possible from an origin. `stands` says that the value is the one that a history results in; it
+/// holds only for legal histories. `sure` names the events whose turn never runs out of memory.
 pub trait Turned: Drop {
     type Event: Drop;
 
@@ -35,8 +35,9 @@ pub trait Turned: Drop {
 
     ghost sure: { Self.Event → Type 0 };
 
-    /// Takes one event. At `Ok` the history is one entry longer, with that event and that reply,
-    /// whoever asked; for want of memory the value stands for all that it stood for.
+    /// Takes one event. After `Ok` the history is one entry longer, with that event and that reply,
+    /// whichever port called. Returns `AllocError` if out of memory; the value then still results
+    /// from the histories it resulted from before.
     fn turn(&mut self, alloc: Global, event: Self::Event) -> Result<Self::Reply, AllocError>
         ensures same { origin self.new ≡ origin self.old }
         ensures ok { IfOk result (λ r. (by : List ℕ) (h : List (Entry Self.Event Self.Reply)) → stands self.old h → stands self.new (h ++ entry by event r ∷ [])) }
