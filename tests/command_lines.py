@@ -251,19 +251,19 @@ CASES = [
     ("jobs that their writer may not mean", "head_end_cli", ["check"],
      b"#m1 127.0.0.1:4059 disconnect\n\nm2 127.77.0.1 state\nm3 127.77.0.999:4059 state\nm4 [::1]:4059 state\nm5 ::1:4059 state\nm2 meter.example:4059 state\n"
      b"m6 [::1]:4059 reconnect\nm7 10.0.0.1:0 state\nm8 10.0.0.2:65536 state\nm9 :4059 state\n", b"jobs 10\n",
-     b"line 1: warning: the name begins with `#`, and the job counts: a list has no comments\n"
-     b"line 3: warning: the address is not HOST:PORT with a port from 1 to 65535\n"
-     b"line 4: warning: the address is not HOST:PORT with a port from 1 to 65535\n"
-     b"line 6: warning: the address is not HOST:PORT with a port from 1 to 65535\n"
+     b"line 1: warning: `#` begins a name, not a comment: this job is run\n"
+     b"line 3: warning: the address must be HOST:PORT with a port from 1 to 65535\n"
+     b"line 4: warning: the address must be HOST:PORT with a port from 1 to 65535\n"
+     b"line 6: warning: the address must be HOST:PORT with a port from 1 to 65535\n"
      b"line 7: warning: line 3 has the same name\n"
-     b"line 8: warning: line 5 has the same address: which of both jobs runs first is not fixed\n"
-     b"line 9: warning: the address is not HOST:PORT with a port from 1 to 65535\n"
-     b"line 10: warning: the address is not HOST:PORT with a port from 1 to 65535\n"
-     b"line 11: warning: the address is not HOST:PORT with a port from 1 to 65535\n", 0),
+     b"line 8: warning: line 5 has the same address: the two run in any order\n"
+     b"line 9: warning: the address must be HOST:PORT with a port from 1 to 65535\n"
+     b"line 10: warning: the address must be HOST:PORT with a port from 1 to 65535\n"
+     b"line 11: warning: the address must be HOST:PORT with a port from 1 to 65535\n", 0),
     ("a campaign without jobs", "head_end_cli", ["run", "--password", "12345678"], b"", b"", b"", 0),
     ("a closed port and a text that is no address", "head_end_cli", ["run", "--password", "12345678", "--connect-timeout", "2"],
      b"m1 127.0.0.1:1 disconnect\nm2 nowhere state\n", b"m1 unknown\nm2 unknown\n",
-     b"line 2: warning: the address is not HOST:PORT with a port from 1 to 65535\n", 0),
+     b"line 2: warning: the address must be HOST:PORT with a port from 1 to 65535\n", 0),
     ("no worker", "head_end_cli", ["run", "--password", "12345678", "--workers", "0"], b"", b"", None, 2),
     ("17 workers", "head_end_cli", ["run", "--password", "12345678", "--workers", "17"], b"", b"", None, 2),
     ("a campaign without a password", "head_end_cli", ["run"], b"", b"", None, 2),

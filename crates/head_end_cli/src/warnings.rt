@@ -25,12 +25,12 @@ pub(crate) fn warn(rt: &HostRuntime, text: &[u8], jobs: &Listed<Job>) {
 fn warn_of_job(rt: &HostRuntime, number: u64, job: &Job) {
     if job.id.as_slice().starts_with(b"#") {
         let _ = eprintln!(rt;
-            "line {number}: warning: the name begins with `#`, and the job counts: a list has no comments"
+            "line {number}: warning: `#` begins a name, not a comment: this job is run"
         );
     }
     if !is_address(job.address.as_slice()) {
         let _ = eprintln!(rt;
-            "line {number}: warning: the address is not HOST:PORT with a port from 1 to 65535"
+            "line {number}: warning: the address must be HOST:PORT with a port from 1 to 65535"
         );
     }
 }
@@ -42,7 +42,7 @@ fn warn_of_earlier(rt: &HostRuntime, number: u64, text: &[u8], job: &Job) {
     }
     if let Some(first) = first_with(text, number, 1, job.address.as_slice()) {
         let _ = eprintln!(rt;
-            "line {number}: warning: line {first} has the same address: which of both jobs runs first is not fixed"
+            "line {number}: warning: line {first} has the same address: the two run in any order"
         );
     }
 }
