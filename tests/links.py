@@ -1,12 +1,15 @@
 #!/usr/bin/env python3
-"""Tests that what README.md, docs/ and the crates' READMEs name is there: links and their places, files, functions, definitions, edits, tests.
+"""Checks that what README.md, docs/ and the READMEs of the crates name exists: links, files,
+functions, definitions, edits and tests.
 
 - A link leads to a file, and to a heading or an anchor in it.
-- A path in code or prose (docs/TRACE.md, bin/build, crates/NAME/..) is one of a file or folder.
-- `CRATE::NAME` is declared in that crate's sources; a crate of the toolchain's is not looked into.
-- `CRATE/EDIT` and each name in docs/WRONG_BODIES.md's last column is an edit, or a test; its tables are what bin/wrong_page writes, so each edit stands there.
-- A definition that docs/DEFINITIONS.md names stands in a file of its row; each file of specs/ stands in docs/PROMISES.md.
-- Each crate has a README, whose example is a test that is there, or a file that the gate runs.
+- A path in code or prose (docs/TRACE.md, bin/build, crates/NAME/..) is a file or a folder.
+- `CRATE::NAME` is declared in the sources of that crate. Crates of the toolchain are not checked.
+- `CRATE/EDIT` and each name in the last column of docs/WRONG_BODIES.md is an edit or a test. The tables
+  of that page are up to date (bin/wrong_page), so it has each edit.
+- A definition that docs/DEFINITIONS.md names is in a file of its row; docs/PROMISES.md links to each file
+  of specs/.
+- Each crate has a README, and the test that its example names exists.
 """
 import re
 import subprocess
@@ -15,7 +18,7 @@ from pathlib import Path
 
 TOP = Path(__file__).resolve().parent.parent
 CRATES = {it.name: it for it in sorted((TOP / "crates").iterdir()) if (it / "src").is_dir()}
-# Words that stand for any name, as in crates/NAME/src.
+# Placeholders of names, as in crates/NAME/src.
 PLACEHOLDER = re.compile(r"\b(NAME|CRATE|PATH|TEXT|FILE|EDIT|PROGRAM|PREFIX|TRACE|JOBS|FOLDER)\b|\*|<|\.\.")
 CODE = re.compile(r"`([^`\n]+)`")
 LINK = re.compile(r"\[[^\]]*\]\(([^)\s]+)\)")
@@ -31,7 +34,7 @@ def sources(crate):
 
 SOURCES = {it: sources(it) for it in CRATES}
 ALL_SOURCES = "\n".join(SOURCES.values())
-# A function, a type, a constant, a module, or the variant of an enum.
+# The declaration of a function, a type, a constant, a module or a variant.
 DECLARED = r"\b(?:fn|struct|enum|trait|const|mod|type) {0}\b|^ +{0}\b(?:[,( {{]|$)"
 EDITS = {crate: {it.stem for part in ("wrong", "wrong/long", "must-fail") for it in (folder / part).glob("*.edit")} for crate, folder in CRATES.items()}
 ALL_EDITS = set().union(*EDITS.values())
@@ -56,23 +59,24 @@ def links(page, text):
         path, _, place = target.partition("#")
         there = (page.parent / path).resolve() if path else page
         if not there.exists():
-            yield f"no file {target}"
+            yield f"link to {target}: no such file"
         elif place and place not in anchors(there):
-            yield f"no place {target}"
+            yield f"link to {target}: no such heading or anchor"
 
 
 def paths(page, text):
-    """Paths in code and in prose, from the top of the repository, or in a crate's README from its own folder."""
+    """Paths in code and in prose: from the top of the repository, or in a crate's README from the
+    crate."""
     plain = LINK.sub("", text)
     found = set(re.findall(r"(?<![\w/.-])(?:docs|bin|tests|bench|crates|share)/[\w./*<>-]*[\w/]", plain))
     found |= {it for it in CODE.findall(plain) if re.fullmatch(r"(?:src|specs|proofs|wrong)/[\w./-]+", it)}
     for it in sorted(found):
         if not PLACEHOLDER.search(it) and not any((place / it).exists() for place in (TOP, page.parent)) and not is_shortened(it):
-            yield f"no file {it}"
+            yield f"path {it}: no such file or folder"
 
 
 def is_shortened(path):
-    """A path of a crate's file told from its crate's folder, as `src/tests.rt`, where some crate has it."""
+    """Whether a path is relative to a crate, as `src/tests.rt`, and some crate has it."""
     return path.startswith(("src/", "specs/", "proofs/", "wrong/")) and any((it / path).exists() for it in CRATES.values())
 
 
@@ -82,29 +86,29 @@ def functions(text):
         if words and words[1] in CRATES:
             for name in words[2].split("::")[1:]:
                 if not re.search(DECLARED.format(name), SOURCES[words[1]], re.M):
-                    yield f"no {name} in {words[1]}: {it}"
+                    yield f"`{it}`: the crate {words[1]} declares no {name}"
 
 
 def types(text):
-    """`TYPE::NAME` of whichever crate."""
+    """`TYPE::NAME` of any crate."""
     for it in CODE.findall(text):
         words = re.fullmatch(r"([A-Z]\w+)::(\w+)", it)
         if words and not all(re.search(DECLARED.format(name), ALL_SOURCES, re.M) for name in words.groups()):
-            yield f"no {it}"
+            yield f"`{it}`: no crate declares it"
 
 
 def steps(text):
-    """A name alone, where it is no number."""
+    """Single names that are not numbers."""
     for it in CODE.findall(text):
         if re.fullmatch(r"[a-zA-Z_]+", it) and it not in CRATES and not re.search(DECLARED.format(it), ALL_SOURCES, re.M) and it not in TESTS:
-            yield f"no {it}"
+            yield f"`{it}`: no crate declares it"
 
 
 def edits(text):
     for it in CODE.findall(text):
         words = re.fullmatch(r"(\w+)/(\w+)", it)
         if words and words[1] in CRATES and words[2] not in EDITS[words[1]] and not (CRATES[words[1]] / words[2]).exists():
-            yield f"no edit {it}"
+            yield f"`{it}`: no such edit"
 
 
 def wrong_bodies(text):
@@ -114,10 +118,10 @@ def wrong_bodies(text):
             for it in CODE.findall(cells[1]):
                 name = it.rpartition("/")[2]
                 if re.fullmatch(r"\w+_\w+_\w+", name) and name not in ALL_EDITS | TESTS:
-                    yield f"no edit or test {it}"
-    told = subprocess.run([TOP / "bin" / "wrong_page", "--check"], capture_output=True, text=True)
-    if told.returncode:
-        yield (told.stdout + told.stderr).strip()
+                    yield f"`{it}`: no such edit or test"
+    ran = subprocess.run([TOP / "bin" / "wrong_page", "--check"], capture_output=True, text=True)
+    if ran.returncode:
+        yield (ran.stdout + ran.stderr).strip()
 
 
 def definitions(text):
@@ -130,14 +134,14 @@ def definitions(text):
         own = files_of_row(names)
         if own or "the same file" not in cells[1]:
             files = own
-        told = "\n".join(it.read_text() for it in files)
+        declared = "\n".join(it.read_text() for it in files)
         for it in names:
-            if re.fullmatch(r"[\w◌>=]+", it) and not re.search(rf"(?<![\w-]){re.escape(it)}(?![\w-])", told):
-                yield f"no definition {it} in {[str(file.relative_to(TOP)) for file in files]}"
+            if re.fullmatch(r"[\w◌>=]+", it) and not re.search(rf"(?<![\w-]){re.escape(it)}(?![\w-])", declared):
+                yield f"`{it}`: no such definition in {', '.join(str(file.relative_to(TOP)) for file in files)}"
 
 
 def files_of_row(names):
-    """The files that a row names: CRATE/specs/FILE, and FILE alone of the folder named before."""
+    """The files that a row names: CRATE/specs/FILE, or FILE in the folder of the file before it."""
     found, folder = [], None
     for it in names:
         path = CRATES.get(it.partition("/")[0], TOP) / it.partition("/")[2]
@@ -152,7 +156,7 @@ def files_of_row(names):
 def definitions_back(text):
     for it in sorted(TOP.glob("crates/*/specs/*.antt")):
         if it.name != "Lib.antt" and f"../{it.relative_to(TOP)})" not in text:
-            yield f"{it.relative_to(TOP)} serves no promise"
+            yield f"no link to {it.relative_to(TOP)}"
 
 
 def examples():
@@ -161,12 +165,12 @@ def examples():
             continue
         page = folder / "README.md"
         if not page.exists():
-            yield f"{name} has no README"
+            yield f"crates/{name} has no README.md"
             continue
         text = page.read_text()
         for test in re.findall(r"[Tt]ests? `(\w+)`", text):
             if test not in TESTS:
-                yield f"{name}: no test {test}"
+                yield f"crates/{name}/README.md: `{test}`: no such test"
 
 
 def lost():
