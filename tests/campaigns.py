@@ -376,7 +376,7 @@ def a_list_is_warned_of(name, crowd, folder):
                           env={**os.environ, "METER_PASSWORD": PASSWORD, "PARALLEL_HOME": str(folder)})
     crowd.counts()
     check(f"{name}: names of the report", [line.split()[0] for line in made.stdout.splitlines()] == ["#m1", "m2", "#m1"], made)
-    wanted = [f"campaign: line {line}" for line in ("1: warning: `#` begins a name, not a comment", "1001: warning: the address must be HOST:PORT",
+    wanted = [f"campaign: line {line}" for line in ("1: warning: `#` begins a name, not a comment", "1001: warning: the port of the address must be 1 to 65535",
               "1002: warning: `#` begins a name, not a comment", "1002: warning: line 1 has the same name", "1002: warning: line 1 has the same address")]
     lines = made.stderr.splitlines()
     check(f"{name}: lines", len(lines) == len(wanted) and all(line.startswith(it) for line, it in zip(lines, wanted)), made.stderr)

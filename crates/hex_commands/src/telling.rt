@@ -11,25 +11,25 @@ use thiserror::Error;
 #[derive(Clone, Copy, Debug, PartialEq, Eq, Error)]
 pub enum InputFault {
     /// There are more than 1,048,576 bytes.
-    #[error("byte 1048577: more than 1,048,576 bytes")]
+    #[error("byte 1048577: the input has more than 1,048,576 bytes")]
     TooLong,
     /// The line of this number has an odd number of characters.
-    #[error("line {0}: an odd number of characters")]
+    #[error("line {0}: expected pairs of hexadecimal digits, found an odd number of characters")]
     Odd(usize),
-    /// In the line of the first number the byte of the second one is no hexadecimal digit.
-    #[error("line {0}: byte {1} is no hexadecimal digit")]
+    /// In the line of the first number the byte of the second one is not a hexadecimal digit.
+    #[error("line {0}: byte {1}: expected a hexadecimal digit")]
     Character(usize, usize),
-    /// In a stream the character of this number is no hexadecimal digit.
-    #[error("byte {0}: no hexadecimal digit")]
+    /// In a stream the character of this number is not a hexadecimal digit.
+    #[error("byte {0}: expected a hexadecimal digit, a blank or a line end")]
     Digit(usize),
     /// A stream has an odd number of digits.
-    #[error("standard input: an odd number of digits")]
+    #[error("standard input: expected pairs of hexadecimal digits, found an odd number of digits")]
     OddDigits,
     /// The password does not have 1 to 32 bytes.
-    #[error("password: none that has 1 to 32 bytes")]
+    #[error("password: must be 1 to 32 bytes")]
     Password,
     /// The device name does not have 1 to 16 bytes.
-    #[error("device: no name that has 1 to 16 bytes")]
+    #[error("device: must be 1 to 16 bytes")]
     Device,
     /// Standard input could not be read.
     #[error("standard input: a read failed")]
@@ -38,7 +38,7 @@ pub enum InputFault {
     #[error("standard output: a write failed")]
     Write,
     /// Out of memory.
-    #[error("no memory")]
+    #[error("out of memory")]
     Memory,
 }
 
