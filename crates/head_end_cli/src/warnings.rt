@@ -1,4 +1,4 @@
-//! Warnings about jobs that may be mistakes. A warning does not change what is run.
+//! Warnings about jobs that their writer may not mean. A warning does not change what is run.
 use client_core::Job;
 use listed::Listed;
 use memchr::{memchr, memrchr};

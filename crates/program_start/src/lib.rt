@@ -1,4 +1,5 @@
-//! How each program begins and ends: the words of its command line, what comes of one that asks for no work, and the exit status.
+//! The start and the end of each program: the words of its command line, help and errors of the command
+//! line, and the exit status.
 #![tactic(auto)]
 
 ghost use Rattle.std.specs.Prelude.{◌≡◌, true, IfOk, IfErr, IsOk, OnOk};
@@ -17,7 +18,7 @@ use std::process::ExitCode;
 use std::rt::Env;
 use std::{env, io};
 
-/// The fault of a command line that can't be had.
+/// The fault of a command line that cannot be read.
 fn words_fault(kind: io::ErrorKind) -> Fault
     ensures { is_of_words result ≡ true }
 {
@@ -27,7 +28,7 @@ fn words_fault(kind: io::ErrorKind) -> Fault
     }
 }
 
-/// The words of the command line. Errors: `Memory`, and `Input` where a word is no text.
+/// Returns the words of the command line. Errors: `Memory`, and `Input` if a word is not UTF-8.
 pub fn words<R: Env + AllocGlobal>(rt: &R) -> Result<Vec<String>, Fault>
     ensures { IfErr result (λ fault. is_of_words fault ≡ true) }
 {
@@ -41,7 +42,7 @@ pub fn words<R: Env + AllocGlobal>(rt: &R) -> Result<Vec<String>, Fault>
     }
 }
 
-/// A command with one more argument, once the command is made; for want of memory there is none.
+/// Adds an argument to a command, if that was made. Drops both if memory runs out.
 pub fn with_argument<'a>(
     made: Result<Command<'a>, AllocError>,
     argument: Arg<'a>,
@@ -58,7 +59,7 @@ pub fn with_argument<'a>(
     }
 }
 
-/// A program's command with one of its subcommands, once that is made; for want of memory there is neither.
+/// Adds a subcommand to a program, if the subcommand was made. Drops both if memory runs out.
 fn with_made<'a>(
     program: Command<'a>,
     made: Result<Command<'a>, AllocError>,
@@ -75,7 +76,7 @@ fn with_made<'a>(
     }
 }
 
-/// A program's command with one of its subcommands, once both are made; for want of memory there is neither.
+/// Adds a subcommand to a program, if both were made. Drops both if memory runs out.
 pub fn with_subcommand<'a>(
     program: Result<Command<'a>, AllocError>,
     made: Result<Command<'a>, AllocError>,
@@ -93,8 +94,8 @@ pub fn with_subcommand<'a>(
     }
 }
 
-/// Prints the text of a command line that asks for no work, and gives the exit status: 0 for help and the version, 2 where it is wrong. Errors: `Memory`, and
-/// `Write` where the text could not be printed.
+/// Prints help, the version, or why the command line is wrong. Returns the exit status: 0 for help and
+/// the version, 2 for a wrong command line. Errors: `Memory`, and `Write` if the text was not printed.
 pub fn without_work<R: Print + Eprint>(rt: &R, error: &Error) -> Result<u8, Fault>
     ensures status { IfOk result (λ status. status ≡ status_without_work (kind_of error.now)) }
     ensures fault { IfErr result (λ fault. is_of_texts fault ≡ true) }
@@ -122,7 +123,7 @@ pub fn print_text<W: Write>(output: &mut W, text: &[u8]) -> Result<(), Fault>
     }
 }
 
-/// The first fault of two parts of the work, in this order.
+/// Returns the first fault of two parts of the work, in this order.
 pub fn first_fault(first: Result<(), Fault>, second: Result<(), Fault>) -> Result<(), Fault>
     ensures { result ≡ first_of first second }
 {
@@ -132,7 +133,7 @@ pub fn first_fault(first: Result<(), Fault>, second: Result<(), Fault>) -> Resul
     }
 }
 
-/// The line that reports a fault, without its end.
+/// The line that reports a fault, without the line end.
 fn fault_line(fault: Fault) -> &'static str
     ensures { result.now ≡ fault_line fault }
 {
@@ -146,7 +147,7 @@ fn fault_line(fault: Fault) -> &'static str
     }
 }
 
-/// The exit status of what was done. A fault is reported in a line on standard error.
+/// Returns the exit status of the work, and reports a fault in a line on standard error.
 pub fn ended<R: Eprint>(rt: &R, done: Result<u8, Fault>) -> ExitCode
     ensures { exit_status result ≡ status_by done }
 {

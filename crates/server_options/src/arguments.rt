@@ -11,7 +11,7 @@ const LIMITS_AND_STATUSES: &str = "\
 Limits: apdu and hex read at most 1,048,576 bytes; \
 serve has at most eight sessions at a time and closes a ninth connection.
 A fault is the line `fault: WORD` on standard error. \
-With --verbose, apdu and hex print a line before it: what was expected, and what was found.
+With --verbose, a line before it says what was expected and what was found.
 Exit status: 0 success; 2 the command line or the input is wrong; \
 3 reading, writing or listening failed; 4 out of memory, or the lock has no turn left.
 Example: echo C001C10046000060030AFF0300 | meter_server apdu";
@@ -240,7 +240,7 @@ fn with_flags<'a>(
         alloc,
         made,
         "verbose",
-        "Report each connection and how its session ended on standard error",
+        "Report faults, connections and how sessions end on standard error",
     )
 }
 

@@ -17,4 +17,4 @@ complete -c meter_server -f -n '__fish_seen_subcommand_from serve' -l inactivity
 complete -c meter_server -f -n '__fish_seen_subcommand_from serve' -l session -r -d 'Time limit for a client\'s session; 0 means no limit'
 complete -c meter_server -f -n '__fish_seen_subcommand_from serve' -l stop-with-input -d 'Accept no more connections once standard input has ended'
 complete -c meter_server -f -n '__fish_seen_subcommand_from serve' -l resume -d 'Resume from the trace at the head of standard input'
-complete -c meter_server -f -n '__fish_seen_subcommand_from serve' -l verbose -d 'Report each connection and how its session ended on standard error'
+complete -c meter_server -f -n '__fish_seen_subcommand_from serve' -l verbose -d 'Report faults, connections and how sessions end on standard error'
