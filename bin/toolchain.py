@@ -1,7 +1,10 @@
-"""The command rt as a module, for the scripts that use its parts as they are, what they ask of the libraries that it left, and how many checks may run at once.
+"""The command rt as a module, for the scripts that use its parts; the state of the libraries that
+it left; the number of checks that may run in parallel.
 
-usage: toolchain.py            prints what RT_JOBS is to be for a run of many checks, or an empty line where rt is to decide
-       toolchain.py stamp TOP  has `rt run` below TOP, a copy of the repository, take the libraries as proved that a run of the gate left there
+usage: toolchain.py            print RT_JOBS for a run of many checks, or an empty line if rt should
+                               decide
+       toolchain.py stamp TOP  mark the libraries that a run of the gate left in TOP, a copy of the
+                               repository, as proved, so that `rt run` does not prove them again
 """
 import importlib.machinery
 import importlib.util
@@ -11,37 +14,51 @@ import subprocess
 import sys
 
 
-# A check of this repository was seen to take 3.5 GB at most.
+# The largest check of this repository takes 3.5 GB.
 BYTES_OF_A_CHECK = 4_000_000_000
+
+
+def stop(doc, words, why):
+    """Ends a script: prints its usage if `words` ask for help, with status 0; else reports why its
+    arguments are wrong, with status 2."""
+    if words and words[0] in ("-h", "--help"):
+        print(doc.strip())
+        sys.exit(0)
+    print(f"{os.path.basename(sys.argv[0])}: {why}\n\n{doc.strip()}", file=sys.stderr)
+    sys.exit(2)
 
 
 def command():
     """The module of the command rt."""
     if not shutil.which("rt"):
-        sys.exit("the Rattle toolchain is not installed: there is no command rt (README.md)")
-    guide = subprocess.run(["rt", "doc"], capture_output=True, text=True, check=True).stdout.strip()
-    loader = importlib.machinery.SourceFileLoader("rt_command", f"{os.path.dirname(guide)}/bin/rt")
+        sys.exit("the Rattle toolchain is not installed: no command rt (see README.md)")
+    ran = subprocess.run(["rt", "doc"], capture_output=True, text=True, check=True)
+    path = f"{os.path.dirname(ran.stdout.strip())}/bin/rt"
+    loader = importlib.machinery.SourceFileLoader("rt_command", path)
     module = importlib.util.module_from_spec(importlib.util.spec_from_loader("rt_command", loader))
     loader.exec_module(module)
     return module
 
 
 def is_as_left(rt, crate):
-    """Whether the library of a crate is one that a run of the gate left, which has no stamp and is as new as its sources."""
+    """Whether a run of the gate left the library of a crate: it has no stamp and is as new as its
+    sources."""
     rlib = f"{crate.folder}/out/rlib"
     if not os.path.isdir(crate.rlib) or os.path.exists(f"{rlib}/stamp"):
         return False
-    return all(os.path.getmtime(file) <= os.path.getmtime(crate.rlib) for file in rt.rtlib.files_of(crate.folder))
+    built = os.path.getmtime(crate.rlib)
+    return all(os.path.getmtime(file) <= built for file in rt.rtlib.files_of(crate.folder))
 
 
 def is_left_by_ci(rt, crates):
-    """Whether the libraries below are those that a run of the gate in a new clone left."""
+    """Whether a run of the gate in a new clone left the libraries below these crates."""
     below = {it.name: it for crate in crates for it in crate.below()}.values()
     return all(is_as_left(rt, it) for it in below)
 
 
 def stamp(rt, top):
-    """Gives the libraries that a run of the gate left in a copy of the repository the stamp by which rt takes them as proved."""
+    """Writes the stamps with which rt takes libraries as proved, for those that a run of the gate
+    left in a copy of the repository."""
     os.chdir(top)
     rt.rtlib.guarded()
     rt.rtlib.Crate, rt.Crate.allowed = rt.Crate, rt.handles_of(top)
@@ -52,14 +69,17 @@ def stamp(rt, top):
 
 
 def lanes(rt):
-    """How many checks may run at once: one for each processor, where each can have the memory that a check takes at most. Else None: rt guesses at what each needs, by its
-    lines, and leaves processors idle for it."""
+    """The number of checks that may run in parallel: one for each processor if each can have the
+    memory of the largest check. Else None: rt estimates the need of each from its lines, and leaves
+    processors idle."""
     processors = rt.processors()
     return processors if rt.free() >= processors * BYTES_OF_A_CHECK else None
 
 
 if __name__ == "__main__":
-    if sys.argv[1:2] == ["stamp"]:
+    if sys.argv[1:2] == ["stamp"] and len(sys.argv) == 3:
         stamp(command(), sys.argv[2])
-    else:
+    elif len(sys.argv) == 1:
         print(lanes(command()) or "")
+    else:
+        stop(__doc__, sys.argv[1:], f"unexpected arguments {' '.join(sys.argv[1:])}")

@@ -1,9 +1,9 @@
-/* What libmeter.a asks of a heap. One of heap_malloc.c and heap_pool.c defines it; a heap of your own may stand in their place.
+/* The heap that libmeter.a needs. heap_malloc.c and heap_pool.c implement it; you may write another one.
  *
- * The proofs rest on this, and nothing checks it:
- *   - a block that is given is aligned to 16 bytes, has the bytes that were asked for, and shares none with another block that is in use;
- *   - rattle_realloc keeps the first `kept` bytes of a block that it moves, and leaves the block as it was where it gives none;
- *   - where there is no memory, `ok` is false and `p` points to a byte that lives for ever. It is never null.
+ * The proofs assume the following, which nothing checks:
+ *   - a block is aligned to 16 bytes, has the requested size, and does not overlap another block in use;
+ *   - rattle_realloc keeps the first `kept` bytes of the block, and leaves the block unchanged if it fails;
+ *   - if there is no memory, `ok` is false and `p` points to a byte that is never freed. It is never null.
  */
 #ifndef METER_HEAP_H
 #define METER_HEAP_H
@@ -19,7 +19,7 @@ struct rattle_tried {
 /* A block of `size` bytes (1 if `size` is 0); `align` divides 16. */
 struct rattle_tried rattle_alloc(size_t size, size_t align);
 
-/* The block at `p`, made one of `size` bytes. */
+/* Resizes the block at `p` to `size` bytes. */
 struct rattle_tried rattle_realloc(void *p, size_t kept, size_t size, size_t align);
 
 /* Frees a block. */

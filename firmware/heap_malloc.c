@@ -4,7 +4,7 @@
 #include <stdlib.h>
 
 /* malloc aligns every block to this. */
-_Static_assert(_Alignof(max_align_t) >= 16, "malloc gives blocks that are aligned to 16 bytes");
+_Static_assert(_Alignof(max_align_t) >= 16, "malloc must align blocks to 16 bytes");
 
 static char nothing;
 

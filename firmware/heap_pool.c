@@ -1,18 +1,18 @@
-/* A heap of libmeter.a in memory of the caller's, with no C library: the first free place that is large enough, and neighbours that are free are joined.
- * One call at a time: it has no lock, so a pool is for the meters of one thread, and for no interrupt. */
+/* A heap for libmeter.a in memory of the caller, without a C library. It is first fit, and joins neighbouring
+ * free blocks. It has no lock: use a pool for the meters of one thread only, and not from an interrupt. */
 #include "heap_pool.h"
 
 #include "heap.h"
 
 #include <stdint.h>
 
-/* Stands before each block. The places that are free are listed by address. */
+/* The header of each block. Free blocks are listed by address. */
 struct place {
-    _Alignas(16) size_t size; /* bytes after this head, a multiple of 16 */
-    struct place *next;       /* the next free place, where this one is free */
+    _Alignas(16) size_t size; /* bytes after this header, a multiple of 16 */
+    struct place *next;       /* the next free block, if this one is free */
 };
 
-_Static_assert(sizeof(struct place) == 16, "a head keeps the blocks aligned");
+_Static_assert(sizeof(struct place) == 16, "the header must keep the blocks aligned");
 
 static struct place *free_places;
 static size_t used, most;
@@ -62,7 +62,7 @@ size_t heap_pool_most(void)
     return most;
 }
 
-/* Cuts what a place has beyond `size` bytes off, if that is a place of its own. It gives that place, or null. */
+/* Splits off the bytes of a block beyond `size`, if they are enough for a block. Returns that block, or null. */
 static struct place *cut(struct place *place, size_t size)
 {
     struct place *rest;
@@ -74,7 +74,7 @@ static struct place *cut(struct place *place, size_t size)
     return rest;
 }
 
-/* Lists a place as free, and joins it with its neighbours. */
+/* Lists a block as free, and joins it with its neighbours. */
 static void release(struct place *place)
 {
     struct place *before = NULL, *after = free_places;

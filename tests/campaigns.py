@@ -1,8 +1,10 @@
 #!/usr/bin/env python3
-"""Runs switching campaigns over the loopback interface: `head_end run` against 200 running meters (`meter_server serve`) and against meters that refuse,
-reject, are silent, vanish or babble; and `bin/campaign` against a crowd of scripted meters, by GNU parallel and by ssh. Ends by itself: every wait is bounded.
+"""Tests switching campaigns over the loopback interface: `head_end run` with 200 running meters
+(`meter_server serve`) and with scripted meters that refuse, reject, stay silent, disconnect or send
+garbage; `bin/campaign` with a crowd of scripted meters, by GNU parallel and by ssh. Every wait has
+a time limit.
 
-usage: tests/campaigns.py [--short]     (--short: campaigns of 2,000 jobs in place of 20,000)"""
+usage: tests/campaigns.py [--short]     (--short: campaigns of 2,000 jobs instead of 20,000)"""
 
 import argparse
 import os
@@ -18,7 +20,7 @@ import sys
 import tempfile
 import time
 
-sys.dont_write_bytecode = True  # the modules beside this one leave nothing behind
+sys.dont_write_bytecode = True  # importing the modules of tests/ leaves no files
 
 import serving
 from scripted_meters import AARQ, CROWD, HOLDING, RELEASE, REQUESTS, SCRIPTS, Crowd, ScriptedMeter, Unheard, does_it
@@ -28,12 +30,12 @@ HEAD_END = os.environ.get("HEAD_END") or TOP / "crates" / "head_end_cli" / "out"
 CAMPAIGN = TOP / "bin" / "campaign"
 
 METERS = 200
-REFUSING, REJECTING = 7, 13  # of each 20 meters the one that stays in mode 0, and the one that has another password
+REFUSING, REJECTING = 7, 13  # of each 20 meters, the one that stays in mode 0 and the one with another password
 MODES = 6
-VERBS = ("disconnect", "state", "reconnect", "state")  # the campaigns that all meters go through
+VERBS = ("disconnect", "state", "reconnect", "state")  # the campaigns with all meters
 WORKERS = (16, 1)
 LIMITS = ("--timeout", "5", "--connect-timeout", "2")
-LONGEST = 300  # seconds that a campaign may take
+LONGEST = 300  # the time limit of a campaign, in seconds
 PROGRESS = r"jobs done 1 of 2, unknown 0, about \d+ s to go\njobs done 2 of 2, unknown 0, about 0 s to go\n"
 
 OPENING = """RELAYTRACE 2
@@ -55,14 +57,14 @@ events 0
 LIMITER = ("normal 4294967295", "emergency 4294967295", "minover 0", "minunder 0", "profile 0 FFFFFFFFFFFFFFFFFF8000FF 0", "groups", "actions 0 0", "over 0 0",
            "under 0 0")
 
-
 def trace_in_mode(mode):
-    """A trace without events, of a new meter in this mode."""
+    """A trace without events of a new meter in this mode."""
     return OPENING.format(mode=mode, limiter="\n".join(LIMITER), export="\n".join("x" + line for line in LIMITER)).encode()
 
 
 class Meter(Server):
-    """A running meter. Its mode is written by a client, or told by a trace that it goes on from; it ends after its connections, or with its standard input."""
+    """A running meter. It gets its mode from a client or from the trace that it resumes from, and
+    ends after its connections or with its standard input."""
 
     def __init__(self, number):
         self.name = f"meter{number}"
@@ -79,11 +81,11 @@ class Meter(Server):
             self.say_bytes(trace_in_mode(self.mode))
 
     def begin(self):
-        """Waits until it listens, and writes its mode."""
+        """Waits until the meter listens, and writes its mode."""
         self.wait_for(b"\n")
-        told = re.match(rb"listening on 127\.0\.0\.1:(\d+)\n", self.errors)
-        assert told, f"{self.name} does not listen: {self.errors}"
-        self.port = int(told[1])
+        line = re.match(rb"listening on 127\.0\.0\.1:(\d+)\n", self.errors)
+        assert line, f"{self.name} does not listen: {self.errors}"
+        self.port = int(line[1])
         if self.writes:
             client = Client(self.port)
             client.associate()
@@ -93,7 +95,7 @@ class Meter(Server):
             self.end_input()
 
     def wanted(self):
-        """What comes of each of the campaigns (IEC 62056-6-2, class 70, control modes)."""
+        """The expected row of each campaign (IEC 62056-6-2, class 70, control modes)."""
         if self.rejects:
             return ["rejected 13"] * len(VERBS)
         if self.mode == 0:
@@ -101,7 +103,7 @@ class Meter(Server):
         return ["done 0", "done 0", "done 0", "done 1" if self.mode in (2, 4) else "done 2"]
 
     def history_of(self, rows):
-        """The events and replies of its trace that these rows of the reports tell of."""
+        """The events and replies of its trace that follow from these rows of the reports."""
         history = [(f"set 1 70 000060030AFF 4 0 160{self.mode}", "code 0")] if self.writes else []
         for verb, row in zip(VERBS, rows):
             word, number = (*row.split(), "")[:2]
@@ -115,7 +117,8 @@ class Meter(Server):
 
 
 class OddMeter:
-    """A scripted meter in the list of jobs. One that holds its worker up to the limit of time is there in the first campaign alone."""
+    """A scripted meter in the list of jobs. One that blocks its worker up to the time limit is only
+    in the first campaign."""
 
     def __init__(self, script, outcomes, frames):
         self.name = script.__name__
@@ -129,7 +132,8 @@ class OddMeter:
         return [self.outcomes[verb] for verb in self.verbs]
 
     def check_talks(self, name):
-        """Each connection brought the AARQ, the request at most once and the release only after an outcome, and nothing else."""
+        """Checks that each connection had the AARQ, the request at most once, the release only
+        after an outcome, and nothing else."""
         talks = self.meter.talked(len(self.verbs))
         check(f"{name}: {self.name}: a connection for each job", len(talks) == len(self.verbs), len(talks))
         for verb, talk in zip(self.verbs, talks):
@@ -138,7 +142,7 @@ class OddMeter:
 
 
 class Place:
-    """An address where nothing is to be had."""
+    """An address where no meter answers."""
 
     def __init__(self, name, port, times):
         self.name = name
@@ -150,18 +154,18 @@ class Place:
 
 
 def start_meters(meters, count):
-    """Adds so many meters that listen, or as many as the machine holds."""
+    """Adds `count` meters that listen, or as many as the machine can run."""
     try:
         for number in range(count):
             meters.append(Meter(number))
     except OSError as error:
-        print(f"only {len(meters)} of {count} meters start: {error}")
+        print(f"only {len(meters)} of {count} meters started: {error}")
     for meter in meters:
         meter.begin()
 
 
 def mixed(many, few):
-    """The few strewn among the many."""
+    """The list `many` with the items of `few` spread over it."""
     step = len(many) // len(few)
     rest = list(many)
     for place, one in enumerate(few):
@@ -174,12 +178,13 @@ def report_of(rows):
 
 
 def without_warnings(errors):
-    """Standard error without its warnings: the jobs of these campaigns share names and addresses."""
+    """Standard error without its warnings: the jobs of these campaigns share names and
+    addresses."""
     return "".join(line + "\n" for line in errors.splitlines() if ": warning: " not in line)
 
 
 def run_head_end(jobs, *words):
-    """The status, standard output and standard error of a campaign."""
+    """Runs a campaign; returns its status, standard output and standard error."""
     made = subprocess.run([str(HEAD_END), "run", "--password", PASSWORD, *words], input=jobs.encode(), capture_output=True, timeout=LONGEST)
     return made.returncode, made.stdout.decode(), without_warnings(made.stderr.decode())
 
@@ -191,7 +196,8 @@ def differing(wanted, got):
 
 
 def run_campaigns(name, street, workers):
-    """Takes all that stand in a street through the campaigns; the rows of each are given."""
+    """Runs the campaigns with all meters of a street; returns the reports and the rows of each
+    meter."""
     rows = {one.name: [] for one in street}
     texts = []
     for turn, verb in enumerate(VERBS):
@@ -208,19 +214,21 @@ def run_campaigns(name, street, workers):
 
 
 def check_meters(name, meters, rows):
-    """What each meter's trace plays to is what the reports told: each command once, and nothing else."""
+    """Checks that each meter's trace plays to what the reports say: each command once, and nothing
+    else."""
     for meter in meters:
         if not meter.process.stdin.closed:
             meter.end_input()
     for meter in meters:
         status, trace, errors = meter.ended()
         check(f"{name}: {meter.name}: ends", status == 0 and "fault" not in errors, status, errors)
-        history = [pair for pair in played(trace) if not pair[0].startswith("getlist 1 2 71 ")]  # the sampler's own reading of the thresholds
+        history = [pair for pair in played(trace) if not pair[0].startswith("getlist 1 2 71 ")]  # the sampler reads the thresholds
         check(f"{name}: {meter.name}: its trace", history == meter.history_of(rows[meter.name]), history, rows[meter.name])
 
 
 def a_street(name, workers, count):
-    """Takes so many meters and the odd ones among them through the campaigns; gives the reports, and how many meters there were."""
+    """Runs the campaigns with `count` meters and the scripted ones among them; returns the reports
+    and the number of running meters."""
     meters, odd, unheard = [], [], Unheard()
     try:
         start_meters(meters, count)
@@ -230,7 +238,7 @@ def a_street(name, workers, count):
         check_meters(name, meters, rows)
         for one in odd:
             one.check_talks(name)
-        print(f"{name}: {len(meters)} running meters, {len(odd) + len(nobody)} odd ones")
+        print(f"{name}: {len(meters)} running meters, {len(odd) + len(nobody)} others")
         return texts, len(meters)
     finally:
         for meter in meters:
@@ -255,23 +263,24 @@ def a_meter_is_reached_by_its_name(name):
     meter.stop()
 
 
-def progress_is_told(name):
+def progress_is_reported(name):
     meter = ScriptedMeter(does_it)
     status, text, errors = run_head_end(f"m1 127.0.0.1:{meter.port} state\nm2 127.0.0.1:{meter.port} reconnect\n", "--progress", "--workers", "1")
     check(name, (status, text) == (0, "m1 done 0\nm2 done 0\n") and re.fullmatch(PROGRESS, errors), status, text, errors)
-    # At a terminal it is told anyway.
+    # On a terminal, progress is reported without the option.
     terminal, standard_error = pty.openpty()
     jobs = f"m1 127.0.0.1:{meter.port} state\nm2 127.0.0.1:{meter.port} reconnect\n"
     ran = subprocess.run([str(HEAD_END), "run", "--password", PASSWORD, "--workers", "1"], input=jobs, stdout=subprocess.PIPE, stderr=standard_error, text=True, timeout=60)
     os.close(standard_error)
-    told = os.read(terminal, 4_096).decode().replace("\r\n", "\n")
+    lines = os.read(terminal, 4_096).decode().replace("\r\n", "\n")
     os.close(terminal)
-    check(f"{name}, at a terminal", (ran.returncode, ran.stdout) == (0, "m1 done 0\nm2 done 0\n") and re.fullmatch(PROGRESS, without_warnings(told)), ran, told)
+    check(f"{name}, on a terminal", (ran.returncode, ran.stdout) == (0, "m1 done 0\nm2 done 0\n") and re.fullmatch(PROGRESS, without_warnings(lines)), ran, lines)
     meter.stop()
 
 
 def crowd_jobs(crowd, count):
-    """A list of jobs, each a kind of meter and a verb, the report that they bring, and how many of each kind and verb there are."""
+    """A list of jobs, each for a kind of meter and a verb; the expected report; and the number of
+    jobs of each kind and verb."""
     verbs = list(REQUESTS)
     jobs, rows, expected = [], [], [dict.fromkeys(("jobs", *verbs), 0) for _ in CROWD]
     for number in range(count):
@@ -284,8 +293,8 @@ def crowd_jobs(crowd, count):
 
 
 def counted(expected):
-    """What the crowd counts when such jobs are done: of each job one connection and one AARQ, one request where the association was opened, and a release where
-    the request was answered."""
+    """The counts of the crowd after these jobs: for each job one connection and one AARQ, one
+    request if the association was opened, and a release if the request was answered."""
     counts = []
     for (opening, answers, outcomes), jobs in zip(CROWD, expected):
         opens = opening is not None and outcomes["state"] != "rejected 13"
@@ -295,7 +304,8 @@ def counted(expected):
 
 
 def run_campaign(path, *words):
-    """The status, standard output and standard error of bin/campaign, and how many seconds it took. What parallel keeps goes into the folder of the jobs."""
+    """Runs bin/campaign; returns its status, standard output, standard error and seconds. The files
+    of parallel go to the folder of the jobs."""
     begun = time.monotonic()
     program = [] if "--program" in words else ["--program", str(HEAD_END)]
     made = subprocess.run([str(CAMPAIGN), *program, "--workers", "8", *words, str(path)], stdin=subprocess.DEVNULL, capture_output=True,
@@ -304,7 +314,8 @@ def run_campaign(path, *words):
 
 
 def check_campaign(name, crowd, path, wanted, expected, *words):
-    """Runs a campaign of a crowd: the report is the wanted one, and each meter got each command once."""
+    """Runs a campaign with a crowd and checks that the report is the expected one, and that each
+    meter got each command once."""
     status, text, errors, seconds = run_campaign(path, *words)
     check(f"{name}: report", (status, text, errors) == (0, wanted, ""), status, differing(wanted, text), errors[:500])
     got = crowd.counts()
@@ -312,16 +323,16 @@ def check_campaign(name, crowd, path, wanted, expected, *words):
     print(f"{name}: {wanted.count(chr(10)):,} jobs in {seconds:.1f} s")
 
 
-def campaigns_side_by_side(name, crowd, folder, count):
+def campaigns_in_parallel(name, crowd, folder, count):
     jobs, wanted, expected = crowd_jobs(crowd, count)
     path = folder / "jobs"
     path.write_text(jobs)
     for side in ("1", "2", "8"):
-        check_campaign(f"{name}: {side} side by side", crowd, path, wanted, expected, "--jobs", side)
+        check_campaign(f"{name}: {side} parts in parallel", crowd, path, wanted, expected, "--jobs", side)
 
 
 def program_that_fails(folder):
-    """A head end that fails for each part in which a job is named fails1."""
+    """A head end that fails for each part with a job of the name fails1."""
     path = folder / "failing"
     path.write_text(f"""#!/bin/sh
 [ "$1" = run ] || exec {HEAD_END} "$@"
@@ -332,10 +343,8 @@ if grep -q '^fails1 ' "$jobs"; then exit 4; fi
     path.chmod(0o700)
     return path
 
-
 def own_lines(errors):
     return [line for line in errors.splitlines() if line.startswith("campaign:")]
-
 
 def a_part_that_fails_is_named(name, crowd, folder):
     jobs, wanted, expected = crowd_jobs(crowd, 1000)
@@ -343,11 +352,10 @@ def a_part_that_fails_is_named(name, crowd, folder):
     path.write_text("fails1 127.0.0.1:1 state\nfails2 127.0.0.1:1 state\n" + "\n" * 998 + jobs)
     status, text, errors, _ = run_campaign(path, "--jobs", "2", "--program", str(program_that_fails(folder)))
     check(f"{name}: the other part's report", (status, text) == (1, wanted), status, differing(wanted, text))
-    told = ["campaign: part 1 failed (status and signal: 4 0); nothing of it is known, and nothing is sent again. Its jobs:", "campaign:     fails1",
-            "campaign:     fails2"]
-    check(f"{name}: its jobs", own_lines(errors) == told, errors)
+    lines = ["campaign: part 1 failed (exit status 4): the results of its jobs are unknown, and none is sent again. Its jobs:",
+             "campaign:     fails1", "campaign:     fails2"]
+    check(f"{name}: its jobs", own_lines(errors) == lines, errors)
     check(f"{name}: each command once", crowd.counts() == counted(expected))
-
 
 def a_wrong_list_sends_nothing(name, crowd, folder):
     jobs, _, _ = crowd_jobs(crowd, 1001)
@@ -360,17 +368,16 @@ def a_wrong_list_sends_nothing(name, crowd, folder):
     check(f"{name}: the first wrong line of each part", lines == [" line 1002", " line 2002", " nothing was sent"], errors)
     check(f"{name}: no command", crowd.counts() == counted(none))
 
-
 def a_list_is_warned_of(name, crowd, folder):
-    """Warnings of the parts and of the whole list, by the numbers of its lines. The list is run nevertheless."""
+    """Warnings about parts have the line numbers of the whole list, and the list is run."""
     path = folder / "odd"
     path.write_text(f"#m1 127.0.0.1:{crowd.ports[0]} state\n" + "\n" * 999 + "m2 127.0.0.1:0 state\n" + f"#m1 127.0.0.1:{crowd.ports[0]} state\n")
     made = subprocess.run([str(CAMPAIGN), "--program", str(HEAD_END), str(path)], stdin=subprocess.DEVNULL, capture_output=True, text=True, timeout=LONGEST,
                           env={**os.environ, "METER_PASSWORD": PASSWORD, "PARALLEL_HOME": str(folder)})
     crowd.counts()
     check(f"{name}: names of the report", [line.split()[0] for line in made.stdout.splitlines()] == ["#m1", "m2", "#m1"], made)
-    wanted = [f"campaign: line {line}" for line in ("1: warning: the name begins with `#`", "1001: warning: the address is not HOST:PORT",
-              "1002: warning: the name begins with `#`", "1002: warning: line 1 has the same name", "1002: warning: line 1 has the same address")]
+    wanted = [f"campaign: line {line}" for line in ("1: warning: `#` begins a name, not a comment", "1001: warning: the port of the address must be 1 to 65535",
+              "1002: warning: `#` begins a name, not a comment", "1002: warning: line 1 has the same name", "1002: warning: line 1 has the same address")]
     lines = made.stderr.splitlines()
     check(f"{name}: lines", len(lines) == len(wanted) and all(line.startswith(it) for line, it in zip(lines, wanted)), made.stderr)
 
@@ -394,7 +401,7 @@ def becomes(wanted, program, seconds=20):
 
 
 def drain(silent):
-    """Closes the connections that wait to be accepted."""
+    """Closes all pending connections."""
     silent.setblocking(False)
     try:
         while True:
@@ -404,7 +411,7 @@ def drain(silent):
 
 
 def a_campaign_is_stopped(name, folder):
-    """A campaign whose meters never answer, ended by a signal."""
+    """A signal stops a campaign whose meters never answer."""
     program = folder / "head_end"
     shutil.copy(HEAD_END, program)
     path = folder / "silent"
@@ -413,26 +420,27 @@ def a_campaign_is_stopped(name, folder):
         port = silent.getsockname()[1]
         path.write_text("".join(f"job{number} 127.0.0.1:{port} disconnect\n" for number in range(2_500)))
         for signal_sent, wanted in (signal.SIGTERM, 143), (signal.SIGINT, 130):
-            # (a file takes all warnings, where a pipe that nobody reads would hold up the campaign)
-            told = folder / "told"
-            with told.open("w") as errors:
+            # (standard error is a file: a pipe that nobody reads would block the campaign)
+            log = folder / "errors"
+            with log.open("w") as errors:
                 made = subprocess.Popen([str(CAMPAIGN), "--program", str(program), "--jobs", "2", str(path)], stdin=subprocess.DEVNULL, stdout=subprocess.PIPE,
                                         stderr=errors, text=True, env={**os.environ, "METER_PASSWORD": PASSWORD, "PARALLEL_HOME": str(folder)})
-            # (a part that has connected runs)
+            # (once it has connected, a part runs)
             client, _ = silent.accept()
             made.send_signal(signal_sent)
             text, _ = made.communicate(timeout=60)
             client.close()
-            errors = without_warnings(told.read_text())
+            errors = without_warnings(log.read_text())
             named = [line.split(" failed")[0] for line in own_lines(errors) if " failed" in line]
             check(f"{name}: {signal_sent.name}", (made.returncode, text) == (wanted, ""), made.returncode, text, errors[:500])
             check(f"{name}: {signal_sent.name}, its parts", named == ["campaign: part 1", "campaign: part 2", "campaign: part 3"], errors[:500])
-            check(f"{name}: {signal_sent.name}, no head end goes on", becomes(False, program))
+            check(f"{name}: {signal_sent.name}, no head end is left", becomes(False, program))
             drain(silent)
 
 
 class Shell:
-    """A daemon of OpenSSH on a free port of the loopback interface, with keys made for it, which all go with its folder."""
+    """A daemon of OpenSSH on a free port of the loopback interface, with keys of its own in its
+    folder."""
 
     def __init__(self, folder):
         self.folder = folder
@@ -500,10 +508,10 @@ def campaigns_by_ssh(name, crowd, folder, count):
     try:
         shell = Shell(folder)
         if not shell.answers():
-            print("SKIPPED ssh: a daemon of the test's own does not serve here")
+            print("SKIPPED ssh: the sshd that the test started does not accept connections")
             return
         hosts = f"{shell.login('127.0.0.1')},{shell.login('localhost')}"
-        # (the password isn't sent: the command there finds it)
+        # (the password is not sent: the command reads it on its machine)
         (folder / "password").write_text(PASSWORD)
         there = folder / "there"
         there.write_text(f'#!/bin/sh\nMETER_PASSWORD=$(cat {folder}/password) exec {HEAD_END} "$@"\n')
@@ -522,7 +530,7 @@ def campaigns_of_a_crowd(name, count):
     try:
         with tempfile.TemporaryDirectory() as folder:
             folder = pathlib.Path(folder)
-            campaigns_side_by_side(name, crowd, folder, count)
+            campaigns_in_parallel(name, crowd, folder, count)
             a_part_that_fails_is_named(f"{name}: a part fails", crowd, folder)
             a_wrong_list_sends_nothing(f"{name}: a wrong list", crowd, folder)
             a_list_is_warned_of(f"{name}: warnings", crowd, folder)
@@ -534,16 +542,16 @@ def campaigns_of_a_crowd(name, count):
 
 def main():
     parser = argparse.ArgumentParser()
-    parser.add_argument("--short", action="store_true", help="campaigns of 2,000 jobs in place of 20,000")
+    parser.add_argument("--short", action="store_true", help="campaigns of 2,000 jobs instead of 20,000")
     count = 2_000 if parser.parse_args().short else 20_000
     for executable in (SERVER, PLAYER, HEAD_END):
         if not os.access(executable, os.X_OK):
-            print(f"{executable} is not there: run the gate, or `rt run` in its crate")
+            print(f"{executable} is missing: run bin/test, or `rt run` in its crate")
             print("0 passed, 1 failed")
             return 1
     _, most = resource.getrlimit(resource.RLIMIT_NOFILE)
     resource.setrlimit(resource.RLIMIT_NOFILE, (most, most))
-    for function in (campaigns_among_running_meters, a_meter_is_reached_by_its_name, progress_is_told):
+    for function in (campaigns_among_running_meters, a_meter_is_reached_by_its_name, progress_is_reported):
         test(function)
 
     def campaigns_of_many_jobs(name):

@@ -1,10 +1,12 @@
 #!/usr/bin/env python3
-"""Draws the worked trace and a long one with bin/trace_chart, looks for the marks that must be there, and has a browser render both.
+"""Draws the worked trace and a long one with bin/trace_chart, checks the marks of the charts, and
+renders both with a browser.
 
-The long trace has the most events that a trace can have. What it must show is known from how it is made, not from the player's output.
-Where matplotlib or a headless browser is missing, what needs it is left out, by name (Debian: apt-get install python3-matplotlib chromium).
+The long trace has the maximum number of events. The expected marks follow from how it is made, not
+from the player's output. Without matplotlib the test is skipped, and without a browser the
+rendering (Debian: apt-get install python3-matplotlib chromium), with a message.
 
-usage: tests/charts.py [--keep FOLDER]     (the pictures stay in FOLDER)
+usage: tests/charts.py [--keep FOLDER]     (--keep: write the charts to FOLDER)
 """
 import os
 import re
@@ -25,18 +27,20 @@ COMMITTED = TOP / "docs" / "worked_trace.svg"
 SVG = "{http://www.w3.org/2000/svg}"
 BROWSERS = ("chromium", "chromium-browser", "google-chrome")
 
-# The worked trace: its labels are what docs/TRACE.md tells of it.
+# The labels of the worked trace, from docs/TRACE.md.
 WORKED_LABELS = ["1 set control_mode 1", "2 remote_disconnect", "3 button: refused, 2", "4 remote_reconnect", "5 button", "6 get output_state (public)",
                  "9 moment 4: stale"]
 ROUNDS = 936
 
 
 def long_trace():
-    """65,536 events. After 16 events that set the meter up come rounds of 70: a second of samples and a moment, 34 times, a press and a read.
+    """65,536 events: 16 that set the meter up, then rounds of 70 (a second of samples and a moment,
+    34 times; a press; a read).
 
-    In each round ten seconds lie over the import limiter's 5,000 W, which fires after one and disconnects; the press restores the supply, which
-    ends the run. In the 17th second of every fifth round the pairs have 7,000 W of export, over the export limiter's 6,000 W: with a need of one
-    second it fires once there, and lets the supply as it is. A schedule is due once, in the second of moment 1,000."""
+    In each round ten seconds are over the import limiter's 5,000 W. It fires after one second and
+    disconnects; the press restores the supply, which ends the run. In the 17th second of every
+    fifth round the pairs have 7,000 W of export, over the export limiter's 6,000 W: its duration is
+    one second, so it fires once, and the supply stays. A schedule runs once, at moment 1,000."""
     setup = [rows.write(rows.TABLE, rows.scripts(s1=[rows.DISCONNECT], s2=[])), rows.write(rows.MODE, rows.mode(5)),
              rows.write(rows.IMPORT_NORMAL, rows.long_number(5000)), rows.write(rows.IMPORT_MIN_OVER, rows.long_number(1)),
              rows.write(rows.IMPORT_MIN_UNDER, rows.long_number(100_000)), rows.write(rows.IMPORT_ACTIONS, rows.actions(1, 0)),
@@ -63,7 +67,7 @@ def finds(svg, name):
 
 
 def marks(svg, name):
-    """How many marks stand in the group of this name."""
+    """The number of marks in the group of this name."""
     group = finds(svg, name)
     return 0 if group is None else sum(1 for _ in group.iter(f"{SVG}use"))
 
@@ -73,28 +77,28 @@ def texts(svg):
 
 
 def worked_rows(svg):
-    told = texts(svg)
+    labels = texts(svg)
     for label in WORKED_LABELS:
-        yield f"the label {label}", label in told
+        yield f"the label {label}", label in labels
     yield "the power and the threshold", all(finds(svg, it) is not None for it in ("import-power", "import-threshold"))
     yield "no export", finds(svg, "export-power") is None
     yield "one firing under the threshold, none over it", (marks(svg, "firings-import-under"), marks(svg, "firings-import-over")) == (1, 0)
     yield "the supply and the three states", all(finds(svg, it) is not None for it in ("supply", "state-0", "state-1", "state-2"))
-    yield "the moment", "2000-01-01 00:00:05" in told
+    yield "the moment", "2000-01-01 00:00:05" in labels
     yield "one legend", sum(1 for it in svg.iter(f"{SVG}g") if it.get("id", "").startswith("legend_")) == 1
 
 
 def long_rows(svg):
-    told = texts(svg)
-    yield "the heading", any(it.startswith("RELAY1: 65,536 events") for it in told)
+    labels = texts(svg)
+    yield "the title", any(it.startswith("RELAY1: 65,536 events") for it in labels)
     yield "both powers and thresholds", all(finds(svg, f"{which}-{what}") is not None for which in ("import", "export") for what in ("power", "threshold"))
-    yield "a firing over the import threshold in each round", f"import limiter fires over its threshold ({ROUNDS:,})" in told
-    yield "a firing over the export threshold in every fifth", f"export limiter fires over its threshold ({-(-ROUNDS // 5):,})" in told
-    yield "as many marks", (marks(svg, "firings-import-over"), marks(svg, "firings-export-over")) == (ROUNDS, -(-ROUNDS // 5))
+    yield "a firing over the import threshold in each round", f"import limiter fires over its threshold ({ROUNDS:,})" in labels
+    yield "a firing over the export threshold in every fifth", f"export limiter fires over its threshold ({-(-ROUNDS // 5):,})" in labels
+    yield "a mark for each firing", (marks(svg, "firings-import-over"), marks(svg, "firings-export-over")) == (ROUNDS, -(-ROUNDS // 5))
     yield "no firing under a threshold", marks(svg, "firings-import-under") + marks(svg, "firings-export-under") == 0
     yield "all runs", all(finds(svg, f"runs-{which}-{side}") is not None for which in ("import", "export") for side in ("over", "under"))
-    yield "the label of the first call", any(it.startswith("1 set scripts ") for it in told)
-    yield "the last moment", f"{34 * ROUNDS // 3600:02}:" in "".join(it[11:14] for it in told if it.startswith("2000-01-01 "))
+    yield "the label of the first call", any(it.startswith("1 set scripts ") for it in labels)
+    yield "the last moment", f"{34 * ROUNDS // 3600:02}:" in "".join(it[11:14] for it in labels if it.startswith("2000-01-01 "))
 
 
 def charted(path, to):
@@ -103,8 +107,9 @@ def charted(path, to):
 
 
 def rendered(browser, svg, picture):
-    """Whether a headless browser renders the picture without a fault, and something is to be seen."""
-    # (its lengths are points, four thirds of a browser's pixel)
+    """Whether a headless browser renders the chart without an error to a picture that is not
+    empty."""
+    # (the chart has points; a point is four thirds of a browser's pixel)
     size = [str(round(float(it) * 4 / 3)) for it in re.search(r'viewBox="0 0 ([\d.]+) ([\d.]+)"', svg.read_text()).groups()]
     with tempfile.TemporaryDirectory(prefix="charts-browser-") as home:
         words = [browser, "--headless", "--no-sandbox", "--disable-gpu", "--hide-scrollbars", f"--user-data-dir={home}", f"--screenshot={picture}",
@@ -116,7 +121,7 @@ def rendered(browser, svg, picture):
 def judged(name, path, room, rows_of, browser):
     svg = room / f"{name}.svg"
     ran = charted(path, svg)
-    yield f"{name}: it is drawn", ran.returncode == 0 and not ran.stderr
+    yield f"{name}: drawn", ran.returncode == 0 and not ran.stderr
     if ran.returncode:
         print(ran.stderr.decode(errors="replace"))
         return
@@ -136,7 +141,12 @@ def all_rows(room, browser):
     wrong = room / "wrong.trace"
     wrong.write_text("RELAYTRACE 3\n")
     ran = charted(wrong, room / "wrong.svg")
+    lines = ran.stderr.decode(errors="replace").splitlines()
     yield "a wrong trace is a fault of the input", ran.returncode == 2 and b"fault: input" in ran.stderr and not (room / "wrong.svg").stat().st_size
+    yield "a wrong trace: one line that names it", len(lines) == 1 and f"{wrong}: line 1: " in lines[0]
+    ran = subprocess.run([TOP / "bin" / "trace_chart", "--output", room / "none.svg", room / "none.trace"], capture_output=True, timeout=600)
+    yield "a missing trace: one line that names it", ran.returncode == 2 and ran.stderr.count(b"\n") == 1 and b"none.trace: " in ran.stderr
+    yield "a missing trace: no file", not (room / "none.svg").exists()
 
 
 def has_matplotlib():
@@ -150,7 +160,7 @@ def main(words):
         return 0
     browser = next((found for found in map(shutil.which, BROWSERS) if found), None)
     if not browser:
-        print("SKIPPED charts in a browser: none is installed (Debian: apt-get install chromium)")
+        print("SKIPPED charts in a browser: no browser is installed (Debian: apt-get install chromium)")
     passed, failed = 0, 0
     with tempfile.TemporaryDirectory(prefix="charts-") as room:
         if words[:1] == ["--keep"]:

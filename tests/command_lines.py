@@ -1,5 +1,6 @@
 #!/usr/bin/env python3
-"""Runs the programs' command lines over the executables that the gate left, and compares output, fault and status."""
+"""Runs command lines of the proved executables that the gate left, and compares output, standard
+error and status."""
 
 import os
 import pathlib
@@ -7,7 +8,7 @@ import subprocess
 import sys
 
 TOP = pathlib.Path(__file__).resolve().parent.parent
-# No password stands in the environment.
+# The environment without a password.
 ENVIRONMENT = {name: value for name, value in os.environ.items() if name != "METER_PASSWORD"}
 
 FAULT_INPUT = b"fault: input\n"
@@ -16,7 +17,8 @@ FAULT_LISTEN = b"fault: listen\n"
 HEX = ["hex", "--password", "12345678"]
 SERVE = ["serve", "--password", "12345678"]
 
-# Frames of a session: the public client's AARQ and GET of the control state, the management client's AARQ, and the answers.
+# Frames of a session: the public client's AARQ and GET of the control state, the management
+# client's AARQ, and the responses.
 AARQ = b"000100100001001F601DA109060760857405080101BE10040E01000000065F1F0400007E1F04B0"
 AARE = b"000100010010002B6129A109060760857405080101A203020100A305A103020100BE10040E0800065F1F0400001E1904000007\n"
 GET_STATE = b"000100100001000DC001C10046000060030AFF0300"
@@ -25,7 +27,7 @@ MANAGEMENT_AARQ = (b"00010001000100386036A1090607608574050801018A0207808B0760857
                    b"BE10040E01000000065F1F0400001C190400")
 MANAGEMENT_AARE = b"000100010001002B6129A109060760857405080101A203020100A305A103020100BE10040E0800065F1F0400001C1904000007\n"
 
-# A trace of nine events in version 1, and what it plays to; a meter in ten lines of its own.
+# A trace of nine events in version 1 and its run; the lines of a limiter.
 TRACE = (TOP / "crates" / "trace_player_cli" / "stdin").read_bytes()
 PLAYED = (TOP / "crates" / "trace_player_cli" / "stdout").read_bytes()
 OPENING = TRACE.split(b"events ")[0]
@@ -42,7 +44,8 @@ def with_events(opening, *lines):
 
 
 def largest_trace():
-    """A trace of 33,554,432 bytes, and what it plays to: samples at the threshold, and at the end one or two below it."""
+    """A trace of 33,554,432 bytes and its run: samples at the threshold, and one or two below it at
+    the end."""
     value = b" 4294967295"
     for full in (11_881, 11_880):
         head = OPENING + b"events %d\n" % (full + 2)
@@ -64,8 +67,8 @@ def played(*replies):
 
 LARGEST, LARGEST_PLAYED = largest_trace()
 
-# A case: its name, the program, its words, its standard input, and what it must give: standard output, standard
-# error (None: any text, but some), status.
+# A case: name, program, arguments, standard input, and the expected standard output, standard error
+# and status. None is any text that is not empty.
 CASES = [
     ("a request", "meter_server_cli", ["apdu"], b"C001C10046000060030AFF0300\n", b"C401C1001601\n", b"", 0),
     ("lower case", "meter_server_cli", ["apdu"], b"c001c10046000060030aff0300\n", b"C401C1001601\n", b"", 0),
@@ -114,21 +117,21 @@ CASES = [
     ("1,048,577 bytes", "meter_server_cli", ["apdu"], b"\n" * 1048577, b"", FAULT_INPUT, 2),
     ("too many bytes are found before a wrong line", "meter_server_cli", ["apdu"], b"G\n" + b"\n" * 1048576, b"", FAULT_INPUT, 2),
     ("where a digit is odd", "meter_server_cli", ["apdu", "--verbose"], b"C001C10046000060030AFF0300\nC00\n", b"",
-     b"line 2: an odd number of characters\n" + FAULT_INPUT, 2),
+     b"line 2: expected pairs of hexadecimal digits, found an odd number of characters\n" + FAULT_INPUT, 2),
     ("where a letter is no digit", "meter_server_cli", ["apdu", "--verbose"], b"\nC001C10046000060030AFF0300\nC00G\n", b"",
-     b"line 3: byte 4 is no hexadecimal digit\n" + FAULT_INPUT, 2),
+     b"line 3: byte 4: expected a hexadecimal digit\n" + FAULT_INPUT, 2),
     ("where requests are too long", "meter_server_cli", ["apdu", "--verbose"], b"G\n" + b"\n" * 1048576, b"",
-     b"byte 1048577: more than 1,048,576 bytes\n" + FAULT_INPUT, 2),
-    ("requests that are right have nothing to tell", "meter_server_cli", ["apdu", "--verbose"], b"C001C10046000060030AFF0300\n", b"C401C1001601\n", b"", 0),
-    ("where a character of a session is no digit", "meter_server_cli", HEX + ["--verbose"], b"00 01\r\n0G", b"", b"byte 9: no hexadecimal digit\n" + FAULT_INPUT, 2),
-    ("that the digits of a session are odd", "meter_server_cli", HEX + ["--verbose"], b"00 01\n0", b"", b"standard input: an odd number of digits\n" + FAULT_INPUT, 2),
+     b"byte 1048577: the input has more than 1,048,576 bytes\n" + FAULT_INPUT, 2),
+    ("requests that are right have no message", "meter_server_cli", ["apdu", "--verbose"], b"C001C10046000060030AFF0300\n", b"C401C1001601\n", b"", 0),
+    ("where a character of a session is no digit", "meter_server_cli", HEX + ["--verbose"], b"00 01\r\n0G", b"", b"byte 9: expected a hexadecimal digit, a blank or a line end\n" + FAULT_INPUT, 2),
+    ("that the digits of a session are odd", "meter_server_cli", HEX + ["--verbose"], b"00 01\n0", b"", b"standard input: expected pairs of hexadecimal digits, found an odd number of digits\n" + FAULT_INPUT, 2),
     ("where a session is too long", "meter_server_cli", HEX + ["--verbose"], b" " * 1048577, b"",
-     b"byte 1048577: more than 1,048,576 bytes\n" + FAULT_INPUT, 2),
+     b"byte 1048577: the input has more than 1,048,576 bytes\n" + FAULT_INPUT, 2),
     ("that a password is empty", "meter_server_cli", ["hex", "--verbose", "--password", ""], b"", b"",
-     b"password: none that has 1 to 32 bytes\n" + FAULT_INPUT, 2),
+     b"password: must be 1 to 32 bytes\n" + FAULT_INPUT, 2),
     ("that a device name is too long", "meter_server_cli", HEX + ["--verbose", "--device", "d" * 17], b"", b"",
-     b"device: no name that has 1 to 16 bytes\n" + FAULT_INPUT, 2),
-    ("a session that is right has nothing to tell", "meter_server_cli", HEX + ["--verbose"], AARQ + GET_STATE, AARE + GOT_STATE, b"", 0),
+     b"device: must be 1 to 16 bytes\n" + FAULT_INPUT, 2),
+    ("a session that is right has no message", "meter_server_cli", HEX + ["--verbose"], AARQ + GET_STATE, AARE + GOT_STATE, b"", 0),
     ("a session of the public client", "meter_server_cli", HEX, AARQ + b"\n" + GET_STATE, AARE + GOT_STATE, b"", 0),
     ("a session in lower case with blanks and line ends", "meter_server_cli", HEX,
      AARQ.lower() + b" \r\n" + b" ".join(bytes([digit]) for digit in GET_STATE), AARE + GOT_STATE, b"", 0),
@@ -164,7 +167,7 @@ CASES = [
     ("a text that is no address", "meter_server_cli", SERVE + ["--listen", "nowhere"], b"", b"", FAULT_LISTEN, 3),
     ("a password is looked at before the address", "meter_server_cli", ["serve", "--password", "", "--listen", "nowhere"], b"", b"",
      FAULT_INPUT, 2),
-    ("nothing to go on from", "meter_server_cli", SERVE + ["--resume", "--listen", "nowhere"], b"", b"", FAULT_INPUT, 2),
+    ("no trace to resume from", "meter_server_cli", SERVE + ["--resume", "--listen", "nowhere"], b"", b"", FAULT_INPUT, 2),
     ("no subcommand", "meter_server_cli", [], b"", b"", None, 2),
     ("an unknown subcommand", "meter_server_cli", ["apud"], b"", b"", None, 2),
     ("an argument too many", "meter_server_cli", ["apdu", "now"], b"", b"", None, 2),
@@ -204,25 +207,25 @@ CASES = [
     ("65,537 events", "trace_player_cli", [], with_events(OPENING, *[b"button"] * 65537), b"", FAULT_INPUT, 2),
     ("33,554,432 bytes", "trace_player_cli", [], LARGEST, LARGEST_PLAYED, b"", 0),
     ("a byte more than the largest trace", "trace_player_cli", [], LARGEST + b"\n", b"", FAULT_INPUT, 2),
-    ("a played trace has nothing to tell", "trace_player_cli", ["--verbose"], TRACE, PLAYED, b"", 0),
-    ("where there is no trace", "trace_player_cli", ["--verbose"], b"", b"", b"line 1: the trace ends before the end of this line\n" + FAULT_INPUT, 2),
-    ("where the mode is none", "trace_player_cli", ["--verbose"], TRACE.replace(b"mode 0", b"mode 7"), b"", b"line 4: `mode MODE` with a value that is refused here, or a line too many\n" + FAULT_INPUT, 2),
+    ("a played trace has no message", "trace_player_cli", ["--verbose"], TRACE, PLAYED, b"", 0),
+    ("where there is no trace", "trace_player_cli", ["--verbose"], b"", b"", b"line 1: expected a whole line, found the end of the trace\n" + FAULT_INPUT, 2),
+    ("where the mode is none", "trace_player_cli", ["--verbose"], TRACE.replace(b"mode 0", b"mode 7"), b"", b"line 4: expected `mode MODE`: a value is not valid here\n" + FAULT_INPUT, 2),
     ("where a run must have fired", "trace_player_cli", ["--verbose"],
-     with_events(LONG_RUN.replace(b"\nover 0 0", b"\nover 42949672950 0"), b"samples 5001"), b"", b"line 14: `over RUN FIRED` with a value that is refused here, or a line too many\n" + FAULT_INPUT, 2),
+     with_events(LONG_RUN.replace(b"\nover 0 0", b"\nover 42949672950 0"), b"samples 5001"), b"", b"line 14: expected `over RUN FIRED`: a value is not valid here\n" + FAULT_INPUT, 2),
     ("where an event is wrong", "trace_player_cli", ["--verbose"], with_events(OPENING, b"button", b"press"), b"",
-     b"line 23: no event begins so\n" + FAULT_INPUT, 2),
+     b"line 23: unknown event `press`\n" + FAULT_INPUT, 2),
     ("where a word is no number", "trace_player_cli", ["--verbose"], TRACE.replace(b"schedule 2 0 5 0100", b"schedule 2 0 x 0100"), b"",
-     b"line 19: not `schedule 2 SELECTOR TYPE ENTRIES`: no TYPE\n" + FAULT_INPUT, 2),
+     b"line 19: expected `schedule 2 SELECTOR TYPE ENTRIES`: TYPE must be a decimal number\n" + FAULT_INPUT, 2),
     ("where bytes are odd", "trace_player_cli", ["--verbose"], TRACE.replace(b"device 52454C415931", b"device 52454C41593"), b"",
-     b"line 2: not `device HEX`: no HEX\n" + FAULT_INPUT, 2),
+     b"line 2: expected `device HEX`: HEX must be pairs of the digits 0 to 9 and A to F\n" + FAULT_INPUT, 2),
     ("where another line is wanted", "trace_player_cli", ["--verbose"], TRACE.replace(b"RELAYTRACE 1", b"RELAYTRACE 2"), b"",
-     b"line 16: not `xvalue WATTS`: no xvalue\n" + FAULT_INPUT, 2),
+     b"line 16: expected `xvalue WATTS`: xvalue is missing\n" + FAULT_INPUT, 2),
     ("where an event has a word too many", "trace_player_cli", ["--verbose"], TRACE.replace(b"moment 5\n", b"moment 5 6\n"), b"",
-     b"line 29: not `moment SECONDS`: a word too many\n" + FAULT_INPUT, 2),
+     b"line 29: expected `moment SECONDS`: unexpected extra word\n" + FAULT_INPUT, 2),
     ("where a line is too many", "trace_player_cli", ["--verbose"], with_events(OPENING_2, b"button") + b"button\n", b"",
-     b"line 33: `button` with a value that is refused here, or a line too many\n" + FAULT_INPUT, 2),
+     b"line 33: unexpected line: `events COUNT` counts fewer events\n" + FAULT_INPUT, 2),
     ("where a trace is too long", "trace_player_cli", ["--verbose"], LARGEST + b"\n", b"",
-     b"byte 33554433: a trace of more than 33,554,432 bytes\n" + FAULT_INPUT, 2),
+     b"byte 33554433: the trace has more than 33,554,432 bytes\n" + FAULT_INPUT, 2),
     ("an argument", "trace_player_cli", ["trace"], TRACE, b"", None, 2),
     ("help of the player", "trace_player_cli", ["--help"], b"", None, b"", 0),
     ("jobs are counted", "head_end_cli", ["check"], b"m1 127.0.0.1:4059 disconnect\nm2 127.0.0.1:4060 state\n", b"jobs 2\n", b"", 0),
@@ -236,34 +239,34 @@ CASES = [
     ("1,001 jobs", "head_end_cli", ["check"], b"m 127.0.0.1:4059 state\n" * 1001, b"", FAULT_INPUT, 2),
     ("1,048,577 bytes of jobs", "head_end_cli", ["check"], b"\n" * 1048577, b"", FAULT_INPUT, 2),
     ("where a verb is wrong", "head_end_cli", ["check", "--verbose"], b"m1 127.0.0.1:4059 state\n\nm2 127.0.0.1:4059 close\n", b"",
-     b"line 3: no verb disconnect, reconnect or state\n" + FAULT_INPUT, 2),
+     b"line 3: expected `NAME ADDRESS VERB`: VERB must be disconnect, reconnect or state\n" + FAULT_INPUT, 2),
     ("where an address is missing", "head_end_cli", ["check", "--verbose"], b"m1  127.0.0.1:4059 state\n", b"",
-     b"line 1: no address of 1 to 64 visible bytes\n" + FAULT_INPUT, 2),
+     b"line 1: expected `NAME ADDRESS VERB`: ADDRESS is empty (one blank separates two words)\n" + FAULT_INPUT, 2),
     ("where a name is too long", "head_end_cli", ["check", "--verbose"], b"n" * 33 + b" 127.0.0.1:4059 state\n", b"",
-     b"line 1: no name of 1 to 32 visible bytes\n" + FAULT_INPUT, 2),
+     b"line 1: expected `NAME ADDRESS VERB`: NAME has more than 32 bytes\n" + FAULT_INPUT, 2),
     ("where a word is too many", "head_end_cli", ["run", "--verbose", "--password", "12345678"], b"m1 127.0.0.1:4059 state now", b"",
-     b"line 1: more words than a name, an address and a verb\n" + FAULT_INPUT, 2),
+     b"line 1: expected `NAME ADDRESS VERB`: unexpected extra word\n" + FAULT_INPUT, 2),
     ("where jobs are too many", "head_end_cli", ["check", "--verbose"], b"m 127.0.0.1:4059 state\n" * 1001, b"",
-     b"job 1001: more than 1,000 jobs\n" + FAULT_INPUT, 2),
-    ("where jobs are too long", "head_end_cli", ["check", "--verbose"], b"\n" * 1048577, b"", b"byte 1048577: more than 1,048,576 bytes\n" + FAULT_INPUT, 2),
+     b"job 1001: the list has more than 1,000 jobs\n" + FAULT_INPUT, 2),
+    ("where jobs are too long", "head_end_cli", ["check", "--verbose"], b"\n" * 1048577, b"", b"byte 1048577: the list has more than 1,048,576 bytes\n" + FAULT_INPUT, 2),
     ("where a campaign has no password", "head_end_cli", ["run", "--verbose"], b"", b"", None, 2),
-    ("jobs that are right have nothing to tell", "head_end_cli", ["check", "--verbose"], b"m1 127.0.0.1:4059 state\n", b"jobs 1\n", b"", 0),
-    ("jobs that their writer may not mean", "head_end_cli", ["check"],
+    ("jobs that are right have no message", "head_end_cli", ["check", "--verbose"], b"m1 127.0.0.1:4059 state\n", b"jobs 1\n", b"", 0),
+    ("jobs that may be mistakes", "head_end_cli", ["check"],
      b"#m1 127.0.0.1:4059 disconnect\n\nm2 127.77.0.1 state\nm3 127.77.0.999:4059 state\nm4 [::1]:4059 state\nm5 ::1:4059 state\nm2 meter.example:4059 state\n"
      b"m6 [::1]:4059 reconnect\nm7 10.0.0.1:0 state\nm8 10.0.0.2:65536 state\nm9 :4059 state\n", b"jobs 10\n",
-     b"line 1: warning: the name begins with `#`, and the job counts: a list has no comments\n"
-     b"line 3: warning: the address is not HOST:PORT with a port from 1 to 65535\n"
-     b"line 4: warning: the address is not HOST:PORT with a port from 1 to 65535\n"
-     b"line 6: warning: the address is not HOST:PORT with a port from 1 to 65535\n"
+     b"line 1: warning: `#` begins a name, not a comment: this job is run\n"
+     b"line 3: warning: the address has no port (expected HOST:PORT)\n"
+     b"line 4: warning: the host of the address is not valid (expected HOST:PORT)\n"
+     b"line 6: warning: the host of the address is not valid (expected HOST:PORT)\n"
      b"line 7: warning: line 3 has the same name\n"
-     b"line 8: warning: line 5 has the same address: which of both jobs runs first is not fixed\n"
-     b"line 9: warning: the address is not HOST:PORT with a port from 1 to 65535\n"
-     b"line 10: warning: the address is not HOST:PORT with a port from 1 to 65535\n"
-     b"line 11: warning: the address is not HOST:PORT with a port from 1 to 65535\n", 0),
+     b"line 8: warning: line 5 has the same address: the two run in any order\n"
+     b"line 9: warning: the port of the address must be 1 to 65535 (expected HOST:PORT)\n"
+     b"line 10: warning: the port of the address must be 1 to 65535 (expected HOST:PORT)\n"
+     b"line 11: warning: the host of the address is not valid (expected HOST:PORT)\n", 0),
     ("a campaign without jobs", "head_end_cli", ["run", "--password", "12345678"], b"", b"", b"", 0),
     ("a closed port and a text that is no address", "head_end_cli", ["run", "--password", "12345678", "--connect-timeout", "2"],
      b"m1 127.0.0.1:1 disconnect\nm2 nowhere state\n", b"m1 unknown\nm2 unknown\n",
-     b"line 2: warning: the address is not HOST:PORT with a port from 1 to 65535\n", 0),
+     b"line 2: warning: the address has no port (expected HOST:PORT)\n", 0),
     ("no worker", "head_end_cli", ["run", "--password", "12345678", "--workers", "0"], b"", b"", None, 2),
     ("17 workers", "head_end_cli", ["run", "--password", "12345678", "--workers", "17"], b"", b"", None, 2),
     ("a campaign without a password", "head_end_cli", ["run"], b"", b"", None, 2),
@@ -287,7 +290,7 @@ def main():
     passed = failed = 0
     for crate in sorted({case[1] for case in CASES}):
         if not (TOP / "crates" / crate / "out" / crate).exists():
-            print(f"there is no proved executable of {crate}: the gate leaves one")
+            print(f"crates/{crate}/out/{crate} is missing: run bin/build or bin/test")
             print(f"0 passed, {len(CASES)} failed")
             return 1
     for name, crate, words, stdin, stdout, stderr, status in CASES:
@@ -299,12 +302,12 @@ def main():
             failed += 1
             continue
         wrong = [
-            f"{what}: wanted {want!r}, got {got[:200]!r}"
-            for what, want, got in [("output", stdout, run.stdout), ("error", stderr, run.stderr)]
+            f"{what}: expected {want!r}, found {got[:200]!r}"
+            for what, want, got in [("standard output", stdout, run.stdout), ("standard error", stderr, run.stderr)]
             if differs(want, got)
         ]
         if run.returncode != status:
-            wrong.append(f"status: wanted {status}, got {run.returncode}")
+            wrong.append(f"status: expected {status}, found {run.returncode}")
         if wrong:
             print(f"FAILED {crate}: {name}: " + "; ".join(wrong))
             failed += 1

@@ -1,8 +1,11 @@
 #!/usr/bin/env python3
-"""Plays tables of events through the proved trace player, and compares each reply, state and supply with what the standard's tables and the limiter's rules give.
+"""Plays tables of events with the proved trace player, and compares each reply, state and supply
+with the tables of the standard and the rules of the limiter.
 
-A row is an event's line and the reply that must come (docs/TRACE.md), made by the small functions below, and the control state after it where that changes.
-The rows were worked out by hand from the Blue Book's tables of transitions and the rules of class 71; none is taken from the program's own output.
+A row is the line of an event and the expected reply (docs/TRACE.md), which the small functions
+below make, and the control state after it if that changes. The rows were worked out by hand from
+the Blue Book's tables of transitions and the rules of class 71; none comes from the program's
+output.
 """
 
 import pathlib
@@ -38,7 +41,7 @@ NEW_METER = ["RELAYTRACE 2", "device 52454C415931", "state 1", "mode 0", "value 
              "scripts 0100", *[f"schedule {number} 0 5 0100" for number in range(4)]]
 
 
-# Data of the standard, as their bytes.
+# Data of the standard, as bytes.
 def long_number(number):
     return f"06{number:08X}"
 
@@ -94,12 +97,14 @@ def press(code=0):
 
 
 def values(stretches, over, under):
-    """A block of import values: (how many, which value) .., and how often the limiter fires over and under its threshold."""
+    """A block of import values, from pairs of count and value, and the numbers of firings over and
+    under the threshold."""
     return "samples" + "".join(f" {value}" * count for count, value in stretches), f"sampled {over} {under}"
 
 
 def pairs(count, imported, exported, *fired):
-    """A block of equal pairs: import over and under, export over and under fire so often."""
+    """A block of equal pairs, and the numbers of firings: import over and under, export over and
+    under."""
     return "pairs" + f" {imported} {exported}" * count, "sampled " + " ".join(map(str, fired))
 
 
@@ -112,7 +117,7 @@ def stale(second, last):
 
 
 def then(row, state):
-    """A row after which the control state is another."""
+    """A row that changes the control state."""
     return *row, state
 
 
@@ -125,7 +130,8 @@ RAISES = [write(TABLE, scripts(s1=[limit(IMPORT_LIMITER, 9000)])), write(IMPORT_
 SWITCHES = [write(TABLE, scripts(s1=[DISCONNECT], s2=[RECONNECT])), write(MODE, mode(5)), write(IMPORT_NORMAL, long_number(5000)),
             write(IMPORT_MIN_OVER, long_number(1)), write(IMPORT_MIN_UNDER, long_number(1)), write(IMPORT_ACTIONS, actions(1, 2))]
 
-# The emergency of group 7 begins on 2000-01-01 at 00:01:40, which is moment 100, and lasts 10 seconds.
+# The emergency of group 7 begins on 2000-01-01 at 00:01:40, which is moment 100, and lasts 10
+# seconds.
 PROFILE = "0203120007090C07D00101FF00012800800000060000000A"
 SCRIPT_1 = "0202090600000A006AFF120001"
 END_OF_MONTH = "010102020904173B3B000905FFFFFFFEFF"
@@ -149,7 +155,8 @@ TABLES = {
     "an equal value is not over": [*IMPORT_DISCONNECTS, values([(10, 5000)], 0, 0)],
     "a reconnection ends the run": [*IMPORT_DISCONNECTS, then(values([(10, 5001)], 1, 0), 2), then(press(), 1), values([(9, 5001)], 0, 0),
                                     then(values([(1, 5001)], 1, 0), 2)],
-    # An import of 0 W lies under the import limiter's 4,294,967,295 W, so its lower side fires at the start and once more after a reconnection.
+    # An import of 0 W is under the import limiter's 4,294,967,295 W, so its lower side fires at the
+    # start and once more after a reconnection.
     "a reconnection ends the export's run": [*EXPORT_DISCONNECTS, then(pairs(10, 0, 5001, 0, 1, 1, 0), 2), then(press(), 1), pairs(9, 0, 5001, 0, 1, 0, 0),
                                              then(pairs(1, 0, 5001, 0, 0, 1, 0), 2)],
     "a reconnection ends both runs": [*EXPORT_DISCONNECTS, then(pairs(10, 0, 5001, 0, 1, 1, 0), 2), then(press(), 1), pairs(1, 0, 5001, 0, 1, 0, 0)],
@@ -159,12 +166,14 @@ TABLES = {
     "a shorter duration counts at the export's next sample": [
         *EXPORT_DISCONNECTS, write(EXPORT_MIN_OVER, long_number(10)), pairs(70, 0, 5001, 0, 1, 0, 0), write(EXPORT_MIN_OVER, long_number(5)),
         then(pairs(1, 0, 5001, 0, 0, 1, 0), 2), pairs(1, 0, 5001, 0, 0, 0, 0), write(EXPORT_MIN_OVER, long_number(20)), pairs(200, 0, 5001, 0, 0, 0, 0)],
-    # The upper side fires at the 37th of the 256 samples, and 219 lie under the new threshold: over five seconds, and with 31 more 25.
+    # The upper side fires at the 37th of the 256 samples, and 219 are under the new threshold: over
+    # five seconds, and with 31 more 25.
     "a firing raises the threshold within a block": [*RAISES, write(IMPORT_MIN_UNDER, long_number(5)), values([(256, 6000)], 1, 1),
                                                      read(f"{IMPORT_LIMITER} 3", long_number(9000))],
     "the samples after a firing are of the new run": [*RAISES, write(IMPORT_MIN_UNDER, long_number(25)), values([(256, 6000)], 1, 0),
                                                       values([(31, 6000)], 0, 1)],
-    # The upper side fires at the tenth sample and disconnects; the lower at the twentieth, reconnects and so ends its run; and at the thirtieth in vain.
+    # The upper side fires at the tenth sample and disconnects; the lower at the twentieth,
+    # reconnects, which ends its run; and at the thirtieth without effect.
     "a block cuts and restores the supply": [*SWITCHES, values([(10, 5001), (20, 4999)], 1, 2)],
     "the import limiter takes its value first": [
         write(TABLE, scripts(s1=[limit(EXPORT_LIMITER, 9000)])), write(IMPORT_NORMAL, long_number(5000)), write(IMPORT_ACTIONS, actions(1, 0)),
@@ -197,7 +206,7 @@ TABLES = {
     "a script writes a limiter": [
         write(TABLE, scripts(s1=[DISCONNECT, limit(IMPORT_LIMITER, 5000)])), write(MODE, mode(1)), then(call(f"{SCRIPTS} 1", 0, "120001"), 0),
         read(IMPORT_NORMAL, long_number(5000)), read(EXPORT_NORMAL, "06FFFFFFFF")],
-    # Identifier 0 is none.
+    # 0 is not an identifier.
     "scripts are judged, and read as they were written": [
         read(TABLE, "0100"), write(TABLE, scripts(s3=[WRITE_MODE_0]), 3, PUBLIC), write(TABLE, "00", 12), write(TABLE, scripts(s0=[]), 250), read(TABLE, "0100"),
         write(TABLE, scripts(s1=[DISCONNECT, limit(IMPORT_LIMITER, 5000)])), read(TABLE, scripts(s1=[DISCONNECT, limit(IMPORT_LIMITER, 5000)]))],
@@ -222,11 +231,12 @@ TABLES = {
         read(f"{IMPORT_REGISTER} 2", long_number(0)), read(f"{IMPORT_REGISTER} 3", "02020F00161B"), read(f"{EXPORT_REGISTER} 2", long_number(0)),
         read(f"{EXPORT_REGISTER} 3", "02020F00161B"), pairs(2, 5001, 4999, 0, 1, 0, 1), read(f"{IMPORT_REGISTER} 2", long_number(5001)),
         read(f"{EXPORT_REGISTER} 2", long_number(4999)),
-        # A block of import values alone gives the export no sample.
+        # A block of import values alone has no sample of the export.
         values([(1, 5001), (1, 9000)], 0, 0), read(f"{IMPORT_REGISTER} 2", long_number(9000)), read(f"{EXPORT_REGISTER} 2", long_number(4999))],
 }
 
-# Openings that no meter has been in, by what is put into a new meter's; and whether they are fit. A run is at most 42,949,672,950 samples.
+# Changes to the opening of a new meter, and whether the result is valid. A run has at most
+# 42,949,672,950 samples.
 OPENINGS = [
     ({"value": "1", "over": "1 0"}, True), ({"value": "0", "over": "1 0"}, False), ({"value": "1", "under": "1 0"}, True),
     ({"value": "4294967295", "under": "1 0"}, False), ({"value": "1", "over": "1 0", "under": "1 0"}, False), ({"value": "1", "over": "0 1"}, False),
@@ -279,19 +289,20 @@ def openings():
         yield f"an opening with {changes}", play(opening_with(changes), [])[0] == (0 if is_fit else 2)
 
 
-# Blocks given at once, beside the same samples one by one.
+# Blocks, and the same samples one by one.
 FOUR_SCRIPTS = scripts(s1=[DISCONNECT, limit(IMPORT_LIMITER, 9000)], s2=[RECONNECT, limit(IMPORT_LIMITER, 5000)],
                        s3=[RECONNECT, limit(EXPORT_LIMITER, 9000)], s4=[DISCONNECT, limit(EXPORT_LIMITER, 5000)])
 BUSY = [write(TABLE, FOUR_SCRIPTS), write(MODE, mode(5)), write(IMPORT_NORMAL, long_number(5000)), write(IMPORT_MIN_OVER, long_number(0)),
         write(IMPORT_MIN_UNDER, long_number(1)), write(IMPORT_ACTIONS, actions(1, 2)), write(EXPORT_NORMAL, long_number(5000)),
         write(EXPORT_MIN_OVER, long_number(1)), write(EXPORT_MIN_UNDER, long_number(1)), write(EXPORT_ACTIONS, actions(3, 4))]
 BUSY_LATE = [write(IMPORT_MIN_OVER, long_number(2)), write(EXPORT_MIN_UNDER, long_number(2))]
-# What is read after each block: both thresholds, both registers.
+# The read after each block: both thresholds, both registers.
 LOOK = f"getlist 1 4 {IMPORT_LIMITER} 3 0 {EXPORT_LIMITER} 3 0 {IMPORT_REGISTER} 2 0 {EXPORT_REGISTER} 2 0"
 
 
 def stretches(seed):
-    """256 values at, over and under 5,000 and 9,000 W, in short and long stretches, by a linear congruential generator."""
+    """256 values at, over and under 5,000 and 9,000 W, in short and long stretches, from a linear
+    congruential generator."""
     levels, found = (4999, 5000, 7000, 9000, 9001, 0), []
     level = levels[(seed >> 16) % 6]
     for _ in range(256):
@@ -303,7 +314,8 @@ def stretches(seed):
 
 
 def blocks_and_singles(seed):
-    """A block of import values and one of pairs, each as one event and as an event for each sample."""
+    """A block of import values and one of pairs, each as one event and as an event for each
+    sample."""
     imported, exported = stretches(seed), stretches((seed * 1_664_525 + 1_013_904_223) % 2**32)
     for word, samples in (("samples", [str(it) for it in imported]), ("pairs", [f"{a} {b}" for a, b in zip(imported, exported)])):
         yield " ".join([word, *samples]), [f"{word} {it}" for it in samples]
@@ -314,7 +326,8 @@ def fired(line):
 
 
 def is_one_by_one(late, seeds=range(12)):
-    """Whether blocks fire as their samples one by one do, and leave the same states, thresholds and values. Each side of each limiter fires."""
+    """Whether blocks have the same firings, states, thresholds and values as their samples one by
+    one, and each side of each limiter fires."""
     whole, single, sizes = [row[0] for row in (*BUSY, *late)], [row[0] for row in (*BUSY, *late)], []
     for seed in seeds:
         for block, samples in blocks_and_singles(seed):
@@ -343,7 +356,7 @@ def twins():
 
 def main():
     if not PLAYER.exists():
-        print("there is no proved executable of trace_player_cli: the gate leaves one")
+        print(f"{PLAYER} is missing: run bin/build or bin/test")
         print("0 passed, 1 failed")
         return 1
     passed, failed = 0, 0

@@ -1,7 +1,8 @@
 #!/usr/bin/env python3
-"""Has each read and write in turn fail, move one byte, or be interrupted, over the executables that the gate left: in the programs' standard streams, in a client's
-connections (`head_end run`) and in a meter that serves two clients. After a failure nothing more is written on that stream, and the fault is named; a short or an
-interrupted call changes nothing.
+"""Makes each read and write in turn fail, transfer one byte, or be interrupted, in the proved
+executables that the gate left: the standard streams of the programs, the connections of a client
+(`head_end run`), and a meter that serves two clients. After a failure nothing more is written on
+that stream and the fault is reported; a short or an interrupted call changes nothing.
 
 usage: tests/failing_streams.py"""
 
@@ -9,11 +10,11 @@ import collections
 import os
 import sys
 
-sys.dont_write_bytecode = True  # the modules beside this one leave nothing behind
+sys.dont_write_bytecode = True  # importing the modules of tests/ leaves no files
 
 import serving
 from campaigns import HEAD_END
-from refused_memory import METERS, PROGRAMS, talk, told
+from refused_memory import METERS, PROGRAMS, print_counts, talk
 from refusing import Refusing
 from scripted_meters import AARQ as CLIENT_AARQ
 from scripted_meters import RELEASE, REQUESTS, ScriptedMeter
@@ -26,12 +27,14 @@ refusing = None
 
 
 def each_call(run, how, count):
-    """What `run` tells of each call that fails, is short or is interrupted, counted. It is given the number of the call, by its name."""
+    """Counts the results of `run` over the calls that fail, are short or are interrupted. The
+    number of the call is passed as the argument `how`."""
     return collections.Counter(run(**{how: number}) for number in range(1, count + 1))
 
 
 def after_failure(ran, ample):
-    """What a program did: its output is the first of the ample run's, and nothing follows the fault."""
+    """The result of a failed call: the output must be a prefix of that of a run without failures,
+    and nothing may follow the fault."""
     if ran.status != 3 or ran.errors not in FAULTS or not ample.output.startswith(ran.output) or ran.late:
         return f"WRONG: {ran}"
     return ran.errors.decode().strip()
@@ -45,11 +48,11 @@ def programs_have_failing_streams(name):
     for title, program, words, text, _ in PROGRAMS:
         ample = refusing.run([program, *words], text)
         found = each_call(lambda **which: after_failure(refusing.run([program, *words], text, **which), ample), "fail_stream", ample.streams)
-        told(f"{title}, failing", found, "failed")
+        print_counts(f"{title}, failing", found, "calls failed")
         check(f"{name}: {title}", set(found) == {"fault: read", "fault: write"}, found)
         for how in HARMLESS:
             found = each_call(lambda **which: after_harmless(refusing.run([program, *words], text, **which), ample), how, ample.streams)
-            told(f"{title}, {how.split('_')[0]}", found, "met")
+            print_counts(f"{title}, {how.split('_')[0]}", found, "calls")
             check(f"{name}: {title}: {how}", set(found) == {"same output"}, found)
 
 
@@ -58,7 +61,8 @@ def campaign(jobs, **which):
 
 
 def campaign_failed(jobs, **which):
-    """What a campaign told: the fault of a standard stream, or a report in which the job whose connection failed is unknown at most."""
+    """The result of a campaign with a failed call: the fault of a standard stream, or a report in
+    which at most the job of the failed connection is unknown."""
     ran = campaign(jobs, **which)
     if ran.late:
         return f"WRONG: a write after the failure: {ran}"
@@ -76,20 +80,21 @@ def a_client_has_failing_connections(name):
     jobs = "".join(f"m{number} 127.0.0.1:{meter.port} disconnect\n" for number, meter in enumerate(meters)).encode()
     ample = campaign(jobs)
     found = each_call(lambda **which: campaign_failed(jobs, **which), "fail_stream", ample.streams)
-    told("a campaign of four jobs, failing", found, "failed")
+    print_counts("a campaign of four jobs, failing", found, "calls failed")
     check(name, found["one job unknown"] and found["fault: read"] and found["fault: write"] and not any("WRONG" in what for what in found), found)
     for how in HARMLESS:
         found = each_call(lambda **which: after_harmless(campaign(jobs, **which), ample), how, ample.streams)
-        told(f"a campaign of four jobs, {how.split('_')[0]}", found, "met")
+        print_counts(f"a campaign of four jobs, {how.split('_')[0]}", found, "calls")
         check(f"{name}: {how}", set(found) == {"same output"}, found)
     for meter in meters:
         meter.stop()
         fronts = [[CLIENT_AARQ, REQUESTS["disconnect"], RELEASE][:len(talk.frames)] for talk in meter.talks]
-        check(f"{name}: each command once at most", [talk.frames for talk in meter.talks] == fronts)
+        check(f"{name}: each command at most once", [talk.frames for talk in meter.talks] == fronts)
 
 
 def served_failed(**which):
-    """What came of two clients that one after the other talk to a meter, and whether its trace tells what they saw."""
+    """Serves two clients, one after the other, with a failed call. Returns whether the trace has
+    what they saw."""
     server = Server("--connections", "2", environment=refusing.environment(**which))
     server.end_input()
     clients, whole = [], 0
@@ -108,22 +113,22 @@ def served_failed(**which):
     history = played(trace)
     if not all(stands_in(client.seen, history) for client in clients) or len(history) > sum(len(client.seen) + 1 for client in clients):
         return f"WRONG: a trace of {len(history)} events"
-    return f"{'the fault of the console, and ' * has_no_console}the trace tells all, {whole} of 2 clients with all answers"
+    return f"{'the fault of the console, and ' * has_no_console}the trace is complete, {whole} of 2 clients with all answers"
 
 
 def a_meter_has_failing_connections(name):
-    everything = "the trace tells all, 2 of 2 clients with all answers"
+    everything = "the trace is complete, 2 of 2 clients with all answers"
     ample = served_failed()
     count = refusing.counts()[1]
     check(f"{name}: nothing fails", ample == everything, ample)
     found = each_call(served_failed, "fail_stream", count)
-    told("meter_server serve, failing", found, "failed")
-    wanted = ("the trace tells all, 1 of 2 clients with all answers", "fault: write of the trace",
-              "the fault of the console, and the trace tells all, 2 of 2 clients with all answers")
+    print_counts("meter_server serve, failing", found, "calls failed")
+    wanted = ("the trace is complete, 1 of 2 clients with all answers", "fault: write of the trace",
+              "the fault of the console, and the trace is complete, 2 of 2 clients with all answers")
     check(name, all(found[what] for what in wanted) and not any("WRONG" in what for what in found), found)
     for how in HARMLESS:
         found = each_call(served_failed, how, count)
-        told(f"meter_server serve, {how.split('_')[0]}", found, "met")
+        print_counts(f"meter_server serve, {how.split('_')[0]}", found, "calls")
         check(f"{name}: {how}", set(found) == {everything}, found)
 
 
@@ -131,7 +136,7 @@ def main():
     global refusing
     for executable in (SERVER, PLAYER, HEAD_END):
         if not os.access(executable, os.X_OK):
-            print(f"{executable} is not there: run the gate, or `rt run` in its crate")
+            print(f"{executable} is missing: run bin/test, or `rt run` in its crate")
             print("0 passed, 1 failed")
             return 1
     refusing = Refusing()

@@ -1,11 +1,14 @@
 #!/usr/bin/env python3
-"""Builds the library for C and its examples with the machine's own C compiler, and runs them beside the programs that the gate, or bin/build, left.
+"""Builds the library for C and its examples with the C compiler of this machine, and compares them
+with the programs that the gate or bin/build left.
 
-The same streams go through `meter_server hex` and through the example in C, byte by byte: the stored ones, changed ones, and sessions of requests made by chance. What both
-answer is the same text, and the trace that C exported plays to the replies in these answers. Then each call of the heap is refused in turn. The super-loop runs with the
-pool, and on 64-bit ARM without any C library where Debian's `gcc-aarch64-linux-gnu` and `qemu-user` are installed; with valgrind where that is.
+`meter_server hex` and the example in C get the same streams, byte by byte: stored ones, changed
+ones, and random sessions. Both must answer the same, and the trace that C exported must play to the
+replies in the answers. Then each call of the heap is refused in turn. The super-loop runs with the
+pool, also on 64-bit ARM without a C library (Debian: apt-get install gcc-aarch64-linux-gnu
+qemu-user) and with valgrind; a test whose tool is missing is skipped with a message.
 
-usage: tests/firmware.py [--long]     (--long: each refused call, and 1,000 sessions in place of 200)"""
+usage: tests/firmware.py [--long]     (--long: every refused call, and 1,000 sessions instead of 200)"""
 
 import argparse
 import collections
@@ -18,7 +21,7 @@ import subprocess
 import sys
 import tempfile
 
-sys.dont_write_bytecode = True  # the modules beside this one leave nothing behind
+sys.dont_write_bytecode = True  # importing the modules of tests/ leaves no files
 
 sys.path.insert(0, str(pathlib.Path(__file__).resolve().parent.parent / "bin"))
 
@@ -45,24 +48,25 @@ LOOP = """0.0 s: state 1
 frames sent: 8
 """.split("\n", 1)[1]
 PC_TARGET, ARM_TARGET = "x86_64-unknown-linux-gnu", "aarch64-unknown-linux-gnu"
-ARM = ("aarch64-linux-gnu-gcc", "qemu-aarch64")  # what compiles for 64-bit ARM, and runs it
+ARM = ("aarch64-linux-gnu-gcc", "qemu-aarch64")  # compiles for 64-bit ARM and runs it
 
-place = None  # where everything is built
+place = None  # the folder of all that is built
 is_long = False
 
 
 def made(*words):
-    """Runs a command that has to do its work."""
+    """Runs a command that must succeed; returns its output."""
     ran = subprocess.run([str(word) for word in words], capture_output=True, text=True)
     assert ran.returncode == 0, f"{words[0]}: {ran.stdout}{ran.stderr}"
     return ran.stdout
 
 
 def archives():
-    """Builds the library for this processor, and for 64-bit ARM where it can be run, and gives the archives' paths. What the gate leaves in a new clone is taken as it is: then each
-    target costs a check of the crate, so ARM has its turn with --long alone."""
+    """Builds the library for this processor, and for 64-bit ARM if that can run here; returns the
+    paths of the archives. Over what the gate leaves in a new clone each target costs a check of the
+    crate, so ARM is then built only with --long."""
     rt = toolchain.command()
-    rt.rtlib.guarded()  # its first call sets a signal's handler, which only the main thread may
+    rt.rtlib.guarded()  # the first call sets a signal handler, which only the main thread may do
     crate = next(it for it in rt.rtlib.crates_below(str(TOP)) if it.name == LIBRARY.name)
     is_after_ci = toolchain.is_left_by_ci(rt, [crate])
     made_by = from_what_ci_left if is_after_ci else from_kept_work
@@ -71,7 +75,7 @@ def archives():
 
 
 def from_kept_work(rt, crate, target):
-    """By `rt lib`, over the libraries that earlier checks proved."""
+    """Builds with `rt lib`, over the libraries that earlier checks proved."""
     copy = place / f"libmeter-{target}.a"
     ran = subprocess.run(["rt", "lib", "--target", target], cwd=LIBRARY, capture_output=True, text=True)
     assert ran.returncode == 0, ran.stdout + ran.stderr
@@ -80,7 +84,8 @@ def from_kept_work(rt, crate, target):
 
 
 def from_what_ci_left(rt, crate, target):
-    """As `rt ci` makes a program: a check, and a compiler over what it proved. One job costs least, and other stages run beside it."""
+    """Builds as `rt ci` builds a program: a check, and the compiler over what it proved. It uses
+    one job, which costs least, since other stages run in parallel."""
     checked, copy = place / f"checked-{target}", place / f"libmeter-{target}.a"
     rt.rtlib.Crate.cuts_libraries = True
     words = [*crate.words(["--jobs", "1"], keeps=False), *(["--target", target] if target != PC_TARGET else [])]
@@ -107,7 +112,7 @@ def frame(payload):
 
 
 def request(chance):
-    """A request, and the kind of its answer."""
+    """A request and the kind of its response."""
     what = chance.randrange(8)
     if what < 3:
         return bytes.fromhex("C001C1" + described(chance.choice((STATE, MODE, NORMAL, ACTIVE, REGISTER, DEVICE, OBJECTS, (70, "0000600000FF", 2)))) + "00")
@@ -123,7 +128,7 @@ def request(chance):
 
 
 def session(chance):
-    """A stream of an association and some requests."""
+    """A stream with an association and some requests."""
     return AARQ + b"".join(frame(request(chance)) for _ in range(chance.randrange(1, 30)))
 
 
@@ -137,7 +142,7 @@ def made_text(words, executable, stream, **environment):
 
 
 def replies_in(answers):
-    """The replies to events in frames that were answered; of a value that is sent in blocks the first block."""
+    """The replies to events in the frames of the meter; for a value in blocks, the first block."""
     replies = []
     for line in answers.decode().split():
         payload = line[16:]
@@ -154,11 +159,11 @@ def replies_in(answers):
     return replies
 
 
-def is_told(reply, told):
-    """Whether a reply that a client saw is the one that the trace's run tells."""
+def is_reply(reply, played):
+    """Whether a reply that a client saw is that of the played trace."""
     if reply == "values":
-        return told.startswith("values ")
-    return told.startswith(reply[:-2]) if reply.endswith("..") else told == reply
+        return played.startswith("values ")
+    return played.startswith(reply[:-2]) if reply.endswith("..") else played == reply
 
 
 def run_of(trace):
@@ -175,7 +180,7 @@ def the_header_has_the_exports(name):
 
 
 def the_header_has_the_types_of_the_exports(name):
-    """Each parameter of an export has its C type in the header."""
+    """The header declares each parameter of an export with its C type."""
     source = "".join(it.read_text() for it in sorted((LIBRARY / "src").glob("*.rt")))
     header = re.sub(r"/\*.*?\*/", "", HEADER.read_text(), flags=re.S)
     types = {"&mut Meter": ["struct meter *"], "&[u8]": ["const uint8_t *", "size_t "], "&mut [u8]": ["uint8_t *", "size_t "], "&[u32]": ["const uint32_t *", "size_t "],
@@ -184,12 +189,12 @@ def the_header_has_the_types_of_the_exports(name):
     for export, parameters in re.findall(r'extern "C" fn (meter_\w+)\(([^)]*)\)', source):
         wanted = [it for one in parameters.split(",") if one.strip() for it in types.get(one.split(":")[1].strip(), ["unknown " + one])]
         found = re.search(rf"\b{export}\(([^)]*)\)", header)
-        told = [re.sub(r"\w+$", "", one.strip()) for one in found[1].split(",")] if found else None
-        check(f"{name}: {export}", told == wanted, told, wanted)
+        declared = [re.sub(r"\w+$", "", one.strip()) for one in found[1].split(",")] if found else None
+        check(f"{name}: {export}", declared == wanted, declared, wanted)
 
 
 def the_header_has_the_numbers_of_the_definitions(name):
-    """Each result has in the header the number that the definition of the contracts gives it."""
+    """The header has the number of each result from the definition that the contracts use."""
     words = {"Done": "OK", "Wait": "WAIT", "Closed": "CLOSED", "Cut": "CUT", "BadVersion": "BAD_VERSION", "TooLong": "TOO_LONG", "Stale": "STALE", "NoMoment": "NO_MOMENT",
              "NoMemory": "NO_MEMORY", "NotOpen": "NOT_OPEN", "IsOpen": "IS_OPEN", "NoSession": "NO_SESSION", "SessionTaken": "SESSION_TAKEN", "WrongArgument": "WRONG_ARGUMENT",
              "NoRoom": "NO_ROOM"}
@@ -200,7 +205,7 @@ def the_header_has_the_numbers_of_the_definitions(name):
 
 def each_export_answers(name):
     ran = made(place / "exports_test")
-    check(name, ran == "each export answered rightly\n", ran)
+    check(name, ran == "all exports passed\n", ran)
 
 
 def streams_are_answered_as_by_the_program(name):
@@ -220,9 +225,9 @@ def streams_are_answered_as_by_the_program(name):
         elif stream in sessions:
             seen = replies_in(found[1])
             events += len(run)
-            if len(seen) != len(run) or not all(map(is_told, seen, run)):
-                check(f"{name}: the trace tells the replies: {stream.hex()}", False, seen, run)
-    print(f"{len(seeds)} stored streams, {len(sessions)} sessions and {len(others)} changed streams, each byte by byte; {events} events in the sessions' traces")
+            if len(seen) != len(run) or not all(map(is_reply, seen, run)):
+                check(f"{name}: the trace has the replies: {stream.hex()}", False, seen, run)
+    print(f"{len(seeds)} stored streams, {len(sessions)} sessions and {len(others)} changed streams, each byte by byte; {events} events in the traces of the sessions")
     check(name, events > len(sessions))
 
 
@@ -240,10 +245,10 @@ def each_refusal_can_be_made_again(name):
     for number in numbers:
         ran = made_text([PASSWORD, place / "trace"], place / "refused", stream, REFUSE=str(number))
         is_same = ran[:2] == ample[:2] and b"blocks left 0" in ran[2] and (place / "trace").read_bytes() == trace
-        found["the answers and the trace of the ample run, no block left"] += is_same
+        found["same answers and trace, no block left"] += is_same
         if not is_same:
             check(f"{name}: call {number}", False, ran)
-    print(f"calls of the heap: {calls}; refused one by one: {len(numbers)}: {found.most_common()}")
+    print(f"calls of the heap: {calls}; refused one by one: {len(numbers)}, with these results: {dict(found)}")
     check(name, sum(found.values()) == len(numbers))
 
 
@@ -261,7 +266,7 @@ def the_super_loop_runs(name):
 
 def valgrind_finds_nothing(name):
     if not shutil.which("valgrind"):
-        print("skipped: valgrind is not installed")
+        print("SKIPPED valgrind: not installed (Debian: apt-get install valgrind)")
         return
     for words in ([place / "session", PASSWORD], [place / "super_loop"]):
         ran = subprocess.run(["valgrind", "--quiet", "--leak-check=full", "--error-exitcode=9", *map(str, words)], input=(AARQ + frame(request(random.Random(1)))).hex().encode(),
@@ -276,7 +281,8 @@ def has_arm():
 def the_super_loop_runs_on_arm(name):
     archive = place / f"libmeter-{ARM_TARGET}.a"
     if not archive.exists():
-        print("skipped: after the gate --long alone builds for ARM" if has_arm() else "skipped: gcc-aarch64-linux-gnu and qemu-user are not installed")
+        print("SKIPPED 64-bit ARM: after the gate it is built only with --long" if has_arm()
+              else "SKIPPED 64-bit ARM: not installed (Debian: apt-get install gcc-aarch64-linux-gnu qemu-user)")
         return
     program("super_loop_arm", EXAMPLES / "super_loop.c", EXAMPLES / "platform_bare.c", HEAPS / "heap_pool.c", archive, compiler=ARM[0],
             words=["-std=gnu11", "-ffreestanding", "-nostdlib", "-static"])
@@ -286,11 +292,11 @@ def the_super_loop_runs_on_arm(name):
 
 def main():
     global place, is_long
-    reader = argparse.ArgumentParser(add_help=False)
-    reader.add_argument("--long", action="store_true")
-    is_long = reader.parse_args().long
+    parser = argparse.ArgumentParser()
+    parser.add_argument("--long", action="store_true", help="every refused call, and 1,000 sessions instead of 200")
+    is_long = parser.parse_args().long
     if not shutil.which("cc"):
-        print("skipped: no C compiler is installed\n1 passed, 0 failed")
+        print("SKIPPED: no C compiler is installed (no command cc)\n1 passed, 0 failed")
         return 0
     with tempfile.TemporaryDirectory() as folder:
         place = pathlib.Path(folder)

@@ -1,9 +1,11 @@
 #!/usr/bin/env python3
-"""Fuzzes the programs' standard input, over the executables that the gate left, from the rows that are stored: `meter_server apdu` and `hex`, `trace_player`,
-`head_end check`. Looks for crashes, hangs, statuses and texts that no input may bring, runs that differ between an input given whole and byte by byte, and between
-the executables of the two compilers. AFL++ (Debian's package `afl++`) takes a share of the time where it is installed, and is skipped by name where it is not.
+"""Fuzzes the standard input of the executables that the gate left, from stored inputs:
+`meter_server apdu` and `hex`, `trace_player`, `head_end check`. Looks for crashes, hangs,
+unexpected statuses and messages, and for results that differ between an input in one piece and byte
+by byte, or between the executables of the two compilers. If AFL++ is installed (Debian: apt-get
+install afl++), it gets half of the time; else its part is skipped with a message.
 
-usage: tests/fuzz.py [--minutes N] [--seed N]     (one minute if left out; what is found lies in tests/corpus/)"""
+usage: tests/fuzz.py [--minutes N] [--seed N]     (default: one minute; findings go to tests/corpus/)"""
 
 import argparse
 import collections
@@ -16,7 +18,7 @@ import sys
 import tempfile
 import time
 
-sys.dont_write_bytecode = True  # the modules beside this one leave nothing behind
+sys.dont_write_bytecode = True  # importing the modules of tests/ leaves no files
 
 import serving
 from campaigns import HEAD_END
@@ -24,24 +26,25 @@ from command_lines import AARQ, CASES, GET_STATE, MANAGEMENT_AARQ, TRACE
 from serving import PASSWORD, PLAYER, SERVER, TOP, check
 
 CORPUS = TOP / "tests" / "corpus"
-SLOWEST = 10  # seconds that a program may take for an input of these sizes
+SLOWEST = 10  # the time limit of a run, in seconds
 LONGEST_SEED = 4_096
 FAULTS = (b"fault: input\n",)
 
 
 def stored(words):
-    """The inputs of the stored command lines of a program, by its first words."""
+    """The inputs of the stored command lines of a program and command."""
     return [text for _, program, given, text, _, _, _ in CASES if (program, given[:1]) == words and 0 < len(text) <= LONGEST_SEED]
 
 
 def counted(text):
-    """A trace that says how many events it has."""
-    head, told, rest = text.partition(b"\nevents ")
+    """A trace with its line `events` corrected."""
+    head, word, rest = text.partition(b"\nevents ")
     events = rest.partition(b"\n")[2]
-    return head + told + b"%d\n" % events.count(b"\n") + events if told else text
+    return head + word + b"%d\n" % events.count(b"\n") + events if word else text
 
 
-# What is fuzzed: its name, program, words, whether its input is hexadecimal (whose bytes are changed then), its seeds.
+# The targets: name, program, arguments, whether the input is hexadecimal (then its bytes are
+# changed), and seeds.
 TARGETS = [
     ("meter_server apdu", SERVER, ["apdu"], True, stored(("meter_server_cli", ["apdu"]))),
     ("meter_server hex", SERVER, ["hex", "--password", PASSWORD], True, [AARQ + GET_STATE, MANAGEMENT_AARQ] + stored(("meter_server_cli", ["hex"]))),
@@ -81,7 +84,7 @@ def changed(text, chance, others):
 
 
 def changed_lines(text, chance):
-    """A text with some digits changed, and lines repeated, taken out or put elsewhere."""
+    """A text with digits changed, and lines repeated, removed or moved."""
     lines = text.split(b"\n")
     for _ in range(chance.choice((1, 1, 2, 3))):
         at = chance.randrange(len(lines))
@@ -99,7 +102,7 @@ def changed_lines(text, chance):
 
 
 def lines_of(text, chance):
-    """The bytes in hexadecimal, cut into lines here and there."""
+    """The bytes in hexadecimal, in one or two lines."""
     digits = text.hex().upper().encode()
     if chance.randrange(2):
         return digits + b"\n"
@@ -108,7 +111,7 @@ def lines_of(text, chance):
 
 
 def pieces_of(text):
-    """The bytes of lines of hexadecimal, or none."""
+    """The bytes of lines of hexadecimal; empty if they are not hexadecimal."""
     try:
         return bytes.fromhex(text.decode().replace("\n", " "))
     except ValueError:
@@ -116,16 +119,17 @@ def pieces_of(text):
 
 
 def ran(program, words, text):
-    """The status, output and errors of a program; a status of its own where it takes too long."""
+    """Runs a program; returns its status, or a text if it exceeds the time limit, and its standard
+    output and error."""
     try:
         made = subprocess.run([str(program), *words], input=text, capture_output=True, timeout=SLOWEST)
         return made.returncode, made.stdout, made.stderr
     except subprocess.TimeoutExpired:
-        return "takes too long", b"", b""
+        return "exceeds the time limit", b"", b""
 
 
 def ran_by_bytes(program, words, text):
-    """The same with the input byte by byte."""
+    """Runs a program as `ran` does, with its input byte by byte."""
     process = subprocess.Popen([str(program), *words], stdin=subprocess.PIPE, stdout=subprocess.PIPE, stderr=subprocess.PIPE, bufsize=0)
     try:
         for byte in text:
@@ -137,12 +141,13 @@ def ran_by_bytes(program, words, text):
     except subprocess.TimeoutExpired:
         process.kill()
         process.wait()
-        return "takes too long", b"", b""
+        return "exceeds the time limit", b"", b""
     return process.returncode, output, errors
 
 
 def is_right(made):
-    """Whether a program may end so: all done with no fault, or the input is wrong and nothing is printed. A warning is no fault."""
+    """Whether a result is valid: success without a fault, or status 2 with `fault: input` and no
+    output. Warnings are ignored."""
     status, output, errors = made
     errors = b"".join(line for line in errors.splitlines(True) if b": warning: " not in line)
     return (status == 0 and errors == b"") or (status == 2 and output == b"" and errors in FAULTS)
@@ -156,7 +161,7 @@ def keep(title, text):
 
 
 def fuzz(title, program, words, is_hex, seeds, seconds, chance):
-    """Gives a program changed inputs for so many seconds. Counts what came of them."""
+    """Runs a program with changed inputs for some seconds; returns the number of each result."""
     found, end, turn = collections.Counter(), time.monotonic() + seconds, 0
     twin = pathlib.Path(f"{program}.by-rattle")
     others = [pieces_of(seed) for seed in seeds] if is_hex else seeds
@@ -174,22 +179,23 @@ def fuzz(title, program, words, is_hex, seeds, seconds, chance):
             if chance.randrange(16) == 0:
                 text = changed(text, chance, [text])
         made = ran(program, words, text)
-        found["done" if made[0] == 0 else "input is wrong" if made[0] == 2 else "WRONG"] += 1
+        found["done" if made[0] == 0 else "wrong input" if made[0] == 2 else "WRONG"] += 1
         if not is_right(made):
-            check(f"{title}: ends as it may", False, made, keep(title, text))
+            check(f"{title}: a valid result", False, made, keep(title, text))
         if len(text) <= 2_000 and turn % 4 == 0:
-            found["again byte by byte"] += 1
+            found["repeated byte by byte"] += 1
             if ran_by_bytes(program, words, text) != made:
-                check(f"{title}: the same byte by byte", False, keep(title, text))
+                check(f"{title}: the same result byte by byte", False, keep(title, text))
         if twin.exists() and turn % 4 == 2:
-            found["again by the other compiler"] += 1
+            found["repeated with the other compiler"] += 1
             if ran(twin, words, text) != made:
-                check(f"{title}: the same by the other compiler", False, keep(title, text))
+                check(f"{title}: the same result with the other compiler", False, keep(title, text))
     return found
 
 
 def by_afl(title, program, words, seeds, seconds):
-    """Has AFL++ change the inputs of a program, without looking into it. How many runs it made, and how many inputs it kept as crashes and hangs."""
+    """Fuzzes a program with AFL++ without instrumentation. Returns the number of runs, and the
+    numbers of inputs that crash or hang."""
     with tempfile.TemporaryDirectory() as folder:
         folder = pathlib.Path(folder)
         (folder / "in").mkdir()
@@ -217,7 +223,7 @@ def main():
     options = parser.parse_args()
     for executable in (SERVER, PLAYER, HEAD_END):
         if not os.access(executable, os.X_OK):
-            print(f"{executable} is not there: run the gate, or `rt run` in its crate")
+            print(f"{executable} is missing: run bin/test, or `rt run` in its crate")
             print("0 passed, 1 failed")
             return 1
     has_afl = shutil.which("afl-fuzz")
@@ -228,7 +234,7 @@ def main():
         check(f"{title}: nothing wrong", not found["WRONG"])
         if has_afl:
             count, kept = by_afl(title, program, words, seeds, max(share, 5))
-            print(f"{title}: AFL++: {count} runs, crashes and hangs {kept}")
+            print(f"{title}: AFL++: {count} runs, (crashes, hangs): {kept}")
             check(f"{title}: AFL++ finds nothing", count is not None and kept == (0, 0), kept)
     if not has_afl:
         print("SKIPPED AFL++: afl-fuzz is not installed")

@@ -1,7 +1,9 @@
 #!/usr/bin/env python3
-"""Runs `meter_server serve` among clients that mean harm, and `head_end run` against meters that never answer: silence, bytes one by one, wrong passwords, more clients
-than places, clients that stop within a frame, never read their answers or reset the connection, and eight that ask at full speed beside a busy console. Each trace
-is played to the replies that the clients saw; threads, descriptors and memory of the server are looked at. Ends by itself: every wait is bounded.
+"""Tests `meter_server serve` with hostile clients and `head_end run` with meters that never answer:
+silence, single bytes, wrong passwords, more clients than sessions, clients that stop within a
+frame, never read their responses or reset the connection, and eight clients at full speed with a
+busy console. Each trace must play to the replies that the clients saw; the threads, descriptors and
+memory of the server are checked. Every wait has a time limit.
 
 usage: tests/hostile.py [--long]     (--long: ten times as many rounds)"""
 
@@ -14,7 +16,7 @@ import sys
 import threading
 import time
 
-sys.dont_write_bytecode = True  # the modules beside this one leave nothing behind
+sys.dont_write_bytecode = True  # importing the modules of tests/ leaves no files
 
 import serving
 from campaigns import HEAD_END, run_head_end
@@ -40,13 +42,14 @@ class Watch:
         self.first = self.now()
 
     def now(self):
-        """How many threads and descriptors there are, and how many KiB are resident."""
+        """The numbers of threads and descriptors, and the resident KiB."""
         with open(f"{self.place}/status") as status:
             resident = int(re.search(r"VmRSS:\s+(\d+) kB", status.read())[1])
         return count_of(f"{self.place}/task"), count_of(f"{self.place}/fd"), resident
 
     def has_no_more(self):
-        """Whether there are no more threads and descriptors than at first, within the time that things take."""
+        """Whether, within the time limit, there are no more threads and descriptors than at the
+        start."""
         end = time.monotonic() + PATIENCE
         while time.monotonic() < end:
             if all(now <= first for now, first in zip(self.now()[:2], self.first[:2])):
@@ -56,7 +59,7 @@ class Watch:
 
 
 def one_more(server):
-    """A client comes and goes, at whose coming the server joins the sessions that have ended."""
+    """Serves one more client: when it connects, the server joins the sessions that have ended."""
     client = again_served(server)
     client.get(STATE)
     client.close()
@@ -66,18 +69,18 @@ def one_more(server):
 def silent_clients_are_closed(name):
     server = Server("--inactivity", "1", "--stop-with-input")
     silent = [Client(server.port) for _ in range(SESSIONS)]
-    check(f"{name}: the eight are there", server.wait_for(b"connected", SESSIONS))
+    check(f"{name}: eight are connected", server.wait_for(b"connected", SESSIONS))
     check(f"{name}: a ninth is turned away", Client(server.port).is_closed())
     begun = time.monotonic()
     check(f"{name}: all are closed", all(client.is_closed() for client in silent) and time.monotonic() - begun < 10)
     seen = one_more(server)
     status, trace, errors = server.ended()
-    check(f"{name}: then another is served", status == 0 and played(trace) == seen, status, errors)
-    check(f"{name}: told", errors.count("nothing came in time") == SESSIONS, errors)
+    check(f"{name}: another is served then", status == 0 and played(trace) == seen, status, errors)
+    check(f"{name}: reported", errors.count("nothing came in time") == SESSIONS, errors)
 
 
 def a_slow_client_holds_one_place(name):
-    """It gives a byte just in time; its session lasts as long as a session may, and no longer."""
+    """A client sends each byte just within the time limit; the limit of the session ends it."""
     server = Server("--inactivity", "1", "--session", "4", "--stop-with-input")
     slow = Client(server.port, PUBLIC)
     begun, sent = time.monotonic(), 0
@@ -111,7 +114,8 @@ def a_meter_that_never_answers_costs_its_limit(name):
 
 
 def wrong_clients_reach_no_meter(name):
-    """Wrong passwords, foreign ports, calls without an association and a ninth client leave no event."""
+    """Wrong passwords, unknown ports, calls without an association and a ninth client leave no
+    event."""
     server = Server("--stop-with-input")
     tried = 0
     for password in ("", "1", "1234567", "12345679", "123456789", "87654321", "x" * 32):
@@ -128,7 +132,7 @@ def wrong_clients_reach_no_meter(name):
     places = [again_served(server) for _ in range(SESSIONS)]
     ninths = [Client(server.port) for _ in range(HUNDRED)]
     check(f"{name}: a ninth and a hundredth are closed without a byte", all(client.is_closed() for client in ninths))
-    check(f"{name}: told", server.wait_for(TURNED_AWAY, HUNDRED), server.errors.count(TURNED_AWAY))
+    check(f"{name}: reported", server.wait_for(TURNED_AWAY, HUNDRED), server.errors.count(TURNED_AWAY))
     for client in (*places, *ninths):
         client.close()
     status, trace, errors = server.ended()
@@ -137,7 +141,8 @@ def wrong_clients_reach_no_meter(name):
 
 
 def ask_at_random(client, chance, count):
-    """Requests of all kinds, some of them in blocks and lists; a write of blocks that stops within is refused later."""
+    """Requests of all kinds, some with blocks and lists; a block write that was not finished is
+    refused later."""
     for _ in range(count):
         what = chance.randrange(8)
         if what == 0:
@@ -156,7 +161,7 @@ def ask_at_random(client, chance, count):
 
 
 def busy(server, number, rounds, kept):
-    """One of eight clients: sessions one after the other, each opened and closed."""
+    """One of eight clients: opens and closes sessions one after the other."""
     chance = random.Random(number)
     for _ in range(rounds):
         try:
@@ -187,7 +192,7 @@ def started(works):
 
 
 def in_threads(works):
-    """Does all side by side; whether all end."""
+    """Runs all functions in parallel; returns whether all end."""
     threads = started(works)
     for thread in threads:
         thread.join(PATIENCE * 10)
@@ -197,27 +202,28 @@ def in_threads(works):
 def eight_clients_at_full_speed(name):
     rounds = 10 if not is_long else 100
     begun, events, sessions = time.monotonic(), 0, 0
-    for _ in range(rounds):  # (a trace has 1,024 events at most)
+    for _ in range(rounds):  # (a trace has at most 1,024 events)
         server = Server("--depth", "1024", "--stop-with-input")
         one_more(server)
         watch, kept = Watch(server.process), []
         all_ended = in_threads([(busy, server, number, 4, kept) for number in range(SESSIONS)] + [(busy_console, server, 60)])
         check(f"{name}: all end", all_ended)
         one_more(server)
-        check(f"{name}: no thread or descriptor is left over", watch.has_no_more(), watch.first, watch.now())
+        check(f"{name}: no thread or descriptor is leaked", watch.has_no_more(), watch.first, watch.now())
         status, trace, errors = server.ended()
         check(f"{name}: end", status == 0 and "fault" not in errors, status, errors[-500:])
         history = played(trace)
         found = sum(stands_in(client.seen, history) for client in kept)
-        check(f"{name}: what the clients saw stands in the trace", found == len(kept), found, len(kept))
+        check(f"{name}: the trace has what the clients saw", found == len(kept), found, len(kept))
         blocks = sum(event.startswith(("samples", "pairs")) for event, _ in history)
-        check(f"{name}: the console's lines too", blocks == 120 and sum(event == "button" for event, _ in history) == 60, blocks)
+        check(f"{name}: the trace has the lines of the console", blocks == 120 and sum(event == "button" for event, _ in history) == 60, blocks)
         events, sessions = events + len(history), sessions + len(kept)
     print(f"{name}: {sessions} sessions, {events} events, {time.monotonic() - begun:.1f} s")
 
 
 def a_soak_keeps_its_memory(name):
-    """The same with one server, which keeps 64 events: once these are full, and each place was taken, memory stays."""
+    """Checks that the memory of a server with 64 events does not grow once the events and all
+    sessions have been used."""
     rounds = 12 if not is_long else 120
     begun, sessions, sizes = time.monotonic(), 0, []
     server = Server("--depth", "64", "--stop-with-input")
@@ -228,7 +234,7 @@ def a_soak_keeps_its_memory(name):
         sessions += len(kept)
         sizes.append(watch.now()[2])
     half = rounds // 2
-    check(f"{name}: memory stays", max(sizes[half:]) <= max(sizes[:half]) + 1024, sizes)
+    check(f"{name}: memory does not grow", max(sizes[half:]) <= max(sizes[:half]) + 1024, sizes)
     one_more(server)
     status, trace, errors = server.ended()
     check(f"{name}: end", status == 0 and "fault" not in errors and len(played(trace)) == 64, status, errors[-500:])
@@ -250,7 +256,8 @@ def resets(server, chance):
 
 
 def never_reads(server, chance):
-    """Asks for the object list again and again, and takes no answer, until the meter closes the connection."""
+    """Requests the object list again and again without reading, until the meter closes the
+    connection."""
     client = again_served(server)
     frame = bytes.fromhex("000100010001000DC001C1000F0000280000FF0200")
     try:
@@ -287,7 +294,7 @@ def attack(server, script, count):
     for _ in range(count):
         try:
             script(server, chance)
-        except (AssertionError, Vanished, OSError):  # (turned away, or closed)
+        except (AssertionError, Vanished, OSError):  # (turned away or closed)
             time.sleep(0.01)
 
 
@@ -312,11 +319,11 @@ def hostile_clients_beside_a_good_one(name):
     check(f"{name}: all end", not any(thread.is_alive() for thread in threads))
     good.close()
     one_more(server)
-    check(f"{name}: no thread or descriptor is left over", watch.has_no_more(), watch.first, watch.now())
+    check(f"{name}: no thread or descriptor is leaked", watch.has_no_more(), watch.first, watch.now())
     status, trace, errors = server.ended()
     check(f"{name}: end", status == 0 and "fault" not in errors, status, errors[-500:])
-    check(f"{name}: what the good client saw last stands in the trace", stands_in(good.seen[-50:], played(trace)))
-    check(f"{name}: one who took no answer was closed", "nothing was taken in time" in errors)
+    check(f"{name}: the trace has what the good client saw last", stands_in(good.seen[-50:], played(trace)))
+    check(f"{name}: a client that does not read is closed", "nothing was taken in time" in errors)
     print(f"{name}: {errors.count('connected')} connections, {len(good.seen)} answers to the good one, the slowest in {slowest:.2f} s, "
           f"resident {watch.first[2]} to {max(sizes)} KiB, {time.monotonic() - begun:.1f} s")
 
@@ -334,7 +341,7 @@ def main():
     is_long = parser.parse_args().long
     for executable in (SERVER, PLAYER, HEAD_END):
         if not os.access(executable, os.X_OK):
-            print(f"{executable} is not there: run the gate, or `rt run` in its crate")
+            print(f"{executable} is missing: run bin/test, or `rt run` in its crate")
             print("0 passed, 1 failed")
             return 1
     for function in (silent_clients_are_closed, a_slow_client_holds_one_place, a_meter_that_never_answers_costs_its_limit, wrong_clients_reach_no_meter,

@@ -1,7 +1,8 @@
 #!/usr/bin/env python3
-"""Runs the blocks of commands that README.md shows, each as one script, to the letter, and compares what they print with what is shown.
+"""Runs each block of commands in README.md as a script, and compares the output with what README.md
+shows.
 
-usage: tests/readme.py     (the programs are built; port 4059 of the loopback interface is free)"""
+usage: tests/readme.py     (needs the built programs, and port 4059 of the loopback interface)"""
 import os
 import socket
 import subprocess
@@ -11,7 +12,7 @@ from pathlib import Path
 TOP = Path(__file__).resolve().parent.parent
 SECTIONS = ("First commands", "A session over a socket")
 PORT = 4059
-FILES = ("run.trace", "run.log")  # what the blocks write
+FILES = ("run.trace", "run.log")  # the files that the blocks write
 
 
 def block_of(text, heading):
@@ -31,7 +32,8 @@ def is_free(port):
 
 
 def run_block(lines):
-    """Runs the commands of a block as one script. Returns what it printed on standard output, and all that it printed on standard error."""
+    """Runs the commands of a block as a script. Returns the lines of standard output, and standard
+    error."""
     script = "\n".join(it[2:] for it in lines if it.startswith("$ "))
     ran = subprocess.run(["bash", "-c", script], cwd=TOP, capture_output=True, text=True, timeout=600, env={**os.environ})
     return ran.stdout.splitlines(), ran.stderr
@@ -42,7 +44,8 @@ def shown(lines):
 
 
 def check(heading):
-    """Whether a section's block prints what it shows. The paths that `bin/build` prints are not shown."""
+    """Whether the block of a section prints what it shows, without the paths that `bin/build`
+    prints."""
     lines = block_of((TOP / "README.md").read_text(), heading)
     printed, errors = run_block(lines)
     printed = [it for it in printed if not it.startswith(f"{TOP}/crates/")]

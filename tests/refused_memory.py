@@ -1,8 +1,10 @@
 #!/usr/bin/env python3
-"""Refuses each allocation in turn, over the executables that the gate left: in the tests of `refusal_tests` (the recorder's `apply`, a port's `call`, `serve_session`,
-`play`), in a test of the sampler, in the programs, in a campaign, and in a meter that serves two clients; of that meter each thread too. Prints how many were refused in each and what stood afterwards.
+"""Makes each allocation in turn fail, in the executables that the gate left: the tests of
+`refusal_tests` (the recorder's `apply`, a port's `call`, `serve_session`, `play`), a test of the
+sampler, the programs, a campaign, and a meter that serves two clients; for that meter also the
+start of each thread. Prints the number of failed allocations of each, and the results.
 
-usage: tests/refused_memory.py [--long]     (--long: every allocation, in place of the first, the last and some between)"""
+usage: tests/refused_memory.py [--long]     (--long: every allocation, instead of the first, the last and some between)"""
 
 import argparse
 import collections
@@ -10,7 +12,7 @@ import contextlib
 import os
 import sys
 
-sys.dont_write_bytecode = True  # the modules beside this one leave nothing behind
+sys.dont_write_bytecode = True  # importing the modules of tests/ leaves no files
 
 import serving
 from command_lines import AARE, AARQ, GET_STATE, GOT_STATE, TRACE
@@ -22,7 +24,7 @@ from campaigns import HEAD_END
 
 CALLS = os.environ.get("REFUSAL_TESTS") or TOP / "crates" / "refusal_tests" / "out" / "refusal_tests_tests"
 RUNS = os.environ.get("RUN_TESTS") or TOP / "crates" / "run_tests" / "out" / "run_tests_tests"
-# Its test of the sampler, which looks at the scan of each block.
+# The test of the sampler, which checks the scan of each block.
 SAMPLER = "sampling::blocks_are_scanned_with_the_thresholds_read_last"
 
 MEMORY = b"fault: memory\n"
@@ -31,24 +33,25 @@ is_long = False
 refusing = None
 
 
-def told(name, found, word="refused"):
-    """Prints how many calls that were refused, or failed, came to what."""
+def print_counts(name, found, word="allocations refused"):
+    """Prints the number of refused or failed calls, and the number of each result."""
     print(f"{name}: {sum(found.values())} {word}: " + ", ".join(f"{count} {what}" for what, count in sorted(found.items())))
 
 
 def each_refusal(run, count):
-    """What `run` tells of each allocation's refusal, counted. It is given the number of the allocation."""
+    """Counts the results of `run` over the refused allocations. `run` takes the number of the
+    allocation."""
     return collections.Counter(run(number) for number in turns(count, is_long))
 
 
 def verdict(ran):
-    """What a test of `refusal_tests` found."""
+    """The result of a test of `refusal_tests`."""
     text = ran.output + ran.errors
     if ran.status == 0:
         return "went unnoticed"
     if b"RefusedAndStood" in text:
-        return "in the call, and all stood"
-    return "beside the call" if b"AllocError" in text or b"OutOfMemory" in text else "WRONG"
+        return "in the call, and nothing changed"
+    return "outside the call" if b"AllocError" in text or b"OutOfMemory" in text else "WRONG"
 
 
 def calls_are_refused_memory(name):
@@ -58,21 +61,22 @@ def calls_are_refused_memory(name):
     for one in names:
         ample = refusing.run([CALLS, one])
         found = each_refusal(lambda number: verdict(refusing.run([CALLS, one], refuse_memory=number)), ample.allocations)
-        told(one, found)
+        print_counts(one, found)
         check(f"{name}: {one}: ample memory", ample.status == 0, ample)
-        check(f"{name}: {one}", found["in the call, and all stood"] > 0 and not found["WRONG"], found)
+        check(f"{name}: {one}", found["in the call, and nothing changed"] > 0 and not found["WRONG"], found)
 
 
 def a_read_of_thresholds_is_refused_memory(name):
     ample = refusing.run([RUNS, SAMPLER])
-    # (each allocation in turn, also in the short form: a read makes few of them)
+    # (every allocation even without --long: a read makes few)
     found = collections.Counter(verdict(refusing.run([RUNS, SAMPLER], refuse_memory=number)) for number in range(1, ample.allocations + 1))
-    told("a sampler that reads the thresholds", found)
+    print_counts("a sampler that reads the thresholds", found)
     check(f"{name}: ample memory", ample.status == 0, ample)
-    check(name, found["in the call, and all stood"] > 0 and not found["WRONG"], found)
+    check(name, found["in the call, and nothing changed"] > 0 and not found["WRONG"], found)
 
 
-# A program, its words, its input, and whether it may have written the first of its lines where it was refused memory; else it has written nothing.
+# A program, its arguments, its input, and whether it may write its first lines before it runs out
+# of memory.
 PROGRAMS = [
     ("meter_server apdu", SERVER, ["apdu"], b"C001C10046000060030AFF0300\nC101C10046000060030AFF04001602\nC001C1000F0000280000FF0200\n", False),
     ("meter_server hex", SERVER, ["hex", "--password", PASSWORD], AARQ + GET_STATE + GET_OBJECTS, True),
@@ -82,7 +86,8 @@ PROGRAMS = [
 
 
 def after_refusal(ran, ample, writes_first):
-    """What a program did: as with ample memory, or the fault, with the first lines or none."""
+    """The result of a refused allocation: the output of a run with ample memory, or the fault after
+    the first lines or none."""
     if (ran.status, ran.output, ran.errors) == (0, ample.output, b""):
         return "went unnoticed"
     if ran.status != 4 or ran.errors != MEMORY:
@@ -97,18 +102,18 @@ def programs_are_refused_memory(name):
     for title, program, words, text, writes_first in PROGRAMS:
         ample = refusing.run([program, *words], text)
         found = each_refusal(lambda number: after_refusal(refusing.run([program, *words], text, refuse_memory=number), ample, writes_first), ample.allocations)
-        told(title, found)
+        print_counts(title, found)
         check(f"{name}: {title}: ample memory", ample.status == 0 and ample.output, ample)
         check(f"{name}: {title}", found["nothing written"] > 0 and not any("WRONG" in what for what in found), found)
     check(f"{name}: the session is the stored one", refusing.run([SERVER, "hex", "--password", PASSWORD], AARQ + GET_STATE).output == AARE + GOT_STATE)
 
 
-# The meters of a campaign of four disconnect jobs, and the rows that they bring.
+# The meters of a campaign of four disconnect jobs, and the rows of their jobs.
 METERS = [(does_it, "done 0"), (rejects, "rejected 1"), (closes_without_answer, "unknown"), (refuses, "refused 250")]
 
 
 def campaign_refused(jobs, number):
-    """What a campaign told."""
+    """The result of a campaign with a refused allocation."""
     ran = refusing.run([HEAD_END, "run", "--password", PASSWORD, "--workers", "2", "--timeout", "5"], jobs, refuse_memory=number)
     if ran.status == 4 and ran.errors == MEMORY and not ran.output:
         return "WRONG: a connection" if ran.connections else "whole: no connection"
@@ -125,7 +130,7 @@ def a_campaign_is_refused_memory(name):
     wanted = "".join(f"m{number} {row}\n" for number, (_, row) in enumerate(METERS)).encode()
     check(f"{name}: ample memory", (ample.status, ample.output) == (0, wanted), ample)
     found = each_refusal(lambda number: campaign_refused(jobs, number), ample.allocations)
-    told("a campaign of four jobs", found)
+    print_counts("a campaign of four jobs", found)
     check(name, found["whole: no connection"] and found["one job's row"] and not any("WRONG" in what for what in found), found)
     for meter in meters:
         meter.stop()
@@ -134,7 +139,8 @@ def a_campaign_is_refused_memory(name):
 
 
 def talk(client):
-    """What a client asks for until it has all its answers or is closed: True where it has them."""
+    """Runs the requests of a client. True if all were answered, False if the connection was
+    closed."""
     try:
         client.associate()
         client.set(MODE, "1602")
@@ -150,10 +156,11 @@ def talk(client):
 
 
 def served_refused(number, what="refuse_memory"):
-    """What came of two clients that one after the other talk to a meter, and whether its trace tells what they saw."""
+    """Serves two clients, one after the other, with a refused call. Returns whether the trace has
+    what they saw."""
     server = Server("--connections", "2", environment=refusing.environment(**{what: number}))
     if server.process.poll() is None:
-        server.end_input()  # (where the server takes no client, it ends with its console)
+        server.end_input()  # (a server that accepts no client ends with its console)
     clients, whole = [], 0
     for _ in range(2):
         try:
@@ -168,31 +175,33 @@ def served_refused(number, what="refuse_memory"):
     if not trace:
         return f"the fault, {whole} of 2 clients with all answers" if is_fault else "WRONG: no trace"
     history = played(trace)
-    # (a list's reading is an event of each client that the client does not keep; and a call whose answer found no memory is one)
+    # (each client reads a list, which it does not record; and a call is an event even if there is
+    # no memory for its response)
     if not all(stands_in(client.seen, history) for client in clients) or len(history) > sum(len(client.seen) + 1 for client in clients):
         return f"WRONG: a trace of {len(history)} events"
-    return f"{'the fault, and ' * is_fault}the trace tells all, {whole} of 2 clients with all answers"
+    return f"{'the fault, and ' * is_fault}the trace is complete, {whole} of 2 clients with all answers"
 
 
 def a_meter_that_serves_is_refused_memory(name):
     ample = served_refused(0)
     count = refusing.counts()[0]
-    check(f"{name}: ample memory", ample == "the trace tells all, 2 of 2 clients with all answers", ample)
+    check(f"{name}: ample memory", ample == "the trace is complete, 2 of 2 clients with all answers", ample)
     found = each_refusal(served_refused, count)
-    told("meter_server serve", found)
+    print_counts("meter_server serve", found)
     check(name, not any("WRONG" in what for what in found), found)
 
 
-# Of a meter that serves two clients these threads are begun: for the console, for the workers of blocks, moments and presses, and for the two clients.
+# The threads of a meter that serves two clients: the console, the workers of blocks, moments and
+# presses, and the two clients.
 THREADS = 6
 
 
 def a_meter_that_serves_is_refused_threads(name):
     ample = served_refused(0, "refuse_thread")
     count = refusing.counts()[4]
-    check(f"{name}: none refused", (ample, count) == ("the trace tells all, 2 of 2 clients with all answers", THREADS), ample, count)
-    for number, wanted in enumerate(["the fault, 0 of 2 clients with all answers"] + 3 * ["the fault, and the trace tells all, 0 of 2 clients with all answers"]
-                                    + 2 * ["the fault, and the trace tells all, 1 of 2 clients with all answers"], start=1):
+    check(f"{name}: none refused", (ample, count) == ("the trace is complete, 2 of 2 clients with all answers", THREADS), ample, count)
+    for number, wanted in enumerate(["the fault, 0 of 2 clients with all answers"] + 3 * ["the fault, and the trace is complete, 0 of 2 clients with all answers"]
+                                    + 2 * ["the fault, and the trace is complete, 1 of 2 clients with all answers"], start=1):
         found = served_refused(number, "refuse_thread")
         check(f"{name}: thread {number} of {THREADS}", found == wanted, found)
 
@@ -200,7 +209,7 @@ def a_meter_that_serves_is_refused_threads(name):
 def a_press_is_not_made_without_its_thread(name):
     for number in (0, 2, 3, 4):
         server = Server("--connections", "1", environment=refusing.environment(refuse_thread=number))
-        # (a server that lacks a thread may have ended by then)
+        # (a server without a thread may have ended)
         with contextlib.suppress(OSError):
             server.say("button")
         with contextlib.suppress(OSError):
@@ -220,7 +229,7 @@ def main():
     is_long = parser.parse_args().long
     for executable in (CALLS, RUNS, SERVER, PLAYER, HEAD_END):
         if not os.access(executable, os.X_OK):
-            print(f"{executable} is not there: run the gate, or `rt run` in its crate")
+            print(f"{executable} is missing: run bin/test, or `rt run` in its crate")
             print("0 passed, 1 failed")
             return 1
     refusing = Refusing()

@@ -1,6 +1,9 @@
-/* Stands between a program and the C library, for tests/refusing.py: refuses one allocation or one thread, or fails, shortens or interrupts one read or write.
-   The environment says which, counted from 1: REFUSE_MEMORY, REFUSE_THREAD, FAIL_STREAM, SHORT_STREAM, INTERRUPT_STREAM. At the program's end the file REFUSING_REPORT
-   gets a line of numbers: allocations, reads and writes, writes on the failed stream after its failure, connections and threads begun. Standard error is left alone. */
+/* Preloaded between a program and the C library, for tests/refusing.py: refuses one allocation or one
+   thread, or fails, shortens or interrupts one read or write. These variables have the number of that call,
+   from 1: REFUSE_MEMORY, REFUSE_THREAD, FAIL_STREAM, SHORT_STREAM, INTERRUPT_STREAM. When the program ends,
+   a line of numbers is written to the file REFUSING_REPORT: allocations, reads and writes, writes to the
+   failed stream after its failure, connections, and started threads. Writes to standard error are not
+   counted and never fail. */
 
 typedef unsigned long size;
 typedef long count;
@@ -84,7 +87,7 @@ int pthread_create(void *thread, const void *attributes, void *(*work)(void *), 
     return next(thread, attributes, work, argument);
 }
 
-/* How many bytes this read or write may move: fewer where it is to be short, none where it fails. */
+/* The number of bytes that this read or write may transfer: 1 if it must be short, -1 if it must fail. */
 static count allowed(int file, size bytes, int is_write) {
     if (file == STANDARD_ERROR) return (count)bytes;
     if (is_write && file == failed) __sync_add_and_fetch(&late, 1);

@@ -1,4 +1,5 @@
-"""Runs programs of which one allocation, thread, read or write is refused: by tests/refusing.c between them and the C library, which the toolchain's own compiler builds."""
+"""Runs programs with one allocation, thread, read or write refused. tests/refusing.c, which the
+toolchain's compiler builds, is preloaded between the program and the C library."""
 
 import os
 import pathlib
@@ -13,7 +14,8 @@ TARGET = "--target=x86_64-unknown-linux-gnu"
 
 
 class Ran(NamedTuple):
-    """What came of a program, how many allocations, and reads and writes it made, writes on a stream after that had failed, connections and threads."""
+    """The result of a program, and the numbers of its allocations, reads and writes, writes to a
+    stream that had failed, connections and threads."""
 
     status: int
     output: bytes
@@ -32,7 +34,7 @@ def toolchain():
 
 
 def library_in(folder):
-    """Builds the library that refuses."""
+    """Builds the library that refuses calls."""
     kit = toolchain()
     made, linked = folder / "refusing.o", folder / "refusing.so"
     for words in ([kit / "bin" / "clang", TARGET, f"--sysroot={kit}", "--no-default-config", "-O1", "-fPIC", "-c", SOURCE, "-o", made],
@@ -42,7 +44,7 @@ def library_in(folder):
 
 
 class Refusing:
-    """The library that refuses, in a folder of its own, and the programs that are run with it."""
+    """The library that refuses calls, in a folder of its own, and the programs that run with it."""
 
     def __init__(self):
         self.kept = tempfile.TemporaryDirectory()
@@ -51,13 +53,14 @@ class Refusing:
         self.report = self.folder / "report"
 
     def environment(self, **which):
-        """What has a program's one call refused: `refuse_memory`, `refuse_thread`, `fail_stream`, `short_stream` or `interrupt_stream`, with its number."""
+        """The environment in which one call is refused: `refuse_memory`, `refuse_thread`,
+        `fail_stream`, `short_stream` or `interrupt_stream`, with the number of the call."""
         self.report.unlink(missing_ok=True)
         named = {name.upper(): str(number) for name, number in which.items()}
         return {"LD_PRELOAD": str(self.library), "REFUSING_REPORT": str(self.report), **named}
 
     def counts(self):
-        """What was counted when the program last run ended; zeros where it did not end by itself."""
+        """The counts of the last program; zeros if it was killed."""
         try:
             return [int(number) for number in self.report.read_text().split()]
         except FileNotFoundError:
@@ -73,7 +76,8 @@ class Refusing:
 
 
 def turns(count, is_long):
-    """Which calls of so many are refused: all, or the first eight, the last eight and eight between."""
+    """The numbers of the calls to refuse, of `count`: all, or the first eight, the last eight and
+    about eight between."""
     if is_long or count <= 24:
         return range(1, count + 1)
     between = range(9, count - 7, max(1, (count - 16) // 8))

@@ -1,4 +1,4 @@
-"""Meters that follow a script, for tests of the head end: each keeps what it got from its clients."""
+"""Meters that follow a script, for tests of the head end. Each records what its clients sent."""
 
 import multiprocessing
 import random
@@ -10,7 +10,8 @@ import time
 
 from serving import AARE, PATIENCE, REFUSED
 
-# What the head end sends, framed from port 1 to port 1, with the password 12345678 (IEC 62056-4-7, IEC 62056-5-3).
+# The frames of the head end, from port 1 to port 1, with the password 12345678 (IEC 62056-4-7, IEC
+# 62056-5-3).
 AARQ = bytes.fromhex("00010001000100386036A1090607608574050801018A0207808B0760857405080201AC0A80083132333435363738BE10040E01000000065F1F0400001C190400")
 REQUESTS = {
     "disconnect": bytes.fromhex("000100010001000FC301C10046000060030AFF01010F00"),
@@ -19,8 +20,8 @@ REQUESTS = {
 }
 RELEASE = bytes.fromhex("00010001000100056203800100")
 
-OPENED = AARE + "001C1904000007"  # with get, set and action
-WITHOUT_SERVICE = AARE + "00000804000007"  # with set alone
+OPENED = AARE + "001C1904000007"  # conformance: get, set and action
+WITHOUT_SERVICE = AARE + "00000804000007"  # conformance: only set
 
 
 def framed(payload, source=1, destination=1):
@@ -32,7 +33,7 @@ class Left(Exception):
 
 
 class Talk:
-    """One connection of a client: the frames that came, and what came behind them."""
+    """A connection of a client: the frames received, and the bytes after the last of them."""
 
     def __init__(self, stream):
         self.stream = stream
@@ -51,7 +52,7 @@ class Talk:
         self.text += piece
 
     def take(self):
-        """The next frame."""
+        """Receives the next frame."""
         while len(self.text) < 8 or len(self.text) < self.length():
             self.more()
         length = self.length()
@@ -72,23 +73,24 @@ class Talk:
         self.send_bytes(b"".join(framed(payload) for payload in payloads))
 
     def reset(self):
-        """Leaves the connection without its end."""
+        """Makes the close a reset of the connection."""
         self.stream.setsockopt(socket.SOL_SOCKET, socket.SO_LINGER, struct.pack("ii", 1, 0))
 
     def open(self, payload=OPENED):
-        """Answers the AARQ, and gives the request that comes then."""
+        """Answers the AARQ and returns the request that follows."""
         self.take()
         self.send(payload)
         return self.take()
 
     def to_the_end(self):
-        """Takes all that comes until the client closes the connection."""
+        """Receives until the client closes the connection."""
         while True:
             self.take()
 
 
 class ScriptedMeter:
-    """Plays a script with each client, one after the other, and keeps each talk. A script that returns True closes the connection; else the client has to."""
+    """Plays a script with each client, one after the other, and keeps each Talk. If the script
+    returns True, the meter closes the connection; else it waits for the client to close it."""
 
     def __init__(self, script):
         self.script = script
@@ -114,7 +116,7 @@ class ScriptedMeter:
             self.talks.append(talk)
 
     def talked(self, times):
-        """Its talks, once there are so many."""
+        """The talks, once there are `count`."""
         end = time.monotonic() + PATIENCE
         while len(self.talks) < times and time.monotonic() < end:
             time.sleep(0.005)
@@ -130,7 +132,7 @@ class ScriptedMeter:
 
 
 def answer_to(request, code="00", state="00"):
-    """The answer to a request: a result of an action, or a control state."""
+    """The response to a request: the result of an action, or a control state."""
     return f"C401C10016{state}" if request == REQUESTS["state"] else f"C701C1{code}00"
 
 
@@ -198,7 +200,8 @@ def says_too_long_a_frame(talk):
 
 
 def speaks_to_others_first(talk):
-    """Frames of other ports, each an answer that would count if its ports were 1, stand before the right ones."""
+    """Sends frames of other ports, which would be valid answers from port 1, before the right
+    ones."""
     others = b"".join(framed("C701C10200", *ports) for ports in ((16, 1), (1, 16), (2, 2), (0, 1))) + framed("00" * 1024, 1, 16)
     talk.take()
     talk.send_bytes(others + framed(REFUSED + "0D", 16, 1) + framed(OPENED))
@@ -249,7 +252,7 @@ def refuses(talk):
 
 
 def says_an_unknown_state(talk):
-    talk.send(answer_to(talk.open(), state="03").replace("C701C1", "C701C2"))  # and to an action the answer to another request
+    talk.send(answer_to(talk.open(), state="03").replace("C701C1", "C701C2"))  # the response to another invocation of the action
 
 
 def says_an_exception(talk):
@@ -257,7 +260,8 @@ def says_an_exception(talk):
     talk.send("D80101")
 
 
-# A script, what comes of a disconnect, a reconnect and a reading of the state, and how many frames it may get of one client.
+# A script, the outcomes of disconnect, reconnect and state, and the numbers of frames that one
+# client may send it.
 DONE, UNKNOWN = ("done 0",) * 3, ("unknown",) * 3
 SCRIPTS = [
     (does_it, DONE, (3,)),
@@ -275,7 +279,7 @@ SCRIPTS = [
     (says_too_long_a_frame, UNKNOWN, (2,)),
     (speaks_to_others_first, DONE, (3,)),
     (says_byte_by_byte, DONE, (3,)),
-    (says_more_than_asked, DONE, (2, 3)),  # the client may have closed with bytes unread, and so the release may be lost
+    (says_more_than_asked, DONE, (2, 3)),  # the client may close with unread bytes, so the release may be lost
     (drips, UNKNOWN, (1,)),
     (floods, UNKNOWN, (1,)),
     (rejects, ("rejected 1",) * 3, (1,)),
@@ -285,11 +289,12 @@ SCRIPTS = [
     (says_an_exception, UNKNOWN, (2,)),
 ]
 
-HOLDING = (is_silent, is_silent_later, drips, floods)  # these hold a client as long as it lets them
+HOLDING = (is_silent, is_silent_later, drips, floods)  # these block a client up to its time limit
 
 
 class Unheard:
-    """Addresses where nothing answers: a port without a listener, and one whose queue of connections is full."""
+    """Addresses where nothing answers: a port without a listener, and one whose queue of
+    connections is full."""
 
     def __init__(self):
         self.taken = socket.socket()
@@ -309,12 +314,13 @@ class Unheard:
 
 
 def kind(opening, disconnect=None, reconnect=None, state=None):
-    """A kind of meter: what it sends at an AARQ and at each request. Where there is no text, it closes the connection."""
+    """A kind of meter: its answers to an AARQ and to each request; an empty one closes the
+    connection."""
     answers = {"disconnect": disconnect, "reconnect": reconnect, "state": state}
     return opening, {verb: answer for verb, answer in answers.items() if answer}
 
 
-# The kinds of a crowd's meters, and what comes of a job of each verb.
+# The kinds of meters in a crowd, and the outcome of a job of each verb.
 CROWD = [
     (*kind(OPENED, "C701C10000", "C701C10000", "C401C1001600"), {"disconnect": "done 0", "reconnect": "done 0", "state": "done 0"}),
     (*kind(OPENED, "C701C10200", "C701C10300", "C401C10103"), {"disconnect": "refused 2", "reconnect": "refused 3", "state": "refused 3"}),
@@ -326,7 +332,8 @@ CROWD = [
 
 
 class Crowd:
-    """A process that answers any number of clients at once on a port for each kind of `CROWD`, and counts what it gets."""
+    """A process that answers any number of clients at once, on a port for each kind of `CROWD`, and
+    counts what they send."""
 
     def __init__(self):
         listeners = [socket.create_server(("127.0.0.1", 0), backlog=1024) for _ in CROWD]
@@ -339,8 +346,8 @@ class Crowd:
             listener.close()
 
     def counts(self):
-        """For each kind, how often it got a connection, an AARQ, a request of each verb and a release since it was asked last, and frames that are none of
-        these or not in this order. None where it doesn't answer."""
+        """For each kind, the numbers of connections, AARQs, requests of each verb, releases and
+        unexpected frames since the last call. None if the process does not answer."""
         self.pipe.send("counts")
         return self.pipe.recv() if self.pipe.poll(PATIENCE) else None
 
@@ -364,7 +371,7 @@ STAGES = {"aarq": 0, "disconnect": 1, "reconnect": 1, "state": 1, "release": 2}
 
 
 def text_for(kind, name):
-    """What a frame is answered by: bytes, none for a release, False where the connection is closed."""
+    """The answer to a frame: bytes, none for a release, False to close the connection."""
     opening, answers, _ = CROWD[kind]
     if name == "release":
         return b""
@@ -380,7 +387,8 @@ def fresh_counts():
 
 
 def answer_more(client, count):
-    """Takes what a client of the crowd sent, and answers it. False at its end."""
+    """Reads from a client of the crowd and answers it. False if the client has closed the
+    connection."""
     piece = client.stream.recv(4096)
     client.text += piece
     while len(client.text) >= 8 and len(client.text) >= (length := 8 + int.from_bytes(client.text[6:8], "big")):
@@ -400,7 +408,7 @@ def answer_more(client, count):
 
 
 def answer_all(listeners, others, pipe):
-    """The crowd's process, which ends with the one that started it."""
+    """The main function of the crowd's process, which ends when its parent does."""
     others.close()
     poll = select.epoll()
     clients, counts, is_asked = {}, fresh_counts(), False

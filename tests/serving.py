@@ -1,6 +1,7 @@
 #!/usr/bin/env python3
-"""Serves real clients: starts `meter_server serve` on a free port of the loopback interface, talks DLMS/COSEM to it through a client written here (AARQ, GET, SET,
-ACTION, blocks, lists and release over the TCP wrapper), and plays the traces that it prints through the trace player. Ends by itself: every wait is bounded."""
+"""Tests `meter_server serve` with clients over TCP on a free port of the loopback interface. The
+client is written here (AARQ, GET, SET, ACTION, blocks, lists and release over the TCP wrapper), and
+trace_player plays the traces that the server prints. Every wait has a time limit."""
 
 import os
 import pathlib
@@ -16,11 +17,11 @@ SERVER = os.environ.get("METER_SERVER") or TOP / "crates" / "meter_server_cli" /
 PLAYER = os.environ.get("TRACE_PLAYER") or TOP / "crates" / "trace_player_cli" / "out" / "trace_player_cli"
 
 PASSWORD = "12345678"
-PATIENCE = 20  # seconds that anything may take
+PATIENCE = 20  # the time limit of each wait, in seconds
 MANAGEMENT, PUBLIC = 1, 16
 SESSIONS = 8
 
-# What the client asks for: class, logical name and number (IEC 62056-6-2).
+# Attributes and methods: class, logical name and number (IEC 62056-6-2).
 SWITCH = (70, "000060030AFF")
 STATE, MODE = (*SWITCH, 3), (*SWITCH, 4)
 DISCONNECT, RECONNECT = (*SWITCH, 1), (*SWITCH, 2)
@@ -37,7 +38,7 @@ RELEASED = "6303800100"
 
 
 class Vanished(Exception):
-    """The server closed the connection, or sent nothing in time."""
+    """The server closed the connection or sent nothing within the time limit."""
 
 
 def described(place):
@@ -46,7 +47,8 @@ def described(place):
 
 
 class Client:
-    """A client of the meter. It keeps each request that its server's trace shall hold, as the trace's line, and the reply that came."""
+    """A client of the meter. It records each request that the server's trace must hold, as the line
+    of the trace, and the reply."""
 
     def __init__(self, port, source=MANAGEMENT):
         self.source = source
@@ -82,7 +84,7 @@ class Client:
         return self.received()
 
     def is_closed(self):
-        """Whether the server closed the connection with no byte sent."""
+        """Whether the server closed the connection without sending a byte."""
         try:
             return self.socket.recv(1) == b""
         except ConnectionResetError:
@@ -94,7 +96,7 @@ class Client:
         self.socket.close()
 
     def associate(self, password=PASSWORD, size="04B0", bits="00FEFF"):
-        """The answer to an AARQ; the management client gives the password."""
+        """Sends an AARQ, for the management client with the password, and returns the response."""
         secret = ""
         if self.source == MANAGEMENT:
             text = password.encode().hex().upper()
@@ -105,7 +107,7 @@ class Client:
     def release(self):
         return self.ask("6203800100")
 
-    def told(self, event, reply):
+    def record(self, event, reply):
         self.seen.append((event, reply))
         return reply
 
@@ -114,7 +116,7 @@ class Client:
         return f"{self.source} {kind} {name} {number}"
 
     def get(self, place):
-        """The Data that an attribute has, or the number of the refusal."""
+        """Reads an attribute and returns its Data or the result code."""
         answer = self.ask(f"C001C1{described(place)}00")
         if answer.startswith("C402C1"):
             data = self.rest_of_blocks(answer)
@@ -122,11 +124,11 @@ class Client:
             data = answer[8:]
         else:
             assert answer.startswith("C401C101") and len(answer) == 10, answer
-            return self.told(f"get {self.line(place)} 0", f"code {int(answer[8:], 16)}")
-        return self.told(f"get {self.line(place)} 0", f"value {data}")
+            return self.record(f"get {self.line(place)} 0", f"code {int(answer[8:], 16)}")
+        return self.record(f"get {self.line(place)} 0", f"value {data}")
 
     def rest_of_blocks(self, answer):
-        """The Data of an answer that came in blocks, the first of which is given."""
+        """Reads the remaining blocks of a response and returns its Data."""
         data, number = "", 1
         while True:
             is_last, block, length = answer[6:8], int(answer[8:16], 16), int(answer[18:20], 16)
@@ -145,10 +147,10 @@ class Client:
     def set(self, place, data):
         answer = self.ask(f"C101C1{described(place)}00{data}")
         assert answer.startswith("C501C1") and len(answer) == 8, answer
-        return self.told(f"set {self.line(place)} 0 {data}", f"code {int(answer[6:], 16)}")
+        return self.record(f"set {self.line(place)} 0 {data}", f"code {int(answer[6:], 16)}")
 
     def set_in_blocks(self, place, *pieces):
-        """A SET whose Data is sent in these pieces."""
+        """Sends a SET whose Data is in blocks of these pieces."""
         for number, piece in enumerate(pieces, 1):
             last = f"{number == len(pieces):02X}"
             raw = f"{last}{number:08X}{len(piece) // 2:02X}{piece}"
@@ -156,16 +158,16 @@ class Client:
             if number < len(pieces):
                 assert answer == f"C502C1{number:08X}", answer
         assert answer[:6] == "C503C1" and answer[8:] == f"{len(pieces):08X}", answer
-        return self.told(f"set {self.line(place)} 0 {''.join(pieces)}", f"code {int(answer[6:8], 16)}")
+        return self.record(f"set {self.line(place)} 0 {''.join(pieces)}", f"code {int(answer[6:8], 16)}")
 
     def execute(self, place, parameter="0F00"):
         answer = self.ask(f"C301C1{described(place)}" + (f"01{parameter}" if parameter else "00"))
         assert answer.startswith("C701C1") and answer.endswith("00") and len(answer) == 10, answer
-        return self.told(f"execute {self.line(place)} {parameter or '-'}", f"code {int(answer[6:8], 16)}")
+        return self.record(f"execute {self.line(place)} {parameter or '-'}", f"code {int(answer[6:8], 16)}")
 
 
 class Server:
-    """A running `meter_server serve`, with its console."""
+    """A running `meter_server serve` and its console."""
 
     def __init__(self, *options, password=PASSWORD, environment=None, port=None, console=b"", console_file=subprocess.PIPE):
         self.port = port or free_port()
@@ -185,12 +187,12 @@ class Server:
         self.reader.start()
 
     def read_errors(self):
-        """Takes what standard error says as it comes, so that the server never waits for its reader."""
+        """Reads standard error all the time, so that the server never blocks on it."""
         while piece := self.process.stderr.read1():
             self.errors += piece
 
     def wait_for(self, words, times=1):
-        """Waits until standard error has these words so many times, or has ended."""
+        """Waits until standard error has these words `count` times, or has ended."""
         end = time.monotonic() + PATIENCE
         while self.errors.count(words) < times and self.reader.is_alive() and time.monotonic() < end:
             time.sleep(0.005)
@@ -214,7 +216,8 @@ class Server:
         self.process.stdin.close()
 
     def ended(self):
-        """Ends the console, and gives the status, standard output and standard error once the server has ended."""
+        """Closes the console, waits for the server to end, and returns its status, standard output
+        and standard error."""
         try:
             if self.process.stdin and not self.process.stdin.closed:
                 self.end_input()
@@ -245,13 +248,14 @@ def free_port():
 
 
 def run_with(*words, environment=None, console=b""):
-    """The status, standard output and standard error of a server that is to end at once."""
+    """Runs a server that must end at once; returns its status, standard output and standard
+    error."""
     made = subprocess.run([str(SERVER), "serve", *words], input=console, capture_output=True, timeout=PATIENCE, env={**os.environ, **(environment or {})})
     return made.returncode, made.stdout.decode(), made.stderr.decode()
 
 
 def played(trace):
-    """The events of a trace, each with the reply and the state that the trace player tells."""
+    """The events of a trace, each with the reply that trace_player prints."""
     made = subprocess.run([str(PLAYER)], input=trace.encode(), capture_output=True, timeout=PATIENCE)
     assert made.returncode == 0, made.stderr
     lines = trace.splitlines()
@@ -263,7 +267,7 @@ def played(trace):
 
 
 def stands_in(seen, all_events):
-    """Whether these events stand in the history with these replies, in this order."""
+    """Whether the history has these events with these replies, in this order."""
     rest = iter(all_events)
     return all(event in rest for event in seen)
 
@@ -271,17 +275,18 @@ def stands_in(seen, all_events):
 passed = failed = 0
 
 
-def check(name, holds, *told):
+def check(name, holds, *found):
+    """Counts a check. If it fails, prints its name and what was found."""
     global passed, failed
     if holds:
         passed += 1
     else:
         failed += 1
-        print(f"FAILED {name}", *told)
+        print(f"FAILED {name}" + (f": found {', '.join(map(str, found))}" if found else ""))
 
 
 def test(function):
-    """Runs one test, whose server is stopped whatever comes of it."""
+    """Runs one test, and counts an error as a failed check."""
     global failed
     try:
         function(function.__name__.replace("_", " "))
@@ -336,7 +341,7 @@ def clients_interleave(name):
         check(f"{name}: cut", other.get(STATE) == "value 1600", turn)
         other.execute(RECONNECT)
         check(f"{name}: connected", one.get(STATE) == "value 1601", turn)
-    for client in (one, other):  # both ask before either reads
+    for client in (one, other):  # both send before either reads
         client.send("C001C1" + described(MODE) + "00")
     check(f"{name}: asked at once", one.received() == other.received() == "C401C1001604")
     one.close()
@@ -352,7 +357,7 @@ def a_ninth_client_is_turned_away(name):
     clients = [server.client() for _ in range(SESSIONS)]
     ninth = Client(server.port)
     check(f"{name}: closed without a byte", ninth.is_closed())
-    check(f"{name}: told", server.wait_for(b"turned away"))
+    check(f"{name}: reported", server.wait_for(b"turned away"))
     check(f"{name}: the eight go on", all(client.get(STATE) == "value 1601" for client in clients))
     clients[3].close()
     check(f"{name}: one ends", server.wait_for(b"closed by the client"))
@@ -366,7 +371,8 @@ def a_ninth_client_is_turned_away(name):
 
 
 def again_served(server):
-    """A client, once a place is free: the server sees an ended session where it accepts the next client."""
+    """Connects a client once a session is free: the server frees ended sessions when it accepts the
+    next client."""
     end = time.monotonic() + PATIENCE
     while time.monotonic() < end:
         try:
@@ -387,7 +393,7 @@ def console_lines_act_beside_clients(name):
         time.sleep(0.01)
     check(f"{name}: the last sample", client.get(REGISTER) == "value 060000001E")
     client.close()
-    server.say_bytes(b"moment 200\nmoment 300")  # the last line is not ended
+    server.say_bytes(b"moment 200\nmoment 300")  # the last line has no line end
     status, trace, _ = server.ended()
     history = played(trace)
     own = [event for event, _ in history if event.split()[0] in ("samples", "pairs", "moment", "button")]
@@ -401,7 +407,8 @@ def console_lines_act_beside_clients(name):
 
 
 def a_console_that_is_not_read_is_a_fault(name):
-    """A folder is no console: each read of it fails. The clients are served nevertheless, and the trace is printed."""
+    """With a folder as standard input each read fails; clients are served anyway, and the trace is
+    printed."""
     folder = os.open(TOP, os.O_RDONLY)
     try:
         server = Server("--connections", "1", console_file=folder)
@@ -436,7 +443,7 @@ def the_end_of_input_ends_the_server(name):
     server.end_input()
     end = time.monotonic() + PATIENCE
     is_open = True
-    while is_open and time.monotonic() < end:  # from then on no client is served
+    while is_open and time.monotonic() < end:  # no client is served after this
         late = None
         try:
             late = Client(server.port, PUBLIC)
@@ -448,7 +455,7 @@ def the_end_of_input_ends_the_server(name):
             if late:
                 late.close()
     check(f"{name}: no further client", not is_open)
-    check(f"{name}: an open session goes on", client.set(MODE, "1601") == "code 0" and server.process.poll() is None)
+    check(f"{name}: an open session continues", client.set(MODE, "1601") == "code 0" and server.process.poll() is None)
     client.close()
     status, trace, errors = server.ended()
     check(f"{name}: end", status == 0 and "fault" not in errors, status, errors)
@@ -541,12 +548,12 @@ def a_client_may_vanish_in_mid_frame(name):
     cut = server.client()
     cut.send_bytes(bytes.fromhex("000100010001000DC001C1"))
     cut.close()
-    check(f"{name}: told", server.wait_for(b"within a frame"))
+    check(f"{name}: reported", server.wait_for(b"within a frame"))
     other = Client(server.port)
     other.send_bytes(bytes.fromhex("0002001000010000"))
     check(f"{name}: another version", other.is_closed())
     client = server.client()
-    check(f"{name}: others go on", client.get(STATE) == "value 1601")
+    check(f"{name}: other clients are served", client.get(STATE) == "value 1601")
     client.close()
     other.close()
     status, trace, errors = server.ended()
@@ -567,7 +574,7 @@ def a_silent_client_is_closed(name):
 def main():
     for executable in (SERVER, PLAYER):
         if not os.access(executable, os.X_OK):
-            print(f"{executable} is not there: run the gate, or `rt run` in its crate")
+            print(f"{executable} is missing: run bin/test, or `rt run` in its crate")
             return 1
     for function in (requests_of_every_kind, a_long_answer_comes_in_blocks, clients_interleave, a_ninth_client_is_turned_away,
                      console_lines_act_beside_clients, a_console_that_is_not_read_is_a_fault, a_limit_of_connections_ends_the_server, the_end_of_input_ends_the_server,

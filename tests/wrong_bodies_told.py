@@ -1,6 +1,13 @@
 #!/usr/bin/env python3
-"""Tests bin/wrong_bodies: beside a wrong body that is refused it tells a right one, one that can't be read and one of a text that isn't there, and counts them; and an edit
-of a constant stands beside others only where nothing but functions' bodies names the constant; and what is left of the functions beside the edited ones, and of these all; and those of wrong/long/ are judged with --long alone; and a round ends once its check has its lines."""
+"""Tests bin/wrong_bodies.
+
+- It reports a refused body, a right one, one that does not compile and one whose text is missing, and
+  counts them.
+- An edit of a constant is judged together with others only if only bodies of functions use the constant.
+- The other functions have no body in the copy that is checked.
+- Edits of wrong/long/ are judged only with --long.
+- A round ends once its check has printed its lines.
+"""
 import importlib.machinery
 import importlib.util
 import os
@@ -12,7 +19,8 @@ import types
 
 TOP = os.path.dirname(os.path.dirname(os.path.realpath(__file__)))
 
-# Edits of the crate program_fault, whose one function has a wrong body of its own in wrong/: their names, texts and what is to be told of them.
+# Edits of the crate program_fault, whose function has a wrong body in wrong/: names, old and new
+# texts, and the expected lines.
 EDITS = {
     "a_right_body": ("Fault::Memory | Fault::Turns => 4,", "Fault::Turns | Fault::Memory => 4,", r"NOT REFUSED"),
     "a_body_that_cannot_be_read": ("Fault::Memory | Fault::Turns => 4,", "Fault::Memory | Fault::Turns => 4)(,", r"BAD EDIT"),
@@ -20,7 +28,8 @@ EDITS = {
 }
 
 BODY = "const LIMIT: u8 = 3;\n\nfn limit() -> u8 {\n    LIMIT\n}\n"
-# The files of a crate that has the constant LIMIT, and the functions whose bodies name it, or None where anything else does.
+# The files of a crate with the constant LIMIT, and the functions whose bodies use it, or None if
+# anything else does.
 SOURCES = {
     "a body names the constant": ({"src/lib.rt": BODY}, ["limit"]),
     "two bodies in two files name it": ({"src/lib.rt": BODY, "src/more.rt": "use crate::LIMIT;\n\nfn twice() -> u8 {\n    LIMIT + LIMIT\n}\n"}, ["limit", "more::twice"]),
@@ -31,7 +40,8 @@ SOURCES = {
     "a use gives it another name": ({"src/lib.rt": BODY, "src/more.rt": "use crate::LIMIT as MOST;\n"}, None),
 }
 
-# The functions of a crate, of which `edited` is edited: what is to be left of each body, and whether its proof has a hole.
+# The functions of a crate of which `edited` is edited. Below: the expected text, names and proofs
+# with holes.
 LEFT = """pub struct Page {
     lines: u8,
 }
@@ -95,7 +105,6 @@ HOLES = {
     "proofs/page/exported/Proof.antt": "use Rattle.book.proofs.page.exported.Statement.{statement}\n\npub exported_spec : {M : Type 1} → statement M\nexported_spec = ?\n",
 }
 
-
 def judge():
     """The module of bin/wrong_bodies."""
     sys.dont_write_bytecode = True
@@ -105,8 +114,8 @@ def judge():
     return module
 
 
-def users_are_told():
-    """For each of the files above whether the functions are found as they must be."""
+def users_are_found():
+    """Checks `users_of` with each of the crates above."""
     users_of, rows = judge().users_of, {}
     for name, (sources, wanted) in SOURCES.items():
         users = users_of("LIMIT", sources)
@@ -115,21 +124,22 @@ def users_are_told():
 
 
 def bodies_are_left_out():
-    """Whether the functions beside an edited one are left as they must be."""
+    """Checks `without_bodies`."""
     module = judge()
     edited = next(it for it in module.functions_of("src/page.rt", LEFT) if it.name == "page::edited")
     names = [it.name for it in module.functions_of("src/page.rt", LEFT)]
     stubs, gone = module.without_bodies("book", {"src/page.rt": LEFT}, {(edited.path, edited.first)})
     return {
-        "functions have the names that a check tells": names == NAMES,
-        "a body beside an edited one is left out, of the edited one, a trait, a constant, a cycle and a law none": stubs.pop("src/page.rt") == KEPT,
-        "what is left out has a hole for its proof": stubs == HOLES,
-        "and its own proof is left out": gone == [it.replace("Proof", part) for it in HOLES for part in ("Invariants", "Answers")],
+        "functions have the names that a check prints": names == NAMES,
+        "other bodies are left out, except those of a trait, a constant, a cycle and a law": stubs.pop("src/page.rt") == KEPT,
+        "a function without a body has a hole as proof": stubs == HOLES,
+        "the proof of a function without a body is left out": gone == [it.replace("Proof", part) for it in HOLES for part in ("Invariants", "Answers")],
     }
 
 
 def edited_functions_are_kept():
-    """Whether the function by which an edit of a constant is to be refused keeps its body, where the constant stands in another file."""
+    """Checks that the function of the line `by: ` keeps its body if the constant is in another
+    file."""
     module = judge()
     with tempfile.TemporaryDirectory() as folder:
         os.makedirs(f"{folder}/src")
@@ -145,11 +155,11 @@ def edited_functions_are_kept():
         changed, edited = module.changed(crate, [module.Edit(crate, f"{folder}/limit.edit")])
     sources = {path: text for path, text in texts.items() if path.startswith("src/")}
     stubs, _ = module.without_bodies("book", {**sources, **changed}, edited)
-    return {"the function by which a constant is refused keeps its body": stubs == {"src/lib.rt": texts["src/lib.rt"], "src/limits.rt": texts["src/limits.rt"].replace("3", "4")}}
+    return {"the function of the line `by: ` keeps its body": stubs == {"src/lib.rt": texts["src/lib.rt"], "src/limits.rt": texts["src/limits.rt"].replace("3", "4")}}
 
 
 def long_ones_are_apart():
-    """Whether the edits of wrong/long/ are judged with --long alone."""
+    """Checks that the edits of wrong/long/ are judged only with --long."""
     files_of = judge().files_of
     with tempfile.TemporaryDirectory() as folder:
         os.makedirs(f"{folder}/wrong/long")
@@ -157,24 +167,24 @@ def long_ones_are_apart():
             open(f"{folder}/{it}", "w", encoding="utf-8").close()
         crate = types.SimpleNamespace(name="book", folder=folder)
         found = [[os.path.relpath(it, folder) for it in files_of(crate, is_long)] for is_long in (False, True)]
-    return {"the edits of wrong/long/ are judged with --long alone": found == [["wrong/one.edit"], ["wrong/one.edit", "wrong/long/another.edit"]]}
+    return {"the edits of wrong/long/ are judged only with --long": found == [["wrong/one.edit"], ["wrong/one.edit", "wrong/long/another.edit"]]}
 
 
 def rounds_end_at_their_lines():
-    """Whether a check is told to have its lines once its stages say so, and not before."""
+    """Checks `has_lines` before and after the stage `lines`."""
     has_lines = judge().has_lines
     with tempfile.TemporaryDirectory() as folder:
-        file, told = f"{folder}/stages", []
-        told.append(has_lines(file))
+        file, found = f"{folder}/stages", []
+        found.append(has_lines(file))
         for text in ("stage front-end 5.1 326932\nstage session 6.1 693368\n", "stage front-end 5.1 326932\nstage session 6.1 693368\nstage lines 0.01 665660\n"):
             with open(file, "w", encoding="utf-8") as it:
                 it.write(text)
-            told.append(has_lines(file))
-    return {"a round ends once its check has its lines": told == [False, False, True]}
+            found.append(has_lines(file))
+    return {"a round ends once its check has its lines": found == [False, False, True]}
 
 
-def told_of_edits():
-    """What bin/wrong_bodies tells of the crate with these edits: its status and its lines."""
+def judge_edits():
+    """Runs bin/wrong_bodies with the edits; returns its status and its lines."""
     with tempfile.TemporaryDirectory() as folder:
         words = []
         for name, (old, new, _) in EDITS.items():
@@ -187,18 +197,18 @@ def told_of_edits():
 
 
 def main():
-    status, lines = told_of_edits()
+    status, lines = judge_edits()
     own = [it for it in lines if "program_fault/" in it and not any(name in it for name in EDITS)]
     rows = {name: any(f"program_fault/{name}: " in it and re.search(wanted, it) for it in lines) for name, (_, _, wanted) in EDITS.items()}
-    rows["the wrong body beside them is refused"] = bool(own) and all(": refused" in it for it in own)
+    rows["the wrong body of the crate is refused"] = bool(own) and all(": refused" in it for it in own)
     rows["all are counted"] = status == 1 and lines[-1] == f"{len(own)} passed, {len(EDITS)} failed"
-    rows.update(users_are_told())
+    rows.update(users_are_found())
     rows.update(bodies_are_left_out())
     rows.update(edited_functions_are_kept())
     rows.update(long_ones_are_apart())
     rows.update(rounds_end_at_their_lines())
     for name, is_well in rows.items():
-        print(f"wrong_bodies_told: {name}: {'as it must be' if is_well else 'NOT SO'}")
+        print(f"wrong_bodies_told: {name}: {'passed' if is_well else 'FAILED'}")
     failed = sum(not it for it in rows.values())
     if failed:
         print("\n".join(lines))

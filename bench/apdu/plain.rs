@@ -1,5 +1,5 @@
-// A plain program that does what `meter_server apdu` does, as a programmer would write it with no proof in mind.
-// It serves as the measure of the proved program's speed, and for nothing else.
+// A plain program that does what `meter_server apdu` does, written without proofs in mind, to
+// compare the speed of the proved program with.
 use std::io::{Read, Write};
 
 struct Core {
@@ -95,7 +95,7 @@ impl Core {
         }
     }
 
-    // The bytes of a Data of the few tags that requests here have.
+    // The bytes of a Data with one of the tags that these requests have.
     fn data(bytes: &[u8]) -> Option<&[u8]> {
         match bytes {
             [0, ..] => Some(&bytes[..1]),

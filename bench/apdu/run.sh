@@ -1,11 +1,11 @@
 #!/usr/bin/env bash
-# Times `meter_server apdu` over 100,000 lines beside a plain program in Rust (rustc -O) that does the same, in one run,
-# and prints the ratio. An input has at most 1,048,576 bytes, so the lines come in three inputs.
+# Times `meter_server apdu` and a plain program in Rust (rustc -O) that does the same over 100,000
+# lines, and prints the ratio. An input has at most 1,048,576 bytes, so there are three inputs.
 set -eu
 here=$(cd "$(dirname "$0")" && pwd)
 top=$(cd "$here/../.." && pwd)
 proved="$top/crates/meter_server_cli/out/meter_server_cli"
-[ -x "$proved" ] || { echo "there is no proved executable: run bin/test first" >&2; exit 1; }
+[ -x "$proved" ] || { echo "$proved is missing: run bin/build first" >&2; exit 1; }
 work=$(mktemp -d)
 trap 'rm -rf "$work"' EXIT
 rustc -O -o "$work/plain" "$here/plain.rs"
@@ -38,7 +38,7 @@ for _ in range(15):
         seconds, outputs = total(program, words)
         best[name] = min(best.get(name, (seconds, outputs)), (seconds, outputs), key=lambda pair: pair[0])
 if best["proved"][1] != best["plain"][1]:
-    sys.exit("the two programs answer differently")
+    sys.exit("apdu: the outputs of the two programs differ")
 print(f"100,000 lines: proved {best['proved'][0]:.3f} s, plain {best['plain'][0]:.3f} s, "
       f"ratio {best['proved'][0] / best['plain'][0]:.2f} (best of 15, three inputs each)")
 PY

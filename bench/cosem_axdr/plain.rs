@@ -1,4 +1,5 @@
-//! The work of `cosem_axdr_bench` in plain Rust: reads and writes one text of 8,192 bytes, of 255 nested items.
+//! The work of `cosem_axdr_bench` in plain Rust: reads and writes a text of 8,192 bytes with 255
+//! nested items.
 use std::hint::black_box;
 use std::time::Instant;
 
@@ -193,7 +194,8 @@ fn write(value: &Data, out: &mut Vec<u8>) {
     }
 }
 
-// An array of 255 structures of a number, a string, a structure of two numbers, and a string; the last is longer, so that the text has 8,192 bytes.
+// An array of 255 structures of a number, a string, a structure of two numbers, and a string; the
+// last is longer, so that the text has 8,192 bytes.
 fn sample() -> Vec<u8> {
     let mut text = vec![0x01, 0x81, 0xFF];
     for i in 0..255u8 {

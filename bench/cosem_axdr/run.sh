@@ -1,6 +1,8 @@
 #!/bin/sh
-# Reads and writes one text of 8,192 bytes, of 255 nested items, by the proved crate and by a plain Rust program of the same work, and prints how long each took
-# and the ratio. Its argument is how often (20,000 if there is none); each is run five times, and the fastest run counts.
+# Reads and writes a text of 8,192 bytes with 255 nested items, by the proved crate and by a plain
+# Rust program, and prints the times and the ratio. The fastest of five runs counts.
+#
+# usage: run.sh [ROUNDS]     (default: 20,000)
 set -e
 here=$(cd "$(dirname "$0")" && pwd)
 rounds=${1:-20000}

@@ -1,5 +1,6 @@
 #!/bin/sh
-# Times a look at one day: the proved program, and a plain loop over the day's seconds in Rust (rustc -O).
+# Times the search of a day for entries: the proved program, and a plain loop over the seconds of
+# the day in Rust (rustc -O).
 set -eu
 here=$(cd "$(dirname "$0")" && pwd)
 work=$(mktemp -d)

@@ -1,5 +1,5 @@
-/* Heap, stack and time of a meter behind its handle: what the pool holds after each step, how much of a stack each call has written, and how long a GET takes from its bytes to its
- * answer. */
+/* Heap, stack and time of a meter through its handle: the bytes of the pool in use after each step, the bytes
+ * of the stack that each call writes, and the time of a GET from its bytes to its response. */
 #define _POSIX_C_SOURCE 200809L
 #include "heap_pool.h"
 #include "meter.h"
@@ -21,24 +21,24 @@ static _Alignas(4096) uint8_t stack[STACK_BYTES];
 static struct meter meter;
 static uint8_t text[65536];
 
-/* AARQ of the management client with the password 12345678, and a GET of control_state; what stands before each is the TCP wrapper. */
+/* AARQ of the management client with the password 12345678, and a GET of control_state, each after the header of the TCP wrapper. */
 static const uint8_t aarq[] = { 0x00, 0x01, 0x00, 0x01, 0x00, 0x01, 0x00, 0x38, 0x60, 0x36, 0xA1, 0x09, 0x06, 0x07, 0x60, 0x85, 0x74, 0x05, 0x08, 0x01, 0x01, 0x8A, 0x02, 0x07, 0x80, 0x8B,
                                 0x07, 0x60, 0x85, 0x74, 0x05, 0x08, 0x02, 0x01, 0xAC, 0x0A, 0x80, 0x08, '1', '2', '3', '4', '5', '6', '7', '8', 0xBE, 0x10, 0x04, 0x0E, 0x01, 0x00, 0x00,
                                 0x00, 0x06, 0x5F, 0x1F, 0x04, 0x00, 0x00, 0xFE, 0xFF, 0x04, 0x00 };
 static const uint8_t get[] = { 0x00, 0x01, 0x00, 0x01, 0x00, 0x01, 0x00, 0x0D, 0xC0, 0x01, 0xC1, 0x00, 0x46, 0x00, 0x00, 0x60, 0x03, 0x0A, 0xFF, 0x03, 0x00 };
-/* A SET of control_mode by a Data whose arrays are nested as deep as a Data may be; its type is refused. */
+/* A SET of control_mode with a Data with arrays of the maximum depth; its type is refused. */
 static const uint8_t deep_set[] = { 0x00, 0x01, 0x00, 0x01, 0x00, 0x01, 0x00, 0x1E, 0xC1, 0x01, 0xC1, 0x00, 0x46, 0x00, 0x00, 0x60, 0x03, 0x0A, 0xFF, 0x04, 0x00,
                                     0x01, 0x01, 0x01, 0x01, 0x01, 0x01, 0x01, 0x01, 0x01, 0x01, 0x01, 0x01, 0x01, 0x01, 0x01, 0x01, 0x00 };
 
 static void need(bool is_so, const char *what)
 {
     if (!is_so) {
-        printf("wrong: %s\n", what);
+        printf("failed: %s\n", what);
         exit(1);
     }
 }
 
-/* Feeds a frame, and takes its one answer. It gives the answer's length. */
+/* Feeds a frame and takes its response. Returns the length of the response. */
 static size_t ask(uint8_t session, const uint8_t *bytes, size_t count)
 {
     uint8_t frame[1032];
@@ -113,7 +113,7 @@ static void *do_export(void *unused)
     return unused;
 }
 
-/* How many bytes of a painted stack a call has written. */
+/* The number of bytes of a painted stack that a call writes. */
 static size_t written_by(void *(*call)(void *))
 {
     pthread_attr_t attributes;
@@ -127,7 +127,7 @@ static size_t written_by(void *(*call)(void *))
     return sizeof stack - clean;
 }
 
-/* The stack of each call beside that of a thread that does nothing. */
+/* The stack of each call, less that of a thread that does nothing. */
 static void tell_stacks(void)
 {
     static const struct {

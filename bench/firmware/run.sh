@@ -1,6 +1,8 @@
 #!/usr/bin/env bash
-# The figures of the library for C: code of a program that has all exports (x86-64, and 64-bit ARM where its compiler is installed), heap of one session and of eight (on both), the bound
-# of the stack that Rattle's own compiler tells, and the time of a GET through the handle, over the pool, beside one through `serve_session` in Rattle.
+# The figures of the library for C: code size of a program with all exports (x86-64, and 64-bit ARM
+# if its compiler is installed), heap of one session and of eight, the stack bound that Rattle's own
+# compiler reports, and the time of a GET through the handle with the pool, and through
+# `serve_session` in Rattle.
 set -eu
 here=$(cd "$(dirname "$0")" && pwd)
 top=$(cd "$here/../.." && pwd)
@@ -23,4 +25,4 @@ build
 echo "code and constants of libmeter.a, x86-64: $(code size "$top/crates/meter/out/libmeter.a") bytes"
 cc -std=c11 -O2 "${includes[@]}" -o "$work/figures" "$here/figures.c" "$top/firmware/heap_pool.c" "$top/crates/meter/out/libmeter.a"
 "$work/figures"
-echo "a GET through serve_session, and the plain program's: $("$top/bench/session/run.sh" 200000 | grep ^whole)"
+echo "a GET through serve_session, and in the plain program: $("$top/bench/session/run.sh" 200000 | grep ^whole)"

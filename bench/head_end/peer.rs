@@ -1,5 +1,6 @@
-//! A scripted meter for many clients at once: it prints its port, and then answers each connection's AARQ by an AARE that opens the association, each ACTION by
-//! the result 0, and nothing else. It ends with its standard input.
+//! A scripted meter for many clients at once: prints its port, then answers each AARQ with an AARE
+//! that opens the association, each ACTION with the result 0, and nothing else. It ends with its
+//! standard input.
 use std::io::{self, Read, Write};
 use std::net::{TcpListener, TcpStream};
 use std::sync::Arc;
@@ -11,7 +12,7 @@ const DONE: &[u8] = b"\x00\x01\x00\x01\x00\x01\x00\x05\xC7\x01\xC1\x00\x00";
 const HEADER: usize = 8;
 const CLIENTS: usize = 32;
 
-// The length of the first whole frame of a text.
+// The length of the first complete frame of a text.
 fn whole(text: &[u8]) -> Option<usize> {
     let length = HEADER + usize::from(u16::from_be_bytes([*text.get(6)?, *text.get(7)?]));
     (text.len() >= length).then_some(length)

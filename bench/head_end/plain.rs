@@ -1,5 +1,6 @@
-//! The work of `head_end run` in plain Rust, as a programmer would write it with no proof in mind: it reads the jobs on standard input, works them by so many
-//! threads (its argument), each on a connection of its own with the same bytes and the same limits of time, and prints the same report.
+//! The work of `head_end run` in plain Rust, written without proofs in mind: reads the jobs on
+//! standard input, runs them with a number of threads (its argument), each job on its own
+//! connection with the same bytes and time limits, and prints the same report.
 use std::io::{self, Read, Write};
 use std::net::{TcpStream, ToSocketAddrs};
 use std::sync::Mutex;
@@ -60,7 +61,7 @@ fn request(verb: Verb) -> Vec<u8> {
     })
 }
 
-// What is read from the front of bytes.
+// A reader of bytes from the front.
 struct Bytes<'a>(&'a [u8]);
 
 impl<'a> Bytes<'a> {
@@ -73,7 +74,7 @@ impl<'a> Bytes<'a> {
         Some(now)
     }
 
-    // The content of a BER field of a tag, if it is next.
+    // The contents of the next BER field, if it has this tag.
     fn field(&mut self, tag: u8) -> Option<Bytes<'a>> {
         let head = self.take(2)?;
         (head[0] == tag && head[1] < 0x80).then_some(())?;
@@ -109,7 +110,7 @@ fn reply(verb: Verb, payload: &[u8]) -> Outcome {
     }
 }
 
-// A connection that fails once its time is over, and its frames.
+// A connection with a time limit, and its frames.
 struct Meter {
     stream: TcpStream,
     opened: Instant,

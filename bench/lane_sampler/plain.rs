@@ -1,4 +1,4 @@
-// The plain loop in Rust: the same work, data and check sum as lane_sampler_bench.
+// The plain loop in Rust: the same work, data and checksum as lane_sampler_bench.
 use std::time::Instant;
 
 #[derive(Clone, Copy)]
@@ -29,7 +29,7 @@ fn classify(values: &[u32], threshold: u32) -> Masks {
     Masks { over, under, len: values.len() as u16 }
 }
 
-// The same, a word at a time.
+// The plain loop, a word at a time.
 #[inline(never)]
 fn classify_by_words(values: &[u32], threshold: u32) -> Masks {
     let mut over = [0; 4];

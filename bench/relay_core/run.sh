@@ -1,7 +1,10 @@
 #!/bin/sh
-# Times a moment of the clock at the proved core: four schedules of 16 entries each, none of which matches, are judged over the day since the last moment. It
-# prints nanoseconds a moment, a schedule and an entry; then nanoseconds a block of 256 samples, of which none, 16 or all fire, and a firing. Its argument is how
-# often 40,000 days are gone through, and how many thousand blocks of each kind are taken (10 if there is none); the fastest of five runs counts.
+# Times a moment of the clock in the proved core: it evaluates four schedules of 16 entries, none of
+# which matches, over the day since the last moment. Prints the nanoseconds of a moment, a schedule
+# and an entry; then those of a block of 256 samples of which none, 16 or all fire, and of a firing.
+# The fastest of five runs counts.
+#
+# usage: run.sh [ROUNDS]     (ROUNDS of 40,000 days, and of 1,000 blocks of each kind; default: 10)
 set -e
 here=$(cd "$(dirname "$0")" && pwd)
 rounds=${1:-10}
@@ -19,4 +22,4 @@ fastest() {
 quiet=$(fastest 0)
 some=$(fastest 16)
 all=$(fastest 256)
-awk "BEGIN { printf \"a block of 256 samples: %d ns where none fires, %d ns of 16 firings, %d ns of 256; a firing %.1f ns\\n\", $quiet, $some, $all, ($all - $quiet) / 256 }"
+awk "BEGIN { printf \"a block of 256 samples: %d ns without firings, %d ns with 16, %d ns with 256; a firing %.1f ns\\n\", $quiet, $some, $all, ($all - $quiet) / 256 }"

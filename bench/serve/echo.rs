@@ -1,5 +1,7 @@
-//! A bare server that does the socket work of the meter and nothing else: a thread for each connection takes frames by their headers and answers each AARQ by
-//! the meter's AARE and each other frame by the meter's answer to a GET of the control state. It prints its port, and ends with its standard input.
+//! A bare server that only does the socket work of the meter: a thread for each connection reads
+//! frames by their headers, and answers each AARQ with the meter's AARE and any other frame with
+//! the meter's response to a GET of the control state. It prints its port, and ends with its
+//! standard input.
 use std::io::{self, Read, Write};
 use std::net::{TcpListener, TcpStream};
 use std::thread;
@@ -9,7 +11,7 @@ const AARE: &[u8] = b"\x00\x01\x00\x01\x00\x01\x00\x2B\x61\x29\xA1\x09\x06\x07\x
 const STATE: &[u8] = b"\x00\x01\x00\x01\x00\x01\x00\x06\xC4\x01\xC1\x00\x16\x01";
 const HEADER: usize = 8;
 
-// The length of the first whole frame of a text.
+// The length of the first complete frame of a text.
 fn whole(text: &[u8]) -> Option<usize> {
     let length = HEADER + usize::from(u16::from_be_bytes([*text.get(6)?, *text.get(7)?]));
     (text.len() >= length).then_some(length)

@@ -1,6 +1,7 @@
-//! Clients of a meter on this machine: `load PORT CLIENTS REQUESTS`. Each client is a thread with a connection of its own, which associates once and then sends
-//! so many GETs of the control state, each once the answer to the last has come. It prints how many nanoseconds passed from the first GET of any to the last
-//! answer of all.
+//! Clients of a meter on this machine: `load PORT CLIENTS REQUESTS`. Each client is a thread with
+//! its own connection, which associates once and then sends REQUESTS GETs of the control state,
+//! each after the response to the last one. Prints the nanoseconds from the first GET to the last
+//! response of all clients.
 use std::io::{Read, Write};
 use std::net::TcpStream;
 use std::sync::Barrier;

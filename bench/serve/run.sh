@@ -1,13 +1,17 @@
 #!/usr/bin/env bash
-# Asks `meter_server serve` for the control state over the loopback interface, by one client and by eight, each of which waits for its answer, and likewise a
-# bare server in plain Rust (rustc -O) that gives the same bytes and does nothing else. It prints the requests a second of both and the ratio, and the same of
-# the time of a processor that the servers took, which other work on the machine disturbs less. Its arguments are how many requests a run has (40,000 if there
-# is none) and how often each is run (15); of the times of both the middle ones count, since single runs are lucky or not. METER_SERVER names another executable than the proved one.
+# Reads the control state over the loopback interface, with one client and with eight, each of which
+# waits for its responses, from `meter_server serve` and from a bare server in plain Rust (rustc -O)
+# that sends the same bytes and does nothing else. Prints the requests per second of both and the
+# ratio; and the processor time of the servers per request and the ratio, which other load on the
+# machine disturbs less. Times are medians of the runs, since single runs vary. METER_SERVER names
+# another executable than the proved one.
+#
+# usage: run.sh [REQUESTS [RUNS]]     (default: 40,000 requests in a run, 15 runs)
 set -eu
 here=$(cd "$(dirname "$0")" && pwd)
 top=$(cd "$here/../.." && pwd)
 proved=${METER_SERVER:-$top/crates/meter_server_cli/out/meter_server_cli}
-[ -x "$proved" ] || { echo "there is no proved executable: run bin/test first" >&2; exit 1; }
+[ -x "$proved" ] || { echo "$proved is missing: run bin/build first" >&2; exit 1; }
 work=$(mktemp -d)
 trap 'rm -rf "$work"' EXIT
 for program in echo load; do
@@ -20,7 +24,7 @@ proved, echo, load, requests, rounds = sys.argv[1], sys.argv[2], sys.argv[3], in
 OPTIONS = ["--listen", "127.0.0.1:0", "--password", "12345678", "--verbose"]
 
 def begun(name, clients):
-    """A server, and its port."""
+    """Starts a server; returns it and its port."""
     if name == "bare":
         server = subprocess.Popen([echo], stdin=subprocess.PIPE, stdout=subprocess.PIPE)
         return server, int(server.stdout.readline())
@@ -29,7 +33,7 @@ def begun(name, clients):
     return server, int(re.fullmatch(rb"listening on .*:(\d+)\n", server.stderr.readline())[1])
 
 def run(name, clients):
-    """How long a run took, and how long processors worked for the server, in microseconds a request."""
+    """The time of a run, and the processor time of the server, in microseconds per request."""
     server, port = begun(name, clients)
     each = requests // clients
     made = subprocess.run([load, str(port), str(clients), str(each)], stdout=subprocess.PIPE, check=True)
@@ -40,7 +44,7 @@ def run(name, clients):
         sys.exit("the %s server ended with status %d" % (name, server.returncode))
     return int(made.stdout) / 1e3 / (each * clients), (spent.ru_utime + spent.ru_stime) * 1e6 / (each * clients)
 
-print("clients  serve requests/s  bare server requests/s  ratio   serve us a request  bare server us a request  ratio   (of a processor; the middle of %d)" % rounds)
+print("clients  serve requests/s  bare server requests/s  ratio   serve us a request  bare server us a request  ratio   (processor time; median of %d)" % rounds)
 for clients in (1, 8):
     taken, worked = {"serve": [], "bare": []}, {"serve": [], "bare": []}
     for _ in range(rounds):

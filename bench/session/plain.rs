@@ -1,5 +1,6 @@
-//! The work of `meter_server_bench` in plain Rust, as a programmer would write it with no proof in mind: a session of a public client that associates and then
-//! reads the state of the switch so often. It takes the frames out of pieces of the stream, reads the AARQ and the GETs, and frames the answers.
+//! The work of `meter_server_bench` in plain Rust, written without proofs in mind: a session of a
+//! public client that associates and then reads the state of the switch a number of times. It
+//! splits the stream into frames, reads the AARQ and the GETs, and frames the responses.
 use std::hint::black_box;
 use std::io::{self, Read, Write};
 use std::time::Instant;
@@ -57,7 +58,7 @@ impl Data {
     }
 }
 
-// What is read from the front of bytes.
+// A reader of bytes from the front.
 struct Bytes<'a>(&'a [u8]);
 
 impl<'a> Bytes<'a> {
@@ -78,7 +79,7 @@ impl<'a> Bytes<'a> {
         Some(u16::from_be_bytes(self.take(2)?.try_into().ok()?))
     }
 
-    // A BER field of a tag, if it is next.
+    // The next BER field, if it has this tag.
     fn field(&mut self, tag: u8) -> Option<&'a [u8]> {
         if self.0.first() != Some(&tag) {
             return None;
@@ -193,7 +194,8 @@ const OBJECTS: [Object; 12] = [
     Object { class: 71, name: [0, 1, 17, 0, 0, 255] },
 ];
 
-// An attribute of a class, and whether the public client may read it; the management client may read each.
+// An attribute of a class, and whether the public client may read it. The management client may
+// read all.
 struct Attribute {
     class: u16,
     number: u8,
@@ -285,7 +287,7 @@ struct Session {
 }
 
 impl Session {
-    // Takes in what came, and writes what is due.
+    // Takes the received bytes, and writes the pending frames.
     fn feed(&mut self, bytes: &[u8], core: &mut Core, writer: &mut impl Write) -> io::Result<Option<End>> {
         self.pending.extend_from_slice(bytes);
         let mut taken = 0;
@@ -394,7 +396,7 @@ fn refused(refusal: &Refusal) -> Vec<u8> {
     answer
 }
 
-// A GET in its normal form: its invoke-id and what it reads.
+// A GET-Request-Normal: its invoke-id and the attribute.
 fn get(payload: &[u8]) -> Option<(u8, Get)> {
     let mut bytes = Bytes(payload);
     bytes.take(2)?;
@@ -447,7 +449,7 @@ fn serve(reader: &mut impl Read, writer: &mut impl Write, core: &mut Core, passw
     }
 }
 
-// The bytes of a stream, so many at each read.
+// A stream that returns at most a piece at each read.
 struct Input<'a> {
     rest: &'a [u8],
     piece: usize,
@@ -478,7 +480,7 @@ fn talk(first: &[u8], other: &[u8], times: usize) -> Vec<u8> {
     bytes
 }
 
-// What a new meter writes to a client that sends this, in pieces of so many bytes.
+// The bytes that a new meter writes to a client that sends these in pieces.
 fn answers(requests: &[u8], piece: usize) -> Vec<u8> {
     let mut core = Core { device: b"RELAY1".to_vec(), state: 1, mode: 0 };
     let mut out = Vec::new();

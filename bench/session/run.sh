@@ -1,7 +1,10 @@
 #!/bin/sh
-# Serves a session in memory, of an association and 100,000 framed GETs of the state of the switch, by the proved crates and by a plain Rust program of the same
-# work, its bytes in pieces of up to 1,024 and one by one, and prints how long a GET took and the ratio. Its argument is how many GETs (100,000 if there is none);
-# each is run 25 times, turn by turn, and the fastest run counts.
+# Serves a session in memory (an association and framed GETs of the state of the switch) with the
+# proved crates and with a plain Rust program, the bytes in pieces of up to 1,024 and one by one,
+# and prints the time of a GET and the ratio. Both run 25 times alternately, and the fastest run
+# counts.
+#
+# usage: run.sh [GETS]     (default: 100,000)
 set -e
 here=$(cd "$(dirname "$0")" && pwd)
 times=${1:-100000}
@@ -16,7 +19,7 @@ for _ in $(seq $rounds); do
 done
 for program in proved plain; do
     if [ "$(grep -c "^answered rightly: true, and byte by byte: true$" "$work/$program.txt")" != "$rounds" ]; then
-        echo "the $program program answers wrongly" >&2
+        echo "session: the $program program: expected $rounds runs with right answers" >&2
         exit 1
     fi
 done

@@ -1,5 +1,6 @@
-// A plain player of traces, for the comparison: the same reading, checking and printing, of a meter without scripts, schedules and an emergency profile, as
-// the benchmark's traces have it. Its arguments and its output are those of trace_player_bench; with `text` behind the count it prints the trace alone.
+// A plain player of traces, for comparison: the same reading, checks and output, for a meter
+// without scripts, schedules and an emergency profile, as in the traces of the benchmark. Arguments
+// and output are those of trace_player_bench; with `text` after the count it prints only the trace.
 use std::fmt::Write;
 use std::time::Instant;
 
@@ -41,7 +42,8 @@ struct Meter {
     moment: Option<u32>,
 }
 
-// The state after a trigger, and its result: the rows of modes 1 to 6 by their letters.
+// The state after a trigger, and its result: the rows of modes 1 to 6, by the letters of the
+// transitions.
 fn moved(mode: u8, state: u8, letters: &[(&str, u8, u8)], targets: &[u8]) -> (u8, u8) {
     let of_mode = ["", "bcfgde", "bcfgae", "bcgde", "bcgae", "bcfgdeh", "bcgdeh"][mode as usize];
     for (letter, from, to) in letters {

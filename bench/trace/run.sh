@@ -1,7 +1,10 @@
 #!/bin/sh
-# Plays a trace in memory, a meter in mode 1 and 65,536 events of mixed kinds, by the proved crates and by a plain Rust program of the same work. It prints how
-# long that took, the ratio, and how much more memory the program trace_player holds of this trace than of one with one event, beside the length of the trace. Its
-# argument is how many events (65,536 if there is none, and at most); each program is run five times, and the fastest run counts.
+# Plays a trace in memory (a meter in mode 1 and events of mixed kinds) with the proved crates and
+# with a plain Rust program. Prints the times and the ratio, and the memory that trace_player uses
+# for this trace above that for a trace of one event, with the length of the trace. The fastest of
+# five runs counts.
+#
+# usage: run.sh [EVENTS]     (default and maximum: 65,536)
 set -e
 here=$(cd "$(dirname "$0")" && pwd)
 events=${1:-65536}
@@ -14,7 +17,7 @@ for _ in 1 2 3 4 5; do
     "$work/plain" "$events" >> "$work/plain.txt"
 done
 if [ "$(grep -h ' in, ' "$work/proved.txt" "$work/plain.txt" | sort -u | wc -l)" != 1 ]; then
-    echo "the two programs play to different lines" >&2
+    echo "trace: the outputs of the two programs differ" >&2
     exit 1
 fi
 fastest() { sed -n "s/played in \([0-9]*\) us/\1/p" "$work/$1.txt" | sort -n | head -1; }
@@ -23,7 +26,7 @@ plain=$(fastest plain)
 grep -h ' in, ' "$work/proved.txt" | head -1
 echo "proved $proved us, plain $plain us, ratio $(awk "BEGIN { printf \"%.2f\", $proved / $plain }")"
 player="$here/../../crates/trace_player_cli/out/trace_player_cli"
-# (a small parent: what a process held before it became the program counts too)
+# (started by a small process, since the peak includes the memory before exec)
 held() {
     "$work/plain" "$1" text > "$work/trace"
     /usr/bin/time -o "$work/held" -f %M "$player" < "$work/trace" > /dev/null
@@ -34,5 +37,5 @@ if [ -x /usr/bin/time ] && [ -x "$player" ]; then
     most=$(held "$events")
     echo "the player holds $((most - least)) KiB of a trace of $(($(wc -c < "$work/trace") / 1024)) KiB"
 else
-    echo "what the player holds is not measured: it wants its proved executable (bin/build) and /usr/bin/time (Debian's package time)"
+    echo "SKIPPED memory of the player: needs $player (bin/build) and /usr/bin/time (Debian: apt-get install time)"
 fi

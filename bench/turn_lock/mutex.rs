@@ -1,4 +1,4 @@
-// The same calls through Rust's own Mutex, for `run.sh`.
+// The calls of the benchmark through Rust's own Mutex, for `run.sh`.
 use std::sync::Mutex;
 use std::thread;
 use std::time::Instant;

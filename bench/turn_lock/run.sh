@@ -1,6 +1,6 @@
 #!/bin/sh
-# Times calls through the turn lock beside the same calls through a Mutex, for 1, 2, 4 and 11 threads, and
-# prints nanoseconds a call and ratios. It wants `rt` and `rustc` on the path, and proves the bench first.
+# Times calls through the turn lock and through a Mutex with 1, 2, 4 and 11 threads, and prints the
+# nanoseconds of a call and the ratios. Needs rt and rustc, and proves the benchmark first.
 set -e
 here=$(cd "$(dirname "$0")" && pwd)
 top=$(cd "$here/../.." && pwd)

@@ -1,4 +1,4 @@
-/* The super-loop as a program of a system with a C library. */
+/* The super-loop as a program on a system with a C library. */
 #include "platform.h"
 
 #include <stdio.h>

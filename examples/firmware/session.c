@@ -1,10 +1,11 @@
 /*
- * A whole session of one client, fed byte by byte.
+ * Serves one session of one client, fed byte by byte.
  *
  *     session PASSWORD [TRACE] < STREAM
  *
- * Standard input is what the client sends (frames of the TCP wrapper, IEC 62056-4-7) in hexadecimal; each frame that the meter answers is printed as a line in
- * hexadecimal, as `meter_server hex` prints it. At the end the meter's trace goes to the file TRACE: trace_player plays it.
+ * Standard input is the stream of the client (frames of the TCP wrapper, IEC 62056-4-7) in hexadecimal. Each
+ * frame of the meter is printed as a line in hexadecimal, as by `meter_server hex`. At the end the trace of
+ * the meter is written to the file TRACE, which trace_player plays.
  */
 #include "meter.h"
 
@@ -17,7 +18,7 @@
 #define LONGEST_FRAME 1032
 #define LONGEST_TRACE 1048576
 
-/* A call that wanted memory which wasn't there has changed nothing, or can be made again: firmware would free something first. */
+/* A call that fails for lack of memory changes nothing, or can be repeated. Firmware would free memory first. */
 #define AGAIN_WITH_MEMORY(result, call)                                          \
     do {                                                                         \
         (result) = (call);                                                       \
@@ -38,7 +39,7 @@ static void print_frame(const uint8_t *frame, size_t length)
     putchar('\n');
 }
 
-/* Prints all frames that are due. It tells whether the session goes on. */
+/* Prints all pending frames. Returns whether the session continues. */
 static bool answer(struct meter *meter)
 {
     uint8_t frame[LONGEST_FRAME];

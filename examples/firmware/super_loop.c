@@ -1,9 +1,10 @@
 /*
- * A meter's super-loop: ten times a second it takes a sample of the power, feeds what the modem brought, sends what is due, looks at the button, and sets the breaker;
- * once a second it tells the clock. Modem, power and button are played by the tables below, and each change of the breaker is shown.
+ * The super-loop of a meter. Ten times a second it samples the power, feeds the bytes of the modem, sends
+ * pending frames, reads the button and sets the breaker; once a second it sets the clock. The tables below
+ * simulate modem, power and button. Each change of the breaker is printed.
  *
- * A client opens a session as management, writes the script that disconnects, binds the import limiter to it (over 5,000 W for 2 s) and sets control mode 1; later it
- * disconnects and allows the reconnection.
+ * A management client opens a session, writes a script that disconnects, binds the import limiter to it
+ * (over 5,000 W for 2 s) and sets control mode 1. Later it disconnects and allows the reconnection.
  */
 #include "heap_pool.h"
 #include "meter.h"
@@ -16,10 +17,10 @@
 #define LONGEST_FRAME 1032
 #define MOST_SAMPLES 256
 
-/* Memory of the meter. Firmware would put it into a section of its own. */
+/* The memory of the meter. Firmware would put it into a section of its own. */
 static uint8_t pool[65536];
 
-/* ---- what the hardware would bring */
+/* ---- simulated hardware */
 
 struct arrival {
     unsigned tick;
@@ -69,7 +70,7 @@ static bool is_pressed_at(unsigned tick)
     return false;
 }
 
-/* ---- what it shows */
+/* ---- output */
 
 static void show(const char *text)
 {
@@ -102,7 +103,7 @@ static void show_time(unsigned tick)
 
 static struct meter meter;
 
-/* Samples that the meter has not taken: a block that wanted memory is handed in again with the next. */
+/* Samples that the meter has not taken: after out of memory, they are passed again with the next ones. */
 static uint32_t samples[MOST_SAMPLES];
 static size_t sample_count;
 
@@ -115,7 +116,7 @@ static void take_sample(uint32_t watts)
         sample_count = 0;
 }
 
-/* Feeds what the modem brought. Bytes that want memory stay, and are fed with the next turn of the loop. */
+/* Feeds the bytes of the modem. After out of memory, the bytes stay and are fed in the next turn of the loop. */
 static void feed_arrivals(unsigned tick)
 {
     static size_t next;
@@ -126,7 +127,7 @@ static void feed_arrivals(unsigned tick)
     }
 }
 
-/* Sends the frames that are due; here they are counted. */
+/* Sends all pending frames; here it only counts them. */
 static unsigned send_frames(void)
 {
     uint8_t frame[LONGEST_FRAME];
@@ -149,7 +150,7 @@ static void look_at_button(unsigned tick)
     show("\n");
 }
 
-/* Sets the breaker, and shows where state or supply changed. */
+/* Sets the breaker, and prints each change of state or supply. */
 static void set_breaker(unsigned tick)
 {
     static uint8_t state_before = METER_CONNECTED;

@@ -1,5 +1,5 @@
-/* Calls each export of meter.h, with the values of worked rows and with each refusal that needs no want of memory. The status is 1, and the last line tells which, where one is
- * wrong. */
+/* Calls each export of meter.h with worked values, and with each refusal other than out of memory. On a
+ * wrong result the status is 1, and the last line names the check. */
 #include "meter.h"
 
 #include <stdio.h>
@@ -32,12 +32,12 @@ static const char exporting[] =
 static void need(bool is_so, const char *what)
 {
     if (!is_so) {
-        printf("wrong: %s\n", what);
+        printf("failed: %s\n", what);
         exit(1);
     }
 }
 
-static void stands(struct meter *meter, uint8_t wanted_state, uint8_t wanted_mode, bool wanted_supply)
+static void check_state(struct meter *meter, uint8_t wanted_state, uint8_t wanted_mode, bool wanted_supply)
 {
     uint8_t state, mode;
     bool is_on;
@@ -58,7 +58,7 @@ static void answers(struct meter *meter, uint8_t session, const uint8_t *answer,
     need(meter_next(meter, session, frame, sizeof frame, &length) == METER_OK && length == count && memcmp(frame, answer, count) == 0, "meter_next");
 }
 
-/* A handle that holds no meter says so at each call, and tells zeros. */
+/* On a closed handle each call returns METER_NOT_OPEN and zeros. */
 static void nothing_is_open(struct meter *meter)
 {
     uint8_t byte = 1, frame[1] = { 7 };
@@ -66,30 +66,30 @@ static void nothing_is_open(struct meter *meter)
     size_t length = 1;
     bool is_on = true;
     struct meter_fired fired = { 1, 1, 1, 1 };
-    need(meter_open_session(meter, 0) == METER_NOT_OPEN && meter_feed(meter, 0, frame, 1) == METER_NOT_OPEN && meter_finish(meter, 0) == METER_NOT_OPEN, "sessions of none");
-    need(meter_next(meter, 0, frame, 1, &length) == METER_NOT_OPEN && length == 0 && frame[0] == 7 && meter_close_session(meter, 0) == METER_NOT_OPEN, "frames of none");
-    need(meter_press(meter, &byte) == METER_NOT_OPEN && byte == 0, "a press of none");
-    need(meter_samples(meter, watts, 1, &fired) == METER_NOT_OPEN && is_fired(fired, 0, 0, 0, 0), "samples of none");
+    need(meter_open_session(meter, 0) == METER_NOT_OPEN && meter_feed(meter, 0, frame, 1) == METER_NOT_OPEN && meter_finish(meter, 0) == METER_NOT_OPEN, "sessions of a closed handle");
+    need(meter_next(meter, 0, frame, 1, &length) == METER_NOT_OPEN && length == 0 && frame[0] == 7 && meter_close_session(meter, 0) == METER_NOT_OPEN, "frames of a closed handle");
+    need(meter_press(meter, &byte) == METER_NOT_OPEN && byte == 0, "a press of a closed handle");
+    need(meter_samples(meter, watts, 1, &fired) == METER_NOT_OPEN && is_fired(fired, 0, 0, 0, 0), "samples of a closed handle");
     fired.over = 1;
-    need(meter_sample_pairs(meter, watts, 1, watts, 1, &fired) == METER_NOT_OPEN && is_fired(fired, 0, 0, 0, 0), "pairs of none");
+    need(meter_sample_pairs(meter, watts, 1, watts, 1, &fired) == METER_NOT_OPEN && is_fired(fired, 0, 0, 0, 0), "pairs of a closed handle");
     byte = 1;
-    need(meter_moment(meter, 5, &byte) == METER_NOT_OPEN && byte == 0, "a moment of none");
+    need(meter_moment(meter, 5, &byte) == METER_NOT_OPEN && byte == 0, "a moment of a closed handle");
     byte = 1;
-    need(meter_control_state(meter, &byte) == METER_NOT_OPEN && byte == 0, "a state of none");
+    need(meter_control_state(meter, &byte) == METER_NOT_OPEN && byte == 0, "the state of a closed handle");
     byte = 1;
-    need(meter_control_mode(meter, &byte) == METER_NOT_OPEN && byte == 0, "a mode of none");
-    need(meter_supply(meter, &is_on) == METER_NOT_OPEN && !is_on, "a supply of none");
-    need(meter_last_moment(meter, &moment) == METER_NOT_OPEN && moment == 0, "a last moment of none");
+    need(meter_control_mode(meter, &byte) == METER_NOT_OPEN && byte == 0, "the mode of a closed handle");
+    need(meter_supply(meter, &is_on) == METER_NOT_OPEN && !is_on, "the supply of a closed handle");
+    need(meter_last_moment(meter, &moment) == METER_NOT_OPEN && moment == 0, "the last moment of a closed handle");
     length = 1;
-    need(meter_export(meter, frame, 1, &length) == METER_NOT_OPEN && length == 0 && frame[0] == 7, "a trace of none");
+    need(meter_export(meter, frame, 1, &length) == METER_NOT_OPEN && length == 0 && frame[0] == 7, "the trace of a closed handle");
 }
 
 static void arguments_have_ranges(struct meter *meter)
 {
     static const uint8_t seventeen[17] = "ABCDEFGHIJKLMNOPQ", thirty_three[33] = { 1 };
-    need(meter_open(meter, name, 0, password, 8, 16) == METER_WRONG_ARGUMENT && meter_open(meter, seventeen, 17, password, 8, 16) == METER_WRONG_ARGUMENT, "lengths of a name");
-    need(meter_open(meter, name, 6, password, 0, 16) == METER_WRONG_ARGUMENT && meter_open(meter, name, 6, thirty_three, 33, 16) == METER_WRONG_ARGUMENT, "lengths of a password");
-    need(meter_open(meter, name, 6, password, 8, 0) == METER_WRONG_ARGUMENT && meter_open(meter, name, 6, password, 8, 1025) == METER_WRONG_ARGUMENT, "numbers of events");
+    need(meter_open(meter, name, 0, password, 8, 16) == METER_WRONG_ARGUMENT && meter_open(meter, seventeen, 17, password, 8, 16) == METER_WRONG_ARGUMENT, "the length of a name");
+    need(meter_open(meter, name, 6, password, 0, 16) == METER_WRONG_ARGUMENT && meter_open(meter, name, 6, thirty_three, 33, 16) == METER_WRONG_ARGUMENT, "the length of a password");
+    need(meter_open(meter, name, 6, password, 8, 0) == METER_WRONG_ARGUMENT && meter_open(meter, name, 6, password, 8, 1025) == METER_WRONG_ARGUMENT, "the number of events");
     nothing_is_open(meter);
 }
 
@@ -98,14 +98,14 @@ static void sessions_switch_the_supply(struct meter *meter)
     uint8_t frame[LONGEST_FRAME], code;
     size_t length;
     need(meter_open_session(meter, 7) == METER_OK && meter_open_session(meter, 7) == METER_SESSION_TAKEN, "a session is open");
-    need(meter_open_session(meter, 8) == METER_NO_SESSION && meter_feed(meter, 6, requests, 1) == METER_NO_SESSION, "sessions that are not");
+    need(meter_open_session(meter, 8) == METER_NO_SESSION && meter_feed(meter, 6, requests, 1) == METER_NO_SESSION, "sessions that are not open");
     need(meter_feed(meter, 7, requests, sizeof requests) == METER_OK, "meter_feed");
-    need(meter_next(meter, 7, frame, 50, &length) == METER_NO_ROOM && length == 51, "a frame of 51 bytes has no room in 50");
-    need(meter_next(meter, 7, frame, sizeof frame, &length) == METER_OK && length == 51, "the frame stays due");
+    need(meter_next(meter, 7, frame, 50, &length) == METER_NO_ROOM && length == 51, "a frame of 51 bytes does not fit 50");
+    need(meter_next(meter, 7, frame, sizeof frame, &length) == METER_OK && length == 51, "the frame is sent later");
     answers(meter, 7, set_answer, sizeof set_answer);
     answers(meter, 7, action_answer, sizeof action_answer);
     need(meter_next(meter, 7, frame, sizeof frame, &length) == METER_WAIT && length == 0, "no fourth answer");
-    stands(meter, METER_DISCONNECTED, 1, false);
+    check_state(meter, METER_DISCONNECTED, 1, false);
     need(meter_press(meter, &code) == METER_OK && code == 2, "a press of a switch that was cut remotely");
     need(meter_feed(meter, 7, requests, 3) == METER_OK && meter_finish(meter, 7) == METER_OK, "meter_finish");
     need(meter_next(meter, 7, frame, sizeof frame, &length) == METER_CUT && length == 0, "an input that ended within a frame");
@@ -128,16 +128,16 @@ static void traces_are_gone_on_from(struct meter *meter)
     static uint8_t text[65536];
     uint32_t moment;
     size_t length, short_length;
-    need(meter_export(meter, text, 3, &short_length) == METER_NO_ROOM && text[0] == 0, "a trace that has no room");
+    need(meter_export(meter, text, 3, &short_length) == METER_NO_ROOM && text[0] == 0, "a trace that does not fit");
     need(meter_export(meter, text, sizeof text, &length) == METER_OK && length == short_length && memcmp(text, "RELAYTRACE 2\n", 13) == 0, "meter_export");
     meter_close(meter);
     nothing_is_open(meter);
-    need(meter_resume(meter, text, length - 1, password, 8, 16) == METER_WRONG_ARGUMENT, "a trace without its last line's end");
+    need(meter_resume(meter, text, length - 1, password, 8, 16) == METER_WRONG_ARGUMENT, "a trace without its last line end");
     need(meter_resume(meter, text, length, password, 8, 0) == METER_WRONG_ARGUMENT && meter_resume(meter, text, length, password, 0, 16) == METER_WRONG_ARGUMENT, "ranges of meter_resume");
     need(meter_resume(meter, text, length, password, 8, 16) == METER_OK && meter_resume(meter, text, length, password, 8, 16) == METER_IS_OPEN, "meter_resume");
-    stands(meter, METER_DISCONNECTED, 1, false);
+    check_state(meter, METER_DISCONNECTED, 1, false);
     need(meter_last_moment(meter, &moment) == METER_OK && moment == 5, "the last moment");
-    need(meter_close_session(meter, 7) == METER_NO_SESSION, "a meter that goes on has no session");
+    need(meter_close_session(meter, 7) == METER_NO_SESSION, "a resumed meter has no session");
     meter_close(meter);
     meter_close(meter);
 }
@@ -152,10 +152,10 @@ static void samples_reach_the_limiters(struct meter *meter)
         exported[i] = 5001;
     need(meter_resume(meter, (const uint8_t *)exporting, sizeof exporting - 1, password, 8, 16) == METER_OK, "a meter with an export limiter");
     need(meter_sample_pairs(meter, imported, 10, exported, 10, &fired) == METER_OK && is_fired(fired, 0, 1, 1, 0), "ten pairs");
-    stands(meter, METER_READY_FOR_RECONNECTION, 5, false);
+    check_state(meter, METER_READY_FOR_RECONNECTION, 5, false);
     need(meter_press(meter, &code) == METER_OK && code == 0, "meter_press");
-    need(meter_sample_pairs(meter, imported, 1, exported, 1, &fired) == METER_OK && is_fired(fired, 0, 1, 0, 0), "one pair more");
-    stands(meter, METER_CONNECTED, 5, true);
+    need(meter_sample_pairs(meter, imported, 1, exported, 1, &fired) == METER_OK && is_fired(fired, 0, 1, 0, 0), "one more pair");
+    check_state(meter, METER_CONNECTED, 5, true);
     need(meter_sample_pairs(meter, imported, 1, exported, 2, &fired) == METER_WRONG_ARGUMENT && is_fired(fired, 0, 0, 0, 0), "uneven pairs");
     need(meter_sample_pairs(meter, imported, 257, exported, 257, &fired) == METER_WRONG_ARGUMENT && meter_samples(meter, imported, 257, &fired) == METER_WRONG_ARGUMENT, "257 samples");
     meter_close(meter);
@@ -171,11 +171,11 @@ int main(void)
     nothing_is_open(&meter);
     arguments_have_ranges(&meter);
     need(meter_open(&meter, name, 6, password, 8, 16) == METER_OK && meter_open(&meter, name, 6, password, 8, 16) == METER_IS_OPEN, "meter_open");
-    stands(&meter, METER_CONNECTED, 0, true);
+    check_state(&meter, METER_CONNECTED, 0, true);
     sessions_switch_the_supply(&meter);
     moments_go_on(&meter);
     traces_are_gone_on_from(&meter);
     samples_reach_the_limiters(&meter);
-    puts("each export answered rightly");
+    puts("all exports passed");
     return 0;
 }

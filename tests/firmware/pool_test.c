@@ -1,5 +1,6 @@
-/* Tries the pool: blocks of many sizes are taken, grown and given back in a changing order. Each is aligned, lies within the pool and keeps its bytes; at the end the
- * pool is one piece again. Prints how many calls there were, and how many were refused; the status is 1 where something is wrong. */
+/* Tests the pool: allocates, grows and frees blocks of many sizes in random order. Each block must be
+ * aligned, be within the pool and keep its bytes; at the end the pool must be one free block. Prints the
+ * numbers of calls and of refused ones. On a failure the status is 1, and the last line describes it. */
 #include "heap.h"
 #include "heap_pool.h"
 
@@ -21,19 +22,19 @@ struct taken {
 
 static _Noreturn void wrong(const char *what)
 {
-    printf("wrong: %s\n", what);
+    printf("failed: %s\n", what);
     exit(1);
 }
 
 static void look(const struct taken *block)
 {
     if ((uintptr_t)block->at % 16 != 0)
-        wrong("a block that is not aligned");
+        wrong("a block is not aligned");
     if (block->at < memory || block->at + block->size > memory + sizeof memory)
-        wrong("a block outside the pool");
+        wrong("a block is outside the pool");
     for (size_t i = 0; i < block->size; i++)
         if (block->at[i] != block->mark)
-            wrong("a block that lost its bytes");
+            wrong("the bytes of a block changed");
 }
 
 static unsigned chance(unsigned below)
@@ -62,7 +63,7 @@ int main(void)
             if (tried.ok && size > block->size)
                 for (size_t i = 0; i < block->size; i++)
                     if (((unsigned char *)tried.p)[i] != block->mark)
-                        wrong("a block that lost its bytes as it moved");
+                        wrong("the bytes of a block changed when it moved");
         } else {
             rattle_dealloc(block->at);
             block->at = NULL;
@@ -83,12 +84,12 @@ int main(void)
             rattle_dealloc(blocks[i].at);
         }
     if (heap_pool_used() != 0)
-        wrong("bytes that are in use after all were given back");
-    /* (the pool began five bytes on, so eleven go to its alignment, and what is left is a multiple of 16) */
+        wrong("bytes are in use after all blocks were freed");
+    /* (the pool starts at an offset of five bytes: eleven are lost to alignment, the rest is a multiple of 16) */
     if (!rattle_alloc((whole - 11) / 16 * 16, 16).ok)
-        wrong("a pool that is in pieces after all were given back");
+        wrong("the pool is not one free block after all were freed");
     if (rattle_alloc(1, 1).ok)
-        wrong("more than the whole pool");
+        wrong("a block larger than the pool was allocated");
     printf("%d calls, %ld refused\n", CALLS, refused);
     return 0;
 }

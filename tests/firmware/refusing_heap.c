@@ -1,5 +1,6 @@
-/* A heap over malloc that refuses one call: the one with the number of the environment's REFUSE, counted from 1 (none if it is 0 or left out). At the end it tells on
- * standard error how many calls there were, and how many blocks were not given back. */
+/* A heap over malloc that refuses the call whose number, from 1, is in the variable REFUSE (none if that is
+ * 0 or not set). When the program ends, it prints the numbers of calls and of blocks that were not freed to
+ * standard error. */
 #include "heap.h"
 
 #include <stdio.h>
@@ -8,7 +9,7 @@
 static char nothing;
 static long calls, blocks;
 
-static void tell(void)
+static void report(void)
 {
     fprintf(stderr, "calls %ld, blocks left %ld\n", calls, blocks);
 }
@@ -19,7 +20,7 @@ static bool is_refused(void)
     if (calls == 0) {
         const char *word = getenv("REFUSE");
         refused = word != NULL ? atol(word) : 0;
-        atexit(tell);
+        atexit(report);
     }
     return ++calls == refused;
 }

@@ -5,17 +5,17 @@ ghost use Rattle.head_end.specs.declared.fault.JobsFault.TheVariants.{Memory};
 use std::alloc::AllocError;
 use thiserror::Error;
 
-/// Why a text is no list of jobs.
+/// Why a text is not a list of jobs.
 #[derive(Clone, Copy, Debug, PartialEq, Eq, Error)]
 pub enum JobsFault {
     /// The first wrong line, counted from 1.
-    #[error("line {0}")]
+    #[error("line {0} is not a job")]
     Line(u64),
     /// There are more than 1,000 jobs.
     #[error("more than 1,000 jobs")]
     TooMany,
-    /// Memory ran out.
-    #[error("no memory")]
+    /// Out of memory.
+    #[error("out of memory")]
     Memory,
 }
 

@@ -1,20 +1,33 @@
-//! The command line of the program.
+//! The command line and its help.
 use clap::{Arg, ArgAction, Command, value_parser};
 use program_start::{with_argument, with_subcommand};
 use std::alloc::{AllocError, Global};
 
-/// What `--help` tells below the options.
+/// The end of `--help`.
 const LIMITS_AND_STATUSES: &str = "\
-Limits: a list has 1,000 jobs and 1,048,576 bytes at most.
-A fault is the line `fault: WORD` on standard error; --verbose adds a line before it that tells where and why the input is wrong.
-Exit status: 0 done; 2 the command line or the input is wrong; 3 reading or writing failed; 4 memory ran out.
+Limits: a list has at most 1,000 jobs and 1,048,576 bytes.
+A fault is the line `fault: WORD` on standard error. \
+With --verbose, a line before it says what was expected and what was found.
+Exit status: 0 success, whatever the rows of the report say; \
+2 the command line or the input is wrong; 3 reading or writing failed; 4 out of memory.
 Example: echo m1 127.0.0.1:4059 state | head_end check";
+
+/// The end of `run --help`: the rows of the report.
+const REPORT: &str = "\
+Rows of the report, one for each job:
+  NAME done N        success: N is 0, or the control state (0 disconnected, 1 connected, \
+2 ready for reconnection)
+  NAME refused N     the meter answered the request with result N of IEC 62056-5-3
+  NAME rejected N    the meter opened no association, so no request was sent; \
+N is the diagnostic of its AARE
+  NAME unknown       no valid answer came; the meter may have carried out the request
+  NAME memory        out of memory; the request may have been sent";
 
 /// The option `--verbose`.
 fn verbose<'a>(alloc: Global) -> Arg<'a> {
     Arg::new(alloc, "verbose")
         .long("verbose")
-        .help("Tell on standard error where and why the input is wrong")
+        .help("On a fault, report what was expected and what was found on standard error")
         .action(ArgAction::SetTrue)
 }
 
@@ -23,7 +36,7 @@ fn password<'a>(alloc: Global, is_required: bool) -> Arg<'a> {
     Arg::new(alloc, "password")
         .long("password")
         .value_name("TEXT")
-        .help("The password of the management client, 1 to 32 bytes (else METER_PASSWORD)")
+        .help("Password of the management client, 1 to 32 bytes; default: METER_PASSWORD")
         .required(is_required)
         .action(ArgAction::Set)
 }
@@ -33,7 +46,7 @@ fn workers<'a>(alloc: Global) -> Arg<'a> {
     Arg::new(alloc, "workers")
         .long("workers")
         .value_name("N")
-        .help("How many meters are talked to at once, 1 to 16")
+        .help("Number of meters to contact in parallel, 1 to 16")
         .value_parser(value_parser!(u8).range(1..=16))
         .default_value("4")
 }
@@ -43,7 +56,7 @@ fn timeout<'a>(alloc: Global) -> Arg<'a> {
     Arg::new(alloc, "timeout")
         .long("timeout")
         .value_name("SECONDS")
-        .help("How long a connection may take as a whole; 0 is no limit")
+        .help("Time limit for an open connection; 0 means no limit")
         .value_parser(value_parser!(u32))
         .default_value("60")
 }
@@ -53,7 +66,7 @@ fn connect_timeout<'a>(alloc: Global) -> Arg<'a> {
     Arg::new(alloc, "connect-timeout")
         .long("connect-timeout")
         .value_name("SECONDS")
-        .help("How long a connect may take; 0 is no limit")
+        .help("Time limit for connecting to a meter; 0 means no limit")
         .value_parser(value_parser!(u32))
         .default_value("10")
 }
@@ -62,17 +75,19 @@ fn connect_timeout<'a>(alloc: Global) -> Arg<'a> {
 fn progress<'a>(alloc: Global) -> Arg<'a> {
     Arg::new(alloc, "progress")
         .long("progress")
-        .help(
-            "Tells on standard error how far the campaign is, as it does anyway where that is a terminal",
-        )
+        .help("Report progress on standard error; default if that is a terminal")
         .action(ArgAction::SetTrue)
 }
 
-/// The command that runs a campaign. If the environment has no password, the command line has to give it.
+/// The command `run`. The password is required if the environment has none.
 fn run_command<'a>(alloc: Global, has_password: bool) -> Result<Command<'a>, AllocError> {
-    let made = Ok(Command::new(alloc, "run").about(
-        "Runs the jobs on standard input, and prints the report: a line for each job, in their order",
-    ));
+    let made = Ok(
+        Command::new(alloc, "run")
+            .about(
+                "Runs the jobs on standard input and prints a report: a row for each job, in order",
+            )
+            .after_help(REPORT),
+    );
     let made = with_argument(made, password(alloc, !has_password));
     let made = with_argument(made, workers(alloc));
     let made = with_argument(made, timeout(alloc));
@@ -81,27 +96,27 @@ fn run_command<'a>(alloc: Global, has_password: bool) -> Result<Command<'a>, All
     with_argument(made, verbose(alloc))
 }
 
-/// The command that counts the jobs of a list.
+/// The command `check`.
 fn check_command<'a>(alloc: Global) -> Result<Command<'a>, AllocError> {
     Command::new(alloc, "check")
         .about(
-            "Reads the jobs on standard input and prints how many they are: a line each, ID ADDRESS VERB, the verb disconnect, reconnect or state",
+            "Counts the jobs on standard input: NAME ADDRESS VERB (disconnect, reconnect or state)",
         )
         .arg(verbose(alloc))
 }
 
-/// The program's own part of its command line.
+/// The program, without its commands.
 fn program<'a>(alloc: Global) -> Result<Command<'a>, AllocError> {
     let program = Command::new(alloc, "head_end")
         .bin_name("head_end")?
         .version("0.1.0")
-        .about("Switching campaigns over DLMS/COSEM electricity meters")
+        .about("Runs switching campaigns over DLMS/COSEM electricity meters")
         .after_help(LIMITS_AND_STATUSES)
         .subcommand_required(true);
     Ok(program)
 }
 
-/// The commands of the program, as its users see them. The environment may have the password of `run`.
+/// The program with its commands. `has_password`: the environment has the password of `run`.
 pub fn command_line<'a>(alloc: Global, has_password: bool) -> Result<Command<'a>, AllocError> {
     let program = with_subcommand(program(alloc), check_command(alloc));
     with_subcommand(program, run_command(alloc, has_password))

@@ -114,7 +114,7 @@ pub(crate) fn planned(rt: &HostRuntime, matches: &ArgMatches<'_>) -> Result<Plan
         Ok(password) => password,
         Err(fault) => {
             if is_verbose {
-                let _ = eprintln!(rt; "password: none that has 1 to 32 bytes");
+                let _ = eprintln!(rt; "password: must be 1 to 32 bytes");
             }
             return Err(fault);
         }

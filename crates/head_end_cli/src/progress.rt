@@ -1,10 +1,10 @@
-//! What is told on standard error while a campaign runs.
+//! Progress of a campaign, reported on standard error.
 use client_core::{Job, Outcome};
 use head_end::{Row, Watcher};
 use std::sync::atomic::{AtomicUsize, Ordering};
 use std::time::Instant;
 
-/// How many jobs are done, counted by all workers together, and when the first began.
+/// The number of jobs done by all workers, and the time of the start.
 #[derive(Drop)]
 pub(crate) struct Progress {
     all: usize,
@@ -14,7 +14,7 @@ pub(crate) struct Progress {
 }
 
 impl Progress {
-    /// None of so many jobs is done, and the time runs from now on.
+    /// Progress of `all` jobs: none is done, and the clock starts now.
     pub(crate) fn new(rt: &HostRuntime, all: usize) -> Progress {
         Progress {
             all,
@@ -24,7 +24,7 @@ impl Progress {
         }
     }
 
-    /// About how many seconds the rest takes, if it goes on as it went for so many jobs. None where there is no clock.
+    /// An estimate of the seconds that remain, from the mean of the `done` jobs; `None` without a clock.
     fn seconds_to_go(&self, rt: &HostRuntime, done: usize) -> Option<u64> {
         let began = self.began?;
         let Ok(passed) = began.elapsed(rt) else {
@@ -38,7 +38,7 @@ impl Progress {
     }
 }
 
-/// Counts each job and, if that is wanted, tells how far the campaign is.
+/// Counts each job and, if `is_shown`, reports the progress.
 #[derive(Drop)]
 pub(crate) struct Watch<'a> {
     pub(crate) rt: &'a HostRuntime,
@@ -67,7 +67,7 @@ impl<'a> Watcher for Watch<'a> {
 }
 
 impl<'a> Watch<'a> {
-    /// Tells how far the campaign is.
+    /// Writes a line of progress to standard error.
     fn tell(&self, done: usize, unknown: usize) {
         let all = self.progress.all;
         let _ = match self.progress.seconds_to_go(self.rt, done) {

@@ -1,12 +1,14 @@
-//! Where and why standard input is no list of jobs.
+//! Why standard input is not a list of jobs.
 ghost use Rattle.std.specs.Prelude.{◌≡◌};
 ghost use Rattle.head_end_cli.specs.Faults.{input_fault, jobs_fault};
 
 use byte_streams::InputFault;
 use head_end::{JobsFault, MAX_ADDRESS, MAX_ID};
 use program_fault::Fault;
+use thiserror::Error;
+use trace_text::{Lines, Words};
 
-/// The fault of the program where standard input is not read.
+/// The fault of the program if standard input cannot be read.
 pub(crate) fn input_fault(fault: InputFault) -> Fault
     ensures { result ≡ input_fault fault }
 {
@@ -17,7 +19,7 @@ pub(crate) fn input_fault(fault: InputFault) -> Fault
     }
 }
 
-/// The fault of the program where a text is no list of jobs.
+/// The fault of the program if a text is not a list of jobs.
 pub(crate) fn jobs_fault(fault: JobsFault) -> Fault
     ensures { result ≡ jobs_fault fault }
 {
@@ -27,55 +29,114 @@ pub(crate) fn jobs_fault(fault: JobsFault) -> Fault
     }
 }
 
-/// Tells on standard error, in a line, why standard input is not read.
-pub(crate) fn tell_input(rt: &HostRuntime, fault: InputFault) {
-    let _ = match fault {
-        InputFault::TooLong => eprintln!(rt; "byte 1048577: more than 1,048,576 bytes"),
-        InputFault::Read | InputFault::Memory => eprintln!(rt; "standard input: {fault}"),
-    };
+/// Why standard input is not a list of jobs. Its message is the line that `--verbose` writes.
+///
+/// Lines, bytes and jobs count from 1.
+#[derive(Clone, Copy, Debug, PartialEq, Eq, Error)]
+pub(crate) enum ListFault {
+    #[error("byte 1048577: the list has more than 1,048,576 bytes")]
+    TooLong,
+    #[error("line {0}: expected `NAME ADDRESS VERB`: {1}")]
+    Line(u64, LineFault),
+    #[error("job 1001: the list has more than 1,000 jobs")]
+    TooMany,
+    #[error("standard input: a read failed")]
+    Read,
+    #[error("standard input: out of memory")]
+    Memory,
 }
 
-/// Tells on standard error, in a line, where and why a text is no list of jobs.
-pub(crate) fn tell_jobs(rt: &HostRuntime, text: &[u8], fault: JobsFault) {
-    let _ = match fault {
-        JobsFault::Line(number) => {
-            eprintln!(rt; "line {number}: {}", why_no_job(line_of(text, number)))
+/// Why a line is not a job: the first of its words that is missing or wrong, or a word too many.
+#[derive(Clone, Copy, Debug, PartialEq, Eq, Error)]
+pub(crate) enum LineFault {
+    /// The line ends before the word of this name.
+    #[error("{0} is missing")]
+    Missing(&'static str),
+    /// Two blanks, or a blank at the start or at the end of the line.
+    #[error("{0} is empty (one blank separates two words)")]
+    Empty(&'static str),
+    /// The word has more than this number of bytes.
+    #[error("{0} has more than {1} bytes")]
+    TooLong(&'static str, usize),
+    /// The word has this byte.
+    #[error("{0} has the byte 0x{1:02X}, which is not visible ASCII")]
+    Invisible(&'static str, u8),
+    /// The third word is not a verb.
+    #[error("VERB must be disconnect, reconnect or state")]
+    Verb,
+    /// There is a fourth word.
+    #[error("unexpected extra word")]
+    Surplus,
+}
+
+impl ListFault {
+    /// Returns why standard input was not read.
+    pub(crate) fn from_input(fault: InputFault) -> ListFault {
+        match fault {
+            InputFault::TooLong => ListFault::TooLong,
+            InputFault::Read => ListFault::Read,
+            InputFault::Memory => ListFault::Memory,
         }
-        JobsFault::TooMany => eprintln!(rt; "job 1001: {fault}"),
-        JobsFault::Memory => eprintln!(rt; "standard input: {fault}"),
-    };
+    }
+
+    /// Returns why a text is not a list of jobs.
+    pub(crate) fn from_jobs(text: &[u8], fault: JobsFault) -> ListFault {
+        match fault {
+            JobsFault::Line(number) => ListFault::Line(number, why_no_job(line_of(text, number))),
+            JobsFault::TooMany => ListFault::TooMany,
+            JobsFault::Memory => ListFault::Memory,
+        }
+    }
 }
 
-/// The line of a text with that number, counted from 1; none of its bytes where it has no such line.
+/// Returns the line of a text with that number, counted from 1. A text with fewer ended lines has its
+/// last line after them.
 fn line_of(text: &[u8], number: u64) -> &[u8] {
-    let mut at: u64 = 1;
-    for line in text.split(|byte| *byte == b'\n') {
-        if at == number {
-            return line;
-        }
-        at = at.saturating_add(1);
+    let mut lines = Lines::new(text);
+    for _ in 1..number {
+        let _ = lines.next();
     }
-    &[]
+    lines.next().unwrap_or(lines.rest())
 }
 
-/// Why a line that is no job is none: the first of its words that is missing, wrong or one too many.
-fn why_no_job(line: &[u8]) -> &'static str {
-    let mut words = line.split(|byte| *byte == b' ');
-    if !is_text(words.next().unwrap_or(&[]), MAX_ID) {
-        return "no name of 1 to 32 visible bytes";
+/// Returns why a line is not a job.
+fn why_no_job(line: &[u8]) -> LineFault {
+    match check_words(line) {
+        Ok(()) => LineFault::Surplus,
+        Err(fault) => fault,
     }
-    if !is_text(words.next().unwrap_or(&[]), MAX_ADDRESS) {
-        return "no address of 1 to 64 visible bytes";
-    }
-    if !is_verb(words.next().unwrap_or(&[])) {
-        return "no verb disconnect, reconnect or state";
-    }
-    "more words than a name, an address and a verb"
 }
 
-/// Whether a word has 1 to so many bytes, all of them visible.
-fn is_text(word: &[u8], most: usize) -> bool {
-    !word.is_empty() && word.len() <= most && word.iter().all(u8::is_ascii_graphic)
+/// Checks the first three words of a line.
+fn check_words(line: &[u8]) -> Result<(), LineFault> {
+    let mut words = Words::new(line);
+    check_word("NAME", words.next(), MAX_ID)?;
+    check_word("ADDRESS", words.next(), MAX_ADDRESS)?;
+    let verb = check_word("VERB", words.next(), usize::MAX)?;
+    if is_verb(verb) {
+        Ok(())
+    } else {
+        Err(LineFault::Verb)
+    }
+}
+
+/// Checks that a word has 1 to `most` bytes of visible ASCII, and returns it.
+fn check_word<'a>(
+    name: &'static str,
+    word: Option<&'a [u8]>,
+    most: usize,
+) -> Result<&'a [u8], LineFault> {
+    let word = word.ok_or(LineFault::Missing(name))?;
+    if word.is_empty() {
+        return Err(LineFault::Empty(name));
+    }
+    if word.len() > most {
+        return Err(LineFault::TooLong(name, most));
+    }
+    match word.iter().find(|byte| !byte.is_ascii_graphic()) {
+        Some(byte) => Err(LineFault::Invisible(name, *byte)),
+        None => Ok(word),
+    }
 }
 
 /// Whether a word is a verb.

@@ -25,29 +25,27 @@ pub(crate) fn warn(rt: &HostRuntime, text: &[u8], jobs: &Listed<Job>) {
 fn warn_of_job(rt: &HostRuntime, number: u64, job: &Job) {
     if job.id.as_slice().starts_with(b"#") {
         let _ = eprintln!(rt;
-            "line {number}: warning: the name begins with `#`, and the job counts: a list has no comments"
+            "line {number}: warning: `#` begins a name, not a comment: this job is run"
         );
     }
-    if !is_address(job.address.as_slice()) {
-        let _ = eprintln!(rt;
-            "line {number}: warning: the address is not HOST:PORT with a port from 1 to 65535"
-        );
+    if let Some(why) = why_no_address(job.address.as_slice()) {
+        let _ = eprintln!(rt; "line {number}: warning: {why}");
     }
 }
 
-/// Writes the warnings about a job whose name or address an earlier line has too.
+/// Writes the warnings about a name or an address that an earlier line has too.
 fn warn_of_earlier(rt: &HostRuntime, number: u64, text: &[u8], job: &Job) {
     if let Some(first) = first_with(text, number, 0, job.id.as_slice()) {
         let _ = eprintln!(rt; "line {number}: warning: line {first} has the same name");
     }
     if let Some(first) = first_with(text, number, 1, job.address.as_slice()) {
         let _ = eprintln!(rt;
-            "line {number}: warning: line {first} has the same address: which of both jobs runs first is not fixed"
+            "line {number}: warning: line {first} has the same address: the two run in any order"
         );
     }
 }
 
-/// The number of the first line before `end` whose word at that place is this one.
+/// The number of the first line before `end` that has this word at that place.
 fn first_with(text: &[u8], end: u64, place: usize, word: &[u8]) -> Option<u64> {
     let mut number: u64 = 0;
     for line in text.split(|byte| *byte == b'\n') {
@@ -62,18 +60,22 @@ fn first_with(text: &[u8], end: u64, place: usize, word: &[u8]) -> Option<u64> {
     None
 }
 
-/// Whether a text can be the address of a meter: an IP address or a host's name, a colon, and a port from 1 to 65535.
-fn is_address(text: &[u8]) -> bool {
-    if let Ok(address) = SocketAddr::parse_ascii(text) {
-        return address.port() != 0;
+/// Why a text cannot be the address of a meter; `None` if it can. An address is an IP address or the
+/// name of a host, a colon, and a port from 1 to 65535.
+fn why_no_address(text: &[u8]) -> Option<&'static str> {
+    let Some(at) = memrchr(b':', text) else {
+        return Some("the address has no port (expected HOST:PORT)");
+    };
+    if !is_port(&text[at + 1..]) {
+        return Some("the port of the address must be 1 to 65535 (expected HOST:PORT)");
     }
-    match memrchr(b':', text) {
-        Some(at) => is_name(&text[..at]) && is_port(&text[at + 1..]),
-        None => false,
+    if !is_name(&text[..at]) && SocketAddr::parse_ascii(text).is_err() {
+        return Some("the host of the address is not valid (expected HOST:PORT)");
     }
+    None
 }
 
-/// Whether a text can be the name of a host: it has no colon, and some byte that no IPv4 address has.
+/// Whether a text can be the name of a host: it has no colon, and a byte that no IPv4 address has.
 fn is_name(host: &[u8]) -> bool {
     memchr(b':', host).is_none()
         && host

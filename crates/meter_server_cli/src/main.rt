@@ -6,6 +6,7 @@
 #![tactic(auto)]
 
 mod ending;
+mod messages;
 mod serving;
 
 use crate::serving::Server;

@@ -5,6 +5,7 @@ ghost use Rattle.meter_run.specs.Runs.{IsRun};
 ghost use Rattle.meter_server_cli.specs.Endings.{PrintsText};
 
 use crate::ending::{Ends, print_trace, run_fault};
+use crate::messages::{why_not_listening, why_wrong_input};
 use byte_streams::Monitored;
 use client_sockets::{Closing, Limits, Sockets, Stopped};
 use cosem_axdr::Octets;
@@ -154,13 +155,22 @@ pub(crate) struct Server {
     address: SocketAddr,
 }
 
-/// Listens where the command line says.
+/// Listens on the address of the command line. If `is_verbose`, a line on standard error has the
+/// address, and why listening failed.
 fn listening(
     rt: &HostRuntime,
     address: &str,
     is_verbose: bool,
 ) -> Result<(TcpListener, SocketAddr), Fault> {
-    let listener = TcpListener::bind(rt, address).map_err(|_| Fault::Listen)?;
+    let listener = match TcpListener::bind(rt, address) {
+        Ok(listener) => listener,
+        Err(error) => {
+            if is_verbose {
+                let _ = eprintln!(rt; "{address}: {}", why_not_listening(error.kind()));
+            }
+            return Err(Fault::Listen);
+        }
+    };
     let address = listener.local_addr().map_err(|_| Fault::Listen)?;
     if is_verbose {
         let _ = eprintln!(rt; "listening on {address}");
@@ -171,7 +181,15 @@ fn listening(
 /// Does all that is done before the first client is accepted: judges the options, reads the trace to
 /// resume from, and listens.
 pub(crate) fn begun(rt: &HostRuntime, options: &ServeOptions) -> Result<Server, Fault> {
-    let plan = planned(rt.alloc(), rt.stdin(), options)?;
+    let plan = match planned(rt.alloc(), rt.stdin(), options) {
+        Ok(plan) => plan,
+        Err(fault) => {
+            if options.bounds.is_verbose && fault == Fault::Input {
+                let _ = eprintln!(rt; "{}", why_wrong_input(options));
+            }
+            return Err(fault);
+        }
+    };
     match listening(rt, options.address.as_str(), options.bounds.is_verbose) {
         Ok((listener, address)) => Ok(Server {
             plan,

@@ -1,4 +1,4 @@
-//! The command line, as its users see it.
+//! The command line and its help.
 ghost use Rattle.std.specs.Prelude.{◌≡◌, Some, codes};
 ghost use Rattle.server_options.specs.Options.{default_of};
 
@@ -6,24 +6,35 @@ use clap::{Arg, ArgAction, Command, value_parser};
 use program_start::{with_argument, with_subcommand};
 use std::alloc::{AllocError, Global};
 
-/// What `--help` tells below the options.
+/// The end of `--help`.
 const LIMITS_AND_STATUSES: &str = "\
-Limits: apdu and hex read 1,048,576 bytes at most; serve has eight sessions at most at a time, and closes a ninth connection.
-A fault is the line `fault: WORD` on standard error; --verbose of apdu and hex adds a line before it that tells where and why the input is wrong.
-Exit status: 0 done; 2 the command line or the input is wrong; 3 reading, writing or listening failed; 4 memory or the turns of the lock ran out.
+Limits: apdu and hex read at most 1,048,576 bytes; \
+serve has at most eight sessions at a time and closes a ninth connection.
+A fault is the line `fault: WORD` on standard error. \
+With --verbose, a line before it says what was expected and what was found.
+Exit status: 0 success; 2 the command line or the input is wrong; \
+3 reading, writing or listening failed; 4 out of memory, or the lock has no turn left.
 Example: echo C001C10046000060030AFF0300 | meter_server apdu";
 
+/// The end of `serve --help`: what standard input may hold.
+const CONSOLE: &str = "\
+Lines of standard input; any other line is skipped:
+  button                  press the button of the meter
+  samples WATTS ..        at most 256 samples of imported power, ten a second
+  pairs WATTS WATTS ..    at most 256 pairs of imported and exported power, ten a second
+  moment SECONDS          set the clock to this many seconds after 2000-01-01 00:00:00";
+
 /// The option `--password`.
-fn password<'a>(alloc: Global, is_required: bool) -> Arg<'a> {
+fn password<'a>(alloc: Global, is_required: bool, help: &'a str) -> Arg<'a> {
     Arg::new(alloc, "password")
         .long("password")
         .value_name("TEXT")
-        .help("The password of the management client, 1 to 32 bytes")
+        .help(help)
         .required(is_required)
         .action(ArgAction::Set)
 }
 
-/// An option whose value is a text, and this one where it is not given.
+/// An option whose value is a text, with its default.
 fn text<'a>(
     alloc: Global,
     name: &'a str,
@@ -49,7 +60,7 @@ fn device<'a>(alloc: Global) -> Arg<'a>
         alloc,
         "device",
         "TEXT",
-        "The name of the meter, 1 to 16 bytes",
+        "Name of the meter, 1 to 16 bytes",
         "RELAY1",
     )
 }
@@ -62,21 +73,28 @@ fn flag<'a>(alloc: Global, name: &'a str, help: &'a str) -> Arg<'a> {
         .action(ArgAction::SetTrue)
 }
 
-/// The option `--verbose` of the commands whose input may be wrong.
+/// The option `--verbose` of `apdu` and `hex`.
 fn verbose<'a>(alloc: Global) -> Arg<'a> {
     flag(
         alloc,
         "verbose",
-        "Tell on standard error where and why the input is wrong",
+        "On a fault, report what was expected and what was found on standard error",
     )
 }
 
 /// The command `hex`.
 fn hex<'a>(alloc: Global) -> Result<Command<'a>, AllocError> {
     let made = Ok(Command::new(alloc, "hex").about(
-        "Runs a client's session: standard input is its stream in hexadecimal, and each frame sent is a line",
+        "Serves one client: standard input is its stream in hexadecimal; each frame sent is a line",
     ));
-    let made = with_argument(made, password(alloc, true));
+    let made = with_argument(
+        made,
+        password(
+            alloc,
+            true,
+            "Password of the management client, 1 to 32 bytes",
+        ),
+    );
     let made = with_argument(made, device(alloc));
     with_argument(made, verbose(alloc))
 }
@@ -89,7 +107,7 @@ fn listen<'a>(alloc: Global) -> Arg<'a>
         alloc,
         "listen",
         "ADDRESS",
-        "Where clients connect to",
+        "Address to listen on, HOST:PORT",
         "127.0.0.1:4059",
     )
 }
@@ -101,7 +119,7 @@ fn depth<'a>(alloc: Global) -> Arg<'a>
     Arg::new(alloc, "depth")
         .long("depth")
         .value_name("N")
-        .help("How many events the trace holds, 1 to 1024: the last ones")
+        .help("Number of events that the trace keeps, the latest ones, 1 to 1024")
         .default_value("256")
         .value_parser(value_parser!(u16).range(1..=1024))
 }
@@ -113,12 +131,12 @@ fn connections<'a>(alloc: Global) -> Arg<'a>
     Arg::new(alloc, "connections")
         .long("connections")
         .value_name("N")
-        .help("How many connections are accepted; 0 is no limit")
+        .help("Number of connections to accept; 0 means no limit")
         .default_value("0")
         .value_parser(value_parser!(u64))
 }
 
-/// An option whose value is a number of seconds, and this one where it is not given.
+/// An option whose value is a number of seconds, with its default.
 fn seconds<'a>(alloc: Global, name: &'a str, help: &'a str, default: &'a str) -> Arg<'a>
     ensures { default_of result ≡ Some default.entry.now }
 {
@@ -137,7 +155,7 @@ fn inactivity<'a>(alloc: Global) -> Arg<'a>
     seconds(
         alloc,
         "inactivity",
-        "How long a read or a write of a client may take before its session ends; 0 is no limit",
+        "Time limit for each read or write of a client, else its session ends; 0 means no limit",
         "180",
     )
 }
@@ -149,7 +167,7 @@ fn session<'a>(alloc: Global) -> Arg<'a>
     seconds(
         alloc,
         "session",
-        "How long a client's session may last; 0 is no limit",
+        "Time limit for a client's session; 0 means no limit",
         "3600",
     )
 }
@@ -157,22 +175,30 @@ fn session<'a>(alloc: Global) -> Arg<'a>
 /// The command `apdu`.
 fn apdu<'a>(alloc: Global) -> Result<Command<'a>, AllocError> {
     Command::new(alloc, "apdu")
-        .about("Answers xDLMS requests: each line of standard input is one, in hexadecimal")
+        .about("Answers the xDLMS requests on standard input: a line each, in hexadecimal")
         .arg(verbose(alloc))
 }
 
-/// A command with the options of `serve` that tell who is served and where. Where the environment has no password, the command line has to give it.
+/// Adds the options of `serve` for the meter and its address. The password is required if the
+/// environment has none.
 fn with_meter<'a>(
     alloc: Global,
     made: Result<Command<'a>, AllocError>,
     has_password: bool,
 ) -> Result<Command<'a>, AllocError> {
-    let made = with_argument(made, password(alloc, !has_password));
+    let made = with_argument(
+        made,
+        password(
+            alloc,
+            !has_password,
+            "Password of the management client, 1 to 32 bytes; default: METER_PASSWORD",
+        ),
+    );
     let made = with_argument(made, device(alloc));
     with_argument(made, listen(alloc))
 }
 
-/// A command with the options of `serve` that bound what it keeps and for how long it serves.
+/// Adds the options of `serve` that limit the trace, the connections and their duration.
 fn with_bounds<'a>(
     alloc: Global,
     made: Result<Command<'a>, AllocError>,
@@ -183,7 +209,7 @@ fn with_bounds<'a>(
     with_argument(made, session(alloc))
 }
 
-/// A command with one more option without a value.
+/// Adds an option without a value.
 fn with_flag<'a>(
     alloc: Global,
     made: Result<Command<'a>, AllocError>,
@@ -193,7 +219,7 @@ fn with_flag<'a>(
     with_argument(made, flag(alloc, name, help))
 }
 
-/// A command with the options of `serve` that have no value.
+/// Adds the options of `serve` without a value.
 fn with_flags<'a>(
     alloc: Global,
     made: Result<Command<'a>, AllocError>,
@@ -202,44 +228,46 @@ fn with_flags<'a>(
         alloc,
         made,
         "stop-with-input",
-        "Accept no further connection once standard input has ended",
+        "Accept no more connections once standard input has ended",
     );
     let made = with_flag(
         alloc,
         made,
         "resume",
-        "Go on from the trace at the head of standard input",
+        "Resume from the trace at the head of standard input",
     );
     with_flag(
         alloc,
         made,
         "verbose",
-        "Tell on standard error who connects and how each session ends",
+        "Report faults, connections and how sessions end on standard error",
     )
 }
 
-/// The command `serve`. Where the environment has no password, the command line has to give it.
+/// The command `serve`. The password is required if the environment has none.
 fn serve<'a>(alloc: Global, has_password: bool) -> Result<Command<'a>, AllocError> {
-    let made = Ok(Command::new(alloc, "serve").about(
-        "Serves clients over TCP. Lines of standard input press the button, give samples and tell the time; at the end the trace is printed",
-    ));
+    let made = Ok(
+        Command::new(alloc, "serve")
+            .about("Serves clients over TCP and prints the trace of the meter when it ends")
+            .after_help(CONSOLE),
+    );
     let made = with_meter(alloc, made, has_password);
     let made = with_bounds(alloc, made);
     with_flags(alloc, made)
 }
 
-/// The program's own part of its command line.
+/// The program, without its commands.
 fn program<'a>(alloc: Global) -> Result<Command<'a>, AllocError> {
     let program = Command::new(alloc, "meter_server")
         .bin_name("meter_server")?
         .version("0.1.0")
-        .about("The supply switch of a DLMS/COSEM electricity meter")
+        .about("Supply control of a DLMS/COSEM electricity meter")
         .after_help(LIMITS_AND_STATUSES)
         .subcommand_required(true);
     Ok(program)
 }
 
-/// The commands of the program. The environment may have the password of `serve`.
+/// The program with its commands. `has_password`: the environment has the password of `serve`.
 pub(crate) fn command_line<'a>(
     alloc: Global,
     has_password: bool,

@@ -1,4 +1,4 @@
-//! The command line of the program `meter_server`: what its words ask for, as values of their own.
+//! The command line of the program `meter_server`, parsed into options.
 #![tactic(auto)]
 
 mod arguments;

@@ -11,40 +11,40 @@ use std::env;
 use std::env::VarError;
 use std::rt::Env;
 
-/// The environment's word for the password.
+/// The variable of the environment with the password.
 pub(crate) const PASSWORD_VARIABLE: &str = "METER_PASSWORD";
 
-/// What the options of `hex` say.
+/// The options of `hex`.
 #[derive(Drop)]
 pub struct HexOptions {
     /// The password of the management client, of any length.
     pub password: String,
     /// The name of the meter, of any length.
     pub device: String,
-    /// Whether standard error tells where and why the input is wrong.
+    /// Whether faults are described on standard error.
     pub is_verbose: bool,
 }
 
-/// How far `serve` goes.
+/// The limits and flags of `serve`.
 #[derive(Clone, Copy, Debug)]
 pub struct Bounds {
-    /// How many events the trace holds, 1 to 1,024.
+    /// The number of events that the trace keeps, 1 to 1,024.
     pub depth: u16,
-    /// How many connections are accepted; 0 is no limit.
+    /// The number of connections to accept; 0 means no limit.
     pub connections: u64,
-    /// How many seconds a read or a write of a client may take; 0 is no limit.
+    /// The time limit of a read or a write of a client, in seconds; 0 means no limit.
     pub inactivity: u32,
-    /// How many seconds a client's session may last; 0 is no limit.
+    /// The time limit of a client's session, in seconds; 0 means no limit.
     pub session: u32,
-    /// Whether no further connection is accepted once standard input has ended.
+    /// Whether no more connections are accepted once standard input has ended.
     pub stops_with_input: bool,
-    /// Whether the meter goes on from the trace at the head of standard input.
+    /// Whether the meter resumes from the trace at the head of standard input.
     pub resumes: bool,
-    /// Whether standard error tells who connects and how each session ends.
+    /// Whether faults, connections and ends of sessions are reported on standard error.
     pub is_verbose: bool,
 }
 
-/// What the options of `serve` say.
+/// The options of `serve`.
 #[derive(Drop)]
 pub struct ServeOptions {
     /// The password of the management client, of any length.
@@ -53,11 +53,11 @@ pub struct ServeOptions {
     pub device: String,
     /// The address that clients connect to.
     pub address: String,
-    /// How far it goes.
+    /// The limits and flags.
     pub bounds: Bounds,
 }
 
-/// A text in memory of its own.
+/// Copies a text.
 fn owned(alloc: Global, text: &str) -> Result<String, Fault>
     ensures text { IfOk result (λ owned. string_bytes owned ≡ text.now) }
     ensures err { IfErr result (λ fault. is_of_asking fault ≡ true) }
@@ -69,7 +69,7 @@ fn owned(alloc: Global, text: &str) -> Result<String, Fault>
     }
 }
 
-/// The text of an option, which is empty where there is none.
+/// Returns the text of an option; empty if it is not given.
 fn text_of(alloc: Global, matches: &ArgMatches<'_>, name: &str) -> Result<String, Fault>
     ensures text { IfOk result (λ text. IsText (found_of matches.now) name.now (string_bytes text)) }
     ensures err { IfErr result (λ fault. is_of_asking fault ≡ true) }
@@ -77,7 +77,7 @@ fn text_of(alloc: Global, matches: &ArgMatches<'_>, name: &str) -> Result<String
     owned(alloc, matches.get_str(name).unwrap_or(""))
 }
 
-/// The options of `hex`.
+/// Reads the options of `hex`.
 pub(crate) fn hex_options(alloc: Global, matches: &ArgMatches<'_>) -> Result<HexOptions, Fault>
     ensures password { IfOk result (λ options. IsText (found_of matches.now) (codes "password") (string_bytes options.password)) }
     ensures device { IfOk result (λ options. IsText (found_of matches.now) (codes "device") (string_bytes options.device)) }
@@ -93,7 +93,8 @@ pub(crate) fn hex_options(alloc: Global, matches: &ArgMatches<'_>) -> Result<Hex
     })
 }
 
-/// The password of the command line, else that of the environment. Errors: `Memory`, and `Input` where neither has one.
+/// Returns the password of the command line, else that of the environment. Errors: `Memory`, and `Input`
+/// if neither has one.
 fn password_of<R: Env + AllocGlobal>(rt: &R, matches: &ArgMatches<'_>) -> Result<String, Fault>
     ensures given { IfOk result (λ password. (text : List ℕ) → first_value (found_of matches.now) (codes "password") ≡ Some text
         → string_bytes password ≡ text) }
@@ -109,14 +110,14 @@ fn password_of<R: Env + AllocGlobal>(rt: &R, matches: &ArgMatches<'_>) -> Result
     }
 }
 
-/// How many events the trace holds.
+/// The number of events that the trace keeps.
 fn depth_of(matches: &ArgMatches<'_>) -> u16
     ensures { IsNumber 16 (found_of matches.now) (codes "depth") result }
 {
     matches.get_one::<u16>("depth").unwrap_or(0)
 }
 
-/// How many connections are accepted.
+/// The number of connections to accept.
 fn connections_of(matches: &ArgMatches<'_>) -> u64
     ensures { IsNumber 64 (found_of matches.now) (codes "connections") result }
 {
@@ -137,7 +138,7 @@ fn is_given(matches: &ArgMatches<'_>, name: &str) -> bool
     matches.get_flag(name)
 }
 
-/// How far `serve` goes.
+/// Reads the limits and flags of `serve`.
 fn bounds_of(matches: &ArgMatches<'_>) -> Bounds
     ensures { IsBounds (found_of matches.now) result }
 {
@@ -152,7 +153,7 @@ fn bounds_of(matches: &ArgMatches<'_>) -> Bounds
     }
 }
 
-/// The options of `serve`.
+/// Reads the options of `serve`.
 pub(crate) fn serve_options<R: Env + AllocGlobal>(
     rt: &R,
     matches: &ArgMatches<'_>,

@@ -1,4 +1,4 @@
-//! What a command line asks for.
+//! The work that a command line asks for.
 ghost use Rattle.std.specs.Prelude.{◌≡◌, true, IfErr};
 ghost use Rattle.server_options.specs.Asking.{is_of_asking};
 
@@ -12,12 +12,12 @@ use std::env;
 use std::env::VarError;
 use std::rt::Env;
 
-/// What a command line asks for.
+/// The work that a command line asks for.
 #[derive(Drop)]
 pub enum Work {
-    /// No work: help or the version was printed, or why the command line is wrong. The exit status, 0 or 2.
+    /// No work: help, the version or why the command line is wrong was printed. The exit status, 0 or 2.
     Nothing(u8),
-    /// `apdu`, and whether standard error tells where and why the input is wrong.
+    /// `apdu`, and whether faults are described on standard error.
     Apdu(bool),
     /// `hex`.
     Hex(HexOptions),
@@ -25,7 +25,7 @@ pub enum Work {
     Serve(ServeOptions),
 }
 
-/// What a command asks for.
+/// Returns the work of a command.
 fn asked_by<R: Env + AllocGlobal>(rt: &R, matches: &ArgMatches<'_>) -> Result<Work, Fault>
     ensures { IfErr result (λ fault. is_of_asking fault ≡ true) }
 {
@@ -37,7 +37,7 @@ fn asked_by<R: Env + AllocGlobal>(rt: &R, matches: &ArgMatches<'_>) -> Result<Wo
     }
 }
 
-/// What words ask for. The environment may have the password of `serve`.
+/// Returns the work of a command line. `has_password`: the environment has the password of `serve`.
 #[tactic(auto, using(crate::proofs::Faults::texts_told))]
 fn asked_in<R: Env + AllocGlobal + Print + Eprint>(
     rt: &R,
@@ -55,10 +55,11 @@ fn asked_in<R: Env + AllocGlobal + Print + Eprint>(
     }
 }
 
-/// What the command line asks for. The password of `serve` may stand in the environment, as METER_PASSWORD.
+/// Returns the work of the command line. The password of `serve` may be in the environment variable
+/// METER_PASSWORD.
 ///
-/// Errors: `Memory`; `Input` where a word is no text, or where the environment's password is none; `Write` where help, the version or why the command line is wrong
-/// could not be printed.
+/// Errors: `Memory`; `Input` if a word or the password of the environment is not UTF-8; `Write` if help,
+/// the version or why the command line is wrong could not be printed.
 #[tactic(auto, using(crate::proofs::Faults::words_told))]
 pub fn asked<R: Env + AllocGlobal + Print + Eprint>(rt: &R) -> Result<Work, Fault>
     ensures { IfErr result (λ fault. is_of_asking fault ≡ true) }

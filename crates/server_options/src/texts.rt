@@ -1,4 +1,4 @@
-//! The texts that options give.
+//! The texts of options.
 ghost use Rattle.std.specs.Prelude.{◌≡◌, ◌⊎◌, ◌<◌, ◌≤◌, length, Err, IfOk, IfErr};
 ghost use Rattle.program_fault.specs.declared.Fault.TheVariants.{Input, Memory};
 
@@ -6,7 +6,7 @@ use cosem_axdr::Octets;
 use program_fault::Fault;
 use std::alloc::Global;
 
-/// The bytes of a text that has 1 to `longest` of them. Errors: `Input` of any other text, else `Memory`.
+/// Returns the bytes of a text of 1 to `longest` bytes. Errors: `Input` for any other text; `Memory`.
 pub fn octets_of(alloc: Global, text: &str, longest: usize) -> Result<Octets, Fault>
     ensures bytes { IfOk result (λ octets. octets ≡ text.now) }
     ensures fits { IfOk result (λ octets. (1 ≤ length octets) × (length octets ≤ longest)) }

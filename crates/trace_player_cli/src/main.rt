@@ -1,6 +1,7 @@
 //! The program `trace_player`: reads a trace on standard input and prints its run.
 //!
-//! What it prints is that of `trace_player::play`; this crate has the command line, the standard streams and the exit status.
+//! `trace_player::play` makes the run; this crate has the command line, the standard streams and
+//! the exit status.
 #![tactic(auto)]
 
 ghost use Rattle.std.specs.Prelude.{◌≡◌};
@@ -17,30 +18,30 @@ use std::alloc::{AllocError, Global};
 use std::process::ExitCode;
 use trace_player::{MAX_BYTES, PlayFault, play};
 
-/// What `--help` tells below the options.
+/// The end of `--help`.
 const LIMITS_AND_STATUSES: &str = "\
-Limits: a trace has 33,554,432 bytes and 65,536 events at most.
-A fault is the line `fault: WORD` on standard error; --verbose adds a line before it that tells where and why.
-Exit status: 0 done; 2 the command line or the input is wrong; 3 reading or writing failed; 4 memory ran out.
+Limits: a trace has at most 33,554,432 bytes and 65,536 events.
+A fault is the line `fault: WORD` on standard error. \
+With --verbose, a line before it says what was expected and what was found.
+Exit status: 0 success; 2 the command line or the input is wrong; \
+3 reading or writing failed; 4 out of memory.
 Example: trace_player < run.trace";
 
-/// The program, as its users see it.
+/// The command line and its help.
 fn command_line<'a>(alloc: Global) -> Result<Command<'a>, AllocError> {
     let verbose = Arg::new(alloc, "verbose")
         .long("verbose")
-        .help("Tell on standard error where and why a trace is wrong")
+        .help("On a fault, report what was expected and what was found on standard error")
         .action(ArgAction::SetTrue);
     Command::new(alloc, "trace_player")
         .bin_name("trace_player")?
         .version("0.1.0")
-        .about(
-            "Plays a trace of the supply switch: standard input is the trace, and each of its events is answered by a line",
-        )
+        .about("Plays the trace on standard input and prints a line for each of its events")
         .after_help(LIMITS_AND_STATUSES)
         .arg(verbose)
 }
 
-/// The fault of the program where a trace is not played.
+/// The fault of the program for a trace that was not played.
 fn fault_of(fault: PlayFault) -> Fault
     ensures { result ≡ fault_of fault }
 {
@@ -62,7 +63,8 @@ fn play_input(rt: &HostRuntime) -> Result<(), Fault> {
     }
 }
 
-/// Plays the trace of standard input, and tells on standard error where and why it is wrong. The text is kept for that.
+/// Plays the trace of standard input. On a fault, says on standard error what was expected and what
+/// was found; the whole text is kept in memory for that.
 fn play_and_tell(rt: &HostRuntime) -> Result<(), Fault> {
     let mut input = Counted::new(rt.stdin());
     let text = match read_to_end_within(rt.alloc(), &mut input, MAX_BYTES) {
@@ -83,7 +85,8 @@ fn play_and_tell(rt: &HostRuntime) -> Result<(), Fault> {
     }
 }
 
-/// Reads the command line and does what it asks for. Gives the exit status: 0, or 2 for a command line that is wrong.
+/// Reads the command line and runs its command. Returns the exit status: 0, or 2 if the command line
+/// is wrong.
 fn run(rt: &HostRuntime) -> Result<u8, Fault> {
     let alloc = rt.alloc();
     let words = words(rt)?;

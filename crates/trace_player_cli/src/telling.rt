@@ -1,7 +1,10 @@
-//! Where and why a text is no trace, in a line for people.
+//! Why a text is not a trace, as a line for people.
+use thiserror::Error;
 use trace_player::{MAX_BYTES, PlayFault};
+use trace_text::{Lines, Words, read_number};
 
-/// The lines of an opening of version 2 in their order, each with its first word and the names of the others. Version 1 has not those that begin with x.
+/// The lines of an opening of version 2 in their order, each as its first word and the names of the
+/// others. Version 1 does not have those that begin with `x`.
 const OPENING: [&str; 31] = [
     "RELAYTRACE VERSION",
     "device HEX",
@@ -36,7 +39,7 @@ const OPENING: [&str; 31] = [
     "events COUNT",
 ];
 
-/// The events.
+/// The events, each as its first word and the names of the others.
 const EVENTS: [&str; 8] = [
     "get L C NAME A S",
     "getlist L COUNT ..",
@@ -48,81 +51,129 @@ const EVENTS: [&str; 8] = [
     "moment SECONDS",
 ];
 
-/// So many lines stand before those of the export limiter, and so many are these.
+/// The number of lines before those of the export limiter.
 const LINES_BEFORE_EXPORT: u64 = 15;
 
+/// The number of lines of the export limiter.
 const EXPORT_LINES: u64 = 10;
 
-/// Why a line is wrong.
-#[derive(Clone, Copy)]
+/// The greatest number of events of a trace.
+const MAX_EVENTS: u64 = 65_536;
+
+/// The greatest length of a word that is shown in a message.
+const MAX_SHOWN: usize = 32;
+
+/// Why a line is wrong. Its message follows the line's number.
+#[derive(Clone, Copy, Debug, PartialEq, Eq, Error)]
 enum Why {
     /// The text has ended, or the line has no end.
+    #[error("expected a whole line, found the end of the trace")]
     Ended,
-    /// Its first word is none of an event.
+    /// The line follows the last event that the opening counts.
+    #[error("unexpected line: `events COUNT` counts fewer events")]
+    Extra,
+    /// The line ends with a carriage return.
+    #[error("expected a line feed at the end, found a carriage return before it")]
+    CarriageReturn,
+    /// The first word is not that of an event.
+    #[error("unknown event")]
     NoEvent,
-    /// It isn't as this form says: the word that is missing, or another than this.
-    Word(&'static str, &'static str),
-    /// It has more words than this form.
+    /// A word of this form is missing: the form, and the name of the word.
+    #[error("expected `{0}`: {1} is missing")]
+    Missing(&'static str, &'static str),
+    /// A word of this form is not a number.
+    #[error("expected `{0}`: {1} must be a decimal number")]
+    NoNumber(&'static str, &'static str),
+    /// A word of this form is not hexadecimal.
+    #[error("expected `{0}`: {1} must be pairs of the digits 0 to 9 and A to F")]
+    NoBytes(&'static str, &'static str),
+    /// The line has more words than this form.
+    #[error("expected `{0}`: unexpected extra word")]
     Surplus(&'static str),
-    /// It has the words of this form, and one has a value that is refused there.
+    /// The line has the words of this form, and the value of one is not valid.
+    #[error("expected `{0}`: a value is not valid here")]
     Value(&'static str),
 }
 
-/// Tells on standard error where and why a trace was not played, in one line. It is given the text, as far as it was read.
+/// Writes to standard error, in one line, why a trace was not played. `text` is the trace as far as it
+/// was read.
 pub(crate) fn tell(rt: &HostRuntime, text: &[u8], fault: PlayFault) {
     let _ = match fault {
-        PlayFault::Line(number) => return tell_line(rt, number, why_wrong(text, number)),
-        PlayFault::TooLong => eprintln!(rt; "byte {}: {fault}", MAX_BYTES + 1),
-        PlayFault::Read => eprintln!(rt; "standard input: {fault}"),
-        PlayFault::Write => eprintln!(rt; "standard output: {fault}"),
-        PlayFault::Memory => eprintln!(rt; "{fault}"),
-    };
-}
-
-/// Tells why a line is wrong.
-fn tell_line(rt: &HostRuntime, number: u64, why: Why) {
-    let _ = match why {
-        Why::Ended => eprintln!(rt; "line {number}: the trace ends before the end of this line"),
-        Why::NoEvent => eprintln!(rt; "line {number}: no event begins so"),
-        Why::Word(form, word) => eprintln!(rt; "line {number}: not `{form}`: no {word}"),
-        Why::Surplus(form) => eprintln!(rt; "line {number}: not `{form}`: a word too many"),
-        Why::Value(form) => {
+        PlayFault::Line(number) => return tell_line(rt, text, number),
+        PlayFault::TooLong => {
             eprintln!(rt;
-                "line {number}: `{form}` with a value that is refused here, or a line too many"
+                "byte {}: the trace has more than 33,554,432 bytes",
+                MAX_BYTES + 1
             )
         }
+        PlayFault::Read => eprintln!(rt; "standard input: a read failed"),
+        PlayFault::Write => eprintln!(rt; "standard output: a write failed"),
+        PlayFault::Memory => eprintln!(rt; "out of memory"),
     };
 }
 
-/// Why the line with this number, counted from 1, is wrong in a text.
+/// Writes to standard error why the line with this number is wrong.
+fn tell_line(rt: &HostRuntime, text: &[u8], number: u64) {
+    let why = why_wrong(text, number);
+    let _ = match shown_word(text, number) {
+        Some(word) if why == Why::NoEvent => eprintln!(rt; "line {number}: {why} `{word}`"),
+        _ => eprintln!(rt; "line {number}: {why}"),
+    };
+}
+
+/// The first word of a line, if it has 1 to `MAX_SHOWN` bytes of visible ASCII.
+fn shown_word(text: &[u8], number: u64) -> Option<&str> {
+    let word = Words::new(line_of(text, number)?).next()?;
+    if word.is_empty() || word.len() > MAX_SHOWN || !word.iter().all(u8::is_ascii_graphic) {
+        return None;
+    }
+    str::from_utf8(word).ok()
+}
+
+/// Returns why the line with this number, counted from 1, is wrong in a text.
 fn why_wrong(text: &[u8], number: u64) -> Why {
     let Some(line) = line_of(text, number) else {
         return Why::Ended;
     };
+    if last_line(text).is_some_and(|last| number > last) {
+        return Why::Extra;
+    }
+    if line.last() == Some(&b'\r') {
+        return Why::CarriageReturn;
+    }
     match form_of(text, number, line) {
         Some(form) => why_not(form, line),
         None => Why::NoEvent,
     }
 }
 
-/// A line of a text, without its end; None where the text has ended before the line has.
-fn line_of(text: &[u8], number: u64) -> Option<&[u8]> {
-    let mut lines = text.split(|byte| *byte == b'\n');
-    let mut before: u64 = 1;
-    while before < number {
-        lines.next()?;
-        before += 1;
+/// The number of the last line, by the line `events COUNT`. `None` without that line.
+fn last_line(text: &[u8]) -> Option<u64> {
+    let export = if is_version_1(text) { EXPORT_LINES } else { 0 };
+    let head = (OPENING.len() as u64).saturating_sub(export);
+    let mut words = Words::new(line_of(text, head)?);
+    if words.next()? != b"events".as_slice() {
+        return None;
     }
-    let line = lines.next()?;
-    // What stands behind the last line's end is no line.
-    lines.next()?;
-    Some(line)
+    let count = read_number(words.next()?, MAX_EVENTS)?;
+    Some(head.saturating_add(count))
 }
 
-/// What the line with this number should be: a line of the opening, or the event that its first word names.
+/// Whether the first line is that of version 1.
+fn is_version_1(text: &[u8]) -> bool {
+    line_of(text, 1) == Some(b"RELAYTRACE 1".as_slice())
+}
+
+/// Returns the line of a text with that number, counted from 1. `None` if the text ends before the end
+/// of that line.
+fn line_of(text: &[u8], number: u64) -> Option<&[u8]> {
+    Lines::new(text).nth(number.checked_sub(1)? as usize)
+}
+
+/// The form of the line with this number: that of a line of the opening, or of the event that its first
+/// word names.
 fn form_of(text: &[u8], number: u64, line: &[u8]) -> Option<&'static str> {
-    let is_version_1 = line_of(text, 1) == Some(b"RELAYTRACE 1".as_slice());
-    let place = if is_version_1 && number > LINES_BEFORE_EXPORT {
+    let place = if is_version_1(text) && number > LINES_BEFORE_EXPORT {
         number.saturating_add(EXPORT_LINES)
     } else {
         number
@@ -135,28 +186,27 @@ fn form_of(text: &[u8], number: u64, line: &[u8]) -> Option<&'static str> {
 
 /// The form of the event that a line's first word names.
 fn event_form(line: &[u8]) -> Option<&'static str> {
-    let verb = line.split(|byte| *byte == b' ').next()?;
+    let verb = Words::new(line).next()?;
     'forms: for form in EVENTS.iter() {
-        if form.as_bytes().split(|byte| *byte == b' ').next() == Some(verb) {
+        if Words::new(form.as_bytes()).next() == Some(verb) {
             return Some(*form);
         }
     }
     None
 }
 
-/// Why a line isn't as a form says.
+/// Returns why a line does not have a form.
 fn why_not(form: &'static str, line: &[u8]) -> Why {
-    let mut words = line.split(|byte| *byte == b' ');
+    let mut words = Words::new(line);
     'names: for name in form.split(' ') {
         if name == ".." {
             return Why::Value(form);
         }
-        let is_so = match words.next() {
-            Some(word) => is_named(name, word),
-            None => false,
+        let Some(word) = words.next() else {
+            return Why::Missing(form, name);
         };
-        if !is_so {
-            return Why::Word(form, name);
+        if let Some(why) = why_not_word(form, name, word) {
+            return why;
         }
     }
     match words.next() {
@@ -165,15 +215,26 @@ fn why_not(form: &'static str, line: &[u8]) -> Why {
     }
 }
 
-/// Whether a word can be what a form has there: digits of a number or of bytes for a name in capitals, `-` where there is no value, else the word itself.
-fn is_named(name: &str, word: &[u8]) -> bool {
+/// Returns why a word cannot be the word `name` of a form; `None` if it can. A name in capitals stands
+/// for a number or for bytes, or `-` for no value; any other name is the word itself.
+fn why_not_word(form: &'static str, name: &'static str, word: &[u8]) -> Option<Why> {
+    let is_none = word == b"-".as_slice();
     match name {
-        "HEX" | "NAME" | "START" | "ENTRIES" => word == b"-".as_slice() || is_bytes(word),
-        _ if name.as_bytes().iter().all(u8::is_ascii_uppercase) && name != "RELAYTRACE" => {
-            word == b"-".as_slice() || is_number(word)
+        "HEX" | "NAME" | "START" | "ENTRIES" if !is_none && !is_bytes(word) => {
+            Some(Why::NoBytes(form, name))
         }
-        _ => word == name.as_bytes(),
+        "HEX" | "NAME" | "START" | "ENTRIES" => None,
+        _ if is_placeholder(name) && !is_none && !is_number(word) => {
+            Some(Why::NoNumber(form, name))
+        }
+        _ if !is_placeholder(name) && word != name.as_bytes() => Some(Why::Missing(form, name)),
+        _ => None,
     }
+}
+
+/// Whether a name of a form is a placeholder.
+fn is_placeholder(name: &str) -> bool {
+    name.as_bytes().iter().all(u8::is_ascii_uppercase) && name != "RELAYTRACE"
 }
 
 /// Whether a word has the digits of a decimal number.

@@ -1,4 +1,4 @@
-# Completions of trace_player for fish; bin/manuals writes this file.
-complete -c trace_player -f -l help -d 'tells how it is called'
-complete -c trace_player -f -l version -d 'tells its version'
-complete -c trace_player -f -l verbose -d 'Tell on standard error where and why a trace is wrong'
+# Completions of trace_player for fish; written by bin/manuals.
+complete -c trace_player -f -l help -d 'Print help'
+complete -c trace_player -f -l version -d 'Print version'
+complete -c trace_player -f -l verbose -d 'On a fault, report what was expected and what was found on standard error'
