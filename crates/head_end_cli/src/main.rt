@@ -11,7 +11,7 @@ mod warnings;
 
 use crate::arguments::command_line;
 use crate::campaign::{PASSWORD_VARIABLE, Plan};
-use crate::telling::{input_fault, jobs_fault, tell_input, tell_jobs};
+use crate::telling::{ListFault, input_fault, jobs_fault};
 use crate::warnings::warn;
 use byte_streams::{Counted, read_to_end_within};
 use clap::ArgMatches;
@@ -36,7 +36,7 @@ fn text_of<I: Read + Drop>(rt: &HostRuntime, input: I, is_verbose: bool) -> Resu
         Ok(text) => Ok(text),
         Err(fault) => {
             if is_verbose {
-                tell_input(rt, fault);
+                let _ = eprintln!(rt; "{}", ListFault::from_input(fault));
             }
             Err(input_fault(fault))
         }
@@ -47,7 +47,7 @@ fn text_of<I: Read + Drop>(rt: &HostRuntime, input: I, is_verbose: bool) -> Resu
 /// says where and why.
 fn told_fault(rt: &HostRuntime, text: &[u8], fault: JobsFault, is_verbose: bool) -> Fault {
     if is_verbose {
-        tell_jobs(rt, text, fault);
+        let _ = eprintln!(rt; "{}", ListFault::from_jobs(text, fault));
     }
     jobs_fault(fault)
 }

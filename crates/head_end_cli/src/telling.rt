@@ -5,6 +5,8 @@ ghost use Rattle.head_end_cli.specs.Faults.{input_fault, jobs_fault};
 use byte_streams::InputFault;
 use head_end::{JobsFault, MAX_ADDRESS, MAX_ID};
 use program_fault::Fault;
+use thiserror::Error;
+use trace_text::{Lines, Words};
 
 /// The fault of the program where standard input is not read.
 pub(crate) fn input_fault(fault: InputFault) -> Fault
@@ -27,53 +29,82 @@ pub(crate) fn jobs_fault(fault: JobsFault) -> Fault
     }
 }
 
-/// Tells on standard error, in a line, why standard input is not read.
-pub(crate) fn tell_input(rt: &HostRuntime, fault: InputFault) {
-    let _ = match fault {
-        InputFault::TooLong => eprintln!(rt; "byte 1048577: more than 1,048,576 bytes"),
-        InputFault::Read | InputFault::Memory => eprintln!(rt; "standard input: {fault}"),
-    };
+/// Why standard input is no list of jobs. Its message is the line that `--verbose` writes.
+///
+/// Lines, bytes and jobs count from 1.
+#[derive(Clone, Copy, Debug, PartialEq, Eq, Error)]
+pub(crate) enum ListFault {
+    #[error("byte 1048577: more than 1,048,576 bytes")]
+    TooLong,
+    #[error("line {0}: {1}")]
+    Line(u64, LineFault),
+    #[error("job 1001: more than 1,000 jobs")]
+    TooMany,
+    #[error("standard input: a read failed")]
+    Read,
+    #[error("standard input: no memory")]
+    Memory,
 }
 
-/// Tells on standard error, in a line, where and why a text is no list of jobs.
-pub(crate) fn tell_jobs(rt: &HostRuntime, text: &[u8], fault: JobsFault) {
-    let _ = match fault {
-        JobsFault::Line(number) => {
-            eprintln!(rt; "line {number}: {}", why_no_job(line_of(text, number)))
-        }
-        JobsFault::TooMany => eprintln!(rt; "job 1001: {fault}"),
-        JobsFault::Memory => eprintln!(rt; "standard input: {fault}"),
-    };
+/// Why a line is no job: the first of its words that is missing, wrong or one too many.
+#[derive(Clone, Copy, Debug, PartialEq, Eq, Error)]
+pub(crate) enum LineFault {
+    #[error("no name of 1 to 32 visible bytes")]
+    Name,
+    #[error("no address of 1 to 64 visible bytes")]
+    Address,
+    #[error("no verb disconnect, reconnect or state")]
+    Verb,
+    #[error("more words than a name, an address and a verb")]
+    Surplus,
 }
 
-/// The line of a text with that number, counted from 1; none of its bytes where it has no such line.
-fn line_of(text: &[u8], number: u64) -> &[u8] {
-    let mut at: u64 = 1;
-    for line in text.split(|byte| *byte == b'\n') {
-        if at == number {
-            return line;
+impl ListFault {
+    /// Returns why standard input was not read.
+    pub(crate) fn from_input(fault: InputFault) -> ListFault {
+        match fault {
+            InputFault::TooLong => ListFault::TooLong,
+            InputFault::Read => ListFault::Read,
+            InputFault::Memory => ListFault::Memory,
         }
-        at = at.saturating_add(1);
     }
-    &[]
+
+    /// Returns why a text is no list of jobs.
+    pub(crate) fn from_jobs(text: &[u8], fault: JobsFault) -> ListFault {
+        match fault {
+            JobsFault::Line(number) => ListFault::Line(number, why_no_job(line_of(text, number))),
+            JobsFault::TooMany => ListFault::TooMany,
+            JobsFault::Memory => ListFault::Memory,
+        }
+    }
 }
 
-/// Why a line that is no job is none: the first of its words that is missing, wrong or one too many.
-fn why_no_job(line: &[u8]) -> &'static str {
-    let mut words = line.split(|byte| *byte == b' ');
+/// Returns the line of a text with that number, counted from 1. A text with fewer ended lines has its
+/// last line after them.
+fn line_of(text: &[u8], number: u64) -> &[u8] {
+    let mut lines = Lines::new(text);
+    for _ in 1..number {
+        let _ = lines.next();
+    }
+    lines.next().unwrap_or(lines.rest())
+}
+
+/// Returns why a line that is no job is none.
+fn why_no_job(line: &[u8]) -> LineFault {
+    let mut words = Words::new(line);
     if !is_text(words.next().unwrap_or(&[]), MAX_ID) {
-        return "no name of 1 to 32 visible bytes";
+        return LineFault::Name;
     }
     if !is_text(words.next().unwrap_or(&[]), MAX_ADDRESS) {
-        return "no address of 1 to 64 visible bytes";
+        return LineFault::Address;
     }
     if !is_verb(words.next().unwrap_or(&[])) {
-        return "no verb disconnect, reconnect or state";
+        return LineFault::Verb;
     }
-    "more words than a name, an address and a verb"
+    LineFault::Surplus
 }
 
-/// Whether a word has 1 to so many bytes, all of them visible.
+/// Whether a word has 1 to `most` bytes, all of them visible.
 fn is_text(word: &[u8], most: usize) -> bool {
     !word.is_empty() && word.len() <= most && word.iter().all(u8::is_ascii_graphic)
 }

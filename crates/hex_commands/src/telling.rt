@@ -1,36 +1,49 @@
-//! Why standard input is not what `apdu` and `hex` take, and how that is reported.
+//! Why the commands `apdu` and `hex` have no input or output, and how that is reported.
 ghost use Rattle.std.specs.Prelude.{◌≡◌};
 ghost use Rattle.hex_commands.specs.Faults.{fault_of};
 
 use program_fault::Fault;
+use thiserror::Error;
 
-/// Why the commands `apdu` and `hex` have no input, or no output. Lines, bytes and characters count from 1.
-#[derive(Clone, Copy, Debug, PartialEq, Eq)]
+/// Why the commands `apdu` and `hex` have no input, or no output.
+///
+/// Lines, bytes and characters count from 1. Its message is the line that `--verbose` writes.
+#[derive(Clone, Copy, Debug, PartialEq, Eq, Error)]
 pub enum InputFault {
     /// There are more than 1,048,576 bytes.
+    #[error("byte 1048577: more than 1,048,576 bytes")]
     TooLong,
     /// The line of this number has an odd number of characters.
+    #[error("line {0}: an odd number of characters")]
     Odd(usize),
     /// In the line of the first number the byte of the second one is no hexadecimal digit.
+    #[error("line {0}: byte {1} is no hexadecimal digit")]
     Character(usize, usize),
     /// In a stream the character of this number is no hexadecimal digit.
+    #[error("byte {0}: no hexadecimal digit")]
     Digit(usize),
     /// A stream has an odd number of digits.
+    #[error("standard input: an odd number of digits")]
     OddDigits,
     /// The password does not have 1 to 32 bytes.
+    #[error("password: none that has 1 to 32 bytes")]
     Password,
     /// The device name does not have 1 to 16 bytes.
+    #[error("device: no name that has 1 to 16 bytes")]
     Device,
     /// Standard input could not be read.
+    #[error("standard input: a read failed")]
     Read,
     /// Standard output could not be written.
+    #[error("standard output: a write failed")]
     Write,
     /// Out of memory.
+    #[error("no memory")]
     Memory,
 }
 
 impl InputFault {
-    /// The fault of the program: `Read`, `Write` or `Memory`, and `Input` of everything else.
+    /// Returns the fault of the program: `Read`, `Write` or `Memory`, and `Input` for all others.
     pub fn fault(self) -> Fault
         ensures { result ≡ fault_of self }
     {
@@ -43,30 +56,13 @@ impl InputFault {
     }
 }
 
-/// Reports a fault: with `is_verbose` a line on standard error says what is wrong. Returns the fault of the program.
+/// Returns the fault of the program. If `is_verbose`, writes a line on standard error that says what
+/// is wrong.
 pub fn report_fault<R: Eprint>(rt: &R, is_verbose: bool, fault: InputFault) -> Fault
     ensures { result ≡ fault_of fault }
 {
     if is_verbose {
-        describe(rt, fault);
+        let _ = eprintln!(rt; "{fault}");
     }
     fault.fault()
-}
-
-/// Says on standard error, in a line, what is wrong.
-fn describe<R: Eprint>(rt: &R, fault: InputFault) {
-    let _ = match fault {
-        InputFault::TooLong => eprintln!(rt; "byte 1048577: more than 1,048,576 bytes"),
-        InputFault::Odd(line) => eprintln!(rt; "line {line}: an odd number of characters"),
-        InputFault::Character(line, byte) => {
-            eprintln!(rt; "line {line}: byte {byte} is no hexadecimal digit")
-        }
-        InputFault::Digit(byte) => eprintln!(rt; "byte {byte}: no hexadecimal digit"),
-        InputFault::OddDigits => eprintln!(rt; "standard input: an odd number of digits"),
-        InputFault::Password => eprintln!(rt; "password: none that has 1 to 32 bytes"),
-        InputFault::Device => eprintln!(rt; "device: no name that has 1 to 16 bytes"),
-        InputFault::Memory => eprintln!(rt; "no memory"),
-        InputFault::Write => eprintln!(rt; "standard output: a write failed"),
-        InputFault::Read => eprintln!(rt; "standard input: a read failed"),
-    };
 }

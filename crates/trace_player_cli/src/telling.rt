@@ -1,5 +1,7 @@
 //! Where and why a text is no trace, in a line for people.
+use thiserror::Error;
 use trace_player::{MAX_BYTES, PlayFault};
+use trace_text::{Lines, Words};
 
 /// The lines of an opening of version 2 in their order, each with its first word and the names of the others. Version 1 has not those that begin with x.
 const OPENING: [&str; 31] = [
@@ -53,44 +55,35 @@ const LINES_BEFORE_EXPORT: u64 = 15;
 
 const EXPORT_LINES: u64 = 10;
 
-/// Why a line is wrong.
-#[derive(Clone, Copy)]
+/// Why a line is wrong. Its message follows the line's number.
+#[derive(Clone, Copy, Debug, PartialEq, Eq, Error)]
 enum Why {
     /// The text has ended, or the line has no end.
+    #[error("the trace ends before the end of this line")]
     Ended,
     /// Its first word is none of an event.
+    #[error("no event begins so")]
     NoEvent,
-    /// It isn't as this form says: the word that is missing, or another than this.
+    /// A word of this form is missing, or another word stands there: the form, and its word.
+    #[error("not `{0}`: no {1}")]
     Word(&'static str, &'static str),
     /// It has more words than this form.
+    #[error("not `{0}`: a word too many")]
     Surplus(&'static str),
     /// It has the words of this form, and one has a value that is refused there.
+    #[error("`{0}` with a value that is refused here, or a line too many")]
     Value(&'static str),
 }
 
-/// Tells on standard error where and why a trace was not played, in one line. It is given the text, as far as it was read.
+/// Writes on standard error, in one line, where and why a trace was not played. `text` is the trace as
+/// far as it was read.
 pub(crate) fn tell(rt: &HostRuntime, text: &[u8], fault: PlayFault) {
     let _ = match fault {
-        PlayFault::Line(number) => return tell_line(rt, number, why_wrong(text, number)),
+        PlayFault::Line(number) => eprintln!(rt; "line {number}: {}", why_wrong(text, number)),
         PlayFault::TooLong => eprintln!(rt; "byte {}: {fault}", MAX_BYTES + 1),
         PlayFault::Read => eprintln!(rt; "standard input: {fault}"),
         PlayFault::Write => eprintln!(rt; "standard output: {fault}"),
         PlayFault::Memory => eprintln!(rt; "{fault}"),
-    };
-}
-
-/// Tells why a line is wrong.
-fn tell_line(rt: &HostRuntime, number: u64, why: Why) {
-    let _ = match why {
-        Why::Ended => eprintln!(rt; "line {number}: the trace ends before the end of this line"),
-        Why::NoEvent => eprintln!(rt; "line {number}: no event begins so"),
-        Why::Word(form, word) => eprintln!(rt; "line {number}: not `{form}`: no {word}"),
-        Why::Surplus(form) => eprintln!(rt; "line {number}: not `{form}`: a word too many"),
-        Why::Value(form) => {
-            eprintln!(rt;
-                "line {number}: `{form}` with a value that is refused here, or a line too many"
-            )
-        }
     };
 }
 
@@ -105,18 +98,10 @@ fn why_wrong(text: &[u8], number: u64) -> Why {
     }
 }
 
-/// A line of a text, without its end; None where the text has ended before the line has.
+/// Returns the line of a text with that number, counted from 1. `None` if the text ends before the end
+/// of that line.
 fn line_of(text: &[u8], number: u64) -> Option<&[u8]> {
-    let mut lines = text.split(|byte| *byte == b'\n');
-    let mut before: u64 = 1;
-    while before < number {
-        lines.next()?;
-        before += 1;
-    }
-    let line = lines.next()?;
-    // What stands behind the last line's end is no line.
-    lines.next()?;
-    Some(line)
+    Lines::new(text).nth(number.checked_sub(1)? as usize)
 }
 
 /// What the line with this number should be: a line of the opening, or the event that its first word names.
@@ -135,9 +120,9 @@ fn form_of(text: &[u8], number: u64, line: &[u8]) -> Option<&'static str> {
 
 /// The form of the event that a line's first word names.
 fn event_form(line: &[u8]) -> Option<&'static str> {
-    let verb = line.split(|byte| *byte == b' ').next()?;
+    let verb = Words::new(line).next()?;
     'forms: for form in EVENTS.iter() {
-        if form.as_bytes().split(|byte| *byte == b' ').next() == Some(verb) {
+        if Words::new(form.as_bytes()).next() == Some(verb) {
             return Some(*form);
         }
     }
@@ -146,7 +131,7 @@ fn event_form(line: &[u8]) -> Option<&'static str> {
 
 /// Why a line isn't as a form says.
 fn why_not(form: &'static str, line: &[u8]) -> Why {
-    let mut words = line.split(|byte| *byte == b' ');
+    let mut words = Words::new(line);
     'names: for name in form.split(' ') {
         if name == ".." {
             return Why::Value(form);
