@@ -1,40 +1,43 @@
--- Where bytes are cut, and the parts that this leaves.
-use Rattle.std.proofs.Common.{◌≡◌, ℕ, ◌+◌, ◌-◌, ◌<◌, ◌≤◌, Bool, ◌==◌, List, [], ◌∷◌, length, take, drop, position, Some, None, sym, ap, ◌∙◌, arith}
+-- Bytes are cut at the first byte that a search finds, and the parts that this leaves.
+use Rattle.std.proofs.Common.{◌≡◌, ℕ, ◌+◌, ◌-◌, ◌<◌, Bool, true, false, ◌==◌, List, [], ◌∷◌, length, take, drop, get_or, Some, None, refl, sym, ap, ◌∙◌, arith}
 use Rattle.std.specs.List.{position_or_len}
 use Rattle.std.proofs.lemmas.List.{take_all, length-drop}
+use Rattle.std.proofs.lemmas.List.Elements.{All-from_get_or}
 use Rattle.std.proofs.lemmas.List.Splits.{slice_split_none, slice_split_first, length-slice_split}
-use Rattle.std.proofs.lemmas.List.Sums.{fails_before_first}
-use Rattle.std.proofs.lemmas.Grind.{common_steps}
+use Rattle.std.proofs.lemmas.List.Sums.{position_or_len_is}
+use Rattle.memchr.specs.Find.{IsFirstByte}
 use Rattle.trace_text.specs.Parts.{parts_at}
 
 -- a test for this byte
 abbrev pub is_byte : ℕ → ℕ → Bool
 is_byte byte b = b == byte
 
--- a first place is below the length, and none means that no element passes
-position_some : (p : ℕ → Bool) (xs : List ℕ) (at : ℕ) → position p xs ≡ Some at → (position_or_len p xs ≡ at) × (at < length xs)
-position_some p xs at e = grind (arith, common_steps)
+-- what is not true is false
+is_false : (b : Bool) → ¬ (b ≡ true) → b ≡ false
+is_false true fails = absurd (fails refl)
+is_false false fails = refl
 
-position_none : (p : ℕ → Bool) (xs : List ℕ) → position p xs ≡ None → length xs ≤ position_or_len p xs
-position_none p xs e = grind (arith, common_steps)
-
--- bytes without this one are one part
-pub parts_whole : (byte : ℕ) (bytes : List ℕ) → position (is_byte byte) bytes ≡ None → parts_at byte bytes ≡ bytes ∷ []
-parts_whole byte bytes e =
-    let far = position_none (is_byte byte) bytes e in
-    slice_split_none (is_byte byte) bytes (λ k d lt. fails_before_first (is_byte byte) bytes k d (omega arith))
-
--- what is behind a place, as a range to the end
+-- what is after a place, as a range to the end
 to_the_end : (bytes : List ℕ) (k : ℕ) → take (length bytes - k) (drop k bytes) ≡ drop k bytes
 to_the_end bytes k = take_all (length bytes - k) (drop k bytes) (omega (arith, length-drop k bytes))
 
--- bytes are cut at the first of this one
-pub parts_cut : (byte : ℕ) (bytes : List ℕ) (at : ℕ) → position (is_byte byte) bytes ≡ Some at
+-- bytes in which the search finds nothing are one part
+pub parts_whole : (byte : ℕ) (bytes : List ℕ) → IsFirstByte (is_byte byte) bytes None
+    → parts_at byte bytes ≡ bytes ∷ []
+parts_whole byte bytes none =
+    slice_split_none (is_byte byte) bytes
+    (All-from_get_or (λ (b : ℕ). is_byte byte b ≡ false) bytes 0
+    (λ k lt. is_false (is_byte byte (get_or bytes k 0)) (none k (omega arith) lt)))
+
+-- else they are cut where it finds the first
+pub parts_cut : (byte : ℕ) (bytes : List ℕ) (at : ℕ) → IsFirstByte (is_byte byte) bytes (Some at)
     → parts_at byte bytes ≡ take at bytes ∷ parts_at byte (take (length bytes - (at + 1)) (drop (at + 1) bytes))
-parts_cut byte bytes at e =
-    let found = position_some (is_byte byte) bytes at e in
-    let here = found.0 in
-    let cut = rw here at (slice_split_first (is_byte byte) bytes 0 (omega arith)) in
+parts_cut byte bytes at found =
+    let here : position_or_len (is_byte byte) bytes ≡ at =
+    position_or_len_is (is_byte byte) bytes at 0 (omega (arith, found.0.high))
+    (λ k lt. is_false (is_byte byte (get_or bytes k 0)) (found.0.before k (omega arith) lt))
+    (λ lt. found.1) in
+    let cut = rw here at (slice_split_first (is_byte byte) bytes 0 (omega (arith, found.0.high))) in
     cut ∙ ap (λ (rest : List ℕ). take at bytes ∷ parts_at byte rest) (sym (to_the_end bytes (at + 1)))
 
 -- there is a part at least
