@@ -105,7 +105,8 @@ def programs_are_refused_memory(name):
 
 
 def answers(opening, action=None):
-    """A script that answers the AARQ and, if the association is open, the request; without an answer it closes the connection."""
+    """A script that answers the AARQ and, if the association is open, the request. Without an
+    answer to that it closes the connection."""
     def script(talk):
         if opening != ACCEPTED:
             talk.take()
@@ -118,11 +119,17 @@ def answers(opening, action=None):
     return script
 
 
-# The meters of a campaign of four disconnect jobs, and the rows that they bring: an AARE with get, set and action and the result success or temporary-failure (2), an AARE
-# with the diagnostic authentication-failure (13), and a connection that is closed after the request.
+# The AARE of an association with get, set and action.
 ACCEPTED = OPENING + "001E1904000007"
-METERS = [(answers(ACCEPTED, "C701C10000"), "done 0"), (answers(REFUSED + "0D"), "rejected 13"), (answers(ACCEPTED), "unknown"),
-          (answers(ACCEPTED, "C701C10200"), "refused 2")]
+
+# The meters of a campaign of four disconnect jobs, and the rows that they bring: success (0),
+# authentication-failure (13), a connection that is closed, and temporary-failure (2).
+METERS = [
+    (answers(ACCEPTED, "C701C10000"), "done 0"),
+    (answers(REFUSED + "0D"), "rejected 13"),
+    (answers(ACCEPTED), "unknown"),
+    (answers(ACCEPTED, "C701C10200"), "refused 2"),
+]
 
 
 def campaign_refused(jobs, number):

@@ -368,7 +368,7 @@ def a_ninth_client_is_turned_away(name):
 
 def a_client_whose_stream_cannot_be_set_up_is_turned_away(name):
     server = Server("--connections", "2")
-    # The server has one descriptor left: it accepts a client, and can't make the second descriptor of its stream.
+    # One descriptor is left: the server accepts a client, and can't duplicate its stream.
     process = server.process.pid
     taken = {int(number) for number in os.listdir(f"/proc/{process}/fd")}
     free = next(number for number in range(len(taken) + 1) if number not in taken)
@@ -384,7 +384,8 @@ def a_client_whose_stream_cannot_be_set_up_is_turned_away(name):
     later.close()
     # (both count as connections, so the server ends)
     status, trace, errors = server.ended()
-    check(f"{name}: end", status == 0 and "fault" not in errors and errors.count("turned away") == 1, status, errors)
+    check(f"{name}: end", status == 0 and "fault" not in errors, status, errors)
+    check(f"{name}: one is turned away", errors.count("turned away") == 1, errors)
     check(f"{name}: played", stands_in(later.seen, played(trace)))
 
 

@@ -4,8 +4,8 @@ use std::io;
 use std::net::SocketAddr;
 use std::sync::atomic::{AtomicBool, Ordering};
 
-/// Reports one client on standard error, if that is asked for: a line when it connects, and one when its
-/// session ends or it is turned away.
+/// Reports one client on standard error, if that is asked for: a line when it connects, and one
+/// when its session ends or it is turned away.
 pub struct ClientLog<R: Eprint + Copy> {
     rt: R,
     address: SocketAddr,

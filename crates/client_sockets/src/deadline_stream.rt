@@ -7,8 +7,8 @@ use std::io::{ErrorKind, Read, Write};
 use std::net::TcpStream;
 use std::time::{Clock, Duration, Instant};
 
-/// One direction of a client's stream, with deadlines. A call fails if it takes too long, or if the session
-/// has. The direction that the server writes to has the log of the client.
+/// One direction of a client's stream, with deadlines. A call fails if it takes too long, or if the
+/// session has. The direction that the server writes to has the log of the client.
 #[derive(Drop)]
 pub struct DeadlineStream<R: Eprint + Copy> {
     rt: R,
@@ -19,7 +19,8 @@ pub struct DeadlineStream<R: Eprint + Copy> {
 }
 
 impl<R: Clock + Eprint + Copy> DeadlineStream<R> {
-    /// Returns both directions of a stream whose session begins now: what is read, and what is written.
+    /// Returns both directions of a stream whose session begins now: what is read, and what is
+    /// written.
     pub(crate) fn both_ways(rt: R, stream: TcpStream, limits: Limits) -> io::Result<(Self, Self)> {
         stream.set_nodelay(true)?;
         stream.set_read_timeout(limits.call)?;

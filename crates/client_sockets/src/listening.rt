@@ -55,8 +55,8 @@ impl<R: Clock + Eprint + Copy> Sockets<R> {
         self.has_failed
     }
 
-    /// Both directions of the stream of a client that connected. `None`: the stream could not be set up; the
-    /// client is closed, and reported as turned away.
+    /// Both directions of the stream of a client that connected. `None`: the stream could not be
+    /// set up; the client is closed, and reported as turned away.
     fn client(
         &self,
         stream: TcpStream,

@@ -1,5 +1,6 @@
 //! Where clients come from, and how the end of a session is reported.
-ghost use Rattle.std.specs.Prelude.{◌≡◌, ◌≢◌, ⊤, ℕ, Option, None, Some, IfSome, IfNone, OnOk, OnErr};
+ghost use Rattle.std.specs.Prelude.{◌≡◌, ◌≢◌, ⊤, ℕ, Option, None, Some};
+ghost use Rattle.std.specs.Prelude.{IfSome, IfNone, OnOk, OnErr};
 ghost use Rattle.acse_ber.specs.Password.{IsPassword};
 ghost use Rattle.session_threads.specs.Listening.{IfReady, RisesBy};
 
@@ -40,8 +41,9 @@ pub trait Listener {
     /// claims nothing.
     ghost accepted: { Self → Option ℕ } = { λ _. None };
 
-    /// Waits for the next client and returns its input and its output. `None`: a client connected, but its
-    /// stream could not be set up, and it was closed with no byte sent. An error: no further client comes.
+    /// Waits for the next client and returns its input and its output. `None`: a client connected,
+    /// but its stream could not be set up, and it was closed with no byte sent. An error: no
+    /// further client comes.
     fn accept(&mut self) -> Result<Option<(Self::Input, Self::Output)>, ListenFault>
         ensures failed { OnErr result (has_failed self.new) }
         ensures accepted { OnOk result (RisesBy (accepted self.old) 1 (accepted self.new)) }

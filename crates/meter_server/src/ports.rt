@@ -21,8 +21,8 @@ use std::marker::Model;
 use std::sync::Wait;
 use turn_lock::Port;
 
-/// A port of a meter that others share, as a [`Meter`]: each event is a call of the port, and waits for its
-/// turn. Contracts see the port.
+/// A port of a meter that others share, as a [`Meter`]: each event is a call of the port, and waits
+/// for its turn. Contracts see the port.
 pub struct PortMeter<'a, W: Wait> {
     rt: &'a W,
     port: Port<Kept>,
@@ -73,11 +73,14 @@ pub fn calls_are_entered()
     ensures { (p : MeterPort) (events : List Event) (replies : List Reply) (q : MeterPort) → Replied PortSteps p events replies q → Enters p events replies q }
 {}
 
-/// A session that [`serve_session`] served over a [`PortMeter`] leaves the same port: of the same lock, with the
-/// same number. In the history that the port then knows, its further calls are the events that the session asked.
+/// A session that [`serve_session`] served over a [`PortMeter`] leaves the same port: of the same
+/// lock, with the same number. In the history that the port then knows, its further calls are the
+/// events that the session asked.
 pub fn session_keeps_its_port<R: Reader, O: Writer>()
-    ensures { (password : _) (reader : _) (writer : _) (p : MeterPort) (end : _) (reader_after : _) (writer_after : _) (q : MeterPort)
-        → Served R.remaining R.reads R.failures O.contents O.failures PortSteps password reader writer p end reader_after writer_after q
+    ensures { (password : _) (reader : _) (writer : _) (p : MeterPort) (end : _) (read : _)
+        (written : _) (q : MeterPort)
+        → Served R.remaining R.reads R.failures O.contents O.failures PortSteps password
+        reader writer p end read written q
         → IsSame p q × AsksThrough password p q }
 {}
 

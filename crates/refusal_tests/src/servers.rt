@@ -51,7 +51,8 @@ impl Clients {
         }
     }
 
-    /// The number of clients that were accepted, and of those that were sent the whole answer. None if one was sent anything else.
+    /// The number of clients that were accepted, and of those that were sent the whole answer. None
+    /// if one was sent anything else.
     fn counts(&self) -> Option<(usize, usize)> {
         if self.went_wrong.load(Ordering::SeqCst) {
             return None;
@@ -180,7 +181,8 @@ fn open<R: Threads + Wait + Abort + Copy + Send + 'static>(
     evening
 }
 
-/// Whether no client was accepted and the fault is of memory, or one was served as with ample memory.
+/// Whether no client was accepted and the fault is of memory, or one was served as with ample
+/// memory.
 fn stood(served: &Result<Served, ServeFault>, counts: Option<(usize, usize)>) -> bool {
     match counts {
         None => false,

@@ -1,4 +1,5 @@
-//! A meter behind its lock: what one port wrote another reads, no call is taken once all turns are drawn, and the button that four threads press.
+//! A meter behind its lock: what one port wrote another reads, no call is taken once all turns are
+//! drawn, and the button that four threads press.
 ghost use Rattle.std.specs.Prelude.{◌≡◌, IfSome};
 
 use crate::ports::new_lock;

@@ -71,7 +71,8 @@ Takes Crowded splits later = later ≡ splits
 Takes Starved splits later = splits ≤ later
 Takes SetupFailed splits later = later ≡ splits
 
--- a connection that its listener closed was closed for the reason that the listener gives, which no other connection has
+-- a connection that its listener closed is reported with the listener's reason; no other one is
+-- reported as without a stream
 abbrev pub IsClosedFor : {C : Type 0} → Incoming C → Outcome → Type 0
 IsClosedFor (incoming.Ready connection) outcome = outcome ≢ SetupFailed
 IsClosedFor incoming.OutOfMemory outcome = outcome ≡ Starved

@@ -57,8 +57,8 @@ pub trait Listener<P> {
     /// What it borrows to be written to, if anything: that stays the same.
     ghost borrowed: { Self → Option GName } = { λ _. None };
 
-    /// Waits for the next connection, and returns it or says why it was closed. An error: no further one
-    /// is accepted.
+    /// Waits for the next connection, and returns it or says why it was closed. An error: no
+    /// further one is accepted.
     fn accept(&mut self, alloc: Global) -> Result<Incoming<Self::Connection>, ListenFault>
         ensures failed { OnErr result (has_failed self.new) }
         ensures terms { terms self.new ≡ terms self.old }

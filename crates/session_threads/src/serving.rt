@@ -92,10 +92,11 @@ where
 
 /// Accepts connections, and serves each in a thread of its own through a port split off from this one.
 ///
-/// Returns after `limit` connections (0 is no limit), or after the listener failed, once every session has
-/// ended. A connection that arrives while eight sessions are open, or for which memory, a port or a thread is
-/// refused, or whose stream could not be set up, is closed with no byte sent and counted as turned away.
-/// `AllocError`: the allocation for eight sessions was refused, and no connection was accepted.
+/// Returns after `limit` connections (0 is no limit), or after the listener failed, once every
+/// session has ended. A connection that arrives while eight sessions are open, or for which memory,
+/// a port or a thread is refused, or whose stream could not be set up, is closed with no byte sent
+/// and counted as turned away. `AllocError`: the allocation for eight sessions was refused, and no
+/// connection was accepted.
 pub fn serve_connections<
     T: Turned + Send + 'static,
     L: Listener<Port<T>>,

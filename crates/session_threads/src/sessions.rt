@@ -1,7 +1,8 @@
 //! The open sessions: each has a place, a thread and a port.
 ghost use Rattle.std.specs.Prelude.{◌≡◌, ◌≢◌, ℕ, ◌<◌, List, None, IfOk};
 ghost use Rattle.slab.specs.Slab.{get};
-ghost use Rattle.session_threads.specs.Sessions.{port_of, terms_of, AreHeld, IsEmpty, Tends, Takes, IsCrowd, IsClosedFor};
+ghost use Rattle.session_threads.specs.Sessions.{port_of, terms_of, AreHeld, IsEmpty, Tends};
+ghost use Rattle.session_threads.specs.Sessions.{Takes, IsCrowd, IsClosedFor};
 ghost use Rattle.session_threads.specs.Listening.{IfReady};
 ghost use Rattle.turn_lock.specs.Calls.{Joins};
 ghost use Rattle.turn_lock.specs.Shown.{IsSame};
@@ -138,8 +139,8 @@ impl<T: Turned, C: Connection<Port<T>>> Sessions<T, C> {
         }
     }
 
-    /// Gives what a listener accepted a thread and a port split off from this one, or closes it. Of what the
-    /// listener closed this says why.
+    /// Gives what a listener accepted a thread and a port split off from this one, or closes it. Of
+    /// what the listener closed this says why.
     pub(crate) fn take_in<R: Threads + Wait + Copy + Send + 'static>(
         &mut self,
         rt: &R,
@@ -156,7 +157,8 @@ impl<T: Turned, C: Connection<Port<T>>> Sessions<T, C> {
         requires held { AreHeld port_of port.old self.old.handles }
         requires hands_back { (t : _) (p : _) (q : _) → C.hands_back t p q → IsSame p q }
         ensures tends { (t : List ℕ) → IfReady (λ c. C.terms c ≡ t) incoming
-            → Tends port_of (terms_of C.terms) C.hands_back t port.old self.old.handles port.new self.new.handles }
+            → Tends port_of (terms_of C.terms) C.hands_back t port.old self.old.handles
+            port.new self.new.handles }
         ensures splits { Takes result port.old.known.splits port.new.known.splits }
         ensures closed { IsClosedFor incoming result }
     {

@@ -33,7 +33,8 @@ fn serve<R: Threads + Wait + Copy + Send + 'static>(
     Ok((accepted?, count))
 }
 
-/// An evening in a hall at whose door this number of guests come, after connections that are closed.
+/// An evening in a hall at whose door this number of guests come, after connections that are
+/// closed.
 fn spend<R: Threads + Wait + Copy + Send + 'static>(
     rt: &R,
     alloc: Global,
@@ -49,8 +50,8 @@ fn spend<R: Threads + Wait + Copy + Send + 'static>(
     Ok((accepted, hall.content(), count))
 }
 
-/// An evening of this number of guests, who wait for one another, after connections that are closed, with
-/// this limit.
+/// An evening of this number of guests, who wait for one another, after connections that are
+/// closed, with this limit.
 fn evening<R: Threads + Wait + Copy + Send + 'static>(
     rt: &R,
     alloc: Global,

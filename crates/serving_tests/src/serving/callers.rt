@@ -167,8 +167,8 @@ impl Caller {
     }
 }
 
-/// Gives its callers, the last one first, and then fails. Before the only one left it waits until its line was sent so many bytes. Before all of them come
-/// clients whose streams can't be set up.
+/// Gives its callers, the last one first, and then fails. Before the only one left it waits until
+/// its line was sent so many bytes. Before all of them come clients whose streams can't be set up.
 #[derive(Drop)]
 pub(super) struct Door {
     pub(super) without_stream: u64,
