@@ -18,8 +18,9 @@ import serving
 from command_lines import AARE, AARQ, GET_STATE, GOT_STATE, TRACE
 from refusing import Refusing, turns
 from scripted_meters import AARQ as CLIENT_AARQ
-from scripted_meters import REQUESTS, ScriptedMeter, closes_without_answer, does_it, refuses, rejects
-from serving import DISCONNECT, MODE, PASSWORD, PLAYER, SERVER, STATE, TOP, Client, Server, Vanished, check, played, stands_in, test
+from scripted_meters import REQUESTS, ScriptedMeter
+from serving import AARE as OPENING
+from serving import DISCONNECT, MODE, PASSWORD, PLAYER, REFUSED, SERVER, STATE, TOP, Client, Server, Vanished, check, played, stands_in, test
 from campaigns import HEAD_END
 
 CALLS = os.environ.get("REFUSAL_TESTS") or TOP / "crates" / "refusal_tests" / "out" / "refusal_tests_tests"
@@ -57,7 +58,7 @@ def verdict(ran):
 def calls_are_refused_memory(name):
     listed = refusing.run([CALLS, "--list"]).output.decode().splitlines()
     names = [line.removesuffix(": test") for line in listed if line.endswith(": test")]
-    check(f"{name}: four calls", len(names) == 4, names)
+    check(f"{name}: five calls", len(names) == 5, names)
     for one in names:
         ample = refusing.run([CALLS, one])
         found = each_refusal(lambda number: verdict(refusing.run([CALLS, one], refuse_memory=number)), ample.allocations)
@@ -108,8 +109,32 @@ def programs_are_refused_memory(name):
     check(f"{name}: the session is the stored one", refusing.run([SERVER, "hex", "--password", PASSWORD], AARQ + GET_STATE).output == AARE + GOT_STATE)
 
 
-# The meters of a campaign of four disconnect jobs, and the rows of their jobs.
-METERS = [(does_it, "done 0"), (rejects, "rejected 1"), (closes_without_answer, "unknown"), (refuses, "refused 250")]
+def answers(opening, action=None):
+    """A script that answers the AARQ and, if the association is open, the request. Without an
+    answer to that it closes the connection."""
+    def script(talk):
+        if opening != ACCEPTED:
+            talk.take()
+            talk.send(opening)
+            return False
+        talk.open(opening)
+        if action:
+            talk.send(action)
+        return not action
+    return script
+
+
+# The AARE of an association with get, set and action.
+ACCEPTED = OPENING + "001E1904000007"
+
+# The meters of a campaign of four disconnect jobs, and the rows that they bring: success (0),
+# authentication-failure (13), a connection that is closed, and temporary-failure (2).
+METERS = [
+    (answers(ACCEPTED, "C701C10000"), "done 0"),
+    (answers(REFUSED + "0D"), "rejected 13"),
+    (answers(ACCEPTED), "unknown"),
+    (answers(ACCEPTED, "C701C10200"), "refused 2"),
+]
 
 
 def campaign_refused(jobs, number):
@@ -125,9 +150,9 @@ def campaign_refused(jobs, number):
 
 def a_campaign_is_refused_memory(name):
     meters = [ScriptedMeter(script) for script, _ in METERS]
-    jobs = "".join(f"m{number} 127.0.0.1:{meter.port} disconnect\n" for number, meter in enumerate(meters)).encode()
+    jobs = "".join(f"m{number} 127.0.0.1:{meter.port} disconnect\n" for number, meter in enumerate(meters, 1)).encode()
     ample = refusing.run([HEAD_END, "run", "--password", PASSWORD, "--workers", "2", "--timeout", "5"], jobs)
-    wanted = "".join(f"m{number} {row}\n" for number, (_, row) in enumerate(METERS)).encode()
+    wanted = "".join(f"m{number} {row}\n" for number, (_, row) in enumerate(METERS, 1)).encode()
     check(f"{name}: ample memory", (ample.status, ample.output) == (0, wanted), ample)
     found = each_refusal(lambda number: campaign_refused(jobs, number), ample.allocations)
     print_counts("a campaign of four jobs", found)

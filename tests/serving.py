@@ -6,6 +6,7 @@ trace_player plays the traces that the server prints. Every wait has a time limi
 import os
 import pathlib
 import re
+import resource
 import socket
 import subprocess
 import sys
@@ -360,13 +361,36 @@ def a_ninth_client_is_turned_away(name):
     check(f"{name}: reported", server.wait_for(b"turned away"))
     check(f"{name}: the eight go on", all(client.get(STATE) == "value 1601" for client in clients))
     clients[3].close()
-    check(f"{name}: one ends", server.wait_for(b"closed by the client"))
+    check(f"{name}: one ends", server.wait_for(b"session ended: the client closed the connection"))
     later = again_served(server)
     check(f"{name}: then another is served", later.get(STATE) == "value 1601")
     for client in (*clients, later, ninth):
         client.close()
     status, trace, _ = server.ended()
     check(f"{name}: end", status == 0)
+    check(f"{name}: played", stands_in(later.seen, played(trace)))
+
+
+def a_client_whose_stream_cannot_be_set_up_is_turned_away(name):
+    server = Server("--connections", "2")
+    # One descriptor is left: the server accepts a client, and can't duplicate its stream.
+    process = server.process.pid
+    taken = {int(number) for number in os.listdir(f"/proc/{process}/fd")}
+    free = next(number for number in range(len(taken) + 1) if number not in taken)
+    limits = resource.prlimit(process, resource.RLIMIT_NOFILE)
+    resource.prlimit(process, resource.RLIMIT_NOFILE, (free + 1, limits[1]))
+    client = Client(server.port)
+    check(f"{name}: closed without a byte", client.is_closed())
+    check(f"{name}: told", server.wait_for(b"turned away: its stream could not be set up"), server.errors)
+    resource.prlimit(process, resource.RLIMIT_NOFILE, limits)
+    client.close()
+    later = server.client()
+    check(f"{name}: the next is served", later.get(STATE) == "value 1601")
+    later.close()
+    # (both count as connections, so the server ends)
+    status, trace, errors = server.ended()
+    check(f"{name}: end", status == 0 and "fault" not in errors, status, errors)
+    check(f"{name}: one is turned away", errors.count("turned away") == 1, errors)
     check(f"{name}: played", stands_in(later.seen, played(trace)))
 
 
@@ -577,6 +601,7 @@ def main():
             print(f"{executable} is missing: run bin/test, or `rt run` in its crate")
             return 1
     for function in (requests_of_every_kind, a_long_answer_comes_in_blocks, clients_interleave, a_ninth_client_is_turned_away,
+                     a_client_whose_stream_cannot_be_set_up_is_turned_away,
                      console_lines_act_beside_clients, a_console_that_is_not_read_is_a_fault, a_limit_of_connections_ends_the_server, the_end_of_input_ends_the_server,
                      an_address_in_use_is_a_fault, a_meter_goes_on_from_its_trace, a_wrong_trace_is_not_gone_on_from, wrong_passwords_are_refused,
                      the_environment_has_the_password, a_client_may_vanish_in_mid_frame, a_silent_client_is_closed):

@@ -9,14 +9,15 @@ use listed::Listed;
 use std::alloc::{AllocError, Global};
 use std::sync::Arc;
 use std::sync::atomic::{AtomicBool, Ordering};
+use std::thread;
 use std::thread::Threads;
 
 /// The answer to the request: done.
 static ANSWER: [u8; 13] = [
     0x00, 0x01, 0x00, 0x01, 0x00, 0x01, 0x00, 0x05, 0xC7, 0x01, 0xC1, 0x00, 0x00,
 ];
-/// How often the other's flag is asked.
-const MOST_LOOKS: u32 = 100_000_000;
+/// The number of times that the other's flag is asked.
+const MAX_LOOKS: u32 = 1_000_000;
 
 /// A meter's end of a connection: it opens the association at once, and answers the request once the other's was written.
 #[derive(Drop)]
@@ -30,10 +31,11 @@ struct Waiting {
 impl Waiting {
     /// Whether the other's request was written while this one was willing to wait.
     fn waits(&self) -> bool {
-        for _ in 0..MOST_LOOKS {
+        for _ in 0..MAX_LOOKS {
             if self.other.load(Ordering::SeqCst) {
                 return true;
             }
+            thread::yield_now();
         }
         false
     }

@@ -1,67 +1,68 @@
 //! What standard error is told of a client.
-use meter_server::{Observer, ServeFault, SessionEnd};
+use meter_server::{ServeFault, SessionEnd};
+use std::io;
 use std::net::SocketAddr;
 use std::sync::atomic::{AtomicBool, Ordering};
 
-/// What standard error is told of one client, where that is asked for.
+/// Reports one client on standard error, if that is asked for: a line when it connects, and one
+/// when its session ends or it is turned away.
 pub struct ClientLog<R: Eprint + Copy> {
     rt: R,
     address: SocketAddr,
     is_verbose: bool,
-    was_served: AtomicBool,
+    has_ended: AtomicBool,
 }
 
 impl<R: Eprint + Copy> ClientLog<R> {
+    /// Reports that a client connected.
     pub(crate) fn new(rt: R, address: SocketAddr, is_verbose: bool) -> ClientLog<R> {
-        let log = ClientLog {
+        if is_verbose {
+            let _ = eprintln!(rt; "{address}: connected");
+        }
+        ClientLog {
             rt,
             address,
             is_verbose,
-            was_served: AtomicBool::new(false),
-        };
-        log.say("connected");
-        log
-    }
-
-    fn say(&self, what: &str) {
-        if self.is_verbose {
-            let _ = eprintln!(self.rt; "{}: {what}", self.address);
+            has_ended: AtomicBool::new(false),
         }
     }
-}
 
-/// How a session ended, in words.
-fn words_of(end: &Result<SessionEnd, ServeFault>) -> &'static str {
-    match end {
-        Ok(SessionEnd::Closed) => "closed by the client",
-        Ok(SessionEnd::Cut) => "closed by the client within a frame",
-        Ok(SessionEnd::BadVersion) => "ended at a frame of another version",
-        Ok(SessionEnd::TooLong) => "ended at a frame that is too long",
-        Err(ServeFault::Read) => "ended: nothing could be read, or nothing came in time",
-        Err(ServeFault::Write) => "ended: nothing could be written, or nothing was taken in time",
-        Err(ServeFault::Memory) => "ended: no memory",
-        Err(ServeFault::Exhausted) => "ended: the meter takes no more calls",
-        Err(ServeFault::Listen) => "ended",
+    /// Reports how the client's session ended.
+    pub(crate) fn end(&self, end: &Result<SessionEnd, ServeFault>) {
+        self.has_ended.store(true, Ordering::SeqCst);
+        if !self.is_verbose {
+            return;
+        }
+        let _ = match end {
+            Ok(end) => eprintln!(self.rt; "{}: session ended: {end}", self.address),
+            Err(fault) => eprintln!(self.rt; "{}: session ended: {fault}", self.address),
+        };
+    }
+
+    /// Reports that the client is turned away because its stream could not be set up.
+    pub(crate) fn turn_away(self, error: &io::Error) {
+        self.has_ended.store(true, Ordering::SeqCst);
+        if self.is_verbose {
+            let _ = eprintln!(self.rt;
+                "{}: turned away: its stream could not be set up: {error}",
+                self.address
+            );
+        }
+        drop(self);
     }
 }
 
-impl<R: Eprint + Copy> Observer for ClientLog<R> {
-    fn ended(&self, end: &Result<SessionEnd, ServeFault>) {
-        self.was_served.store(true, Ordering::SeqCst);
-        self.say(words_of(end));
-    }
-}
-
+/// A client whose log is dropped before a session ended was turned away.
 impl<R: Eprint + Copy> Drop for ClientLog<R> {
     fn drop(self) {
-        if !self.was_served.load(Ordering::SeqCst) {
-            self.say("turned away");
-        }
         let ClientLog {
-            rt: _,
-            address: _,
-            is_verbose: _,
-            was_served: _,
+            rt,
+            address,
+            is_verbose,
+            has_ended,
         } = self;
+        if is_verbose && !has_ended.load(Ordering::SeqCst) {
+            let _ = eprintln!(rt; "{address}: turned away");
+        }
     }
 }

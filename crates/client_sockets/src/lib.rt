@@ -3,7 +3,7 @@
 
 mod client_log;
 mod closing;
-mod lasting;
+mod deadline_stream;
 mod limits;
 mod listening;
 #[cfg(test)]
@@ -11,6 +11,6 @@ mod tests;
 
 pub use client_log::ClientLog;
 pub use closing::Closing;
-pub use lasting::Lasting;
+pub use deadline_stream::DeadlineStream;
 pub use limits::Limits;
 pub use listening::{Sockets, Stopped};

@@ -3,11 +3,10 @@ ghost use Rattle.std.specs.Prelude.{◌≡◌, false};
 ghost use Rattle.client_sockets.specs.Clients.{has_failed};
 
 use crate::client_log::ClientLog;
-use crate::lasting::Lasting;
+use crate::deadline_stream::DeadlineStream;
 use crate::limits::Limits;
 use meter_server::{ListenFault, Listener};
 use std::alloc::Global;
-use std::io;
 use std::io::ErrorKind;
 use std::net::{SocketAddr, TcpListener, TcpStream};
 use std::sync::Arc;
@@ -56,47 +55,44 @@ impl<R: Clock + Eprint + Copy> Sockets<R> {
         self.has_failed
     }
 
-    /// A client that connected, and the log of its session.
+    /// Both directions of the stream of a client that connected. `None`: the stream could not be
+    /// set up; the client is closed, and reported as turned away.
     fn client(
         &self,
         stream: TcpStream,
         address: SocketAddr,
-    ) -> io::Result<(Lasting<R>, Lasting<R>, ClientLog<R>)> {
+    ) -> Option<(DeadlineStream<R>, DeadlineStream<R>)> {
         let log = ClientLog::new(self.rt, address, self.is_verbose);
-        match Lasting::both_ways(self.rt, stream, self.limits) {
-            Ok((input, output)) => Ok((input, output, log)),
+        match DeadlineStream::both_ways(self.rt, stream, self.limits) {
+            Ok((input, output)) => Some((input, output.with_log(log))),
             Err(error) => {
-                drop(log);
-                Err(error)
+                log.turn_away(&error);
+                None
             }
         }
     }
 }
 
-/// Whether a client went before it was taken, so that the listener goes on.
-fn is_passing(kind: ErrorKind) -> bool {
+/// Whether an error of `accept` is transient: the next call may succeed.
+fn is_transient(kind: ErrorKind) -> bool {
     matches!(kind, ErrorKind::Interrupted | ErrorKind::ConnectionAborted)
 }
 
 impl<R: Clock + Eprint + Copy + Drop + Send + 'static> Listener for Sockets<R> {
-    type Input = Lasting<R>;
+    type Input = DeadlineStream<R>;
 
-    type Output = Lasting<R>;
+    type Output = DeadlineStream<R>;
 
-    type Observer = ClientLog<R>;
-
-    fn accept(&mut self) -> Result<(Lasting<R>, Lasting<R>, ClientLog<R>), ListenFault> {
+    fn accept(&mut self) -> Result<Option<(DeadlineStream<R>, DeadlineStream<R>)>, ListenFault> {
         for _ in 0..u64::MAX {
             match self.listener.accept() {
                 Ok((stream, address)) => {
                     if self.stopped.load(Ordering::SeqCst) {
                         return Err(ListenFault);
                     }
-                    if let Ok(client) = self.client(stream, address) {
-                        return Ok(client);
-                    }
+                    return Ok(self.client(stream, address));
                 }
-                Err(error) if is_passing(error.kind()) => {}
+                Err(error) if is_transient(error.kind()) => {}
                 Err(_) => break,
             }
         }

@@ -32,7 +32,8 @@ fn listening(
 fn failed_reads(rt: HostRuntime, limits: Limits) -> Result<(Duration, bool), Fail> {
     let (mut sockets, address) = listening(rt, limits, false)?;
     let client = TcpStream::connect(&rt, address)?;
-    let (mut input, output, log) = sockets.accept().map_err(|_| "no client")?;
+    let accepted = sockets.accept().map_err(|_| "no client")?;
+    let (mut input, output) = accepted.ok_or("no stream")?;
     let began = Instant::now(&rt)?;
     let mut buffer = [0; 8];
     let first = input.read(&mut buffer);
@@ -40,7 +41,6 @@ fn failed_reads(rt: HostRuntime, limits: Limits) -> Result<(Duration, bool), Fai
     let second = input.read(&mut buffer);
     drop(client);
     drop(output);
-    drop(log);
     if first.is_ok() {
         return Err(Fail::from("a read of a silent client succeeds"));
     }

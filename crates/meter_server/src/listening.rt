@@ -1,7 +1,8 @@
-//! Where clients come from, and who is told of their sessions.
-ghost use Rattle.std.specs.Prelude.{⊤, ℕ, Option, None, Some, OnOk, OnErr};
+//! Where clients come from, and how the end of a session is reported.
+ghost use Rattle.std.specs.Prelude.{◌≡◌, ◌≢◌, ⊤, ℕ, Option, None, Some};
+ghost use Rattle.std.specs.Prelude.{IfSome, IfNone, OnOk, OnErr};
 ghost use Rattle.acse_ber.specs.Password.{IsPassword};
-ghost use Rattle.session_threads.specs.Listening.{RisesBy};
+ghost use Rattle.session_threads.specs.Listening.{IfReady, RisesBy};
 
 use crate::ports::serve_port;
 use byte_streams::Counted;
@@ -9,25 +10,29 @@ use cosem_axdr::Octets;
 use kept_meter::Kept;
 use session_core::SessionEnd;
 use session_serving::ServeFault;
-use session_threads::{Connection, ListenFault};
+use session_threads::{Connection, Incoming, ListenFault};
 use std::alloc::Global;
 use std::io::{Read, Write};
+use std::net::TcpStream;
 use std::sync::Wait;
 use turn_lock::Port;
 
-/// Who is told of a session. Nothing that it does changes the session.
+/// An output that the end of its session is reported to. Nothing that it does changes the session.
 pub trait Observer {
-    /// The session has ended so, or for this fault.
-    fn ended(&self, end: &Result<SessionEnd, ServeFault>);
+    /// The session ended in this way, or with this fault. The default does nothing.
+    fn ended(&self, _end: &Result<SessionEnd, ServeFault>) {}
 }
+
+/// A plain socket reports nothing.
+impl Observer for TcpStream {}
 
 /// Where clients come from.
 pub trait Listener {
+    /// What a client sends.
     type Input: Read + Drop + Send + 'static;
 
-    type Output: Write + Drop + Send + 'static;
-
-    type Observer: Observer + Drop + Send + 'static;
+    /// What a client is sent, and what the end of its session is reported to.
+    type Output: Write + Observer + Drop + Send + 'static;
 
     /// It has failed. Of a listener that doesn't say how that is seen nothing is known.
     ghost has_failed: { Self → Type 0 } = { λ _. ⊤ };
@@ -36,8 +41,10 @@ pub trait Listener {
     /// claims nothing.
     ghost accepted: { Self → Option ℕ } = { λ _. None };
 
-    /// Waits for the next client: what it sends, what is sent to it, and who is told of its session. An error: no further one comes.
-    fn accept(&mut self) -> Result<(Self::Input, Self::Output, Self::Observer), ListenFault>
+    /// Waits for the next client and returns its input and its output. `None`: a client connected,
+    /// but its stream could not be set up, and it was closed with no byte sent. An error: no
+    /// further client comes.
+    fn accept(&mut self) -> Result<Option<(Self::Input, Self::Output)>, ListenFault>
         ensures failed { OnErr result (has_failed self.new) }
         ensures accepted { OnOk result (RisesBy (accepted self.old) 1 (accepted self.new)) }
         ensures accepted_err { OnErr result (RisesBy (accepted self.old) 0 (accepted self.new)) };
@@ -45,17 +52,15 @@ pub trait Listener {
 
 /// A client that was accepted.
 #[derive(Drop)]
-pub(crate) struct Client<I, O, V> {
+pub(crate) struct Client<I, O> {
     input: I,
     output: O,
-    observer: V,
     password: Octets,
     ghost sized: { IsPassword password },
 }
 
-impl<I: Read + Drop + Send, O: Write + Drop + Send, V: Observer + Drop + Send> Connection<
-    Port<Kept>,
-> for Client<I, O, V> {
+impl<I: Read + Drop + Send, O: Write + Observer + Drop + Send> Connection<Port<Kept>>
+    for Client<I, O> {
     ghost use Rattle.turn_lock.specs.Shown.{IsSame};
     ghost use Rattle.meter_server.specs.Sessions.{AsksThrough};
 
@@ -67,18 +72,41 @@ impl<I: Read + Drop + Send, O: Write + Drop + Send, V: Observer + Drop + Send> C
         let Client {
             input,
             output,
-            observer,
             password,
         } = self;
         let mut reader = Counted::new(input);
         let mut writer = Counted::new(output);
         let (port, end) = serve_port(rt, alloc, &mut reader, &mut writer, port, &password);
-        observer.ended(&end);
+        writer.into_inner().ended(&end);
         port
     }
 }
 
-/// The clients of a listener, each of whom has the password of the management client beside it.
+// The client of these streams, with a copy of the password; without streams there is none.
+fn prepare_client<I: Drop, O: Drop>(
+    alloc: Global,
+    streams: Option<(I, O)>,
+    password: &Octets,
+) -> Incoming<Client<I, O>>
+    requires { IsPassword password.now }
+    ensures password { IfReady (λ client. client.password ≡ password.now) result }
+    ensures some { IfSome streams (λ _. result ≢ Incoming.SetupFailed) }
+    ensures none { IfNone streams (result ≡ Incoming.SetupFailed) }
+{
+    let Some((input, output)) = streams else {
+        return Incoming::SetupFailed;
+    };
+    match password.try_clone(alloc) {
+        Ok(password) => Incoming::Ready(Client {
+            input,
+            output,
+            password,
+        }),
+        Err(_) => Incoming::OutOfMemory,
+    }
+}
+
+/// The clients of a listener, with the password of the management client.
 #[derive(Drop)]
 pub(crate) struct Clients<'a, 'b, L> {
     pub(crate) listener: &'a mut L,
@@ -87,7 +115,7 @@ pub(crate) struct Clients<'a, 'b, L> {
 }
 
 impl<'a, 'b, L: Listener> session_threads::Listener<Port<Kept>> for Clients<'a, 'b, L> {
-    type Connection = Client<L::Input, L::Output, L::Observer>;
+    type Connection = Client<L::Input, L::Output>;
 
     ghost has_failed = { λ clients. L.has_failed clients.listener.now };
 
@@ -97,16 +125,8 @@ impl<'a, 'b, L: Listener> session_threads::Listener<Port<Kept>> for Clients<'a, 
 
     ghost borrowed = { λ clients. Some clients.listener.ghost_name };
 
-    fn accept(&mut self, alloc: Global) -> Result<Option<Self::Connection>, ListenFault> {
-        let (input, output, observer) = self.listener.accept()?;
-        match self.password.try_clone(alloc) {
-            Ok(password) => Ok(Some(Client {
-                input,
-                output,
-                observer,
-                password,
-            })),
-            Err(_) => Ok(None),
-        }
+    fn accept(&mut self, alloc: Global) -> Result<Incoming<Self::Connection>, ListenFault> {
+        let streams = self.listener.accept()?;
+        Ok(prepare_client(alloc, streams, self.password))
     }
 }

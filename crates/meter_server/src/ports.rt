@@ -1,5 +1,5 @@
 //! A session that shares its meter with others.
-ghost use Rattle.std.specs.Prelude.{List};
+ghost use Rattle.std.specs.Prelude.{◌≡◌, List};
 ghost use Rattle.acse_ber.specs.Password.{IsPassword};
 ghost use Rattle.session_serving.specs.Meters.{Replied};
 ghost use Rattle.meter_server.specs.Ports.{MeterPort, PortSteps, Enters};
@@ -21,13 +21,14 @@ use std::marker::Model;
 use std::sync::Wait;
 use turn_lock::Port;
 
-/// A port to a meter that others share, with leave to wait for its turns. Contracts see the port.
-struct Wired<'a, W: Wait> {
+/// A port of a meter that others share, as a [`Meter`]: each event is a call of the port, and waits
+/// for its turn. Contracts see the port.
+pub struct PortMeter<'a, W: Wait> {
     rt: &'a W,
     port: Port<Kept>,
 }
 
-impl<'a, W: Wait> Model for Wired<'a, W> {
+impl<'a, W: Wait> Model for PortMeter<'a, W> {
     ghost use Rattle.std.specs.Coded.{codes};
     ghost use Rattle.meter_server.specs.Ports.{MeterPort};
     ghost use Rattle.relay_events.specs.contracts.event.Event as event_row;
@@ -38,10 +39,27 @@ impl<'a, W: Wait> Model for Wired<'a, W> {
 
     ghost coded = { Prim.hlevel (codes, event_row.the_row.coded, reply_row.the_row.coded, opening_row.the_row.coded) };
 
-    ghost view = { λ wired. wired.port };
+    ghost view = { λ meter. meter.port };
 }
 
-impl<'a, W: Wait> Meter for Wired<'a, W> {
+impl<'a, W: Wait> PortMeter<'a, W> {
+    /// The meter of this port. Its calls wait for their turns by `rt`.
+    pub fn new(rt: &'a W, port: Port<Kept>) -> PortMeter<'a, W>
+        ensures { result ≡ port }
+    {
+        PortMeter { rt, port }
+    }
+
+    /// Returns the port, with all that it has seen.
+    pub fn into_port(self) -> Port<Kept>
+        ensures { result ≡ self }
+    {
+        let PortMeter { rt: _, port } = self;
+        port
+    }
+}
+
+impl<'a, W: Wait> Meter for PortMeter<'a, W> {
     ghost steps = { PortSteps };
 
     fn call(&mut self, alloc: Global, event: Event) -> Result<Reply, CallFault> {
@@ -53,6 +71,17 @@ impl<'a, W: Wait> Meter for Wired<'a, W> {
 /// calls there.
 pub fn calls_are_entered()
     ensures { (p : MeterPort) (events : List Event) (replies : List Reply) (q : MeterPort) → Replied PortSteps p events replies q → Enters p events replies q }
+{}
+
+/// A session that [`serve_session`] served over a [`PortMeter`] leaves the same port: of the same
+/// lock, with the same number. In the history that the port then knows, its further calls are the
+/// events that the session asked.
+pub fn session_keeps_its_port<R: Reader, O: Writer>()
+    ensures { (password : _) (reader : _) (writer : _) (p : MeterPort) (end : _) (read : _)
+        (written : _) (q : MeterPort)
+        → Served R.remaining R.reads R.failures O.contents O.failures PortSteps password
+        reader writer p end read written q
+        → IsSame p q × AsksThrough password p q }
 {}
 
 /// Serves one session as [`serve_session`] does, by the events of a port: each event that the session asks is a call of the port, and waits for its turn. Between
@@ -72,8 +101,7 @@ pub fn serve_port<R: Reader, O: Writer, W: Wait>(
     ensures same { IsSame port result.0 }
     ensures asks { AsksThrough password.now port result.0 }
 {
-    let mut wired = Wired { rt, port };
-    let result = serve_session(alloc, reader, writer, &mut wired, password);
-    let Wired { rt: _, port } = wired;
-    (port, result)
+    let mut meter = PortMeter::new(rt, port);
+    let result = serve_session(alloc, reader, writer, &mut meter, password);
+    (meter.into_port(), result)
 }

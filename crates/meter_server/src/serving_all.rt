@@ -199,8 +199,10 @@ fn serve_with_sampler<
 /// Serves clients, and hands in blocks of samples, moments and presses, over one meter: a thread for each of at most eight open sessions, and one each for the three
 /// sources, each with a port of its own. The management client has this password, 1 to 32 bytes.
 ///
-/// It ends once every source has given all, every session has ended, and `limit` connections came (0 is no limit) or the listener failed. A connection that comes while
-/// eight sessions are open, or for which a port, a thread or memory is not had, is closed with no byte sent.
+/// Returns once every source has given all, every session has ended, and `limit` connections came
+/// (0 is no limit) or the listener failed. A connection that arrives while eight sessions are open,
+/// or for which a port, a thread or memory is refused, or whose stream could not be set up, is
+/// closed with no byte sent and counted as turned away.
 ///
 /// The port comes back in every case: it has seen a legal history that begins with what it had
 /// seen, and every port that was split off is joined in. At `Ok` all that a source lists was handed

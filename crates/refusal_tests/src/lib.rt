@@ -11,6 +11,8 @@ mod ports;
 #[cfg(test)]
 mod recorders;
 #[cfg(test)]
+mod servers;
+#[cfg(test)]
 mod sessions;
 #[cfg(test)]
 mod traces;

@@ -17,7 +17,10 @@ use turn_lock::{Port, Shared, Turned};
 const READ_NAME: &[u8] = b"get 16 1 00002A0000FF 2 0";
 
 /// A lock over a new meter, which takes two calls, and its first port.
-fn new_lock(rt: &impl Abort, alloc: Global) -> Result<(Shared<Kept>, Port<Kept>), AllocError>
+pub(crate) fn new_lock(
+    rt: &impl Abort,
+    alloc: Global,
+) -> Result<(Shared<Kept>, Port<Kept>), AllocError>
     ensures { IfOk result (λ r. r.1.lock ≡ r.0) }
 {
     let recorder = new_recorder(rt, alloc, 9)?;
@@ -66,7 +69,7 @@ fn ask<W: Wait>(
 }
 
 /// How many events a meter has kept whose lock is closed, or None where it is busy.
-fn kept(shared: Shared<Kept>, port: Port<Kept>) -> Option<u16>
+pub(crate) fn kept(shared: Shared<Kept>, port: Port<Kept>) -> Option<u16>
     requires { port.lock ≡ shared }
 {
     match shared.close(port) {

@@ -67,12 +67,7 @@ impl Write for Answered {
 }
 
 /// Counts the sessions that were closed between two frames.
-#[derive(Drop)]
-pub(crate) struct Watcher {
-    line: Arc<Line, Global>,
-}
-
-impl Observer for Watcher {
+impl Observer for Answered {
     fn ended(&self, end: &Result<SessionEnd, ServeFault>) {
         if *end == Ok(SessionEnd::Closed) {
             self.line.closed.fetch_add(1, Ordering::SeqCst);
@@ -80,8 +75,8 @@ impl Observer for Watcher {
     }
 }
 
-/// A client: what it sends, what it is to be sent, and the observer of its session.
-pub(crate) type Client = (Cursor<Vec<u8>>, Answered, Watcher);
+/// A client: what it sends, and what it is to be sent.
+pub(crate) type Client = (Cursor<Vec<u8>>, Answered);
 
 /// Returns a client that sends the first text, and expects the second one.
 pub(crate) fn client(
@@ -94,10 +89,7 @@ pub(crate) fn client(
         expected,
         at: 0,
     };
-    let watcher = Watcher {
-        line: Arc::try_clone(line)?,
-    };
-    Ok((Cursor::new(asked), answered, watcher))
+    Ok((Cursor::new(asked), answered))
 }
 
 /// Accepts the clients of a list, in order, and then fails.
@@ -126,17 +118,15 @@ impl Listener for Door {
 
     type Output = Answered;
 
-    type Observer = Watcher;
-
     ghost has_failed = { λ door. IsTrue door.has_failed };
 
     ghost accepted = { λ door. Some door.accepted };
 
-    fn accept(&mut self) -> Result<Client, ListenFault> {
+    fn accept(&mut self) -> Result<Option<Client>, ListenFault> {
         match self.clients.pop_front() {
             Some(client) => {
                 self.accepted += 1;
-                Ok(client)
+                Ok(Some(client))
             }
             None => {
                 self.has_failed = true;

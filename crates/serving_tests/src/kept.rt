@@ -1,16 +1,17 @@
-//! A meter behind its lock: what one port wrote another reads, and no call is taken once all turns are drawn.
-ghost use Rattle.std.specs.Prelude.{◌≡◌};
+//! A meter behind its lock: what one port wrote another reads, no call is taken once all turns are
+//! drawn, and the button that four threads press.
+ghost use Rattle.std.specs.Prelude.{◌≡◌, IfSome};
 
 use crate::ports::new_lock;
-use call_fault::CallFault;
 use cosem_axdr::Data;
 use cosem_names::{AttrRef, ClassId, Level, Obis};
-use kept_meter::Kept;
+use disconnect_control::ControlState;
+use meter_server::{CallFault, Kept, Port, Recorder, Shared};
 use relay_core::{Event, Reply};
 use std::alloc::{AllocError, Global};
 use std::sync::Wait;
 use std::test::Fail;
-use turn_lock::{Port, Shared};
+use std::thread::{Threads, join};
 
 /// threshold_normal of the import limiter.
 const THRESHOLD: AttrRef = AttrRef {
@@ -19,27 +20,101 @@ const THRESHOLD: AttrRef = AttrRef {
     number: 4,
 };
 
-/// How many events a meter has kept, and the threshold of its import limiter.
-fn seen(kept: &Kept) -> (u16, u32) {
-    let recorder = kept.recorder();
-    (recorder.count(), recorder.core().threshold())
+/// control_mode of the supply switch.
+const MODE: AttrRef = AttrRef {
+    class: ClassId(70),
+    name: Obis([0, 0, 96, 3, 10, 255]),
+    number: 4,
+};
+
+/// What a meter has left when its lock is closed: its core, and the events of its export.
+#[derive(Clone, Copy, Debug, PartialEq, Eq)]
+struct Left {
+    state: ControlState,
+    threshold: u32,
+    events: usize,
+    are_write_and_read: bool,
+    are_presses: bool,
 }
 
-/// The same of a meter whose lock is closed, or None where it is busy.
-fn closed(shared: Shared<Kept>, port: Port<Kept>) -> Option<(u16, u32)>
+/// Whether an event writes 7,000 as the threshold.
+fn is_write(event: &Event) -> bool {
+    match event {
+        Event::Set {
+            attr,
+            value: Data::DoubleLongUnsigned(number),
+            ..
+        } => *attr == THRESHOLD && *number == 7_000,
+        _ => false,
+    }
+}
+
+/// Whether an event reads the threshold.
+fn is_read(event: &Event) -> bool {
+    match event {
+        Event::Get { attr, .. } => *attr == THRESHOLD,
+        _ => false,
+    }
+}
+
+/// Whether the first event writes the threshold and the second one reads it.
+fn are_write_and_read(events: &[Event]) -> bool {
+    match (events.get(0), events.get(1)) {
+        (Some(first), Some(second)) => is_write(first) && is_read(second),
+        _ => false,
+    }
+}
+
+/// Whether each event is a press of the button.
+fn are_presses(events: &[Event]) -> bool {
+    for event in events {
+        if !matches!(event, Event::Button) {
+            return false;
+        }
+    }
+    true
+}
+
+/// The core of a recorder, and the events of its export.
+fn left_of(alloc: Global, recorder: &Recorder) -> Result<Left, AllocError> {
+    let trace = recorder.export(alloc)?;
+    let events = trace.events.as_slice();
+    let left = Left {
+        state: recorder.core().state(),
+        threshold: recorder.core().threshold(),
+        events: events.len(),
+        are_write_and_read: are_write_and_read(events),
+        are_presses: are_presses(events),
+    };
+    drop(trace);
+    Ok(left)
+}
+
+/// The recorder behind a lock, which is closed, or None if it is busy.
+fn recorder_of(shared: Shared<Kept>, port: Port<Kept>) -> Option<Recorder>
     requires { port.lock ≡ shared }
 {
     match shared.close(port) {
-        Ok(kept) => {
-            let seen = seen(&kept);
-            drop(kept);
-            Some(seen)
-        }
+        Ok(kept) => Some(kept.into_recorder()),
         Err((_, shared, port)) => {
             drop(shared);
             drop(port);
             None
         }
+    }
+}
+
+/// What a meter has left whose lock is closed, or None if it is busy or out of memory.
+fn closed(alloc: Global, shared: Shared<Kept>, port: Port<Kept>) -> Option<Left>
+    requires { port.lock ≡ shared }
+{
+    match recorder_of(shared, port) {
+        Some(recorder) => {
+            let left = left_of(alloc, &recorder);
+            drop(recorder);
+            left.ok()
+        }
+        None => None,
     }
 }
 
@@ -59,7 +134,7 @@ fn number(reply: &Reply) -> u32 {
     }
 }
 
-/// Calls, and gives the code of the reply and the number that it tells.
+/// Calls, and returns the code and the number of the reply.
 fn ask<W: Wait>(
     rt: &W,
     alloc: Global,
@@ -93,7 +168,7 @@ fn read() -> Event {
     }
 }
 
-/// One port tells another what it has seen.
+/// Shows one port what another has seen.
 fn tell(one: &mut Port<Kept>, two: &mut Port<Kept>)
     requires { two.old.lock ≡ one.old.lock }
     ensures { (one.new.lock ≡ one.old.lock) × (two.new.lock ≡ two.old.lock) }
@@ -104,7 +179,7 @@ fn tell(one: &mut Port<Kept>, two: &mut Port<Kept>)
 /// The code and the number that came of a call, or why none came.
 type Told = Result<(u8, u32), CallFault>;
 
-/// One port writes the threshold, and another that was told of it reads it.
+/// One port writes the threshold, and another that was shown the write reads it.
 fn write_and_read<W: Wait>(
     rt: &W,
     alloc: Global,
@@ -125,11 +200,18 @@ fn a_port_reads_what_another_wrote(rt: HostRuntime) -> Result<(), Fail> {
     let alloc = rt.alloc();
     let (shared, mut one) = new_lock(&rt, alloc, 9)?;
     let came = write_and_read(&rt, alloc, &mut one);
-    let kept = closed(shared, one);
+    let left = closed(alloc, shared, one);
     let (written, told) = came?;
     assert!(rt; written == Ok((0, 0)));
     assert!(rt; told == Ok((255, 7_000)));
-    assert!(rt; kept == Some((2, 7_000)));
+    let both = Left {
+        state: ControlState::Connected,
+        threshold: 7_000,
+        events: 2,
+        are_write_and_read: true,
+        are_presses: false,
+    };
+    assert!(rt; left == Some(both));
     Ok(())
 }
 
@@ -141,9 +223,159 @@ fn two_turns_exhaust_a_port(rt: HostRuntime) -> Result<(), Fail> {
     let second = ask(&rt, alloc, &mut port, Event::Button);
     let third = ask(&rt, alloc, &mut port, Event::Button);
     let fourth = ask(&rt, alloc, &mut port, Event::Button);
-    let kept = closed(shared, port);
+    let left = closed(alloc, shared, port);
     assert!(rt; first == Ok((2, 0)) && second == first);
     assert!(rt; third == Err(CallFault::Exhausted) && fourth == third);
-    assert!(rt; matches!(kept, Some((2, _))));
+    assert!(rt; left == Some(presses(2)));
+    Ok(())
+}
+
+/// A new meter after this number of presses in mode 0, in which the button does nothing.
+fn presses(count: usize) -> Left {
+    Left {
+        state: ControlState::Connected,
+        threshold: u32::MAX,
+        events: count,
+        are_write_and_read: false,
+        are_presses: true,
+    }
+}
+
+/// Each of three ports presses the button once.
+fn press_each<W: Wait>(
+    rt: &W,
+    alloc: Global,
+    one: &mut Port<Kept>,
+    two: &mut Port<Kept>,
+    three: &mut Port<Kept>,
+) -> [Told; 3]
+    ensures one { one.new.lock ≡ one.old.lock }
+    ensures two { two.new.lock ≡ two.old.lock }
+    ensures three { three.new.lock ≡ three.old.lock }
+{
+    [
+        ask(rt, alloc, one, Event::Button),
+        ask(rt, alloc, two, Event::Button),
+        ask(rt, alloc, three, Event::Button),
+    ]
+}
+
+/// Each of three ports presses the button twice, in turn.
+fn press_twice_each<W: Wait>(
+    rt: &W,
+    alloc: Global,
+    one: &mut Port<Kept>,
+) -> Result<([Told; 3], [Told; 3]), AllocError>
+    ensures { one.new.lock ≡ one.old.lock }
+{
+    let mut two = one.split()?;
+    match two.split() {
+        Ok(mut three) => {
+            let first = press_each(rt, alloc, one, &mut two, &mut three);
+            let second = press_each(rt, alloc, one, &mut two, &mut three);
+            two.join(three);
+            one.join(two);
+            Ok((first, second))
+        }
+        Err(error) => {
+            one.join(two);
+            Err(error)
+        }
+    }
+}
+
+#[test]
+fn three_turns_exhaust_three_ports(rt: HostRuntime) -> Result<(), Fail> {
+    let alloc = rt.alloc();
+    let (shared, mut port) = new_lock(&rt, alloc, 3)?;
+    let came = press_twice_each(&rt, alloc, &mut port);
+    let left = closed(alloc, shared, port);
+    let (first, second) = came?;
+    assert!(rt; first == [Ok((2, 0)); 3]);
+    assert!(rt; second == [Err(CallFault::Exhausted); 3]);
+    assert!(rt; left == Some(presses(3)));
+    Ok(())
+}
+
+/// A management client's write of mode 1, in which the button cuts the supply and restores it.
+fn write_mode() -> Event {
+    Event::Set {
+        level: Level::Management,
+        attr: MODE,
+        selected: false,
+        value: Data::Enum(1),
+    }
+}
+
+/// Presses the button 100 times, and says whether each reply is code 0.
+fn press_often<W: Wait>(rt: &W, alloc: Global, port: Port<Kept>) -> (Port<Kept>, bool)
+    ensures { result.0.lock ≡ port.lock }
+{
+    let mut port = port;
+    let mut are_all = true;
+    for _ in 0..100 {
+        are_all = ask(rt, alloc, &mut port, Event::Button) == Ok((0, 0)) && are_all;
+    }
+    (port, are_all)
+}
+
+/// The same through two ports on two threads, one of which is split off.
+fn press_on_two<R: Threads + Wait + Sync>(
+    rt: &R,
+    alloc: Global,
+    mut port: Port<Kept>,
+) -> (Port<Kept>, bool)
+    ensures { result.0.lock ≡ port.lock }
+{
+    let Ok(other) = port.split() else {
+        return (port, false);
+    };
+    let ((mut port, are_all), (other, are_others)) = join(
+        rt,
+        || -> (Port<Kept>, bool)
+            ensures { result.0.lock ≡ port.lock }
+        { press_often(rt, alloc, port) },
+        || -> (Port<Kept>, bool)
+            ensures { result.0.lock ≡ other.lock }
+        { press_often(rt, alloc, other) },
+    );
+    port.join(other);
+    (port, are_all && are_others)
+}
+
+/// The same through four ports on four threads.
+fn press_on_four<R: Threads + Wait + Sync>(
+    rt: &R,
+    alloc: Global,
+    mut port: Port<Kept>,
+) -> (Port<Kept>, bool)
+    ensures { result.0.lock ≡ port.lock }
+{
+    let Ok(other) = port.split() else {
+        return (port, false);
+    };
+    let ((mut port, are_all), (other, are_others)) = join(
+        rt,
+        || -> (Port<Kept>, bool)
+            ensures { result.0.lock ≡ port.lock }
+        { press_on_two(rt, alloc, port) },
+        || -> (Port<Kept>, bool)
+            ensures { result.0.lock ≡ other.lock }
+        { press_on_two(rt, alloc, other) },
+    );
+    port.join(other);
+    (port, are_all && are_others)
+}
+
+#[test]
+fn four_threads_press_one_button(rt: HostRuntime) -> Result<(), Fail> {
+    let alloc = rt.alloc();
+    let (shared, mut port) = new_lock(&rt, alloc, 401)?;
+    let written = ask(&rt, alloc, &mut port, write_mode());
+    let (port, are_all) = press_on_four(&rt, alloc, port);
+    let left = closed(alloc, shared, port);
+    assert!(rt; written == Ok((0, 0)));
+    assert!(rt; are_all);
+    assert!(rt; matches!(left, Some(left) if left.state == ControlState::Connected));
     Ok(())
 }

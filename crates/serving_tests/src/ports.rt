@@ -5,15 +5,15 @@ ghost use Rattle.acse_ber.specs.Password.{IsPassword};
 use crate::talks::{MANAGEMENT, Texts, talk};
 use byte_streams::Counted;
 use cosem_axdr::Octets;
-use kept_meter::Kept;
-use meter_server::{ServeFault, serve_port};
-use relay_recorder::Recorder;
-use session_core::SessionEnd;
+use meter_server::{
+    Kept, Port, PortMeter, Recorder, ServeFault, SessionEnd, Shared, serve_port, serve_session,
+    session_keeps_its_port,
+};
 use std::alloc::{AllocError, Global};
 use std::process::Abort;
 use std::sync::Wait;
 use std::test::Fail;
-use turn_lock::{Port, Shared, Turned};
+use turn_lock::Turned;
 
 /// Writes mode 2 of the switch, and the answer.
 pub(crate) const WRITE_MODE: (&str, &str) = ("C101C10046000060030AFF04001602", "C501C100");
@@ -99,6 +99,31 @@ fn gives<W: Wait>(
     (port, is_so)
 }
 
+/// The same of a session that `serve_session` serves over a port as a meter.
+fn gives_over_meter<W: Wait>(
+    rt: &W,
+    alloc: Global,
+    port: Port<Kept>,
+    texts: (&[u8], &[u8]),
+    password: &Octets,
+    end: Result<SessionEnd, ServeFault>,
+) -> (Port<Kept>, bool)
+    requires { IsPassword password.now }
+    ensures { result.0.lock ≡ port.lock }
+{
+    let mut reader = Counted::new(texts.0);
+    let mut writer = Counted::new(Vec::new(alloc));
+    let mut meter = PortMeter::new(rt, port);
+    let result = serve_session(alloc, &mut reader, &mut writer, &mut meter, password);
+    session_keeps_its_port::<Counted<&[u8]>, Counted<Vec<u8>>>();
+    let port = meter.into_port();
+    drop(reader);
+    let output = writer.into_inner();
+    let is_so = result == end && output.as_slice() == texts.1;
+    drop(output);
+    (port, is_so)
+}
+
 /// What came of two sessions, each through a port of its own, and how many events their meter then had kept.
 fn serve_two<R: Wait + Abort>(
     rt: &R,
@@ -116,7 +141,7 @@ fn serve_two<R: Wait + Abort>(
             let texts = (first.asked.as_slice(), first.answered.as_slice());
             let (mut one, is_first_so) = gives(rt, alloc, one, texts, password, end);
             let texts = (second.asked.as_slice(), second.answered.as_slice());
-            let (two, is_second_so) = gives(rt, alloc, two, texts, password, end);
+            let (two, is_second_so) = gives_over_meter(rt, alloc, two, texts, password, end);
             one.join(two);
             Ok((is_first_so, is_second_so, kept(shared, one)))
         }

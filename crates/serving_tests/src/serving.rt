@@ -281,6 +281,7 @@ fn waiting_caller(
 fn new_door(alloc: Global, line: &Arc<Line, Global>) -> Result<Door, AllocError> {
     let line = Arc::try_clone(line)?;
     Ok(Door {
+        without_stream: 0,
         callers: Vec::new(alloc),
         line,
         sent: 0,
@@ -429,6 +430,31 @@ fn serve_opening<R: Threads + Wait + Abort + Copy + Send + 'static>(
     serve_one(rt, alloc, line, only, NOTHING, 2)
 }
 
+/// Serves a client that only opens a session, before whom one comes whose stream can't be set up.
+fn serve_without_stream<R: Threads + Wait + Abort + Copy + Send + 'static>(
+    rt: &R,
+    alloc: Global,
+    line: &Arc<Line, Global>,
+) -> Result<Evening, Fail> {
+    let mut door = new_door(alloc, line)?;
+    door.without_stream = 1;
+    let added = add(&mut door, caller(alloc, line, 0));
+    serve_door(rt, alloc, door, added, NOTHING, 2)
+}
+
+#[test]
+fn turns_away_a_client_whose_stream_cannot_be_set_up(rt: HostRuntime) -> Result<(), Fail> {
+    let alloc = rt.alloc();
+    let line = Arc::new(alloc, Line::new())?;
+    let came = serve_without_stream(&rt, alloc, &line);
+    let outcome = line.outcome();
+    drop(line);
+    let (served, _) = came?;
+    assert!(rt; served == told(1, 1));
+    assert!(rt; outcome == Some((OPENED, 1)));
+    Ok(())
+}
+
 #[test]
 fn ends_where_the_listener_fails(rt: HostRuntime) -> Result<(), Fail> {
     let alloc = rt.alloc();
@@ -540,10 +566,8 @@ fn serve_reading<R: Threads + Wait + Abort + Copy + Send + 'static>(
 #[test]
 fn serves_over_the_network(rt: HostRuntime) -> Result<(), Fail> {
     let alloc = rt.alloc();
-    let line = Arc::new(alloc, Line::new())?;
-    let listener = TcpListener::bind(&rt, "127.0.0.1:0")?;
-    let mut door = Loopback { listener, line };
-    let mut client = TcpStream::connect(&rt, door.listener.local_addr()?)?;
+    let mut door = Loopback(TcpListener::bind(&rt, "127.0.0.1:0")?);
+    let mut client = TcpStream::connect(&rt, door.0.local_addr()?)?;
     let came = serve_reading(&rt, alloc, &mut door, &mut client);
     drop(client);
     drop(door);

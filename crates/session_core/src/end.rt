@@ -1,6 +1,9 @@
 ghost use Rattle.std.specs.Prelude.{◌≡◌};
 ghost use Rattle.session_core.specs.Numbers.{end_number};
 
+use std::fmt;
+use std::fmt::{Display, Formatter, Write};
+
 /// How a session ended.
 #[derive(Clone, Copy, Debug, PartialEq, Eq)]
 pub enum SessionEnd {
@@ -10,7 +13,7 @@ pub enum SessionEnd {
     Cut = 2,
     /// A header of another version than 0001 came.
     BadVersion = 3,
-    /// A header that tells a payload of more than 1,024 bytes came.
+    /// A header came that announces a payload of more than 1,024 bytes.
     TooLong = 4,
 }
 
@@ -20,5 +23,16 @@ impl From<SessionEnd> for u8 {
 
     fn from(end: SessionEnd) -> u8 {
         end as u8
+    }
+}
+
+impl Display for SessionEnd {
+    fn fmt<W: Write>(&self, f: &mut Formatter<W>) -> fmt::Result {
+        f.write_str(match self {
+            SessionEnd::Closed => "the client closed the connection",
+            SessionEnd::Cut => "the client closed the connection within a frame",
+            SessionEnd::BadVersion => "a frame has the wrong version: expected 1",
+            SessionEnd::TooLong => "a frame is too long: expected a payload of at most 1,024 bytes",
+        })
     }
 }

@@ -12,19 +12,19 @@ use thiserror::Error;
 #[derive(Clone, Copy, Debug, PartialEq, Eq, Error)]
 pub enum ServeFault {
     /// A read failed, or the session had as many reads as it may have.
-    #[error("a read failed")]
+    #[error("a read failed or timed out")]
     Read = 1,
     /// A write failed.
-    #[error("a write failed")]
+    #[error("a write failed or timed out")]
     Write = 2,
     /// Memory ran out.
-    #[error("no memory")]
+    #[error("out of memory")]
     Memory = 3,
     /// The meter takes no more events.
-    #[error("every turn of the meter was taken")]
+    #[error("the meter accepts no more calls")]
     Exhausted = 4,
     /// No connection could be accepted.
-    #[error("listening failed")]
+    #[error("no connection could be accepted")]
     Listen = 5,
 }
 

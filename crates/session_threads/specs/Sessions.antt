@@ -1,5 +1,5 @@
 -- Sessions that are open, what becomes of the port that theirs were split off from, and what came of the connections.
-use Rattle.std.specs.Prelude.{◌≡◌, ◌⊎◌, ℕ, ◌+◌, ◌<◌, ◌≤◌, true, false, List, [], Some, None}
+use Rattle.std.specs.Prelude.{◌≡◌, ◌≢◌, ◌⊎◌, ℕ, ◌+◌, ◌<◌, ◌≤◌, true, false, List, [], Some, None}
 use Rattle.std.specs.declared.thread.PromisedHandle.{PromisedHandle}
 use Rattle.slab.specs.Slab.{Slab, get, slab_len}
 use Rattle.turn_lock.specs.declared.port.Port.{Port}
@@ -7,7 +7,9 @@ use Rattle.turn_lock.specs.History.{IsAmong, calls_by}
 use Rattle.turn_lock.specs.Shown.{ShownPort}
 use Rattle.session_threads.specs.declared.accepted.Accepted.{Accepted}
 use Rattle.session_threads.specs.declared.accepted.Outcome.{Outcome}
-use Rattle.session_threads.specs.declared.accepted.Outcome.TheVariants.{Served, Crowded, Starved}
+use Rattle.session_threads.specs.declared.accepted.Outcome.TheVariants.{Served, Crowded, Starved, SetupFailed}
+use Rattle.session_threads.specs.declared.connections.Incoming.{Incoming}
+use Rattle.session_threads.specs.declared.connections.Incoming.TheVariants as incoming
 use Rattle.session_threads.specs.declared.session.Lent.{Lent}
 use Rattle.session_threads.specs.Ports.{GoesOn, AreCallsOf, child}
 
@@ -67,6 +69,14 @@ abbrev pub Takes : Outcome → ℕ → ℕ → Type 0
 Takes Served splits later = later ≡ splits + 1
 Takes Crowded splits later = later ≡ splits
 Takes Starved splits later = splits ≤ later
+Takes SetupFailed splits later = later ≡ splits
+
+-- a connection that its listener closed is reported with the listener's reason; no other one is
+-- reported as without a stream
+abbrev pub IsClosedFor : {C : Type 0} → Incoming C → Outcome → Type 0
+IsClosedFor (incoming.Ready connection) outcome = outcome ≢ SetupFailed
+IsClosedFor incoming.OutOfMemory outcome = outcome ≡ Starved
+IsClosedFor incoming.SetupFailed outcome = outcome ≡ SetupFailed
 
 -- a connection is one too many only if eight sessions are open
 abbrev pub IsCrowd : {H : Type 0} → Outcome → Slab H → Type 0

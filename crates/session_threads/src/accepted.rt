@@ -11,6 +11,8 @@ pub(crate) enum Outcome {
     Crowded,
     /// Memory, a port or a thread was not to be had: it was closed.
     Starved,
+    /// Its stream could not be set up: it was closed.
+    SetupFailed,
 }
 
 /// What came of the connections, once no more are accepted.
@@ -49,7 +51,9 @@ impl Accepted {
     {
         match outcome {
             Outcome::Served => self.served = self.served.saturating_add(1),
-            Outcome::Crowded => self.turned_away = self.turned_away.saturating_add(1),
+            Outcome::Crowded | Outcome::SetupFailed => {
+                self.turned_away = self.turned_away.saturating_add(1);
+            }
             Outcome::Starved => {
                 self.turned_away = self.turned_away.saturating_add(1);
                 self.has_starved = true;

@@ -1,7 +1,7 @@
 //! What is served, and where it comes from.
-ghost use Rattle.std.specs.Prelude.{◌≡◌, ⊤, ℕ, List, [], Option, None, IfOk, IfSome, OnOk, OnErr};
+ghost use Rattle.std.specs.Prelude.{◌≡◌, ⊤, ℕ, List, [], Option, None, IfOk, OnOk, OnErr};
 ghost use Rattle.std.specs.Borrow.{GName};
-ghost use Rattle.session_threads.specs.Listening.{RisesBy};
+ghost use Rattle.session_threads.specs.Listening.{IfReady, RisesBy};
 
 use std::alloc::Global;
 use std::sync::Wait;
@@ -22,6 +22,17 @@ pub trait Connection<P>: Drop + Send {
     where
         Self: Sized,
         ensures { hands_back (terms self) port result };
+}
+
+/// What a listener accepted: a connection to serve, or one that it closed with no byte sent.
+#[derive(Drop)]
+pub enum Incoming<C> {
+    /// A connection to serve.
+    Ready(C),
+    /// It was closed: out of memory.
+    OutOfMemory,
+    /// It was closed: its stream could not be set up.
+    SetupFailed,
 }
 
 /// The listener failed: it gives no further connection.
@@ -46,11 +57,12 @@ pub trait Listener<P> {
     /// What it borrows to be written to, if anything: that stays the same.
     ghost borrowed: { Self → Option GName } = { λ _. None };
 
-    /// Waits for the next connection. `None`: one came and was closed, with no byte sent, for want of memory.
-    fn accept(&mut self, alloc: Global) -> Result<Option<Self::Connection>, ListenFault>
+    /// Waits for the next connection, and returns it or says why it was closed. An error: no
+    /// further one is accepted.
+    fn accept(&mut self, alloc: Global) -> Result<Incoming<Self::Connection>, ListenFault>
         ensures failed { OnErr result (has_failed self.new) }
         ensures terms { terms self.new ≡ terms self.old }
-        ensures served { IfOk result (λ next. IfSome next (λ c. Self.Connection.terms c ≡ terms self.old)) }
+        ensures served { IfOk result (IfReady (λ c. Self.Connection.terms c ≡ terms self.old)) }
         ensures accepted { OnOk result (RisesBy (accepted self.old) 1 (accepted self.new)) }
         ensures accepted_err { OnErr result (RisesBy (accepted self.old) 0 (accepted self.new)) }
         ensures borrowed { borrowed self.new ≡ borrowed self.old };

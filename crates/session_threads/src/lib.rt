@@ -15,7 +15,7 @@ mod sessions;
 mod worker;
 
 pub use accepted::Accepted;
-pub use connections::{Connection, ListenFault, Listener};
+pub use connections::{Connection, Incoming, ListenFault, Listener};
 pub use flags::SESSIONS;
 pub use serving::serve_connections;
 pub use worker::{Handed, Task, Worker, WorkerThread, join_worker, start_worker};

@@ -44,8 +44,7 @@ where
     let next = listener.accept(alloc);
     sessions.reap(rt, port);
     match next {
-        Ok(Some(connection)) => Some(sessions.admit(rt, alloc, connection, port)),
-        Ok(None) => Some(Outcome::Starved),
+        Ok(incoming) => Some(sessions.take_in(rt, alloc, incoming, port)),
         Err(_) => None,
     }
 }
@@ -93,9 +92,11 @@ where
 
 /// Accepts connections, and serves each in a thread of its own through a port split off from this one.
 ///
-/// It ends once `limit` connections came (0 is no limit) or the listener failed, and then once every session has ended. A connection
-/// that comes while eight sessions are open, or for which no memory, port or thread is had, is closed with no byte sent and counted
-/// as turned away. `AllocError`: the room for eight sessions is not had, and no connection was accepted.
+/// Returns after `limit` connections (0 is no limit), or after the listener failed, once every
+/// session has ended. A connection that arrives while eight sessions are open, or for which memory,
+/// a port or a thread is refused, or whose stream could not be set up, is closed with no byte sent
+/// and counted as turned away. `AllocError`: the allocation for eight sessions was refused, and no
+/// connection was accepted.
 pub fn serve_connections<
     T: Turned + Send + 'static,
     L: Listener<Port<T>>,

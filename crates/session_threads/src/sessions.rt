@@ -1,12 +1,14 @@
 //! The open sessions: each has a place, a thread and a port.
-ghost use Rattle.std.specs.Prelude.{◌≡◌, ℕ, ◌<◌, List, None, IfOk};
+ghost use Rattle.std.specs.Prelude.{◌≡◌, ◌≢◌, ℕ, ◌<◌, List, None, IfOk};
 ghost use Rattle.slab.specs.Slab.{get};
-ghost use Rattle.session_threads.specs.Sessions.{port_of, terms_of, AreHeld, IsEmpty, Tends, Takes, IsCrowd};
+ghost use Rattle.session_threads.specs.Sessions.{port_of, terms_of, AreHeld, IsEmpty, Tends};
+ghost use Rattle.session_threads.specs.Sessions.{Takes, IsCrowd, IsClosedFor};
+ghost use Rattle.session_threads.specs.Listening.{IfReady};
 ghost use Rattle.turn_lock.specs.Calls.{Joins};
 ghost use Rattle.turn_lock.specs.Shown.{IsSame};
 
 use crate::accepted::Outcome;
-use crate::connections::Connection;
+use crate::connections::{Connection, Incoming};
 use crate::flags::{Flags, SESSIONS};
 use crate::session::{Session, start};
 use slab::Slab;
@@ -116,6 +118,7 @@ impl<T: Turned, C: Connection<Port<T>>> Sessions<T, C> {
         ensures tends { Tends port_of (terms_of C.terms) C.hands_back (C.terms connection) port.old self.old.handles port.new self.new.handles }
         ensures splits { Takes result port.old.known.splits port.new.known.splits }
         ensures crowded { IsCrowd result self.old.handles }
+        ensures admitted { result ≢ Outcome.SetupFailed }
     {
         if self.handles.len() >= SESSIONS {
             return Outcome::Crowded;
@@ -133,6 +136,36 @@ impl<T: Turned, C: Connection<Port<T>>> Sessions<T, C> {
                 Outcome::Served
             }
             Err(own) => take_back(port, own),
+        }
+    }
+
+    /// Gives what a listener accepted a thread and a port split off from this one, or closes it. Of
+    /// what the listener closed this says why.
+    pub(crate) fn take_in<R: Threads + Wait + Copy + Send + 'static>(
+        &mut self,
+        rt: &R,
+        alloc: Global,
+        incoming: Incoming<C>,
+        port: &mut Port<T>,
+    ) -> Outcome
+    where
+        T: Send + 'static,
+        C: 'static,
+        T::Event: Send + 'static,
+        T::Reply: Send + 'static,
+        T::Origin: 'static,
+        requires held { AreHeld port_of port.old self.old.handles }
+        requires hands_back { (t : _) (p : _) (q : _) → C.hands_back t p q → IsSame p q }
+        ensures tends { (t : List ℕ) → IfReady (λ c. C.terms c ≡ t) incoming
+            → Tends port_of (terms_of C.terms) C.hands_back t port.old self.old.handles
+            port.new self.new.handles }
+        ensures splits { Takes result port.old.known.splits port.new.known.splits }
+        ensures closed { IsClosedFor incoming result }
+    {
+        match incoming {
+            Incoming::Ready(connection) => self.admit(rt, alloc, connection, port),
+            Incoming::OutOfMemory => Outcome::Starved,
+            Incoming::SetupFailed => Outcome::SetupFailed,
         }
     }
 }

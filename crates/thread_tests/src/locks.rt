@@ -306,7 +306,46 @@ fn close_twice<R: Threads + Wait + Sync>(
     }
 }
 
-// The answer of a call before, and the same.
+// The same through a port that is split off that of the caller.
+fn close_beside<R: Threads + Wait + Sync>(
+    rt: &R,
+    alloc: Global,
+    shared: Shared<Gated>,
+    mut caller: Port<Gated>,
+    gate: &Gate,
+) -> Result<Option<(u64, u64, u64)>, AllocError>
+    requires { caller.lock ≡ shared }
+{
+    match caller.split() {
+        Ok(closer) => Ok(close_twice(rt, alloc, shared, caller, closer, gate)),
+        Err(fault) => {
+            drop(caller);
+            drop(shared);
+            Err(fault)
+        }
+    }
+}
+
+// The same where the caller's first call is held up.
+fn hold_up_first<R: Threads + Wait + Sync>(
+    rt: &R,
+    alloc: Global,
+    gate: &Arc<Gate, Global>,
+) -> Result<Option<(u64, u64, u64)>, AllocError> {
+    let (shared, caller) = start_gated(alloc, Arc::try_clone(gate)?)?;
+    close_beside(rt, alloc, shared, caller, gate)
+}
+
+#[test]
+fn is_busy_while_the_first_turn_is_held(rt: HostRuntime) -> Result<(), Fail> {
+    let gate = Arc::new(rt.alloc(), Gate::new())?;
+    let held = hold_up_first(&rt, rt.alloc(), &gate);
+    drop(gate);
+    assert!(rt; held? == Some((1, 0, 1)));
+    Ok(())
+}
+
+// The same where a call was made before, and its answer.
 fn hold_up<R: Threads + Wait + Sync>(
     rt: &R,
     alloc: Global,
@@ -314,14 +353,8 @@ fn hold_up<R: Threads + Wait + Sync>(
 ) -> Result<(Answer, Option<(u64, u64, u64)>), AllocError> {
     let (shared, mut caller) = start_gated(alloc, Arc::try_clone(gate)?)?;
     let first = call_through(rt, alloc, &mut caller, gate);
-    match caller.split() {
-        Ok(closer) => Ok((first, close_twice(rt, alloc, shared, caller, closer, gate))),
-        Err(fault) => {
-            drop(caller);
-            drop(shared);
-            Err(fault)
-        }
-    }
+    let closed = close_beside(rt, alloc, shared, caller, gate)?;
+    Ok((first, closed))
 }
 
 #[test]

@@ -2,7 +2,7 @@
 mod guests;
 
 use crate::locks::{close, start};
-use guests::{Door, Hall};
+use guests::{Closed, Door, Hall, NONE_CLOSED};
 use session_threads::{Accepted, serve_connections};
 use std::alloc::{AllocError, Global};
 use std::sync::{Arc, Wait};
@@ -33,46 +33,48 @@ fn serve<R: Threads + Wait + Copy + Send + 'static>(
     Ok((accepted?, count))
 }
 
-/// An evening in a hall at whose door so many guests come.
+/// An evening in a hall at whose door this number of guests come, after connections that are
+/// closed.
 fn spend<R: Threads + Wait + Copy + Send + 'static>(
     rt: &R,
     alloc: Global,
     hall: &Arc<Hall, Global>,
     guests: u64,
-    hungry: u64,
+    closed: Closed,
     limit: u64,
 ) -> Result<Evening, AllocError> {
-    let mut door = Door::new(Arc::try_clone(hall)?, guests, hungry);
+    let mut door = Door::new(Arc::try_clone(hall)?, guests, closed);
     let served = serve(rt, alloc, &mut door, limit);
     drop(door);
     let (accepted, count) = served?;
     Ok((accepted, hall.content(), count))
 }
 
-/// An evening of so many guests, who wait for one another, behind so many connections that are closed for want of memory, with this limit.
+/// An evening of this number of guests, who wait for one another, after connections that are
+/// closed, with this limit.
 fn evening<R: Threads + Wait + Copy + Send + 'static>(
     rt: &R,
     alloc: Global,
     guests: u64,
-    hungry: u64,
+    closed: Closed,
     limit: u64,
 ) -> Result<Evening, AllocError> {
     let hall = Arc::new(alloc, Hall::new(guests))?;
-    let spent = spend(rt, alloc, &hall, guests, hungry, limit);
+    let spent = spend(rt, alloc, &hall, guests, closed, limit);
     drop(hall);
     spent
 }
 
 #[test]
 fn serves_two_that_wait_for_one_another(rt: HostRuntime) -> Result<(), Fail> {
-    let spent = evening(&rt, rt.alloc(), 2, 0, 2)?;
+    let spent = evening(&rt, rt.alloc(), 2, NONE_CLOSED, 2)?;
     assert!(rt; spent == (told(2, 0, false, false), 2, Some(2)));
     Ok(())
 }
 
 #[test]
 fn turns_the_ninth_away(rt: HostRuntime) -> Result<(), Fail> {
-    let spent = evening(&rt, rt.alloc(), 9, 0, 9)?;
+    let spent = evening(&rt, rt.alloc(), 9, NONE_CLOSED, 9)?;
     assert!(rt; spent == (told(8, 1, false, false), 8, Some(8)));
     Ok(())
 }
@@ -134,14 +136,30 @@ fn a_ninth_takes_the_place_of_the_one_that_left(rt: HostRuntime) -> Result<(), F
 
 #[test]
 fn ends_where_the_listener_fails(rt: HostRuntime) -> Result<(), Fail> {
-    let spent = evening(&rt, rt.alloc(), 1, 0, 0)?;
+    let spent = evening(&rt, rt.alloc(), 1, NONE_CLOSED, 0)?;
     assert!(rt; spent == (told(1, 0, true, false), 1, Some(1)));
     Ok(())
 }
 
 #[test]
-fn counts_what_was_closed_for_want_of_memory(rt: HostRuntime) -> Result<(), Fail> {
-    let spent = evening(&rt, rt.alloc(), 1, 2, 3)?;
+fn counts_what_was_closed_out_of_memory(rt: HostRuntime) -> Result<(), Fail> {
+    let closed = Closed {
+        out_of_memory: 2,
+        setup_failed: 0,
+    };
+    let spent = evening(&rt, rt.alloc(), 1, closed, 3)?;
     assert!(rt; spent == (told(1, 2, false, true), 1, Some(1)));
+    Ok(())
+}
+
+// A stream that can't be set up is no want of memory.
+#[test]
+fn counts_those_whose_stream_cannot_be_set_up(rt: HostRuntime) -> Result<(), Fail> {
+    let closed = Closed {
+        out_of_memory: 0,
+        setup_failed: 2,
+    };
+    let spent = evening(&rt, rt.alloc(), 1, closed, 3)?;
+    assert!(rt; spent == (told(1, 2, false, false), 1, Some(1)));
     Ok(())
 }

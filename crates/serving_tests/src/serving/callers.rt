@@ -132,20 +132,7 @@ impl Write for Answered {
     }
 }
 
-/// Who is told of a session.
-#[derive(Drop)]
-pub(super) struct Watcher {
-    line: Arc<Line, Global>,
-}
-
-impl Watcher {
-    pub(super) fn of(line: &Arc<Line, Global>) -> Option<Watcher> {
-        let line = Arc::try_clone(line).ok()?;
-        Some(Watcher { line })
-    }
-}
-
-impl Observer for Watcher {
+impl Observer for Answered {
     fn ended(&self, end: &Result<SessionEnd, ServeFault>) {
         if *end == Ok(SessionEnd::Closed) {
             self.line.ended.fetch_add(1, Ordering::SeqCst);
@@ -154,7 +141,7 @@ impl Observer for Watcher {
 }
 
 impl Caller {
-    fn call(self) -> Option<(Asking, Answered, Watcher)> {
+    fn call(self) -> Option<(Asking, Answered)> {
         let Caller {
             line,
             asks,
@@ -163,7 +150,6 @@ impl Caller {
             other,
             other_sent,
         } = self;
-        let watcher = Watcher::of(&line)?;
         let answered = Answered {
             line: Arc::try_clone(&line).ok()?,
             expected: answers,
@@ -177,13 +163,15 @@ impl Caller {
             other,
             other_sent,
         };
-        Some((asking, answered, watcher))
+        Some((asking, answered))
     }
 }
 
-/// Gives its callers, the last one first, and then fails. Before the only one left it waits until its line was sent so many bytes.
+/// Gives its callers, the last one first, and then fails. Before the only one left it waits until
+/// its line was sent so many bytes. Before all of them come clients whose streams can't be set up.
 #[derive(Drop)]
 pub(super) struct Door {
+    pub(super) without_stream: u64,
     pub(super) callers: Vec<Caller>,
     pub(super) line: Arc<Line, Global>,
     pub(super) sent: u64,
@@ -194,12 +182,15 @@ impl Listener for Door {
 
     type Output = Answered;
 
-    type Observer = Watcher;
-
-    fn accept(&mut self) -> Result<(Asking, Answered, Watcher), ListenFault> {
+    fn accept(&mut self) -> Result<Option<(Asking, Answered)>, ListenFault> {
+        if self.without_stream > 0 {
+            self.without_stream -= 1;
+            return Ok(None);
+        }
         if self.callers.len() == 1 {
             self.line.wait_for(&self.line, self.sent);
         }
-        self.callers.pop().and_then(Caller::call).ok_or(ListenFault)
+        let caller = self.callers.pop().ok_or(ListenFault)?;
+        Ok(caller.call())
     }
 }

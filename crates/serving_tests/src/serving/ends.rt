@@ -1,9 +1,9 @@
-//! The end of a session that its observer receives.
+//! The end of a session that its output receives.
 use super::{NOTHING, serve, told};
 use meter_server::{ListenFault, Listener, Observer, ServeFault, SessionEnd};
 use std::alloc::Global;
 use std::io;
-use std::io::{ErrorKind, Read, Sink};
+use std::io::{ErrorKind, Read, Write};
 use std::sync::Arc;
 use std::sync::atomic::{AtomicU8, Ordering};
 use std::test::Fail;
@@ -46,7 +46,7 @@ fn number_of(end: &Result<SessionEnd, ServeFault>) -> u8 {
     }
 }
 
-/// The numbers of the ends that observers received, by client.
+/// The numbers of the ends that outputs received, by client.
 #[derive(Drop)]
 struct Ends {
     numbers: [AtomicU8; CLIENTS],
@@ -73,11 +73,21 @@ impl Ends {
     }
 }
 
-/// Keeps the end of the session of one client.
+/// Stores the end of the session of one client, and drops what is written to it.
 #[derive(Drop)]
 struct Recorded {
     ends: Arc<Ends, Global>,
     client: usize,
+}
+
+impl Write for Recorded {
+    fn write(&mut self, bytes: &[u8]) -> io::Result<usize> {
+        Ok(bytes.len())
+    }
+
+    fn flush(&mut self) -> io::Result<()> {
+        Ok(())
+    }
 }
 
 impl Observer for Recorded {
@@ -117,11 +127,9 @@ struct Queue {
 impl Listener for Queue {
     type Input = Sending;
 
-    type Output = Sink;
+    type Output = Recorded;
 
-    type Observer = Recorded;
-
-    fn accept(&mut self) -> Result<(Sending, Sink, Recorded), ListenFault> {
+    fn accept(&mut self) -> Result<Option<(Sending, Recorded)>, ListenFault> {
         let (left, fails) = sent_by(self.next).ok_or(ListenFault)?;
         let ends = Arc::try_clone(&self.ends).map_err(|_| ListenFault)?;
         let recorded = Recorded {
@@ -129,7 +137,7 @@ impl Listener for Queue {
             client: self.next,
         };
         self.next = self.next.saturating_add(1);
-        Ok((Sending { left, fails }, io::sink(), recorded))
+        Ok(Some((Sending { left, fails }, recorded)))
     }
 }
 

@@ -1,6 +1,6 @@
 //! Connections and a listener in memory.
 use crate::locks::counter::{Bump, Counter};
-use session_threads::{Connection, ListenFault, Listener};
+use session_threads::{Connection, Incoming, ListenFault, Listener};
 use std::alloc::Global;
 use std::sync::atomic::{AtomicBool, AtomicU64, Ordering};
 use std::sync::{Arc, Wait};
@@ -142,24 +142,37 @@ impl Connection<Port<Counter>> for Guest {
     }
 }
 
+/// The numbers of connections that a listener closes before its guests come, by reason.
+#[derive(Clone, Copy)]
+pub(super) struct Closed {
+    pub(super) out_of_memory: u64,
+    pub(super) setup_failed: u64,
+}
+
+/// No connection is closed.
+pub(super) const NONE_CLOSED: Closed = Closed {
+    out_of_memory: 0,
+    setup_failed: 0,
+};
+
 /// A listener that gives some guests, the last once all others have arrived, and then fails.
 #[derive(Drop)]
 pub(super) struct Door {
     hall: Arc<Hall, Global>,
     guests: u64,
-    hungry: u64,
+    closed: Closed,
     given: u64,
     all: u64,
     pace: Pace,
 }
 
 impl Door {
-    /// A listener of so many guests. So many connections are closed for want of memory first.
-    pub(super) fn new(hall: Arc<Hall, Global>, guests: u64, hungry: u64) -> Door {
+    /// A listener of this number of guests, which closes these connections first.
+    pub(super) fn new(hall: Arc<Hall, Global>, guests: u64, closed: Closed) -> Door {
         Door {
             hall,
             guests,
-            hungry,
+            closed,
             given: 0,
             all: guests,
             pace: Pace::Together,
@@ -168,14 +181,14 @@ impl Door {
 
     /// A listener of this number of guests, each of whom comes after the one before has left.
     pub(super) fn one_by_one(hall: Arc<Hall, Global>, guests: u64) -> Door {
-        let mut door = Door::new(hall, guests, 0);
+        let mut door = Door::new(hall, guests, NONE_CLOSED);
         door.pace = Pace::OneByOne;
         door
     }
 
     /// A listener of this number of guests. The last comes after the first has left, and all but the first wait for it.
     pub(super) fn after_the_first(hall: Arc<Hall, Global>, guests: u64) -> Door {
-        let mut door = Door::new(hall, guests, 0);
+        let mut door = Door::new(hall, guests, NONE_CLOSED);
         door.pace = Pace::AfterTheFirst;
         door
     }
@@ -205,10 +218,14 @@ impl Door {
 impl Listener<Port<Counter>> for Door {
     type Connection = Guest;
 
-    fn accept(&mut self, _alloc: Global) -> Result<Option<Guest>, ListenFault> {
-        if self.hungry > 0 {
-            self.hungry -= 1;
-            return Ok(None);
+    fn accept(&mut self, _alloc: Global) -> Result<Incoming<Guest>, ListenFault> {
+        if self.closed.out_of_memory > 0 {
+            self.closed.out_of_memory -= 1;
+            return Ok(Incoming::OutOfMemory);
+        }
+        if self.closed.setup_failed > 0 {
+            self.closed.setup_failed -= 1;
+            return Ok(Incoming::SetupFailed);
         }
         if self.guests == 0 {
             return Err(ListenFault);
@@ -218,8 +235,8 @@ impl Listener<Port<Counter>> for Door {
         let patience = self.patience();
         self.given = self.given.saturating_add(1);
         match Arc::try_clone(&self.hall) {
-            Ok(hall) => Ok(Some(Guest::new(hall, patience))),
-            Err(_) => Ok(None),
+            Ok(hall) => Ok(Incoming::Ready(Guest::new(hall, patience))),
+            Err(_) => Ok(Incoming::OutOfMemory),
         }
     }
 }

@@ -1,40 +1,53 @@
-//! A client's stream, with limits of time.
+//! A client's stream, with deadlines.
+use crate::client_log::ClientLog;
 use crate::limits::Limits;
+use meter_server::{Observer, ServeFault, SessionEnd};
 use std::io;
 use std::io::{ErrorKind, Read, Write};
 use std::net::TcpStream;
 use std::time::{Clock, Duration, Instant};
 
-/// One way of a client's stream. Its calls fail where they take too long, or once the session has.
+/// One direction of a client's stream, with deadlines. A call fails if it takes too long, or if the
+/// session has. The direction that the server writes to has the log of the client.
 #[derive(Drop)]
-pub struct Lasting<R> {
+pub struct DeadlineStream<R: Eprint + Copy> {
     rt: R,
     stream: TcpStream,
     opened: Instant,
     limits: Limits,
+    log: Option<ClientLog<R>>,
 }
 
-impl<R: Clock + Copy> Lasting<R> {
-    /// Both ways of a stream whose session begins now: what comes, and what goes out.
+impl<R: Clock + Eprint + Copy> DeadlineStream<R> {
+    /// Returns both directions of a stream whose session begins now: what is read, and what is
+    /// written.
     pub(crate) fn both_ways(rt: R, stream: TcpStream, limits: Limits) -> io::Result<(Self, Self)> {
         stream.set_nodelay(true)?;
         stream.set_read_timeout(limits.call)?;
         stream.set_write_timeout(limits.call)?;
         let opened = Instant::now(&rt)?;
         let other = stream.try_clone()?;
-        let output = Lasting {
+        let output = DeadlineStream {
             rt,
             stream: other,
             opened,
             limits,
+            log: None,
         };
-        let input = Lasting {
+        let input = DeadlineStream {
             rt,
             stream,
             opened,
             limits,
+            log: None,
         };
         Ok((input, output))
+    }
+
+    /// The same stream, which reports the end of its session to this log.
+    pub(crate) fn with_log(mut self, log: ClientLog<R>) -> Self {
+        self.log = Some(log);
+        self
     }
 
     /// How long the next call may take. Error: `TimedOut` once the session's time is over.
@@ -50,7 +63,7 @@ impl<R: Clock + Copy> Lasting<R> {
     }
 }
 
-impl<R: Clock + Copy> Read for Lasting<R> {
+impl<R: Clock + Eprint + Copy> Read for DeadlineStream<R> {
     fn read(&mut self, buffer: &mut [u8]) -> io::Result<usize> {
         let left = self.left()?;
         if left != self.limits.call {
@@ -60,7 +73,7 @@ impl<R: Clock + Copy> Read for Lasting<R> {
     }
 }
 
-impl<R: Clock + Copy> Write for Lasting<R> {
+impl<R: Clock + Eprint + Copy> Write for DeadlineStream<R> {
     fn write(&mut self, bytes: &[u8]) -> io::Result<usize> {
         let left = self.left()?;
         if left != self.limits.call {
@@ -71,5 +84,13 @@ impl<R: Clock + Copy> Write for Lasting<R> {
 
     fn flush(&mut self) -> io::Result<()> {
         self.stream.flush()
+    }
+}
+
+impl<R: Clock + Eprint + Copy> Observer for DeadlineStream<R> {
+    fn ended(&self, end: &Result<SessionEnd, ServeFault>) {
+        if let Some(log) = &self.log {
+            log.end(end);
+        }
     }
 }
