@@ -1,4 +1,5 @@
--- A schedule is due exactly if some second of its window matches one of its entries.
+-- A schedule is due exactly if it fits its type and some second of its window matches one of its
+-- entries.
 use Rattle.std.proofs.Common.{◌≡◌, ◌↔◌, ℕ, ◌+◌, ◌-◌, ◌<◌, ◌≤◌, Bool, true, false, ◌&&◌, ◌||◌, List, [], ◌∷◌, IsTrue, refl, sym, ap, ap₂, ◌∙◌, arith}
 use Rattle.std.specs.List.{list_any}
 use Rattle.cosem_datetime.specs.Matching.{matches, matches_in}

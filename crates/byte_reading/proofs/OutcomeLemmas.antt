@@ -34,7 +34,7 @@ chosen false x y z e = inr (refl, e)
 abbrev pub failed : (A : Type 0) {F : Type 0} → F → Result A F
 failed A fault = Err fault
 
--- two equal faults are equal, whatever value they replace
+-- faults that are equal in results of one type are equal in results of any other
 fault_is : (A B : Type 0) {F : Type 0} (f g : F) → failed A f ≡ failed A g → failed B f ≡ failed B g
 fault_is A B f g e = cc
 

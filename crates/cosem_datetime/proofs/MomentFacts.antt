@@ -71,7 +71,7 @@ least_deviation (Some d) h = h.0
 late_seconds : (days s first : ℕ) (d : ℤ) → 3_652_425 ≤ days → first ≡ 730_485 → negsuc 719 ≤ℤ d → pos (2 ^ 32) ≤ℤ ((pos (86400 * days + s) -ℤ pos (86400 * first)) +ℤ (pos 60 *ℤ d))
 late_seconds days s first d h k l = omega (arith, signed_arith)
 
--- no moment is after the year 9999
+-- a date after the year 9999 has no moment
 pub too_late : (f : DateTimeFields) (c : CivilDate) (s : ℕ) → IsDeviationWithin f.deviation → plain_date f.date ≡ Some c → second_of_day f.time ≡ Some s → 9999 < c.year → moment_of f ≡ None
 too_late f c s d e h lt =
     let late : 3_652_425 ≤ day_count c = omega (arith, count_parts c, years_to 10000 c.year (omega arith), days_to_10000) in

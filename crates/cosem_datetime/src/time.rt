@@ -58,7 +58,7 @@ pub(crate) fn time_fields(bytes: &[u8]) -> Result<TimePattern, PatternFault>
 pub fn read_time(bytes: &[u8]) -> Result<TimePattern, PatternFault>
     // Fields are read from left to right, up to the first fault.
     ensures exact { result ≡ time_of bytes.now }
-    // The time that is read spells these bytes, and the bytes that spell a time read as that time.
+    // Reads a time exactly if the bytes spell it.
     ensures found { IfOk result (λ p. IsTimeFields p × (bytes.now ≡ time_bytes p)) }
     ensures only { (p : TimeFields) → IsTimeFields p → bytes.now ≡ time_bytes p → result ≡ Ok p }
     ensures length { IsErrOf result PatternFault.Length ↔ (length bytes.now ≢ 4) }

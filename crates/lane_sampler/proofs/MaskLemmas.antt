@@ -59,7 +59,7 @@ word_of_one test values at within =
     byte_is : (b : Bool) → bool_byte b ≡ cond b 1 0 + 2 * 0
     byte_is b = elim b as (λ b. bool_byte b ≡ cond b 1 0 + 2 * 0) [ true ↦ refl | false ↦ refl ]
 
--- the values of one word, whose bounds the end of the values limits
+-- the values of one word; its bounds stop at the end of the values
 pub part_is : (values : List ℕ) (start from upto : ℕ) →
     from ≡ min start (length values) → upto ≡ min (from + 64) (length values) →
     take (upto - from) (drop from values) ≡ take 64 (drop start values)

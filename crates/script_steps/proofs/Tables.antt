@@ -50,16 +50,16 @@ first_read : (b : Bool) (rest : Bool) → b || rest ≡ false → (b ≡ false) 
 first_read true rest e = absurd cc
 first_read false rest e = (refl, e)
 
--- a Data without a fault is a script
+-- an item without a fault is a script
 is_read : (r : Result Script WriteFault) → is_err r ≡ false → (script : Script) × (r ≡ Ok script)
 is_read (Ok script) e = (script, refl)
 is_read (Err fault) e = absurd cc
 
--- the scripts of several Data, the first of which is a script
+-- the scripts of several items, the first of which is a script
 first_script : (item : Data) (items : List Data) (script : Script) → script_of item ≡ Ok script → values script_of (item ∷ items) ≡ script ∷ values script_of items
 first_script item items script e = ap (λ r. cons_option (result_ok r) (values script_of items)) e
 
--- the Data have an identifier exactly if their scripts have it
+-- an item has an identifier exactly if a script has it
 same_among : (items : List Data) (n : ℕ) → list_any (λ item. is_err (script_of item)) items ≡ false
     → list_any (λ item. identifier_of item == n) items ≡ list_any (λ script. script.identifier == n) (values script_of items)
 same_among [] n none = refl
@@ -69,7 +69,7 @@ same_among (item ∷ items) n none =
     ap₂ (λ (m : ℕ) (rest : Bool). (m == n) || rest) (sym (named item read.0 read.1)) (same_among items n split.1)
     ∙ ap (λ scripts. list_any (λ script. script.identifier == n) scripts) (sym (first_script item items read.0 read.1))
 
--- the Data have different identifiers exactly if their scripts have
+-- the items have different identifiers exactly if their scripts have
 pub same_distinct : (items : List Data) → list_any (λ item. is_err (script_of item)) items ≡ false
     → are_distinct identifier_of items ≡ are_distinct (λ script. script.identifier) (values script_of items)
 same_distinct [] none = refl
@@ -80,7 +80,7 @@ same_distinct (item ∷ items) none =
     ∙ ap (λ n. not (list_any (λ script. script.identifier == n) (values script_of items)) && are_distinct (λ script. script.identifier) (values script_of items)) (sym (named item read.0 read.1))
     ∙ ap (λ scripts. are_distinct (λ script. script.identifier) scripts) (sym (first_script item items read.0 read.1))
 
--- there are at most as many scripts as Data
+-- there are at most as many scripts as items
 few_values : (items : List Data) → length (values script_of items) ≤ length items
 few_values [] = omega arith
 few_values (item ∷ items) = here (result_ok (script_of item)) (few_values items)
@@ -94,7 +94,7 @@ both : (a b : Bool) → a && b ≡ true → (a ≡ true) × (b ≡ true)
 both true b e = (refl, e)
 both false b e = absurd cc
 
--- the scripts of judged Data are a table
+-- the scripts of judged items are a table
 pub table_fits : (items : List Data) (u : Unit {0}) (scripts : List Script) → judged_scripts items ≡ Ok u → scripts ≡ values script_of items → All IsScript scripts → IsTable scripts
 unfolding judged_scripts
 table_fits items u scripts e is fit =

@@ -69,9 +69,10 @@ impl ScriptTable {
     /// structure of its identifier and an array of its steps. A step is a structure of service_id,
     /// class_id, logical_name, index and parameter.
     ///
-    /// Errors, judged in this order: `Unmatched` if a type differs anywhere; `Value` if there are
-    /// too many scripts or steps, an identifier is 0 or occurs twice, a step is not listed, or its
-    /// attribute does not accept the value; `Memory` if out of memory.
+    /// Errors, judged in this order: `Unmatched` if a type differs anywhere (but the parameter of a
+    /// step that is not listed is not judged); `Value` if there are too many scripts or steps, an
+    /// identifier is 0 or occurs twice, a step is not listed, or its attribute does not accept the
+    /// value; `Memory` if out of memory.
     #[tactic(auto, unfolding(crate::specs::Reading::table_of))]
     pub fn from_data(alloc: Global, value: &Data) -> Result<ScriptTable, WriteFault>
         ensures ok { IfOk result (λ table. table_of value.now ≡ Ok table) }
