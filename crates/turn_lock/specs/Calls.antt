@@ -24,7 +24,7 @@ pub record Sees {E R O : Type 0} (legal : O → List (Entry E R) → Type 0) (k 
   pub lawful : IsLegal legal l
   pub own : (q : List ℕ) → IsOwn k q → calls_by q l.seen ≡ calls_by q k.seen
 
--- Like `Sees`, and no port was joined in.
+-- The port has seen what `Sees` says, and no port was joined in.
 pub record Watches {E R O : Type 0} (legal : O → List (Entry E R) → Type 0) (k l : Known E R O) : Type 0 where
   pub sees : Sees legal k l
   pub joined : l.joined ≡ k.joined

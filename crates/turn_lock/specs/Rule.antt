@@ -34,7 +34,7 @@ IsOwn k q = (q ≡ k.number) ⊎ IsAmong q k.joined
 
 -- The table at one moment. `whole` is the longest history, `home` the slot if no seat holds it,
 -- `holder` the seat that a port number belongs to, `owner` the seat that drew a turn. `lone` says
--- that the first seat is the only one and has taken no step; `closed` is 1 once the lock is closed.
+-- that the first seat is the only one. `closed` is 1 once the lock is closed.
 pub record Moment (T E R O : Type 0) : Type 0 where
   pub ticket : ℕ
   pub serving : ℕ
