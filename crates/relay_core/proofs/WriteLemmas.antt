@@ -7,7 +7,7 @@ use Rattle.relay_core.specs.Moving.{moved, or_plain}
 use Rattle.relay_core.specs.World.{World}
 use Rattle.relay_core.specs.Writing.{at_list}
 
--- the decoded list, moved in, has the effect of the write
+-- storing the decoded list has the effect of the write
 pub moved_list : (list : WrittenList) (read : Result Parts ResultCode) (w : World) → moved list (or_plain read) w ≡ (at_list list read w).world
 moved_list list (Ok parts) w = refl
 moved_list written.Scripts (Err refusal) w = refl

@@ -38,7 +38,7 @@ is_plain_at (Ok instance) number = is_plain instance number
 unfoldable pub reads_plainly : Level → AttrRef → Bool → Bool
 reads_plainly level attr selected = is_plain_at (target_of attr.name attr.class (rights_of level attr).read selected) attr.number
 
--- whether a write of an attribute moves no list in
+-- whether a write of an attribute stores no list
 abbrev pub is_no_list : Option WrittenList → Bool
 is_no_list None = true
 is_no_list (Some list) = false

@@ -28,14 +28,15 @@ use Rattle.relay_core.specs.World.{World}
 use Rattle.script_steps.specs.declared.step.Script.{Script}
 use Rattle.script_steps.specs.Reading.{table_of}
 
--- the attributes that are lists (IEC 62056-6-2): scripts of class 9, execution_time of class 22, emergency_profile_group_id_list of class 71
+-- the attributes that are lists (IEC 62056-6-2): scripts of class 9, execution_time of class 22,
+-- emergency_profile_group_id_list of class 71
 abbrev pub list_numbered : Instance → ℕ → Option WrittenList
 list_numbered ScriptTable number = if number == 2 then Some written.Scripts else None
 list_numbered (Schedule which) number = if number == 4 then Some (written.Entries which) else None
 list_numbered (Limiter which) number = if number == 9 then Some (written.Groups which) else None
 list_numbered _ number = None
 
--- the scripts, entries or group ids to move in, or the refusal
+-- the decoded scripts, entries or group ids, or the refusal
 abbrev pub scripts_part : Result (List Script) WriteFault → Result Parts ResultCode
 scripts_part (Ok scripts) = Ok (part.Scripts scripts)
 scripts_part (Err fault) = Err (fault_code fault)
@@ -68,7 +69,7 @@ abbrev pub or_plain : Result Parts ResultCode → Parts
 or_plain (Ok parts) = parts
 or_plain (Err refusal) = part.Plain
 
--- the list that a write of an attribute moves in, if any
+-- the list that a write of an attribute stores, if any
 abbrev pub parts_read : Option WrittenList → Data → Parts
 parts_read None value = part.Plain
 parts_read (Some list) value = or_plain (list_read list value)
@@ -77,7 +78,7 @@ abbrev pub parts_at : Result Instance ResultCode → ℕ → Data → Parts
 parts_at (Err refusal) number value = part.Plain
 parts_at (Ok instance) number value = parts_read (list_numbered instance number) value
 
--- the list that a client's SET moves in, if any; and below, the one that an event moves in
+-- the list that a client's SET stores, if any; and below, the one that an event stores
 unfoldable pub set_parts : Level → AttrRef → Bool → Data → Parts
 set_parts level attr selected value = parts_at (target_of attr.name attr.class (rights_of level attr).write selected) attr.number value
 

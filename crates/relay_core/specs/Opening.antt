@@ -26,8 +26,8 @@ opening_of core = record {
   schedules = core.schedules;
 }
 
--- the limiter that an opening gives; in place of the samples that its runs counted, it has the same
--- number of samples of its last value
+-- the limiter that an opening gives; its rows are not the samples that its runs counted, but the
+-- same number of samples with its last value
 abbrev pub opened_limiter : LimiterOpening → Metered
 opened_limiter o = record { settings = o.settings; last = o.value; rows = opened_rows o.value o.over o.under }
 

@@ -78,7 +78,7 @@ abbrev pub at_list : WrittenList → Result Parts ResultCode → World → Outco
 at_list list (Err code) w = refused code w
 at_list list (Ok parts) w = record { world = moved list parts w; code = Success }
 
--- the effect of a write to an object, of an attribute that is no list
+-- the effect of a write to an object, of an attribute that is not a list
 abbrev pub at_plain : Instance → ℕ → Data → World → Outcome
 at_plain Association number value w = refused ReadWriteDenied w
 at_plain DeviceName number value w = refused ReadWriteDenied w

@@ -60,7 +60,7 @@ pub enum OpeningFault {
     Memory = 2,
 }
 
-/// The number of the fault, 1 to 2.
+/// Converts a fault to its number, 1 to 2.
 impl From<OpeningFault> for u8 {
     ghost from_gives = { λ fault number. number ≡ fault_number fault };
 

@@ -19,11 +19,11 @@ use relay_events::Event;
 use script_steps::ScriptTable;
 use std::alloc::{AllocError, Global};
 
-/// The decoded list that an event's write moves in. Decoding it is all that such a write needs
+/// The decoded list that an event's write stores. Decoding it is all that such a write needs
 /// memory for.
 #[derive(Debug, Drop)]
 pub enum Parts {
-    /// Nothing to move in: the event doesn't write a list, or the write is refused.
+    /// No list: the event doesn't write one, or the write is refused.
     Plain,
     /// The scripts of the script table.
     Scripts(ScriptTable),
@@ -45,7 +45,7 @@ pub(crate) enum WrittenList {
 }
 
 impl WrittenList {
-    /// Returns the list that an attribute is, or `None` if it is no list.
+    /// Returns the list that an attribute is, or `None` if it is not one.
     pub(crate) fn of_number(instance: Instance, number: u8) -> Option<WrittenList>
         ensures { result ≡ list_numbered instance number }
     {
@@ -110,7 +110,7 @@ pub(crate) fn read_list(
     }
 }
 
-/// Decodes the list that a write of an attribute moves in, if any.
+/// Decodes the list that a write of an attribute stores, if any.
 fn read_parts(
     alloc: Global,
     instance: Instance,
@@ -129,7 +129,7 @@ fn read_parts(
     }
 }
 
-/// Decodes the list that a client's SET moves in, if any.
+/// Decodes the list that a client's SET stores, if any.
 #[tactic(auto, unfolding(crate::specs::Moving::set_parts, crate::specs::Memory::writes_plainly))]
 fn read_set_parts(
     alloc: Global,
@@ -148,8 +148,8 @@ fn read_set_parts(
 }
 
 impl RelayCore {
-    /// Decodes the list that an event's write moves in, for [`advance`](RelayCore::advance). Fails
-    /// if out of memory, and never for a sure event.
+    /// Decodes the list that an event's write stores, for [`advance`](RelayCore::advance). Fails
+    /// if out of memory; never fails for a sure event.
     #[tactic(auto, unfolding(crate::specs::Machine::is_sure))]
     pub fn parts(alloc: Global, event: &Event) -> Result<Parts, AllocError>
         ensures parts { IfOk result (λ parts. parts ≡ parts_of event.now) }

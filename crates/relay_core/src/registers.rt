@@ -4,7 +4,7 @@ ghost use Rattle.relay_core.specs.Registers.{attribute_numbered, data_at, is_pla
 use cosem_axdr::{Data, Items};
 use std::alloc::{AllocError, Global};
 
-/// The unit W (IEC 62056-6-2, class 3, scaler_unit).
+/// The unit W (IEC 62056-6-2, class 3, scaler_unit, table of units).
 const WATT: u8 = 27;
 
 /// The attributes of a register other than the logical name, with their numbers (IEC 62056-6-2,

@@ -14,7 +14,7 @@ use lane_sampler::{Block, Scan};
 use limiter_core::{Actions, Fire};
 use relay_events::Reply;
 
-/// How often each side of each limiter has fired in a block.
+/// The number of times that each side of each limiter has fired in a block.
 #[derive(Clone, Copy, Debug)]
 pub(crate) struct Firings {
     pub(crate) import_over: u16,

@@ -109,7 +109,7 @@ fn code_of(answer: Result<(), WriteFault>) -> ResultCode
     }
 }
 
-/// Writes executed_script.
+/// Writes executed_script (IEC 62056-6-2, class 22) and returns the result code.
 #[tactic(auto, using(crate::proofs::ScheduleLemmas::code_of_answer))]
 fn write_script(schedule: &mut ActionSchedule, value: &Data) -> ResultCode
     ensures schedule { schedule.new ≡ with_selector (selector_of value.now) schedule.old }
@@ -118,7 +118,7 @@ fn write_script(schedule: &mut ActionSchedule, value: &Data) -> ResultCode
     code_of(schedule.set_script(value))
 }
 
-/// Writes type.
+/// Writes type (IEC 62056-6-2, class 22) and returns the result code.
 #[tactic(auto, using(crate::proofs::ScheduleLemmas::code_of_answer))]
 fn write_kind(schedule: &mut ActionSchedule, value: &Data) -> ResultCode
     ensures schedule { schedule.new ≡ with_kind (kind_of value.now) schedule.old }
@@ -160,8 +160,7 @@ impl RelayCore {
         }
     }
 
-    /// Moves the entries of another schedule into one of these; `other` has the old ones
-    /// afterwards.
+    /// Swaps the entries of one of these schedules with those of `other`.
     pub(crate) fn trade_entries(&mut self, which: ScheduleNumber, other: &mut ActionSchedule)
         ensures { (w : World) → StandsFor self.old w → StandsFor self.new (moved (written.Entries which) (part.Entries other.old) w) }
     {

@@ -103,8 +103,8 @@ impl RelayCore {
             .skip_run(other_kind, count as u64, others[count - 1]);
     }
 
-    /// Takes the import samples from index `at` that are of one kind and fire nothing, or only the
-    /// next one if it fires. Returns how many it took.
+    /// Takes the consecutive import samples from index `at` that are of one kind and fire nothing,
+    /// or only the next one if it fires. Returns how many it took.
     pub(crate) fn take_stretch(
         &mut self,
         values: &[u32],
@@ -133,8 +133,8 @@ impl RelayCore {
         1
     }
 
-    /// Takes the pairs from index `at` that are of one kind for each limiter and fire nothing, or
-    /// only the next pair if one of its samples fires. Returns how many it took.
+    /// Takes the consecutive pairs from index `at` that are of one kind for each limiter and fire
+    /// nothing, or only the next pair if one of its samples fires. Returns how many it took.
     pub(crate) fn take_stretch_of_pairs(
         &mut self,
         values: &[u32],

@@ -58,7 +58,7 @@ impl RelayCore {
         }
     }
 
-    /// Moves the script table in.
+    /// Replaces the script table with the decoded one.
     fn move_scripts(&mut self, parts: Parts)
         ensures { (w : World) → StandsFor self.old w → StandsFor self.new (moved WrittenList.Scripts parts w) }
     {
@@ -67,7 +67,7 @@ impl RelayCore {
         }
     }
 
-    /// Moves the group ids of a limiter in.
+    /// Replaces the group ids of a limiter with the decoded ones.
     fn move_groups(&mut self, which: Which, parts: Parts)
         ensures { (w : World) → StandsFor self.old w → StandsFor self.new (moved (WrittenList.Groups which) parts w) }
     {
@@ -80,7 +80,7 @@ impl RelayCore {
         }
     }
 
-    /// Moves the entries of a schedule in.
+    /// Replaces the entries of a schedule with the decoded ones.
     fn move_entries(&mut self, which: ScheduleNumber, parts: Parts)
         ensures { (w : World) → StandsFor self.old w → StandsFor self.new (moved (WrittenList.Entries which) parts w) }
     {
@@ -89,7 +89,7 @@ impl RelayCore {
         }
     }
 
-    /// Moves a list in, or nothing if the list was refused.
+    /// Replaces a list with the decoded one. Does nothing if the list was refused.
     fn move_in(&mut self, list: WrittenList, parts: Parts)
         ensures { (w : World) → StandsFor self.old w → StandsFor self.new (moved list parts w) }
     {
@@ -114,7 +114,7 @@ impl RelayCore {
         }
     }
 
-    /// Writes an attribute of an object that is no list.
+    /// Writes an attribute of an object other than a list.
     fn write_plain(&mut self, instance: Instance, number: u8, value: &Data) -> ResultCode
         ensures world { (w : World) → StandsFor self.old w → StandsFor self.new (at_plain instance number value.now w).world }
         ensures code { (w : World) → StandsFor self.old w → result ≡ (at_plain instance number value.now w).code }
