@@ -1,4 +1,4 @@
--- What is left of a source's blocks, and which events those brought that were handed in.
+-- The blocks that a source has yet to return, and the events passed on for those already returned.
 use Rattle.std.proofs.Common.{◌≡◌, inl, inr, ℕ, ◌+◌, ◌%◌, not, List, [], ◌∷◌, ◌++◌, Option, Some, None, IfSome, map, append_assoc, append-nil, ap, refl, sym, subst, arith, ◌∙◌}
 use Rattle.std.proofs.lemmas.List.Elements.{filter-append}
 use Rattle.lane_sampler.specs.Samples.{Samples}
@@ -23,7 +23,8 @@ brings place block before between after goes more = record {
   handed = more ∙ ap (λ (xs : List Event). xs ++ event.Samples block ∷ []) goes.handed ∙ append_assoc before goes.ahead (event.Samples block ∷ []);
 }
 
--- of blocks some are left, the first of them at this place, and those before them brought the events so far
+-- The source has `left` of its blocks. The index of the first of them is `since` modulo 64, and the
+-- events of the blocks before it were passed on.
 pub record Left (blocks : List Samples) (before : List Event) (left : Option (List Samples)) (after : List Event) (since : ℕ) : Type 0 where
   pub rest : List Samples
   pub left_is : left ≡ Some rest
@@ -84,7 +85,7 @@ left_on blocks before (Some (y ∷ ys)) next block after after' since since' had
           (had.go_on (brought.ahead ++ event.Samples block ∷ events) those);
     }
 
--- a block was given and handed in
+-- one more block was returned and passed on
 pub blocks_on : (told left next : Option (List Samples)) (block : Samples) (before after after' : List Event) (since since' : ℕ)
     → LeavesBlocks told before left after since → Gives left (Some block) next → BringsBlock since block after after' → since' ≡ (since + 1) % 64
     → LeavesBlocks told before next after' since'
@@ -105,7 +106,7 @@ hands_all blocks before (Some []) next after since had gives =
     }
 hands_all blocks before (Some (y ∷ ys)) next after since had gives = let some : None ≡ Some y = gives.0 in cc
 
--- none is left to give
+-- no block is left
 pub blocks_none : (told left next : Option (List Samples)) (before after : List Event) (since : ℕ) → LeavesBlocks told before left after since
     → Gives left None next → IfSome told (λ blocks. Hands blocks before after)
 blocks_none None left next before after since leaves gives = tt
@@ -115,7 +116,7 @@ ahead_is_read : (place : ℕ) (ahead : List Event) → IsAhead place ahead → u
 ahead_is_read place ahead (inl none) = ap unread none
 ahead_is_read place ahead (inr one) = ap unread one.1
 
--- but for the reads, the events of blocks are the blocks
+-- without the reads, the events of blocks are the blocks
 are_blocks : (place : ℕ) (blocks : List Samples) (events : List Event) → AreOfBlocks place blocks events → unread events ≡ map event.Samples blocks
 are_blocks place [] events are = ap unread are
 are_blocks place (block ∷ blocks) events are =

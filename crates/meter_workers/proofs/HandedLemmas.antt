@@ -1,4 +1,4 @@
--- What a call adds to the events that a port handed in.
+-- The effect of a call on the events that a port has passed on.
 use Rattle.std.proofs.Common.{◌≡◌, ℕ, List, [], ◌∷◌, ◌++◌, ap, ◌∙◌, map}
 use Rattle.std.proofs.lemmas.List.{map-append}
 use Rattle.relay_events.specs.declared.event.Event.{Event}
@@ -7,7 +7,7 @@ use Rattle.turn_lock.specs.declared.turned.Entry.{Entry}
 use Rattle.turn_lock.specs.History.{calls_by, entry}
 use Rattle.meter_workers.specs.Handed.{MeterPort, handed}
 
--- a call that was answered adds its event
+-- a call that returned a reply adds its event
 pub handed_more : (p q : MeterPort) (event : Event) (reply : Reply) → q.known.number ≡ p.known.number
     → calls_by p.known.number q.known.seen ≡ calls_by p.known.number p.known.seen ++ entry p.known.number event reply ∷ []
     → handed q ≡ handed p ++ event ∷ []
@@ -16,7 +16,7 @@ handed_more p q event reply number own =
     ∙ ap (map (λ (call : Entry Event Reply). call.event)) own
     ∙ map-append (λ (call : Entry Event Reply). call.event) (calls_by p.known.number p.known.seen) (entry p.known.number event reply ∷ [])
 
--- one that was refused adds none
+-- a call that was refused adds none
 pub handed_same : (p q : MeterPort) → q.known.number ≡ p.known.number
     → calls_by p.known.number q.known.seen ≡ calls_by p.known.number p.known.seen → handed q ≡ handed p
 handed_same p q number own =

@@ -1,11 +1,11 @@
--- What is left of a source's list, and what was handed in of it.
+-- The part of a source's list that it has yet to return, and the part that was passed on.
 use Rattle.std.proofs.Common.{◌≡◌, ℕ, zero, suc, true, false, List, [], ◌∷◌, ◌++◌, Option, Some, None, IfSome, map, replicate, append_assoc, append-nil, ap, refl, sym, ◌∙◌}
 use Rattle.relay_events.specs.declared.event.Event.{Event}
 use Rattle.relay_events.specs.declared.event.Event.TheVariants.{Button}
 use Rattle.meter_workers.specs.Sources.{Gives, Presses}
 
--- of the list told at first and the one told now: what was handed in at first, and all of the former, is what is handed in now, and all of
--- the latter
+-- What was passed on at first, followed by the source's whole list then, equals what is passed on
+-- now, followed by the source's list now.
 abbrev pub Leaves : {X : Type 0} → (X → Event) → Option (List X) → List Event → Option (List X) → List Event → Type 0
 Leaves {X} event told before left after = (xs : List X) → told ≡ Some xs
     → (ys : List X) × (left ≡ Some ys) × (before ++ map event xs ≡ after ++ map event ys)
@@ -32,7 +32,7 @@ module _ {X : Type 0} (event : X → Event) where
             ∙ ap (λ (l : List Event). l ++ map event zs) (sym more),
       )
 
-  -- one was given and handed in
+  -- one more item was returned and passed on
   pub leaves_on : (told left next : Option (List X)) (x : X) (before after after' : List Event) → Leaves event told before left after
       → Gives left (Some x) next → after' ≡ after ++ event x ∷ [] → Leaves event told before next after'
   leaves_on told left next x before after after' leaves gives more xs is =
@@ -47,7 +47,7 @@ module _ {X : Type 0} (event : X → Event) where
       sym (whole ∙ ap (λ (l : List X). after ++ map event l) none ∙ append-nil after)
   all_handed (Some (y ∷ zs)) next all after ys gives is whole = let some : None ≡ Some y = gives.0 in cc
 
-  -- none is left to give
+  -- no item is left
   pub leaves_none : (told left next : Option (List X)) (before after : List Event) → Leaves event told before left after
       → Gives left None next → IfSome told (λ xs. after ≡ before ++ map event xs)
   leaves_none None left next before after leaves gives = tt
@@ -55,7 +55,7 @@ module _ {X : Type 0} (event : X → Event) where
       let had = leaves xs refl in
       all_handed left next (before ++ map event xs) after had.0 gives had.1 had.2
 
--- the same of presses
+-- `Leaves`, for presses
 abbrev pub LeavesPresses : Option ℕ → List Event → Option ℕ → List Event → Type 0
 LeavesPresses told before left after = (n : ℕ) → told ≡ Some n
     → (m : ℕ) × (left ≡ Some m) × (before ++ replicate n Button ≡ after ++ replicate m Button)

@@ -1,4 +1,4 @@
--- The events that a worker hands to the meter through its port.
+-- The events that a worker passes to the meter through its port.
 use Rattle.std.specs.Prelude.{◌≡◌, ℕ, ◌≤◌, Bool, true, false, not, List, ◌++◌, map, filter, replicate, Option, IfSome}
 use Rattle.lane_sampler.specs.Samples.{Samples}
 use Rattle.relay_events.specs.declared.event.Event.{Event}
@@ -23,23 +23,25 @@ abbrev pub is_read : Event → Bool
 is_read (event.GetList level items) = true
 is_read _ = false
 
--- the events but for the reads
+-- the events without the reads
 abbrev pub unread : List Event → List Event
 unread events = filter (λ (e : Event). not (is_read e)) events
 
--- all of the blocks were handed in since, in order, each once; reads may stand between them
+-- all blocks that the source declared were passed on since, in order, each once; reads may be
+-- between them
 abbrev pub HandsBlocks : Option (List Samples) → MeterPort → MeterPort → Type 0
 HandsBlocks told p q = IfSome told (λ blocks. unread (handed q) ≡ unread (handed p) ++ map event.Samples blocks)
 
--- all of the moments were handed in since, in order, each once
+-- all moments that the source declared were passed on since, in order, each once
 abbrev pub HandsMoments : Option (List ℕ) → MeterPort → MeterPort → Type 0
 HandsMoments told p q = IfSome told (λ moments. handed q ≡ handed p ++ map event.Moment moments)
 
--- so many presses were handed in since
+-- all presses that the source declared were passed on since
 abbrev pub HandsPresses : Option ℕ → MeterPort → MeterPort → Type 0
 HandsPresses told p q = IfSome told (λ count. handed q ≡ handed p ++ replicate count event.Button)
 
--- why a worker stops before its source has given all: never for want of memory, but where its port has read that as many turns were drawn as the lock has
+-- why a worker stops before its source ends: never because out of memory, only because its port has
+-- read that all turns of the lock's bound were drawn
 abbrev pub StopsFor : MeterPort → CallFault → Type 0
 StopsFor q Memory = ⊥
 StopsFor q Exhausted = q.bound ≤ q.known.drawn

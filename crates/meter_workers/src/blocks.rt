@@ -1,4 +1,4 @@
-//! The worker of what samples the power.
+//! The worker that passes on blocks of power samples.
 ghost use Rattle.std.specs.Prelude.{◌≡◌, ◌<◌, ◌+◌, ◌%◌, IfErr, OnOk};
 ghost use Rattle.turn_lock.specs.Shown.{IsSame};
 ghost use Rattle.meter_workers.specs.Blocks.{BringsBlock, GoesAhead, ReadsBetween};
@@ -15,15 +15,16 @@ use std::alloc::Global;
 use std::sync::Wait;
 use turn_lock::Port;
 
-/// How many blocks are scanned with thresholds that were read once.
+/// The number of blocks that are scanned with the same read of the thresholds.
 const BLOCKS_PER_READ: u8 = 64;
 
-/// Which thresholds the next block is scanned with.
+/// The thresholds that the next block is scanned with.
 #[derive(Drop)]
 struct Scanner {
-    /// As they were read last, if a read gave them.
+    /// The thresholds of the last successful read, if there was one.
     thresholds: Option<Thresholds>,
-    /// How many blocks were scanned since a read was due.
+    /// The number of blocks since the last attempt to read the thresholds, 0 to 63. At 0 an attempt
+    /// precedes the next block.
     since_read: u8,
     ghost within: { since_read < 64 },
 }
@@ -38,7 +39,7 @@ impl Scanner {
         }
     }
 
-    // Reads the thresholds where that is due: before the first block and after each 64 further ones.
+    // Reads the thresholds if it is time: before the first block, and after every 64 blocks.
     #[tactic(auto, using(crate::proofs::BlockLemmas::none_ahead))]
     fn renew<W: Wait>(
         &mut self,
@@ -59,7 +60,7 @@ impl Scanner {
         Ok(())
     }
 
-    // Scans a block ahead of its use.
+    // Scans a block with the last thresholds, so that the meter can skip samples that fire nothing.
     fn scan(&self, block: &mut Block)
         ensures { block.new ≡ block.old }
     {
@@ -69,7 +70,7 @@ impl Scanner {
     }
 }
 
-// Hands a block in, scanned with the thresholds last read. Where it is due, these are read before.
+// Passes a block on, scanned with the thresholds last read. If it is time, reads these first.
 #[tactic(auto, using(crate::proofs::BlockLemmas::brings), unfolding(relay_core::specs::Machine::is_sure))]
 fn hand_block<W: Wait>(
     rt: &W,
@@ -90,12 +91,15 @@ fn hand_block<W: Wait>(
     hand_in(rt, alloc, port, Event::Samples(block))
 }
 
-/// Hands in each block that the source gives, until it gives none or a call is refused, and hands the port back.
+/// Passes each block that the source returns to the meter, until the source returns `None` or a
+/// call is refused. Returns the port.
 ///
-/// Before the first block, and before each that comes after 64 further ones, it reads the active thresholds of both limiters, and it scans each
-/// block with those that it read last. Where memory runs out for a read it goes on with what it has, or without a scan.
+/// Reads the active thresholds of both limiters before the first block and after every 64 blocks,
+/// and scans each block with those that it read last. If out of memory for a read, it continues
+/// with the thresholds it has, or without a scan.
 ///
-/// At `Ok` all blocks that the source told were handed in, in order, each once; the reads stand between them.
+/// After `Ok` all blocks that the source declared were passed on, in order, each once; the reads
+/// are between them. The only error is `Exhausted`.
 #[tactic(auto, using(crate::proofs::BlockLemmas::blocks_first, crate::proofs::BlockLemmas::blocks_on))]
 pub fn run_blocks<S: BlockSource, W: Wait>(
     rt: &W,

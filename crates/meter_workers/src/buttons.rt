@@ -1,4 +1,4 @@
-//! The worker of the button.
+//! The worker that passes on presses of the button.
 ghost use Rattle.std.specs.Prelude.{IfErr, OnOk};
 ghost use Rattle.meter_workers.specs.Handed.{HandsPresses, StopsFor};
 ghost use Rattle.turn_lock.specs.Shown.{IsSame};
@@ -12,9 +12,10 @@ use std::alloc::Global;
 use std::sync::Wait;
 use turn_lock::Port;
 
-/// Hands in each press that the source gives, until no further one comes or a call is refused, and hands the port back.
+/// Passes each press that the source returns to the meter, until the source ends or a call is
+/// refused. Returns the port.
 ///
-/// At `Ok` as many presses as the source told were handed in.
+/// After `Ok` all presses that the source declared were passed on. The only error is `Exhausted`.
 #[tactic(auto, using(crate::proofs::SourceLemmas::presses_first, crate::proofs::SourceLemmas::presses_on, crate::proofs::SourceLemmas::presses_none), unfolding(relay_core::specs::Machine::is_sure))]
 pub fn run_buttons<S: ButtonSource, W: Wait>(
     rt: &W,

@@ -1,4 +1,4 @@
-//! One event handed to the meter.
+//! Passing one event to the meter.
 ghost use Rattle.std.specs.Prelude.{◌≡◌, [], ◌∷◌, ◌++◌, IfErr, OnOk, OnErr};
 ghost use Rattle.kept_meter.specs.Calls.{IsSure};
 ghost use Rattle.turn_lock.specs.Calls.{IsCause};
@@ -12,7 +12,8 @@ use std::alloc::Global;
 use std::sync::Wait;
 use turn_lock::Port;
 
-/// Hands an event in, and gives the reply. Where it is refused nothing was handed in.
+/// Passes an event to the meter and returns the reply. If the call is refused, no event was passed
+/// on.
 #[tactic(auto, using(crate::proofs::HandedLemmas::handed_more, crate::proofs::HandedLemmas::handed_same))]
 pub(crate) fn ask<W: Wait>(
     rt: &W,
@@ -28,7 +29,7 @@ pub(crate) fn ask<W: Wait>(
     port.call(rt, alloc, event)
 }
 
-/// The same for an event that takes no memory, where nobody asks for the reply.
+/// Passes an event that never allocates to the meter, and drops the reply.
 pub(crate) fn hand_in<W: Wait>(
     rt: &W,
     alloc: Global,

@@ -1,8 +1,8 @@
-//! The meter's own actors, each in a thread of its own with a port of its own: what samples the power, what tells the time, and
-//! the button.
+//! The meter's own workers, each in a thread of its own with a port of its own: the power samples,
+//! the clock and the button.
 //!
-//! A source gives blocks, moments or presses, and its worker hands each to the meter through its port. `specs/Handed.antt` says
-//! what is handed in.
+//! A source returns blocks, moments or presses, and its worker passes each to the meter through its
+//! port. `specs/Handed.antt` states what is passed on.
 #![tactic(auto)]
 
 mod blocks;

@@ -1,4 +1,4 @@
-//! The worker of the clock.
+//! The worker that passes on moments of the clock.
 ghost use Rattle.std.specs.Prelude.{IfErr, OnOk};
 ghost use Rattle.meter_workers.specs.Handed.{HandsMoments, StopsFor};
 ghost use Rattle.turn_lock.specs.Shown.{IsSame};
@@ -12,9 +12,11 @@ use std::alloc::Global;
 use std::sync::Wait;
 use turn_lock::Port;
 
-/// Hands in each moment that the source gives, until it gives none or a call is refused, and hands the port back.
+/// Passes each moment that the source returns to the meter, until the source returns `None` or a
+/// call is refused. Returns the port.
 ///
-/// At `Ok` all moments that the source told were handed in, in order, each once.
+/// After `Ok` all moments that the source declared were passed on, in order, each once. The only
+/// error is `Exhausted`.
 #[tactic(auto, using(crate::proofs::SourceLemmas::leaves_first, crate::proofs::SourceLemmas::leaves_on, crate::proofs::SourceLemmas::leaves_none), unfolding(relay_core::specs::Machine::is_sure))]
 pub fn run_moments<S: MomentSource, W: Wait>(
     rt: &W,

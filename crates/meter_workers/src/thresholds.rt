@@ -26,7 +26,7 @@ const IMPORT_THRESHOLD: AttributeSelection = AttributeSelection {
     selected: false,
 };
 
-/// The same of the exported power.
+/// threshold_active of the limiter of the exported power (IEC 62056-6-2, class 71, attribute 3).
 const EXPORT_THRESHOLD: AttributeSelection = AttributeSelection {
     attr: AttrRef {
         class: ClassId(71),
@@ -43,7 +43,7 @@ pub(crate) struct Thresholds {
     pub(crate) export: u32,
 }
 
-// A management client's read of both, import first.
+// Returns a management client's read of both thresholds, import first.
 fn make_read(alloc: Global) -> Result<Event, AllocError>
     ensures { IfOk result (λ event. event ≡ threshold_read) }
 {
@@ -54,7 +54,7 @@ fn make_read(alloc: Global) -> Result<Event, AllocError>
     })
 }
 
-// The number that a result tells, if it tells one.
+// Returns the number in a result, if it is a double-long-unsigned.
 fn number(read: &GetResult) -> Option<u32> {
     match read {
         GetResult::Value(Data::DoubleLongUnsigned(number)) => Some(*number),
@@ -62,7 +62,7 @@ fn number(read: &GetResult) -> Option<u32> {
     }
 }
 
-// Both thresholds, if the reply tells both.
+// Returns both thresholds, if the reply has both.
 fn told_by(reply: &Reply) -> Option<Thresholds> {
     let Reply::Values(results) = reply else {
         return None;
@@ -72,7 +72,7 @@ fn told_by(reply: &Reply) -> Option<Thresholds> {
     Some(Thresholds { import, export })
 }
 
-/// Reads the thresholds. None where memory runs out: then nothing was handed in.
+/// Reads both thresholds. If out of memory, returns `None` and passes no event on.
 #[tactic(auto, using(crate::proofs::BlockLemmas::none_ahead, crate::proofs::BlockLemmas::read_ahead))]
 pub(crate) fn read_thresholds<W: Wait>(
     rt: &W,
