@@ -1,4 +1,4 @@
--- The way of a GET of one attribute, from its frame to the frame of its answer.
+-- A GET of one attribute, from its frame to the frame of its answer.
 use Rattle.std.proofs.Common.{◌≡◌, ◌<◌, ◌==◌, ℕ, true, false, if◌then◌else◌, Option, Some, None, Ok, List, [], ◌∷◌, get_or, ◌≤◌, length, take, drop, bit_and, refl, sym, ap, subst, arith}
 use Rattle.std.specs.Int.{w16, from_be_bytes}
 use Rattle.std.proofs.lemmas.Bool.{eq-eqb}
@@ -34,7 +34,7 @@ use Rattle.xdlms_blocks.specs.Transfer.{Sending}
 
 -- ---- its payload
 
--- thirteen bytes that are such a request
+-- a payload of thirteen bytes that is a GET of one attribute
 single_of : (conformance id high low a b c d e f number : ℕ) → bit_and conformance 0x10 ≡ 0x10
     → IsSingleGet conformance (0xC0 ∷ 0x01 ∷ id ∷ high ∷ low ∷ a ∷ b ∷ c ∷ d ∷ e ∷ f ∷ number ∷ 0x00 ∷ []) (record { 0 = id })
     (record { class = record { 0 = from_be_bytes w16 (high ∷ low ∷ []) }; name = record { 0 = a ∷ b ∷ c ∷ d ∷ e ∷ f ∷ [] }; number = number })
@@ -90,7 +90,7 @@ asks_single s t pending payload kept src dst n asked attr listening whole src_is
 
 -- ---- its answer
 
--- the frame of the answer is given at once
+-- the frame of the answer is returned at once
 pub answers_any : (s t : Session) (asked : Asked) (reply : Reply) (text : List ℕ) (outgoing : Option Sending) → s.task ≡ Await asked
     → text ≡ reply_text asked reply → outgoing ≡ outgoing_by asked reply
     → t ≡ record { password = s.password; deframer = s.deframer; is_finished = s.is_finished; state = record { link = s.state.link; incoming = s.state.incoming; outgoing = outgoing }; task = Listen }

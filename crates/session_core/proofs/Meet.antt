@@ -1,5 +1,5 @@
--- The session by look-ups backwards and the session that keeps its state are one: each look-up over one more frame is the rule of that frame, applied to the look-up
--- over the frames before it.
+-- The session defined by looking back is the session that keeps its state: each definition over one
+-- more frame is the rule of that frame, applied to the definition over the frames before it.
 use Rattle.std.proofs.Common.{◌≡◌, ℕ, ◌+◌, ◌*◌, ◌==◌, ◌&&◌, ◌||◌, not, nat_lt, nat_le, Bool, true, false, cond, Option, Some, None, List, [], ◌∷◌, ◌++◌, length, map, refl, sym, ◌∙◌, ap, arith, length-append}
 use Rattle.std.specs.Prelude.{if◌then◌else◌, option_and_then, option_to_list, filter, find}
 use Rattle.std.specs.List.{list_any}
@@ -60,14 +60,14 @@ link_step : (password : List ℕ) (f : Frame) (last : Option Frame) (later : Lis
 link_step password f last later true = unreleased_none (opened_by password f)
 link_step password f last later false = unreleased_more f later (option_and_then (opened_by password) last)
 
--- the association over one more frame
+-- the association after one more frame
 pub link_more : (password : List ℕ) (f : Frame) (earlier : List Frame) → link_of password (f ∷ earlier) ≡ link_after password f (link_of password earlier)
 unfolding link_of link_after
 link_more password f earlier = link_step password f (find opens earlier) (since opens earlier) (opens f)
 
 -- ---- a long SET or ACTION
 
--- a transfer that goes on
+-- a transfer in progress
 abbrev going : Purpose → ℕ → List ℕ → Option Incoming
 going p n bytes = Some (record { purpose = p; blocks = record { number = n; bytes = bytes; is_open = true } })
 
@@ -83,7 +83,7 @@ last_by : (last : Bool) (incoming : Option Incoming) → (if last then None else
 last_by true incoming = refl
 last_by false incoming = refl
 
--- what a block does, by the tests of its number and its size
+-- the transfer after a block, by whether its number is right and whether it is too long
 added_by : (p : Purpose) (block : Block) (j : Joining) (right long : Bool)
     → after_by_fault p block j (if not right then Some WrongNumber else if long then Some TooLong else None)
     ≡ (if right && not block.last && not long then Some (record { purpose = p; blocks = after_added false block.raw j }) else None)
@@ -91,7 +91,7 @@ added_by p block j false long = refl
 added_by p block j true true = sym (never (not block.last) (Some (record { purpose = p; blocks = after_added false block.raw j })))
 added_by p block j true false = last_by block.last (Some (record { purpose = p; blocks = after_added false block.raw j }))
 
--- the joined bytes with a block, and whether they are too many
+-- whether the joined bytes are too many
 abbrev too_long : List ℕ → Bool
 too_long bytes = nat_lt max_joined (length bytes)
 
@@ -103,17 +103,17 @@ added p block n bytes =
     added_by p block (record { number = n; bytes = bytes; is_open = true }) (block.number == n + 1) (nat_lt max_joined (length bytes + length block.raw))
     ∙ ap (λ (size : ℕ). if goes_on (n + 1) (Some block) && not (nat_lt max_joined size) then going p (n + 1) (bytes ++ block.raw) else None) (sym (length-append bytes block.raw))
 
--- a first form
+-- the transfer after a first request
 first_block : (p : Purpose) (block : Block) → incoming_by [] (record { purpose = p; block = block }) ≡ block_after p block no_blocks
 first_block p block =
     ap (λ (b : Bool). if b && not (too_long block.raw) then going p 1 block.raw else None) (and_true (goes_on 1 (Some block)))
     ∙ sym (added p block 0 [])
 
--- bytes that are too many stay too many
+-- bytes that are too many are still too many with more
 longer : (bytes raw : List ℕ) → too_long bytes ≡ true → too_long (bytes ++ raw) ≡ true
 longer bytes raw e = let h = leb-true (max_joined + 1) (length bytes) e in le-leb (max_joined + 1) (length (bytes ++ raw)) (omega (arith, length-append bytes raw))
 
--- one more block of the service
+-- the transfer after one more block of its service, by whether the bytes before were too many
 later_long : (K : Option Incoming → Option Incoming) (p : Purpose) (n : ℕ) (bytes : List ℕ) (block : Block) (long : Bool) → too_long bytes ≡ long
     → K None ≡ None → K (going p n bytes) ≡ block_after p block (record { number = n; bytes = bytes; is_open = true })
     → (if goes_on (n + 1) (Some block) && not (too_long (bytes ++ block.raw)) then going p (n + 1) (bytes ++ block.raw) else None) ≡ K (if not long then going p n bytes else None)
@@ -131,7 +131,7 @@ later_block K p false others n bytes block none some = sym none
 later_block K p true false n bytes block none some = sym none
 later_block K p true true n bytes block none some = later_long K p n bytes block (too_long bytes) refl none some
 
--- a block of the other service
+-- the transfer after a block of the other service
 other_block : (K : Option Incoming → Option Incoming) (next : Option Incoming) (p : Purpose) (first others short next_short : Bool) (n : ℕ) (bytes : List ℕ)
     → K None ≡ None → K (going p n bytes) ≡ None
     → (if first && (others && false) && next_short then next else None) ≡ K (if first && others && short then going p n bytes else None)
@@ -140,7 +140,7 @@ other_block K next p true false short next_short n bytes none some = sym none
 other_block K next p true true true next_short n bytes none some = sym some
 other_block K next p true true false next_short n bytes none some = sym none
 
--- one more later form
+-- the transfer after one more later request
 follows_block : (s : LongService) (block : Block) (later : List Role) (p : Purpose) (first : Block)
     → incoming_by (follows s block ∷ later) (record { purpose = p; block = first }) ≡ later_after block (transfer_of s (incoming_by later (record { purpose = p; block = first })))
 follows_block service.Set block later (purpose.Set target) first =
@@ -162,7 +162,7 @@ follows_more service.Set block later None = refl
 follows_more service.Action block later None = refl
 follows_more s block later (Some first) = follows_block s block later first.purpose first.block
 
--- the transfer over one more role
+-- the transfer after one more request
 role_more : (role : Role) (roles : List Role) → incoming_among (role ∷ roles) ≡ incoming_by_role role (incoming_among roles)
 role_more (starts p block) roles = first_block p block
 role_more (follows s block) roles = follows_more s block (since is_no_later_form roles) (option_and_then first_of (find is_no_later_form roles))
@@ -170,25 +170,25 @@ role_more (gets form) roles = refl
 role_more (gets_next number) roles = refl
 role_more stops roles = refl
 
--- one more call, which may release the association
+-- the transfer after one more request, which may release the association
 call_more : (c : Call) (roles : List Role) → (if is_release c then None else incoming_among (role_of c ∷ roles)) ≡ incoming_by_role (role_of c) (incoming_among roles)
 call_more call.Release roles = refl
 call_more (call.Service r) roles = role_more (role_of_request r) roles
 call_more (call.Refused exception) roles = refl
 
--- an association that a frame may release
+-- a function of an association that a frame may release
 and_then_unless : {X : Type 0} (G : Link → Option X) (gone : Bool) (link : Link) → option_and_then G (if gone then None else Some link) ≡ (if gone then None else G link)
 and_then_unless G true link = refl
 and_then_unless G false link = refl
 
--- one more frame, which is heard or not
+-- the requests after one more frame, by whether it is the client's
 heard_by : (link : Link) (f : Frame) (fs : List Frame) (here : Bool)
     → (if here && is_release (call_in link f) then None else incoming_among (map (role_in link) (cond here (f ∷ filter (is_heard link) fs) (filter (is_heard link) fs))))
     ≡ (if here then incoming_by_role (role_in link f) (incoming_among (map (role_in link) (filter (is_heard link) fs))) else incoming_among (map (role_in link) (filter (is_heard link) fs)))
 heard_by link f fs false = refl
 heard_by link f fs true = call_more (call_in link f) (map (role_in link) (filter (is_heard link) fs))
 
--- the transfer among frames of an association
+-- the transfer among the frames of an association
 abbrev incoming_since : List Frame → Link → Option Incoming
 incoming_since fs link = incoming_among (map (role_in link) (filter (is_heard link) fs))
 
@@ -207,14 +207,14 @@ incoming_step : (password : List ℕ) (f : Frame) (fs : List Frame) (link : Opti
 incoming_step password f fs link true = opened_none (opened_by password f)
 incoming_step password f fs link false = heard_more f fs link
 
--- the same of the look-ups, the association being known
+-- the transfer after one more frame, if the association is known
 incoming_at_link : (password : List ℕ) (f : Frame) (earlier : List Frame) (link : Option Link)
     → option_and_then (λ (l : Link). incoming_among (heard l (f ∷ earlier))) (link_after password f link)
     ≡ incoming_after link f (option_and_then (λ (l : Link). incoming_among (heard l earlier)) link)
 unfolding link_after incoming_after
 incoming_at_link password f earlier link = incoming_step password f (since opens earlier) link (opens f)
 
--- the long SET or ACTION over one more frame
+-- the long SET or ACTION after one more frame
 pub incoming_more : (password : List ℕ) (f : Frame) (earlier : List Frame) → incoming_of password (f ∷ earlier) ≡ incoming_after (link_of password earlier) f (incoming_of password earlier)
 unfolding incoming_of
 incoming_more password f earlier =
@@ -223,7 +223,7 @@ incoming_more password f earlier =
 
 -- ---- a long GET
 
--- a text that is all given stays so
+-- a text that is all sent stays all sent
 all_sent : (number : ℕ) (s : Sending) → nat_le (length s.text) (number * s.size) ≡ true → nat_le (length s.text) ((number + 1) * s.size) ≡ true
 all_sent number s e = let h = leb-true (length s.text) (number * s.size) e in le-leb (length s.text) ((number + 1) * s.size) (omega arith)
 
@@ -244,7 +244,7 @@ next_sent named number s true e =
     ∙ none_by (named == number)
 next_sent named number s false e = next_by (named == number) number s
 
--- the transfer over one more GET-next
+-- the transfer after one more GET-next
 next_named : (named number : ℕ) (s : Sending) (others : Bool)
     → (if others && named == number then sent (number + 1) s else None) ≡ continued named (if others then sent number s else None)
 unfolding continued
@@ -258,7 +258,7 @@ unfolding continued
 next_more named reply later None = refl
 next_more named reply later (Some s) = next_named named (blocks_so_far later) s (names_in_order later)
 
--- the transfer over one more role
+-- the long GET after one more request
 get_more : (link : Link) (role : Role) (reply : Option Reply) (calls : List Heard)
     → outgoing_among link (record { role = role; reply = reply } ∷ calls) ≡ outgoing_by_role link role reply (outgoing_among link calls)
 get_more link (starts p block) reply calls = refl
@@ -275,7 +275,7 @@ outgoing_call link call.Release reply calls = refl
 outgoing_call link (call.Service r) reply calls = get_more link (role_of_request r) reply calls
 outgoing_call link (call.Refused exception) reply calls = refl
 
--- a frame of the past that is heard, and the calls among frames of the past
+-- whether an earlier frame is the client's
 abbrev is_heard_past : Link → Past → Bool
 is_heard_past link p = is_heard link p.frame
 
@@ -312,14 +312,14 @@ outgoing_at_link : (password : List ℕ) (p : Past) (past : List Past) (link : O
 unfolding link_after outgoing_after
 outgoing_at_link password p past link = outgoing_step password p (since (λ (q : Past). opens q.frame) past) link (opens p.frame)
 
--- the long GET over one more frame and the reply to its event
+-- the long GET after one more frame and the reply to its event
 pub outgoing_more : (password : List ℕ) (p : Past) (past : List Past) → outgoing_of password (p ∷ past) ≡ outgoing_after (link_of password (frames_past past)) p.frame p.reply (outgoing_of password past)
 unfolding outgoing_of
 outgoing_more password p past =
     ap (option_and_then (λ (l : Link). outgoing_among l (heard_past l (p ∷ past)))) (link_more password p.frame (frames_past past))
     ∙ outgoing_at_link password p past (link_of password (frames_past past))
 
--- ---- two walks whose states go together
+-- ---- two walks whose states correspond
 
 same_asks : {S T : Type 0} (h : S → T) (event_s : S → Frame → Option Event) (next_s : S → Frame → S) (event_t : T → Frame → Option Event) (next_t : T → Frame → T)
     → ((s : S) (f : Frame) → event_s s f ≡ event_t (h s) f) → ((s : S) (f : Frame) → h (next_s s f) ≡ next_t (h s) f)
@@ -348,7 +348,7 @@ same_answers {T = T} h outcome_s next_s outcome_t next_t e n s (f ∷ fs) replie
 
 -- ---- both sessions
 
--- what the look-ups tell of the frames before
+-- the association and the long SET or ACTION, by looking back
 abbrev known_of : List ℕ → List Frame → Known
 known_of password earlier = record { link = link_of password earlier; incoming = incoming_of password earlier }
 
@@ -373,7 +373,7 @@ state_none : (password : List ℕ) → state_of password [] ≡ new_state
 unfolding link_of incoming_of outgoing_of
 state_none password = refl
 
--- the events
+-- the events are equal
 pub same_events : (password input : List ℕ) → Asks password input ≡ asks_on password (known_in new_state) (to_server (frames_of input))
 unfolding Asks
 same_events password input =
@@ -381,7 +381,7 @@ same_events password input =
     (to_server (frames_of input))
     ∙ ap (λ (k : Known). asks_on password k (to_server (frames_of input))) (known_none password)
 
--- the answers
+-- the answers are equal
 pub same_texts : (password input : List ℕ) (replies : List Reply) → Answers password input replies ≡ answers_on password new_state (to_server (frames_of input)) replies
 unfolding Answers
 same_texts password input replies =

@@ -1,4 +1,4 @@
--- An answer without a value, whose result is put into its text later.
+-- An answer without a value, whose result code is written into its bytes later.
 use Rattle.std.proofs.Common.{◌≡◌, ◌<◌, true, None, length, set, refl, ap, lit≤}
 use Rattle.cosem_names.specs.ResultCode.{code_of}
 use Rattle.cosem_names.specs.declared.result_code.ResultCode.{ResultCode}
@@ -12,7 +12,7 @@ use Rattle.session_core.specs.declared.asked.ReplyForm.{ReplyForm}
 use Rattle.session_core.specs.declared.asked.ReplyForm.TheVariants as form
 use Rattle.xdlms_apdu.specs.Text.{response_text}
 
--- the result has a place in the text
+-- the index of the result code is within the bytes
 pub within : (f : ReplyForm) (was : ResultCode) → code_place f < length (answer_text (Service (code_response f was)))
 unfolding answer_text response_text
 within (form.Get id) was = lit≤ tt
@@ -21,7 +21,7 @@ within (form.Set id) was = lit≤ tt
 within (form.SetLastBlock id number) was = lit≤ tt
 within (form.Action id) was = lit≤ tt
 
--- the text with another result
+-- the bytes with another result code
 pub placed : (f : ReplyForm) (was code : ResultCode) → set (answer_text (Service (code_response f was))) (code_place f) (code_of code) ≡ answer_text (Service (code_response f code))
 unfolding answer_text response_text
 placed (form.Get id) was code = refl
@@ -30,7 +30,7 @@ placed (form.Set id) was code = refl
 placed (form.SetLastBlock id number) was code = refl
 placed (form.Action id) was code = refl
 
--- the answer to a reply that has no value is one with a result alone
+-- the answer to a reply without a value has only a result code
 not_long : (f : ReplyForm) (reply : Reply) → is_valueless reply ≡ true → long_answer f reply ≡ None
 not_long (form.Get id) (Code code) e = refl
 not_long (form.Get id) (Value value) e = absurd cc

@@ -1,4 +1,4 @@
--- Answers have room in a PDU.
+-- Answers fit in a PDU.
 use Rattle.std.proofs.Common.{◌≡◌, ◌≤◌, ◌^◌, ℕ, suc, Bool, true, false, cond, nat_lt, List, [], ◌∷◌, length, arith, lit≤, length-append}
 use Rattle.std.specs.Int.{bytes_high_first}
 use Rattle.std.proofs.lemmas.Bool.{le-leb}
@@ -16,14 +16,14 @@ use Rattle.xdlms_apdu.specs.declared.response.Exception.TheVariants.{NotAllowed,
 use Rattle.xdlms_apdu.specs.declared.response.Response.{Response}
 use Rattle.xdlms_apdu.specs.declared.response.Response.TheVariants as response
 
--- one of three short lists
+-- the list that three tests choose is short, if the last test is true
 few_if : (a b c : Bool) (w x y z : List ℕ) → c ≡ true → length w ≤ 3 → length x ≤ 3 → length y ≤ 3 → length (cond a w (cond b x (cond c y z))) ≤ 3
 few_if true b c w x y z e p q r = p
 few_if false true c w x y z e p q r = q
 few_if false false true w x y z e p q r = r
 few_if false false false w x y z e p q r = cc
 
--- a length that a block has is written in three bytes at most
+-- the length of a block is encoded in at most three bytes
 length_few : (n : ℕ) → n ≤ greatest_raw → length (length_text n) ≤ 3
 length_few n h =
     few_if (nat_lt n 0x80) (nat_lt n (2 ^ 8)) (nat_lt n (2 ^ 16)) (n ∷ []) (0x81 ∷ bytes_high_first 1 n) (0x82 ∷ bytes_high_first 2 n) _
@@ -35,17 +35,17 @@ short_aare result diagnostic info.Absent = lit≤ tt
 short_aare result diagnostic (info.Response bits limit) = lit≤ tt
 short_aare result diagnostic (info.InitiateError e) = lit≤ tt
 
--- an AARE
+-- an AARE fits
 pub short_association : (aare : Aare) → length (answer_text (Association aare)) ≤ greatest_pdu
 unfolding answer_text
 short_association aare = short_aare aare.result aare.diagnostic aare.info
 
--- an RLRE
+-- an RLRE fits
 pub short_release : length (answer_text Release) ≤ greatest_pdu
 unfolding answer_text
 short_release = lit≤ tt
 
--- a response without values, or with a block
+-- a response without values, or with a block, fits
 short : (r : Response) → IsSmall r → length (response_text r) ≤ greatest_pdu
 unfolding response_text
 short (response.Get id (Value value)) small = absurd small

@@ -1,4 +1,4 @@
--- What each task does to what the session still asks and sends.
+-- The effect of each task on what the session has yet to ask and to send.
 use Rattle.std.proofs.Common.{◌≡◌, ◌≢◌, ℕ, ◌+◌, ◌<◌, ◌≤◌, ◌==◌, ◌&&◌, nat_lt, Bool, true, false, cond, Option, Some, None, Ok, List, [], ◌∷◌, ◌++◌, length, refl, sym, ◌∙◌, ap, arith, inl, inr, subst, take, drop}
 use Rattle.std.specs.Prelude.{if◌then◌else◌, option_to_list, IsTrue}
 use Rattle.std.proofs.lemmas.Bool.{ltb-false}
@@ -61,7 +61,7 @@ use Rattle.xdlms_apdu.specs.declared.response.Exception.TheVariants.{NotAllowed,
 use Rattle.xdlms_apdu.specs.declared.request.Request.TheVariants as request
 use Rattle.xdlms_blocks.specs.Transfer.{Sending, Joining}
 
--- ---- what a reply changes of what a frame leaves
+-- ---- how a reply changes the state that a frame leaves
 
 -- the long GET after an outcome, and after the reply to its event
 abbrev sending_with : Outcome → Option Reply → Option Sending → Option Sending
@@ -69,7 +69,7 @@ sending_with (says to answer) reply outgoing = outgoing
 sending_with (asks event asked) None outgoing = outgoing
 sending_with (asks event asked) (Some reply) outgoing = outgoing_by asked reply
 
--- a value that came in blocks begins no long GET
+-- a value that arrived in blocks begins no long GET
 read_by : (link : Link) (p : Purpose) (id : InvokeId) (number : ℕ) (reply : Option Reply) (event : Event)
     → None ≡ sending_with (asks event (record { link = link; form = form_by p id number })) reply None
 unfolding begun_by
@@ -125,14 +125,14 @@ call_by link incoming outgoing reply call.Release = refl
 call_by link incoming outgoing reply (call.Service r) = request_by link incoming outgoing reply r
 call_by link incoming outgoing reply (call.Refused exception) = refl
 
--- by whether it is for the client of the association
+-- the long GET after a service, by whether the frame is from the client of the association
 client_by : (link : Link) (incoming : Option Incoming) (outgoing : Option Sending) (reply : Option Reply) (f : Frame) (here : Bool)
     → (if true && here then outgoing_by_role link (role_in link f) reply outgoing else outgoing)
     ≡ sending_with (resolved outgoing (if here then call_turn link incoming (call_in link f) else settled (says f.src (exception_answer NotAllowed)))) reply (if true && here then outgoing_by_role link (role_in link f) None outgoing else outgoing)
 client_by link incoming outgoing reply f true = call_by link incoming outgoing reply (call_in link f)
 client_by link incoming outgoing reply f false = refl
 
--- by whether it is a call
+-- the long GET after a frame, by whether it is a request
 called_by : (link : Option Link) (incoming : Option Incoming) (outgoing : Option Sending) (reply : Option Reply) (f : Frame) (calls : Bool) → is_call f.payload ≡ calls
     → outgoing_in link f reply outgoing
     ≡ sending_with (resolved outgoing (if calls then turn_in link incoming f else settled (says f.src (exception_answer Unknown)))) reply (outgoing_in link f None outgoing)
@@ -158,19 +158,19 @@ sending_after : (password : List ℕ) (s : State) (f : Frame) (reply : Option Re
 unfolding turn_of outgoing_after
 sending_after password s f reply = opened_or password s f reply (opens f)
 
--- what is kept after an outcome, by the long GET
+-- the state after an outcome, in terms of the long GET
 after_by : (outcome : Outcome) (reply : Option Reply) (state : State)
     → after_outcome outcome reply state ≡ record { link = state.link; incoming = state.incoming; outgoing = sending_with outcome reply state.outgoing }
 after_by (says to answer) reply state = refl
 after_by (asks event asked) None state = refl
 after_by (asks event asked) (Some reply) state = refl
 
--- what is kept after a frame and a reply is what is kept after the frame, and then what the reply changes
+-- the state after a frame and a reply is the state after the frame, changed by the reply
 replied_after : (password : List ℕ) (s : State) (f : Frame) (reply : Option Reply)
     → state_after password s f reply ≡ after_outcome (outcome_at password s f) reply (state_after password s f None)
 replied_after password s f reply = let a = after_by (outcome_at password s f) reply (state_after password s f None) in let b = sending_after password s f reply in cc
 
--- ---- a step of one frame, or of joined bytes
+-- ---- the step of one frame, or of joined bytes
 
 -- the texts of a frame are those of its outcome
 frame_texts : (password : List ℕ) (s : State) (f : Frame) (fs : List Frame) (replies : List Reply)
@@ -189,7 +189,7 @@ step_texts password s (step.Ask event asked) fs replies = awaited_texts password
 step_texts password s (step.Say due) fs replies = refl
 step_texts password s (step.Join joined) fs replies = refl
 
--- the event of a frame, and of its outcome
+-- the event of a frame is the event of its outcome
 turn_asks : (outgoing : Option Sending) (t : Turn) → turn_event t ≡ event_of (resolved outgoing t)
 turn_asks outgoing (settled outcome) = refl
 turn_asks outgoing (continues to id number) = refl
@@ -199,7 +199,7 @@ frame_asks : (password : List ℕ) (s : State) (f : Frame) (fs : List Frame)
 frame_asks password s f fs =
     ap (λ (event : Option Event). option_to_list event ++ asks_on password (known_in (state_after password s f None)) fs) (turn_asks s.outgoing (turn_of password s.link s.incoming f))
 
--- the events that a step wants asked
+-- the events that a step asks
 abbrev asked_in : Option Next → List Event
 asked_in None = []
 asked_in (Some next) = asked_by next
@@ -212,11 +212,11 @@ step_asks password s (step.Join joined) fs = refl
 
 -- ---- the tasks
 
--- a session, by its parts
+-- a session made of these parts
 abbrev session : List ℕ → List ℕ → Bool → State → Task → Session
 session password pending finished state task = record { password = password; deframer = pending; is_finished = finished; state = state; task = task }
 
--- the bytes that are to come
+-- the bytes yet to come
 abbrev tail : Bool → List ℕ → List ℕ
 tail finished more = if finished then [] else more
 
@@ -225,7 +225,7 @@ task_ends (step.Ask event asked) end = refl
 task_ends (step.Say due) end = refl
 task_ends (step.Join joined) end = refl
 
--- a task comes to a step that has its events and its texts
+-- A task leads to a step that has the task's events and texts.
 record ComesTo (password : List ℕ) (s : State) (task : Task) (t : State) (st : Step) : Type 0 where
   asks : (fs : List Frame) → asks_of password s task fs ≡ option_to_list (event_of (step_outcome st)) ++ asks_on password (known_in t) fs
   texts : (fs : List Frame) (replies : List Reply) → texts_of password s task fs replies ≡ texts_from password t (step_outcome st) fs replies
@@ -254,7 +254,7 @@ read_load (step.Ask event asked) done = omega arith
 read_load (step.Say due) done = omega arith
 read_load (step.Join joined) done = absurd cc
 
--- joined bytes are read
+-- joined bytes are decoded
 pub reads : (E : Type 0) (password pending : List ℕ) (finished : Bool) (s : State) (joined : Joined) (st : Step)
     → step_outcome st ≡ whole_outcome joined → IsTrue (is_settled st)
     → WorksBy {E = E} (session password pending finished s (Read joined)) (Ok (next_by st)) (session password pending finished s (task_by st))
@@ -288,13 +288,13 @@ gives_steps : (password pending : List ℕ) (finished : Bool) (s : State) (text 
 unfolding still_asks still_sends still_ends is_finished
 gives_steps password pending finished s text = record { asks = λ more. refl; sends = λ more replies. refl; ends = λ more. refl; finished = refl }
 
--- a text is given
+-- a frame is returned
 pub gives_text : (E : Type 0) (password pending : List ℕ) (finished : Bool) (s : State) (text : List ℕ)
     → WorksBy {E = E} (session password pending finished s (Send text)) (Ok (Some (next.Send text))) (session password pending finished s Listen)
 unfolding still_asks still_sends still_ends is_finished is_asking load
 gives_text E password pending finished s text = (gives_steps password pending finished s text, (refl, omega arith))
 
--- nothing changes
+-- no change is a step without events and texts
 pub stays : (s : Session) → Steps s [] [] s
 stays s = record { asks = λ more. refl; sends = λ more replies. refl; ends = λ more. refl; finished = refl }
 
@@ -325,12 +325,12 @@ shorter old n new whole after =
 to_server_by : (b : Bool) (frame : Frame) (fs : List Frame) → (frame.dst == management_device) ≡ b → to_server (frame ∷ fs) ≡ cond b (frame ∷ to_server fs) (to_server fs)
 to_server_by b frame fs e = ap (λ (c : Bool). cond c (frame ∷ to_server fs) (to_server fs)) e
 
--- the end of a stream, by what comes after its frames
+-- the end of a stream depends only on the bytes after its frames
 ends_alike : (bytes others : List ℕ) → rest_of bytes ≡ rest_of others → end_of bytes ≡ end_of others
 unfolding end_of
 ends_alike bytes others e = ap (λ (rest : List ℕ). end_by (head_of rest) rest) e
 
--- a frame for the server is judged
+-- a frame for the server is handled
 hears_steps : (password old new : List ℕ) (finished : Bool) (s t : State) (f : Frame) (st : Step) → GoesOn old (Some f) new → (f.dst == management_device) ≡ true
     → ((fs : List Frame) → asks_on password (known_in s) (f ∷ fs) ≡ option_to_list (event_of (step_outcome st)) ++ asks_on password (known_in t) fs)
     → ((fs : List Frame) (replies : List Reply) → answers_on password s (f ∷ fs) replies ≡ texts_from password t (step_outcome st) fs replies)
@@ -374,7 +374,7 @@ hears E password old new finished s t f n st whole after goes_on here outcome st
     (λ fs replies. frame_texts password s f fs replies ∙ (let a = outcome in let b = state in cc)))
     (heard_load (length old) (length new) st (shorter old n new whole after))
 
--- a frame for another port
+-- a frame for another port is dropped
 pub passes_frame : (E : Type 0) (password old new : List ℕ) (finished : Bool) (s : State) (f : Frame) (n : ℕ)
     → head_of old ≡ head.Whole n → new ≡ after_first n old → GoesOn old (Some f) new → (f.dst == management_device) ≡ false
     → WorksBy {E = E} (session password old finished s Listen) (Ok None) (session password new finished s Listen)
@@ -391,12 +391,12 @@ passes_frame E password old new finished s f n whole after goes_on elsewhere = (
   (refl, (let less = shorter old n new whole after in omega arith)),
 )
 
--- part of a frame is no wrong header
+-- part of a frame is not an invalid header
 part_ends : (bytes : List ℕ) → EndsWithInput (end_by head.Part bytes)
 part_ends [] = tt
 part_ends (byte ∷ bytes) = tt
 
--- how an input ends that ends in part of a frame
+-- the end of an input that ends in part of a frame
 end_of_part : (bytes : List ℕ) → IsPart bytes → end_of (bytes ++ []) ≡ end_by head.Part bytes
 unfolding end_of
 end_of_part bytes part =
@@ -415,12 +415,12 @@ is_quiet password pending s part = record {
   goes_on = refl;
 }
 
--- part of a frame, and more is to come
+-- with part of a frame, the session waits for more input
 pub wants_more : (E : Type 0) (password pending : List ℕ) (s : State) → IsPart pending
     → WorksBy {E = E} (session password pending false s Listen) (Ok (Some next.Wait)) (session password pending false s Listen)
 wants_more E password pending s part = (stays (session password pending false s Listen), inr (is_quiet password pending s part))
 
--- there is no frame and never will be
+-- There is no whole frame, and there never will be.
 pub record NoFrame (finished : Bool) (pending : List ℕ) (end : SessionEnd) : Type 0 where
   pub frames : (more : List ℕ) → frames_of (pending ++ tail finished more) ≡ []
   pub ends : (more : List ℕ) → end_of (pending ++ tail finished more) ≡ end
@@ -443,12 +443,12 @@ pub comes_to_end : (E : Type 0) (password pending : List ℕ) (finished : Bool) 
     → WorksBy {E = E} (session password pending finished s Listen) (Ok (Some (next.End end))) (session password pending finished s (Over end))
 comes_to_end E password pending finished s end none = (ends_steps password pending finished s end none, is_over_now password pending finished s end)
 
--- the session is over
+-- a session that is over
 pub is_over : (E : Type 0) (password pending : List ℕ) (finished : Bool) (s : State) (end : SessionEnd)
     → WorksBy {E = E} (session password pending finished s (Over end)) (Ok (Some (next.End end))) (session password pending finished s (Over end))
 is_over E password pending finished s end = (stays (session password pending finished s (Over end)), is_over_now password pending finished s end)
 
--- the input ended between two frames, or in one
+-- the input ended between two frames, or within one
 end_in_part : (bytes : List ℕ) (end : SessionEnd) → IsPart bytes → end_by head.Part bytes ≡ end → NoFrame true bytes end
 unfolding end_of
 end_in_part bytes end part e = record {
@@ -466,7 +466,7 @@ cut_by (byte ∷ bytes) some = refl
 pub is_cut : (bytes : List ℕ) → IsPart bytes → bytes ≢ [] → NoFrame true bytes ending.Cut
 is_cut bytes part some = end_in_part bytes ending.Cut part (cut_by bytes some)
 
--- a wrong header
+-- an invalid header
 stops_by : (finished : Bool) (bytes : List ℕ) (front : Head) (end : SessionEnd) → Stops front bytes → ((rest : List ℕ) → end_by front rest ≡ end) → NoFrame finished bytes end
 unfolding end_of
 stops_by finished bytes front end stops e = record {
@@ -527,7 +527,7 @@ feeds password pending s task bytes = record {
   finished = refl;
 }
 
--- behind a wrong header nothing is taken
+-- after an invalid header no bytes are taken
 feeds_none : (password pending : List ℕ) (s : State) (task : Task) (bytes : List ℕ) (end : SessionEnd) → NoFrame false pending end
     → Feeds (session password pending false s task) bytes (session password pending false s task)
 unfolding still_asks still_sends still_ends
@@ -544,7 +544,7 @@ tail_none : (finished : Bool) → tail finished [] ≡ []
 tail_none true = refl
 tail_none false = refl
 
--- the input ended
+-- the input has ended
 pub finishes : (password pending : List ℕ) (finished : Bool) (s : State) (task : Task) → Finishes (session password pending finished s task) (session password pending true s task)
 unfolding still_asks still_sends still_ends is_asking ended is_finished
 finishes password pending finished s task = record {
@@ -556,7 +556,7 @@ finishes password pending finished s task = record {
   finished = refl;
 }
 
--- a reply is answered
+-- a reply is taken in
 pub takes_reply : (password pending : List ℕ) (finished : Bool) (s : State) (asked : Asked) (reply : Reply) (text : List ℕ) (outgoing : Option Sending)
     → text ≡ reply_text asked reply → outgoing ≡ outgoing_by asked reply
     → Takes (session password pending finished s (Await asked)) reply (session password pending finished (record { link = s.link; incoming = s.incoming; outgoing = outgoing }) (Send text))
@@ -572,7 +572,7 @@ takes_reply password pending finished s asked reply text outgoing t o = record {
 
 -- ---- values in answers
 
--- the bytes of a long answer that go in blocks
+-- the bytes of a long answer that are sent in blocks
 pub value_cut : (id : InvokeId) (value : Data) → answer_cut id (response.Get id (result.Value value)) 4 ≡ value_answer id value
 unfolding response_text
 value_cut id value = refl
@@ -583,12 +583,12 @@ values_cut id results = refl
 
 -- ---- the tasks of any session
 
--- what holds of a session by its parts holds of the session
+-- what holds for a session made of its parts holds for the session
 by_parts : (P : Session → Type 0) (s : Session) (finished : Bool) (task : Task) → s.is_finished ≡ finished → s.task ≡ task → P (session s.password s.deframer finished s.state task) → P s
 by_parts P s finished task f t p =
     subst (λ (b : Bool). P (session s.password s.deframer b s.state s.task)) (sym f) (subst (λ (u : Task). P (session s.password s.deframer finished s.state u)) (sym t) p)
 
--- the frame at the front, by what was read of it
+-- the frame at the front, by the fields that were read
 front_frame : (bytes payload : List ℕ) (src dst n : ℕ) → src ≡ src_of bytes → dst ≡ dst_of bytes → payload ≡ take n (drop header_size bytes) → dst ≡ management_device
     → first_frame n bytes ≡ heard_frame src payload
 front_frame bytes payload src dst n a b c d = let e : dst_of bytes ≡ management_device = sym b ∙ d in cc
@@ -648,14 +648,14 @@ pub listens_to_too_long : (E : Type 0) (s t : Session) (h : Head) (r : Option Ne
 listens_to_too_long E s t h r listens is means given after =
     listens_to_end E s t ending.TooLong r listens (is_too_long s.is_finished s.deframer (subst (Fronts s.deframer) is means)) given after
 
--- what a feeding says where it gave a fault
+-- the header that a fault of `feed` means
 pub bad_version : (bytes : List ℕ) (f : WrapperFault) → f ≡ fault.Version → StopsBy f bytes → Stops head.BadVersion bytes
 bad_version bytes f is stops = subst (λ (g : WrapperFault). StopsBy g bytes) is stops
 
 pub too_long : (bytes : List ℕ) (f : WrapperFault) → f ≡ fault.TooLong → StopsBy f bytes → Stops head.TooLong bytes
 too_long bytes f is stops = subst (λ (g : WrapperFault). StopsBy g bytes) is stops
 
--- the session is over, and says so again
+-- a session that has reported its end is over
 pub ends_again : (s : Session) (end : SessionEnd) → ended s ≡ Some end → s.task ≡ Over end
 unfolding ended
 ends_again s end = over_by s.task end
@@ -668,7 +668,7 @@ ends_again s end = over_by s.task end
     over_by (Send text) end e = absurd cc
     over_by (Over other) end e = cc
 
--- ---- bytes come to any session
+-- ---- bytes fed to any session
 
 pub feeds_after_end : (s : Session) (bytes : List ℕ) → s.is_finished ≡ true → Feeds s bytes s
 feeds_after_end s bytes finished =
@@ -732,7 +732,7 @@ pub over_any : (E : Type 0) (s : Session) (end : SessionEnd) → s.task ≡ Over
 over_any E s end over =
     by_parts (λ (u : Session). WorksBy {E = E} u (Ok (Some (next.End end))) u) s s.is_finished (Over end) refl over (is_over E s.password s.deframer s.is_finished s.state end)
 
--- a session that needs more input
+-- a session that waits for more input
 pub idles : (s : Session) (h : Head) → s.task ≡ Listen → s.is_finished ≡ false → h ≡ head.Part → Fronts s.deframer h → IsQuiet s
 idles s h listens goes_on is means = by_parts IsQuiet s false Listen goes_on listens (is_quiet s.password s.deframer s.state (subst (Fronts s.deframer) is means))
 
@@ -744,7 +744,7 @@ takes_any s t asked reply text outgoing awaiting e o after =
     (by_parts (λ (u : Session). Takes u reply (session s.password s.deframer s.is_finished (record { link = s.state.link; incoming = s.state.incoming; outgoing = outgoing }) (Send text))) s s.is_finished (Await asked) refl awaiting
     (takes_reply s.password s.deframer s.is_finished s.state asked reply text outgoing e o))
 
--- a session that awaits a reply, and one that is over
+-- a session that awaits a reply, and below, one that is over
 pub waits_again : (s : Session) → is_asking s ≡ true → IsAwaiting s
 unfolding is_asking still_sends
 waits_again s = awaiting_by s.password s.deframer s.is_finished s.state s.task

@@ -1,8 +1,8 @@
--- What the payload of a frame asks for (IEC 62056-5-3, AARQ, RLRQ, GET, SET and ACTION).
+-- The request in the payload of a frame (IEC 62056-5-3, AARQ, RLRQ, GET, SET and ACTION).
 --     tag_is, is_opening, is_call     by its first byte
---     is_negotiated                   by its form, which has to be known and negotiated
---     call_of                         by all of it
---     IsSingleGet                     the GET of one attribute, of which no part is selected
+--     is_negotiated                   by its form, which must be known and negotiated
+--     call_of                         by the whole payload
+--     IsSingleGet                     the GET of one attribute, without selective access
 use Rattle.std.specs.Prelude.{◌≡◌, ℕ, Bool, true, false, ◌||◌, ◌&&◌, ◌==◌, bit_and, find, Option, Some, None, if◌then◌else◌, List, [], ◌∷◌, Result, Ok, Err}
 use Rattle.acse_ber.specs.Reading.{is_release_text}
 use Rattle.cosem_names.specs.declared.name.AttrRef.{AttrRef}
@@ -17,49 +17,50 @@ use Rattle.xdlms_apdu.specs.declared.request.Request.{Request}
 use Rattle.xdlms_apdu.specs.declared.request.Request.TheVariants.{Get}
 use Rattle.xdlms_apdu.specs.declared.response.Exception.TheVariants.{Unknown, Unreadable}
 
--- the payload begins with this tag
+-- whether the payload begins with this tag
 abbrev pub tag_is : ℕ → List ℕ → Bool
 tag_is tag [] = false
 tag_is tag (first ∷ rest) = first == tag
 
--- an AARQ, readable or not
+-- whether the payload is an AARQ, readable or not
 abbrev pub is_opening : List ℕ → Bool
 is_opening payload = tag_is aarq_tag payload
 
--- a release or a service, readable or not
+-- whether the payload is a release or a service, readable or not
 abbrev pub is_call : List ℕ → Bool
 is_call payload = tag_is rlrq_tag payload || tag_is get_tag payload || tag_is set_tag payload || tag_is action_tag payload
 
--- the form of a tag and a number
+-- the form of a request with this tag and choice number, if there is one
 unfoldable pub request_form : ℕ → ℕ → Option RequestForm
 request_form tag number = find (λ form. form.tag == tag && form.number == number) request_forms
 
--- the bits that a form needs were negotiated (IEC 62056-5-3, conformance block)
+-- whether all conformance bits that a form needs were negotiated (IEC 62056-5-3, conformance block)
 abbrev pub has_bits : ℕ → Option RequestForm → Bool
 has_bits conformance None = false
 has_bits conformance (Some form) = bit_and conformance form.needs == form.needs
 
--- the form is one that the server knows, and the bits that it needs were negotiated
+-- whether the form is known and all conformance bits it needs were negotiated
 unfoldable pub is_negotiated : ℕ → ℕ → ℕ → Bool
 is_negotiated conformance tag number = has_bits conformance (request_form tag number)
 
--- a request that was read, or its refusal
+-- a request, or its refusal if it was not readable
 abbrev pub call_by : Result Request ApduFault → Call
 call_by (Ok request) = Service request
 call_by (Err fault) = Refused Unreadable
 
--- what the payload of a service asks for: a tag alone is not readable, and the form is judged before the body
+-- the request in a service's payload: a tag alone is not readable, and the form is judged before
+-- the body
 abbrev pub request_call : ℕ → List ℕ → Call
 request_call conformance [] = Refused Unreadable
 request_call conformance (tag ∷ []) = Refused Unreadable
 request_call conformance (tag ∷ form ∷ body) = if is_negotiated conformance tag form then call_by (request_of (tag ∷ form ∷ body)) else Refused Unknown
 
--- what a payload asks for where these bits were negotiated
+-- the request in a payload, given the negotiated conformance bits
 unfoldable pub call_of : ℕ → List ℕ → Call
 call_of conformance payload =
     if tag_is rlrq_tag payload then (if is_release_text payload then Release else Refused Unreadable) else request_call conformance payload
 
--- a payload is a call for this attribute, whole
+-- The payload is a GET of this attribute, whole and without selective access.
 pub record IsSingleGet (conformance : ℕ) (payload : List ℕ) (id : InvokeId) (attr : AttrRef) : Type 0 where
   pub opens : is_opening payload ≡ false
   pub calls : is_call payload ≡ true

@@ -4,7 +4,7 @@ use Rattle.std.specs.Prelude.{⊤}
 use Rattle.session_core.specs.declared.end.SessionEnd.{SessionEnd}
 use Rattle.session_core.specs.declared.end.SessionEnd.TheVariants.{Closed, Cut, BadVersion, TooLong}
 
--- the session ends because its input ends, and not at a wrong header
+-- whether the session ends because its input ends, and not because of an invalid header
 abbrev pub EndsWithInput : SessionEnd → Type 0
 EndsWithInput Closed = ⊤
 EndsWithInput Cut = ⊤

@@ -1,8 +1,8 @@
--- Requests that come in blocks (IEC 62056-5-3, SET and ACTION with datablocks).
---     received, refused, block_code     the answers to a block, and the results that they have
+-- Requests that arrive in blocks (IEC 62056-5-3, SET and ACTION with datablocks).
+--     received, refused, block_code     the answers to a block, and their results
 --     fault_of                          why a block is not added
---     whole_outcome                     what the joined bytes ask for
---     block_outcome_of, block_after     what comes of a block, and the transfer after it
+--     whole_outcome                     the outcome of the joined bytes
+--     block_outcome_of, block_after     the outcome of a block, and the transfer after it
 use Rattle.std.specs.Prelude.{ℕ, Bool, ◌+◌, ◌==◌, nat_lt, not, false, true, if◌then◌else◌, Option, Some, None, List, [], ◌++◌, length, Result, Ok, Err}
 use Rattle.cosem_axdr.specs.Reading.{first_data}
 use Rattle.cosem_axdr.specs.declared.fault.DataFault.{DataFault}
@@ -37,31 +37,31 @@ use Rattle.xdlms_blocks.specs.declared.fault.BlockFault.TheVariants.{NoTransfer,
 
 -- ---- answers
 
--- a block came that isn't the last
+-- the answer to a block that is not the last
 abbrev pub received : LongService → InvokeId → ℕ → Response
 received service.Set id number = response.SetBlock id number
 received service.Action id number = response.ActionBlock id number
 
--- a transfer ends with this result
+-- the answer that ends a transfer with this result
 abbrev pub refused : LongService → InvokeId → ℕ → ResultCode → Response
 refused service.Set id number code = response.SetLastBlock id code number
 refused service.Action id number code = response.Action id code
 
--- the result that stands for a fault
+-- the result code of a fault
 abbrev pub block_code : LongService → BlockFault → ResultCode
 block_code service.Set NoTransfer = NoLongSetInProgress
 block_code service.Set WrongNumber = DataBlockNumberInvalid
 block_code service.Action NoTransfer = NoLongGetInProgress
 block_code _ _ = OtherReason
 
--- the service of a transfer
+-- the service of a purpose
 abbrev pub service_of : Purpose → LongService
 service_of (purpose.Set target) = service.Set
 service_of (purpose.Action method) = service.Action
 
--- ---- what the joined bytes ask for
+-- ---- the joined bytes
 
--- the one Data that bytes are
+-- the Data that was read, if it takes up all bytes
 abbrev pub whole_by : ℕ → Result (Data × ℕ) DataFault → Option Data
 whole_by size (Ok read) = if read.1 == size then Some read.0 else None
 whole_by size (Err fault) = None
@@ -69,17 +69,17 @@ whole_by size (Err fault) = None
 unfoldable pub whole_data : List ℕ → Option Data
 whole_data bytes = whole_by (length bytes) (first_data bytes)
 
--- the event of a transfer whose blocks hold this value
+-- the event of a transfer whose blocks contain this value
 abbrev pub event_by : Level → Purpose → Data → Event
 event_by level (purpose.Set target) value = event.Set level target.attr target.selected value
 event_by level (purpose.Action method) value = event.Execute level method (Some value)
 
--- the form of the answer to its reply
+-- the form of the answer to that event's reply
 abbrev pub form_by : Purpose → InvokeId → ℕ → ReplyForm
 form_by (purpose.Set target) id number = form.SetLastBlock id number
 form_by (purpose.Action method) id number = form.Action id
 
--- the event, or where the bytes are no Data and nothing more, a refusal
+-- the outcome of the joined bytes: an event if they are exactly one Data, else a refusal
 abbrev pub whole_by_data : Joined → Option Data → Outcome
 whole_by_data j (Some value) = asks (event_by j.link.level j.purpose value) (record { link = j.link; form = form_by j.purpose j.id j.number })
 whole_by_data j None = says j.link.source (Service (refused (service_of j.purpose) j.id j.number OtherReason))
@@ -89,7 +89,8 @@ whole_outcome j = whole_by_data j (whole_data j.bytes)
 
 -- ---- one block
 
--- why a block is not added: there is no transfer, it isn't the next by its number, or too many bytes came
+-- why a block is not added: there is no transfer, it has the wrong number, or there are too many
+-- bytes
 abbrev pub fault_of : Block → Joining → Option BlockFault
 fault_of block j =
     if not j.is_open then Some NoTransfer
@@ -97,11 +98,11 @@ fault_of block j =
     else if nat_lt max_joined (length j.bytes + length block.raw) then Some TooLong
     else None
 
--- a transfer of which no block has come
+-- a transfer without blocks
 abbrev pub no_blocks : Joining
 no_blocks = record { number = 0; bytes = []; is_open = true }
 
--- all blocks, joined
+-- the whole transfer, once its last block is added
 abbrev pub joined_by : Link → InvokeId → Purpose → Block → Joining → Joined
 joined_by link id purpose block j = record { link = link; purpose = purpose; id = id; number = block.number; bytes = j.bytes ++ block.raw }
 
@@ -111,7 +112,7 @@ outcome_by_fault link id purpose block j None =
     if block.last then whole_outcome (joined_by link id purpose block j)
     else says link.source (Service (received (service_of purpose) id block.number))
 
--- what comes of a block
+-- the outcome of a block
 unfoldable pub block_outcome_of : Link → InvokeId → Purpose → Block → Joining → Outcome
 block_outcome_of link id purpose block j = outcome_by_fault link id purpose block j (fault_of block j)
 
@@ -119,13 +120,13 @@ abbrev pub after_by_fault : Purpose → Block → Joining → Option BlockFault 
 after_by_fault purpose block j (Some fault) = None
 after_by_fault purpose block j None = if block.last then None else Some (record { purpose = purpose; blocks = after_added false block.raw j })
 
--- the transfer after it: each refusal ends it, and so does the last block
+-- the transfer after a block: a refusal and the last block end it
 unfoldable pub block_after : Purpose → Block → Joining → Option Incoming
 block_after purpose block j = after_by_fault purpose block j (fault_of block j)
 
 -- ---- a later block
 
--- a transfer of this service
+-- whether a transfer is of this service
 abbrev pub is_of : LongService → Purpose → Bool
 is_of service.Set (purpose.Set target) = true
 is_of service.Set (purpose.Action method) = false
@@ -136,7 +137,7 @@ abbrev pub transfer_of : LongService → Option Incoming → Option Incoming
 transfer_of service None = None
 transfer_of service (Some incoming) = if is_of service incoming.purpose then Some incoming else None
 
--- what comes of a later block of a transfer
+-- the outcome of a later block of a transfer
 abbrev pub later_outcome : Link → LongService → InvokeId → Block → Option Incoming → Outcome
 later_outcome link service id block None = says link.source (Service (refused service id block.number (block_code service NoTransfer)))
 later_outcome link service id block (Some incoming) = block_outcome_of link id incoming.purpose block incoming.blocks
@@ -146,21 +147,21 @@ abbrev pub later_after : Block → Option Incoming → Option Incoming
 later_after block None = None
 later_after block (Some incoming) = block_after incoming.purpose block incoming.blocks
 
--- ---- what the code says of a block
+-- ---- what the code's values mean
 
--- what comes of it
+-- the outcome that the code's result means
 abbrev pub outcome_of_added : Added → Outcome
 outcome_of_added (GoesOn due) = says due.to due.answer
 outcome_of_added (Refused due) = says due.to due.answer
 outcome_of_added (Whole joined) = whole_outcome joined
 
--- the transfer after it
+-- the transfer after the code has added a block
 abbrev pub after_adding : Added → Incoming → Option Incoming
 after_adding (GoesOn due) incoming = Some incoming
 after_adding (Refused due) incoming = None
 after_adding (Whole joined) incoming = None
 
--- whether it is over
+-- whether the transfer has ended
 abbrev pub is_over : Added → Bool
 is_over (GoesOn due) = false
 is_over (Refused due) = true

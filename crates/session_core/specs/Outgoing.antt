@@ -1,5 +1,5 @@
--- Answers that go out in blocks (IEC 62056-5-3, GET with datablocks).
---     sent                                a transfer once so many blocks were given
+-- Answers that are sent in blocks (IEC 62056-5-3, GET with datablocks).
+--     sent                                a transfer after some of its blocks were sent
 --     continued, continued_response       the transfer after a GET-next, and the answer
 --     LongAnswer .. reply_response        the answer to the reply of an event
 --     begun_by, outgoing_by               the transfer that this answer begins
@@ -31,21 +31,21 @@ use Rattle.xdlms_blocks.specs.declared.fault.BlockFault.TheVariants.{NoTransfer,
 
 -- ---- a GET-next
 
--- a transfer once so many blocks were given, if this isn't all of the text
+-- a transfer after `number` blocks were sent, or none if that is the whole text
 abbrev pub sent : ℕ → Sending → Option Sending
 sent number s = if nat_le (length s.text) (number * s.size) then None else Some (record { text = s.text; number = number; size = s.size; is_open = true })
 
--- the result that stands for a fault
+-- the result code of a fault
 abbrev pub get_code : BlockFault → ResultCode
 get_code NoTransfer = NoLongGetInProgress
 get_code WrongNumber = DataBlockNumberInvalid
 get_code _ = OtherReason
 
--- why there is no next block after this one: there is no transfer, or another block was the last given
+-- why there is no next block after this one: there is no transfer, or another block was sent last
 abbrev pub next_fault : ℕ → Sending → Option BlockFault
 next_fault number s = if not s.is_open then Some NoTransfer else if number == s.number then None else Some WrongNumber
 
--- the answer with a block
+-- the answer that carries a block
 abbrev pub block_response : InvokeId → Piece → Response
 block_response id piece = response.GetBlock id (record { last = piece.last; number = piece.number; raw = piece.raw })
 
@@ -62,18 +62,18 @@ abbrev pub sending_by_fault : Sending → Option BlockFault → Option Sending
 sending_by_fault s (Some fault) = None
 sending_by_fault s None = sent (s.number + 1) s
 
--- the transfer after it: each refusal ends it
+-- the transfer after a GET-next: a refusal and the last block end it
 unfoldable pub continued : ℕ → Option Sending → Option Sending
 continued number None = None
 continued number (Some s) = sending_by_fault s (next_fault number s)
 
 -- ---- the reply to an event
 
--- a text of which no block is given, for a client of this limit
+-- the transfer of a text before its first block, to a client with this limit
 abbrev pub unsent_by : ℕ → List ℕ → Sending
 unsent_by limit raw = unsent raw (limit - block_header)
 
--- a normal answer that may be too long, and the bytes that would go in blocks
+-- A normal answer that may be too long, and those of its bytes that would be sent in blocks.
 pub record LongAnswer : Type 0 where
   pub id : InvokeId
   pub normal : Response
@@ -85,24 +85,24 @@ value_answer id value = record { id = id; normal = response.Get id (result.Value
 abbrev pub values_answer : InvokeId → List GetResult → LongAnswer
 values_answer id results = record { id = id; normal = response.GetList id results; raw = list_text result_text results }
 
--- the values that a reply has, where the form asks for values
+-- the answer with a reply's values, if the form is of a GET and the reply has values
 abbrev pub long_answer : ReplyForm → Reply → Option LongAnswer
 long_answer (form.Get id) (Value value) = Some (value_answer id value)
 long_answer (form.GetList id) (Values results) = Some (values_answer id results)
 long_answer _ _ = None
 
--- the result that a reply is; any other reply is none
+-- the result code of a reply; OtherReason for a reply of another kind
 abbrev pub reply_code : Reply → ResultCode
 reply_code (Code code) = code
 reply_code _ = OtherReason
 
--- a reply that has no value
+-- whether a reply has no value
 abbrev pub is_valueless : Reply → Bool
 is_valueless (Value value) = false
 is_valueless (Values results) = false
 is_valueless _ = true
 
--- the answer with a result alone
+-- the answer that has only a result code
 abbrev pub code_response : ReplyForm → ResultCode → Response
 code_response (form.Get id) code = response.Get id (result.Code code)
 code_response (form.GetList id) code = response.Get id (result.Code code)
@@ -110,11 +110,11 @@ code_response (form.Set id) code = response.Set id code
 code_response (form.SetLastBlock id number) code = response.SetLastBlock id code number
 code_response (form.Action id) code = response.Action id code
 
--- the form of the answer to what was asked
+-- the form of the answer to a request
 abbrev pub form_of : Asked → ReplyForm
 form_of asked = asked.form
 
--- where the result stands in an answer with a result alone
+-- the index of the result code in an answer that has only a result code
 abbrev pub code_place : ReplyForm → ℕ
 code_place (form.Get id) = 4
 code_place (form.GetList id) = 4
@@ -122,22 +122,23 @@ code_place (form.Set id) = 3
 code_place (form.SetLastBlock id number) = 3
 code_place (form.Action id) = 3
 
--- a text has room in an answer to the client
+-- whether an answer fits in the client's PDU size
 abbrev pub has_room : Link → Response → Bool
 has_room link normal = nat_le (length (response_text normal)) link.limit
 
--- bytes may go to the client in blocks: this was negotiated, and there are numbers for all blocks
+-- whether bytes can be sent to the client in blocks: block transfer was negotiated, and the block
+-- numbers suffice
 abbrev pub can_go_in_blocks : Link → List ℕ → Bool
 can_go_in_blocks link raw = bit_and link.conformance get_in_blocks == get_in_blocks && nat_le (length raw) (max_blocks * (link.limit - block_header))
 
--- the answer with values: as it is where it has room, else its first block, else other-reason
+-- the answer with values: whole if it fits, else its first block, else other-reason
 abbrev pub long_response : Link → LongAnswer → Response
 long_response link answer =
     if has_room link answer.normal then answer.normal
     else if can_go_in_blocks link answer.raw then block_response answer.id (next_piece (unsent_by link.limit answer.raw))
     else response.Get answer.id (result.Code OtherReason)
 
--- the text that it begins to send
+-- the text that the answer begins to send in blocks, if it does
 abbrev pub long_text : Link → LongAnswer → Option Sending
 long_text link answer =
     if has_room link answer.normal then None
@@ -152,30 +153,31 @@ response_by asked reply None = code_response asked.form (reply_code reply)
 unfoldable pub reply_response : Asked → Reply → Response
 reply_response asked reply = response_by asked reply (long_answer asked.form reply)
 
--- the text that goes out in blocks, where the reply is too long for one answer
+-- the text that is sent in blocks, if the reply is too long for one answer
 unfoldable pub begun_by : Asked → Reply → Option Sending
 begun_by asked reply = option_and_then (long_text asked.link) (long_answer asked.form reply)
 
--- the long GET that goes on after the answer, which has the first block
+-- the long GET in progress after the answer, which has the first block
 abbrev pub outgoing_by : Asked → Reply → Option Sending
 outgoing_by asked reply = option_and_then (sent 1) (begun_by asked reply)
 
--- ---- what the code says of a long answer
+-- ---- what the code's values mean
 
--- the answer with values that have no room in one: the first block of these bytes, else other-reason
+-- the answer with values that don't fit in one PDU: the first block of these bytes, else
+-- other-reason
 abbrev pub response_in_blocks : Link → InvokeId → List ℕ → Response
 response_in_blocks link id raw =
     if can_go_in_blocks link raw then block_response id (next_piece (unsent_by link.limit raw)) else response.Get id (result.Code OtherReason)
 
--- the text that it begins to send
+-- the text that this answer begins to send in blocks, if it does
 abbrev pub text_in_blocks : Link → List ℕ → Option Sending
 text_in_blocks link raw = if can_go_in_blocks link raw then Some (unsent_by link.limit raw) else None
 
--- an answer of which so many bytes don't go in blocks
+-- an answer whose first `header` bytes are not sent in blocks
 abbrev pub answer_cut : InvokeId → Response → ℕ → LongAnswer
 answer_cut id normal header = record { id = id; normal = normal; raw = drop header (response_text normal) }
 
--- the reply whose values it has
+-- the reply whose values a response has
 abbrev pub reply_in : Response → Reply
 reply_in (response.Get id (result.Value value)) = Value value
 reply_in (response.Get id (result.Code code)) = Code code

@@ -1,12 +1,12 @@
--- What the calls of a session do to what it still asks and sends.
---     Owes          a new session owes all that a session of its input does
---     Feeds         bytes come first of those that are to come
---     Finishes      no more bytes are to come
---     Steps         events and texts are taken off the front
---     Takes         a reply is the first of those to come
---     AnswersBy     the same, and then its answer is the text taken off the front
---     AsksFor       the event taken off the front is the GET of an attribute
---     Leaves        what the caller may rely on after each `Next`
+-- How each call changes what a session has yet to ask and to send.
+--     Owes          a new session has everything to do that a session of its input does
+--     Feeds         bytes are now the first of the coming input
+--     Finishes      no more bytes will come
+--     Steps         events and texts are removed from the front
+--     Takes         a reply is the first of the coming replies
+--     AnswersBy     as in Takes, and then its answer is removed from the front
+--     AsksFor       the event removed from the front is the GET of an attribute
+--     Leaves        what the caller can rely on after each `Next`
 use Rattle.std.specs.Prelude.{◌≡◌, ◌⊎◌, ◌<◌, ℕ, true, false, Option, Some, None, List, [], ◌∷◌, ◌++◌, Result, Ok, Err}
 use Rattle.cosem_names.specs.declared.level.Level.{Level}
 use Rattle.cosem_names.specs.declared.name.AttrRef.{AttrRef}
@@ -25,7 +25,7 @@ use Rattle.session_core.specs.declared.step.Step.TheVariants as step
 use Rattle.session_core.specs.declared.task.Task.{Task}
 use Rattle.session_core.specs.declared.task.Task.TheVariants as task
 
--- a session owes what one with this password does, whatever its input is
+-- A session has yet to do what a session with this password does, whatever its input is.
 pub record Owes (password : List ℕ) (s : Session) : Type 0 where
   pub asks : (input : List ℕ) → still_asks s input ≡ Asks password input
   pub sends : (input : List ℕ) (replies : List Reply) → still_sends s input replies ≡ Answers password input replies
@@ -33,7 +33,7 @@ pub record Owes (password : List ℕ) (s : Session) : Type 0 where
   pub silent : is_asking s ≡ false
   pub goes_on : is_finished s ≡ false
 
--- bytes came
+-- Bytes were fed.
 pub record Feeds (old : Session) (bytes : List ℕ) (new : Session) : Type 0 where
   pub asks : (more : List ℕ) → still_asks new more ≡ still_asks old (bytes ++ more)
   pub sends : (more : List ℕ) (replies : List Reply) → still_sends new more replies ≡ still_sends old (bytes ++ more) replies
@@ -42,7 +42,7 @@ pub record Feeds (old : Session) (bytes : List ℕ) (new : Session) : Type 0 whe
   pub over : ended new ≡ ended old
   pub finished : is_finished new ≡ is_finished old
 
--- the input ended
+-- The input has ended.
 pub record Finishes (old new : Session) : Type 0 where
   pub asks : (more : List ℕ) → still_asks new more ≡ still_asks old []
   pub sends : (more : List ℕ) (replies : List Reply) → still_sends new more replies ≡ still_sends old [] replies
@@ -51,14 +51,14 @@ pub record Finishes (old new : Session) : Type 0 where
   pub over : ended new ≡ ended old
   pub finished : is_finished new ≡ true
 
--- these events were asked and these texts sent
+-- These events were asked and these texts sent.
 pub record Steps (old : Session) (asked : List Event) (sent : List (List ℕ)) (new : Session) : Type 0 where
   pub asks : (more : List ℕ) → still_asks old more ≡ asked ++ still_asks new more
   pub sends : (more : List ℕ) (replies : List Reply) → still_sends old more replies ≡ sent ++ still_sends new more replies
   pub ends : (more : List ℕ) → still_ends old more ≡ still_ends new more
   pub finished : is_finished new ≡ is_finished old
 
--- a reply came
+-- A reply was taken in.
 pub record Takes (old : Session) (reply : Reply) (new : Session) : Type 0 where
   pub asks : (more : List ℕ) → still_asks new more ≡ still_asks old more
   pub sends : (more : List ℕ) (replies : List Reply) → still_sends new more replies ≡ still_sends old more (reply ∷ replies)
@@ -67,7 +67,7 @@ pub record Takes (old : Session) (reply : Reply) (new : Session) : Type 0 where
   pub finished : is_finished new ≡ is_finished old
   pub less : load new < load old
 
--- a reply came, and then the text of its answer was sent
+-- A reply was taken in, and then the bytes of its answer were sent.
 pub record AnswersBy (old : Session) (reply : Reply) (text : List ℕ) (new : Session) : Type 0 where
   pub between : Session
   pub takes : Takes old reply between
@@ -75,19 +75,20 @@ pub record AnswersBy (old : Session) (reply : Reply) (text : List ℕ) (new : Se
   pub silent : is_asking new ≡ false
   pub less : load new < load old
 
--- the reply to an event is awaited, and nothing is sent before it
+-- The session awaits the reply to an event, and sends nothing before it.
 pub record IsAwaiting (s : Session) : Type 0 where
   pub asking : is_asking s ≡ true
   pub sends : (more : List ℕ) → still_sends s more [] ≡ []
 
--- an attribute was asked for, for a client of this level, and the reply is awaited
+-- The session has asked for an attribute, with the access rights of this level, and awaits the
+-- reply.
 pub record AsksFor (old : Session) (level : Level) (attr : AttrRef) (new : Session) : Type 0 where
   pub steps : Steps old (Get level attr false ∷ []) [] new
   pub awaits : IsAwaiting new
   pub value : is_asking_value new ≡ true
   pub less : load new < load old
 
--- the events and the texts of a `Next`
+-- the events of a `Next`, and below, its texts
 abbrev pub asked_by : Next → List Event
 asked_by (Ask event) = event ∷ []
 asked_by _ = []
@@ -96,12 +97,13 @@ abbrev pub sent_by : Next → List (List ℕ)
 sent_by (Send text) = text ∷ []
 sent_by _ = []
 
--- a call of `next` took off what it gives; want of memory nothing
+-- a call of `next` removes from the front what it returns; a call that runs out of memory removes
+-- nothing
 abbrev pub StepsBy : {E : Type 0} → Session → Result Next E → Session → Type 0
 StepsBy old (Ok next) new = Steps old (asked_by next) (sent_by next) new
 StepsBy old (Err error) new = Steps old [] [] new
 
--- nothing is asked and nothing sent without more input, and no wrong header came so far
+-- Without more input there is nothing to ask or to send, and no invalid header has arrived.
 pub record IsQuiet (s : Session) : Type 0 where
   pub asks : still_asks s [] ≡ []
   pub sends : (replies : List Reply) → still_sends s [] replies ≡ []
@@ -109,27 +111,28 @@ pub record IsQuiet (s : Session) : Type 0 where
   pub silent : is_asking s ≡ false
   pub goes_on : is_finished s ≡ false
 
--- nothing is asked and nothing sent any more
+-- There is nothing left to ask or to send.
 pub record IsOver (end : SessionEnd) (s : Session) : Type 0 where
   pub asks : (more : List ℕ) → still_asks s more ≡ []
   pub sends : (more : List ℕ) (replies : List Reply) → still_sends s more replies ≡ []
   pub ends : (more : List ℕ) → still_ends s more ≡ end
   pub over : ended s ≡ Some end
 
--- what stands after each `Next`. What is asked or sent is work done, so that not all calls give an event or a text.
+-- What holds after each `Next`. Asking and sending reduce the session's load, so that finitely many
+-- calls return an event or a frame between two inputs.
 abbrev pub Leaves : Session → Next → Session → Type 0
 Leaves old (Ask event) new = IsAwaiting new × (load new < load old)
 Leaves old (Send text) new = (is_asking new ≡ false) × (load new < load old)
 Leaves old Wait new = ((is_asking old ≡ true) × IsAwaiting new) ⊎ IsQuiet new
 Leaves old (End end) new = IsOver end new
 
--- what a task does
+-- the effect of a task
 abbrev pub WorksBy : {E : Type 0} → Session → Result (Option Next) E → Session → Type 0
 WorksBy old (Ok None) new = Steps old [] [] new × ((is_asking new ≡ false) × (load new < load old))
 WorksBy old (Ok (Some next)) new = Steps old (asked_by next) (sent_by next) new × Leaves old next new
 WorksBy old (Err error) new = Steps old [] [] new
 
--- the task that a step leaves, and what it wants of the caller
+-- the task that a step leads to, and below, what it returns to the caller
 abbrev pub task_by : Step → Task
 task_by (step.Ask event asked) = task.Await asked
 task_by (step.Say due) = task.Say due

@@ -1,7 +1,8 @@
--- What a session still does, by what it keeps, for every way that its input goes on and for every list of replies.
---     still_asks, still_sends, still_ends     the events, the texts of the answers, and the end
+-- What a session has yet to do, by its state, for every continuation of its input and every list of
+-- replies.
+--     still_asks, still_sends, still_ends     the events, the bytes of the answers, and the end
 --     is_asking .. is_idle                    what it waits for
---     load                                    how much work is in what it keeps
+--     load                                    the amount of work in its state
 use Rattle.std.specs.Prelude.{ℕ, ◌+◌, ◌&&◌, not, Bool, true, false, if◌then◌else◌, Option, Some, None, option_to_list, List, [], ◌∷◌, ◌++◌, length}
 use Rattle.relay_events.specs.declared.event.Event.{Event}
 use Rattle.relay_events.specs.declared.reply.Reply.{Reply}
@@ -25,17 +26,18 @@ use Rattle.wrapper_frame.specs.declared.header.Head.{Head}
 use Rattle.wrapper_frame.specs.declared.header.Head.TheVariants.{Part}
 use Rattle.wrapper_frame.specs.declared.parts.Frame.{Frame}
 
--- the bytes that are not yet taken as frames: those that are pending, and unless the input has ended those that are to come
+-- the bytes not yet taken as frames: the pending ones, and the coming ones unless the input has
+-- ended
 abbrev pub bytes_ahead : Session → List ℕ → List ℕ
 bytes_ahead s more = s.deframer ++ (if s.is_finished then [] else more)
 
--- the frames for the server among them
+-- the frames for the server in these bytes
 abbrev pub frames_ahead : Session → List ℕ → List Frame
 frames_ahead s more = to_server (frames_of (bytes_ahead s more))
 
 -- ---- the events
 
--- the events of a task, and of the frames after it
+-- the events of a task and of the frames after it
 abbrev pub asks_of : List ℕ → State → Task → List Frame → List Event
 asks_of password state Listen fs = asks_on password (known_in state) fs
 asks_of password state (Read joined) fs = option_to_list (event_of (whole_outcome joined)) ++ asks_on password (known_in state) fs
@@ -44,17 +46,17 @@ asks_of password state (Say due) fs = asks_on password (known_in state) fs
 asks_of password state (Send text) fs = asks_on password (known_in state) fs
 asks_of password state (Over end) fs = []
 
--- the events that are still to be asked
+-- the events that a session has yet to ask
 unfoldable pub still_asks : Session → List ℕ → List Event
 still_asks s more = asks_of s.password s.state s.task (frames_ahead s more)
 
 -- ---- the answers
 
--- what is kept after the reply to an event: the long GET that the answer begins
+-- the state after the reply to an event: with the long GET that the answer begins
 abbrev pub replied : Asked → Reply → State → State
 replied asked reply state = record { link = state.link; incoming = state.incoming; outgoing = outgoing_by asked reply }
 
--- what is kept after an outcome, and after the reply to its event
+-- the state after an outcome, and after the reply to its event
 abbrev pub after_outcome : Outcome → Option Reply → State → State
 after_outcome (says to answer) reply state = state
 after_outcome (asks event asked) None state = state
@@ -69,7 +71,7 @@ abbrev pub texts_after : List ℕ → State → Asked → List Frame → List Re
 texts_after password state asked fs [] = []
 texts_after password state asked fs (reply ∷ replies) = reply_text asked reply ∷ answers_on password (replied asked reply state) fs replies
 
--- the texts of a task, and of the frames after it
+-- the texts of a task and of the frames after it
 abbrev pub texts_of : List ℕ → State → Task → List Frame → List Reply → List (List ℕ)
 texts_of password state Listen fs replies = answers_on password state fs replies
 texts_of password state (Read joined) fs replies = texts_from password state (whole_outcome joined) fs replies
@@ -78,13 +80,13 @@ texts_of password state (Say due) fs replies = due_text due.to (answer_text due.
 texts_of password state (Send text) fs replies = text ∷ answers_on password state fs replies
 texts_of password state (Over end) fs replies = []
 
--- the texts that are still to be sent, up to the first event without a reply
+-- the texts that a session has yet to send, up to the first event without a reply
 unfoldable pub still_sends : Session → List ℕ → List Reply → List (List ℕ)
 still_sends s more replies = texts_of s.password s.state s.task (frames_ahead s more) replies
 
 -- ---- the end
 
--- how a task goes, where the input ends so
+-- how a session ends from a task on, if the end of its input is `end`
 abbrev pub ends_of : Task → SessionEnd → SessionEnd
 ends_of (Over over) end = over
 ends_of _ end = end
@@ -99,7 +101,7 @@ abbrev pub awaits : Task → Bool
 awaits (Await asked) = true
 awaits _ = false
 
--- the reply to an event is awaited
+-- whether the reply to an event is awaited
 unfoldable pub is_asking : Session → Bool
 is_asking s = awaits s.task
 
@@ -107,7 +109,7 @@ abbrev pub awaits_value : Task → Bool
 awaits_value (Await asked) = asks_value asked.form
 awaits_value _ = false
 
--- the reply to a GET of one attribute is awaited
+-- whether the reply to a GET of one attribute is awaited
 unfoldable pub is_asking_value : Session → Bool
 is_asking_value s = awaits_value s.task
 
@@ -115,11 +117,11 @@ abbrev pub end_in : Task → Option SessionEnd
 end_in (Over end) = Some end
 end_in _ = None
 
--- the end that was told
+-- the end that the session has reported, if it is over
 unfoldable pub ended : Session → Option SessionEnd
 ended s = end_in s.task
 
--- the input has ended
+-- whether the input has ended
 unfoldable pub is_finished : Session → Bool
 is_finished s = s.is_finished
 
@@ -127,18 +129,19 @@ abbrev pub listens : Task → Bool
 listens Listen = true
 listens _ = false
 
--- less than a frame is there, of which nothing is wrong so far
+-- whether the front of the input is an incomplete frame that is valid so far
 abbrev pub is_part : Head → Bool
 is_part Part = true
 is_part _ = false
 
--- nothing is to be done before more input comes
+-- whether there is nothing to do before more input arrives
 unfoldable pub is_idle : Session → Bool
 is_idle s = listens s.task && not s.is_finished && is_part (head_of s.deframer)
 
 -- ---- how much work is left
 
--- each task is more work than what comes of it, and a frame has more bytes than its tasks are work
+-- the work in a task: each task is more work than those it leads to, and a frame has more bytes
+-- than its tasks are work
 abbrev pub task_load : Task → ℕ
 task_load Listen = 0
 task_load (Read joined) = 4

@@ -1,6 +1,7 @@
--- The role of a call in the transfers in blocks (IEC 62056-5-3, GET, SET and ACTION, block transfer). The forms of requests are told apart here, once.
---     Role          what a call is to a transfer
---     role_of       the role of each call
+-- The role of a request in the transfers in blocks (IEC 62056-5-3, GET, SET and ACTION, block
+-- transfer). Only this file distinguishes the forms of requests.
+--     Role          the role of a request in a transfer
+--     role_of       the role of each request
 use Rattle.std.specs.Prelude.{ℕ}
 use Rattle.session_core.specs.declared.asked.ReplyForm.{ReplyForm}
 use Rattle.session_core.specs.declared.asked.ReplyForm.TheVariants as form
@@ -14,8 +15,9 @@ use Rattle.xdlms_apdu.specs.declared.block.Block.{Block}
 use Rattle.xdlms_apdu.specs.declared.request.Request.{Request}
 use Rattle.xdlms_apdu.specs.declared.request.Request.TheVariants as request
 
--- the first form of a long SET or ACTION, with what it is for and its first block; a later form of one; a GET, whose answer may be long; a GET-next, with the number that it
--- names; any other call, which ends all transfers
+-- `starts`: the first request of a long SET or ACTION, with its purpose and first block; `follows`:
+-- a later request of one; `gets`: a GET, whose answer may be long; `gets_next`: a GET-next, with
+-- the block number that it names; `stops`: any other request, which ends all transfers.
 pub data Role : Type 0 where
   starts : Purpose → Block → Role
   follows : LongService → Block → Role

@@ -1,9 +1,13 @@
--- What one frame does, given the association and the transfers before it (IEC 62056-5-3, association, GET, SET and ACTION, block transfer).
--- It is judged in this order, which is this meter's: an AARQ opens an association anew; what is no release and
--- no service is unknown; what comes from a port that has no association is not allowed; then the call decides.
---     turn_of                                      what comes of the frame
---     link_after, incoming_after, outgoing_after   the association, the long SET or ACTION and the long GET after it
---     outcome_at, state_after                      the same of all that a session keeps
+-- The effect of one frame, given the association and the transfers before it (IEC 62056-5-3,
+-- association, GET, SET and ACTION, block transfer). A frame is judged in this order, which is this
+-- meter's own: an AARQ opens an association anew; a payload that is neither a release nor a service
+-- is unknown; a request from a port without an association is not allowed; then the request
+-- decides.
+--     turn_of                                      the outcome of the frame
+--     link_after, incoming_after, outgoing_after   the association, the long SET or ACTION and the
+--                                                  long GET after it
+--     outcome_at, state_after                      the outcome, and all that a session keeps after
+--                                                  it
 use Rattle.std.specs.Prelude.{◌≡◌, ℕ, Bool, false, true, ◌&&◌, ◌==◌, if◌then◌else◌, Option, Some, None, List, Result, Ok, Err}
 use Rattle.acse_ber.specs.Reading.{aarq_of}
 use Rattle.acse_ber.specs.Verdict.{verdict_of}
@@ -42,45 +46,45 @@ use Rattle.xdlms_apdu.specs.declared.response.Exception.TheVariants.{NotAllowed,
 use Rattle.xdlms_apdu.specs.declared.response.Response.TheVariants as response
 use Rattle.xdlms_blocks.specs.Transfer.{Sending}
 
--- ---- which frames are heard
+-- ---- which frames count
 
 -- a frame for the server: the port that it comes from, and its payload
 abbrev pub heard_frame : ℕ → List ℕ → Frame
 heard_frame src payload = record { src = src; dst = management_device; payload = payload }
 
--- a frame opens an association, or tries to
+-- whether a frame opens an association, or tries to
 abbrev pub opens : Frame → Bool
 opens f = is_opening f.payload
 
--- a frame is a call from the client of this association
+-- whether a frame is a request from the client of this association
 abbrev pub is_heard : Link → Frame → Bool
 is_heard link f = is_call f.payload && link.source == f.src
 
--- what it asks for
+-- the request in a frame of the client
 abbrev pub call_in : Link → Frame → Call
 call_in link f = call_of link.conformance f.payload
 
--- its role in the transfers
+-- the role of that request in the transfers
 abbrev pub role_in : Link → Frame → Role
 role_in link f = role_of (call_in link f)
 
--- a release
+-- whether a request is a release
 abbrev pub is_release : Call → Bool
 is_release call.Release = true
 is_release _ = false
 
--- a frame releases this association
+-- whether a frame releases this association
 abbrev pub is_closing : Link → Frame → Bool
 is_closing link f = is_heard link f && is_release (call_in link f)
 
--- the form of the answer to a GET of one attribute
+-- whether an answer is to a GET of one attribute
 abbrev pub asks_value : ReplyForm → Bool
 asks_value (form.Get id) = true
 asks_value _ = false
 
--- ---- what comes of a frame
+-- ---- the outcome of a frame
 
--- an exception
+-- the answer with an exception
 abbrev pub exception_answer : Exception → Answer
 exception_answer exception = Service (response.Exception exception)
 
@@ -89,7 +93,7 @@ abbrev pub opening_answer : List ℕ → ℕ → Result Aarq AcseFault → Answe
 opening_answer password source (Ok aarq) = Association (aare_by (verdict_of aarq source password))
 opening_answer password source (Err fault) = exception_answer Unreadable
 
--- what comes of a request
+-- the outcome of a request that was read
 abbrev pub request_turn : Link → Option Incoming → Request → Turn
 request_turn link incoming (request.Get id target) = settled (asks (event.Get link.level target.attr target.selected) (record { link = link; form = form.Get id }))
 request_turn link incoming (request.GetNext id number) = continues link.source id number
@@ -101,19 +105,19 @@ request_turn link incoming (request.Action id method parameter) = settled (asks 
 request_turn link incoming (request.ActionFirst id method block) = settled (block_outcome_of link id (purpose.Action method) block no_blocks)
 request_turn link incoming (request.ActionNext id block) = settled (later_outcome link service.Action id block (transfer_of service.Action incoming))
 
--- what comes of a call
+-- the outcome of the client's request
 abbrev pub call_turn : Link → Option Incoming → Call → Turn
 call_turn link incoming call.Release = settled (says link.source Release)
 call_turn link incoming (call.Service request) = request_turn link incoming request
 call_turn link incoming (call.Refused exception) = settled (says link.source (exception_answer exception))
 
--- what comes of a frame that is a release or a service
+-- the outcome of a frame that is a release or a service
 abbrev pub turn_in : Option Link → Option Incoming → Frame → Turn
 turn_in None incoming f = settled (says f.src (exception_answer NotAllowed))
 turn_in (Some link) incoming f =
     if link.source == f.src then call_turn link incoming (call_in link f) else settled (says f.src (exception_answer NotAllowed))
 
--- what comes of a frame
+-- the outcome of a frame
 unfoldable pub turn_of : List ℕ → Option Link → Option Incoming → Frame → Turn
 turn_of password link incoming f =
     if opens f then settled (says f.src (opening_answer password f.src (aarq_of f.payload)))
@@ -129,7 +133,7 @@ link_in f (Some link) = if is_closing link f then None else Some link
 unfoldable pub link_after : List ℕ → Frame → Option Link → Option Link
 link_after password f link = if opens f then opened_by password f else link_in f link
 
--- ---- the long SET or ACTION after a frame: any call but its later block ends it
+-- ---- the long SET or ACTION after a frame: any request except its next block ends it
 
 abbrev pub incoming_by_role : Role → Option Incoming → Option Incoming
 incoming_by_role (starts purpose block) incoming = block_after purpose block no_blocks
@@ -143,9 +147,9 @@ incoming_in (Some link) f incoming = if is_heard link f then incoming_by_role (r
 unfoldable pub incoming_after : Option Link → Frame → Option Incoming → Option Incoming
 incoming_after link f incoming = if opens f then None else incoming_in link f incoming
 
--- ---- the long GET after a frame and the reply to its event: any call but a GET-next ends it
+-- ---- the long GET after a frame and the reply to its event: any request except a GET-next ends it
 
--- the transfer that a reply begins, if it came
+-- the transfer that a reply begins, if there was a reply
 abbrev pub begun : Link → ReplyForm → Option Reply → Option Sending
 begun link form None = None
 begun link form (Some reply) = outgoing_by (record { link = link; form = form }) reply
@@ -164,20 +168,20 @@ outgoing_after link f reply outgoing = if opens f then None else outgoing_in lin
 
 -- ---- all that a session keeps
 
--- a turn, the long GET being known
+-- the outcome of a turn, once the long GET is known
 abbrev pub resolved : Option Sending → Turn → Outcome
 resolved outgoing (settled outcome) = outcome
 resolved outgoing (continues to id number) = says to (Service (continued_response id number outgoing))
 
--- what comes of a frame
+-- the outcome of a frame
 abbrev pub outcome_at : List ℕ → State → Frame → Outcome
 outcome_at password s f = resolved s.outgoing (turn_of password s.link s.incoming f)
 
--- what is kept after it, and after the reply to its event
+-- the state after a frame, and after the reply to its event
 abbrev pub state_after : List ℕ → State → Frame → Option Reply → State
 state_after password s f reply = record { link = link_after password f s.link; incoming = incoming_after s.link f s.incoming; outgoing = outgoing_after s.link f reply s.outgoing }
 
--- what is kept after a call
+-- the state after a request
 abbrev pub state_by_call : Link → Call → State → State
 state_by_call link call s = record {
   link = (if is_release call then None else s.link);
@@ -185,23 +189,23 @@ state_by_call link call s = record {
   outgoing = outgoing_by_role link (role_of call) None s.outgoing;
 }
 
--- the bytes of the answer to a reply
+-- the frame with the answer to a reply
 abbrev pub reply_text : Asked → Reply → List ℕ
 reply_text asked reply = due_text asked.link.source (answer_text (Service (reply_response asked reply)))
 
--- the outcome of a step of the code, where joined bytes are still to be read
+-- the outcome of a step of the code, which may still have to decode the joined bytes
 abbrev pub step_outcome : Step → Outcome
 step_outcome (Ask event asked) = asks event asked
 step_outcome (Say due) = says due.to due.answer
 step_outcome (Join joined) = whole_outcome joined
 
--- the bytes are read, if any were joined
+-- whether a step has no bytes left to decode
 abbrev pub is_settled : Step → Bool
 is_settled (Ask event asked) = true
 is_settled (Say due) = true
 is_settled (Join joined) = false
 
--- a frame asks for this attribute, and ends the transfers, whatever the password is
+-- A frame asks for this attribute and ends the transfers, whatever the password is.
 pub record HearsGet (old : State) (f : Frame) (asked : Asked) (attr : AttrRef) (new : State) : Type 0 where
   pub outcome : (password : List ℕ) → outcome_at password old f ≡ asks (event.Get asked.link.level attr false) asked
   pub after : (password : List ℕ) → new ≡ state_after password old f None

@@ -1,7 +1,9 @@
 -- The values that the standards fix for a session.
---     aarq_tag .. action_tag                    the tags of what a client asks for (IEC 62056-5-3)
---     request_forms                             the forms of requests, and the services that each needs (IEC 62056-5-3, conformance block)
---     accepted .. no_reason_given               the results and diagnostics of an association (IEC 62056-5-3, AARE)
+--     aarq_tag .. action_tag                    the tags of a client's requests (IEC 62056-5-3)
+--     request_forms                             the forms of requests, and the services that each
+--                                               needs (IEC 62056-5-3, conformance block)
+--     accepted .. no_reason_given               the results and diagnostics of an association (IEC
+--                                               62056-5-3, AARE)
 --     management_client, management_device      the ports of the wrapper (IEC 62056-4-7)
 --     least_pdu, greatest_pdu, block_header     the sizes of PDUs
 use Rattle.std.specs.Prelude.{ℕ, ◌+◌, List, [], ◌∷◌}
@@ -10,14 +12,14 @@ use Rattle.session_core.specs.declared.conformance.RequestForm.{RequestForm}
 
 -- ---- tags
 
--- an AARQ and an RLRQ
+-- AARQ and RLRQ
 abbrev pub aarq_tag : ℕ
 aarq_tag = 0x60
 
 abbrev pub rlrq_tag : ℕ
 rlrq_tag = 0x62
 
--- a Get-Request, a Set-Request and an Action-Request
+-- Get-Request, Set-Request and Action-Request
 abbrev pub get_tag : ℕ
 get_tag = 0xC0
 
@@ -29,11 +31,13 @@ action_tag = 0xC3
 
 -- ---- the forms of requests
 
--- a form: the tag of its service, the number of its choice, and the services that have to be negotiated
+-- a form: the tag of its service, the number of its choice, and the conformance bits that must be
+-- negotiated
 abbrev form : ℕ → ℕ → ℕ → RequestForm
 form tag number needs = record { tag = tag; number = number; needs = needs }
 
--- normal, next and with-list of a GET; normal, with-first-datablock and with-datablock of a SET; normal, with-first-pblock and with-pblock of an ACTION
+-- GET: normal, next and with-list; SET: normal, with-first-datablock and with-datablock; ACTION:
+-- normal, with-first-pblock and with-pblock
 abbrev pub request_forms : List RequestForm
 request_forms =
     form get_tag 1 get_service
@@ -56,7 +60,7 @@ accepted = 0
 abbrev pub rejected : ℕ
 rejected = 1
 
--- the diagnostics null and no-reason-given of the service user
+-- the diagnostics null and no-reason-given of acse-service-user
 abbrev pub null_diagnostic : ℕ
 null_diagnostic = 0
 
@@ -65,7 +69,7 @@ no_reason_given = 1
 
 -- ---- ports
 
--- the port of the meter's management logical device, from which it answers
+-- the port of the meter's management logical device
 abbrev pub management_device : ℕ
 management_device = 1
 
@@ -75,17 +79,20 @@ management_client = 1
 
 -- ---- sizes, in bytes
 
--- the smallest size that a client may propose, and the longest PDU that the meter sends and takes
+-- the smallest PDU size that a client may propose, and the longest PDU that the meter sends and
+-- receives
 abbrev pub least_pdu : ℕ
 least_pdu = 64
 
 abbrev pub greatest_pdu : ℕ
 greatest_pdu = 1024
 
--- a Get-Response-With-Datablock before its raw bytes: tag, choice, invoke-id-and-priority, last-block, block-number (4), the choice raw-data, and a length of 3 bytes at most
+-- the length of a Get-Response-With-Datablock before its raw bytes: tag, choice,
+-- invoke-id-and-priority, last-block, block-number (4), the choice raw-data, and a length of at
+-- most 3 bytes
 abbrev pub block_header : ℕ
 block_header = 3 + 1 + 4 + 1 + 3
 
--- the most raw bytes of a block
+-- the largest number of raw bytes in a block
 abbrev pub greatest_raw : ℕ
 greatest_raw = 1012

@@ -1,5 +1,6 @@
--- Requests (IEC 62056-5-3, GET, SET and ACTION) that come without a frame and without an association, as this meter takes them too. What isn't taken so is answered
--- by an exception (IEC 62056-5-3, ExceptionResponse).
+-- Requests (IEC 62056-5-3, GET, SET and ACTION) without a frame and without an association, which
+-- this meter also accepts. Any other payload is answered by an exception (IEC 62056-5-3,
+-- ExceptionResponse).
 use Rattle.std.specs.Prelude.{ℕ, Bool, false, ◌==◌, ◌&&◌, ◌||◌, if◌then◌else◌, None, List, [], ◌∷◌}
 use Rattle.acse_ber.specs.Verdict.{offered}
 use Rattle.cosem_names.specs.declared.level.Level.TheVariants.{Management}
@@ -14,23 +15,24 @@ use Rattle.session_core.specs.declared.unframed.Unframed.{Unframed}
 use Rattle.session_core.specs.declared.unframed.Unframed.TheVariants.{Ask, Say}
 use Rattle.xdlms_apdu.specs.declared.response.Exception.TheVariants.{Unknown}
 
--- the association that such a request is taken to have: management, all services that the meter offers, and PDUs of 1,024 bytes
+-- the association assumed for such a request: management, all services that the meter offers, and
+-- PDUs of 1,024 bytes
 abbrev pub unframed_link : Link
 unframed_link = record { source = management_client; level = Management; conformance = offered; limit = limit_of greatest_pdu }
 
--- a service's tag alone, or a form of a service that needs no session
+-- whether a payload is a service's tag alone, or a form of a service that needs no session
 abbrev pub is_unframed : List ℕ → Bool
 is_unframed [] = false
 is_unframed (tag ∷ []) = tag == get_tag || tag == set_tag || tag == action_tag
 is_unframed (tag ∷ form ∷ rest) = (tag == get_tag && (form == 1 || form == 3)) || (tag == set_tag && form == 1) || (tag == action_tag && form == 1)
 
--- what comes of such a request
+-- the outcome of such a request
 unfoldable pub unframed_outcome : List ℕ → Outcome
 unframed_outcome payload =
     if is_unframed payload then resolved None (call_turn unframed_link None (call_of offered payload))
     else says management_client (exception_answer Unknown)
 
--- as the code tells it
+-- the value of the code that means this outcome
 abbrev pub unframed_of : Outcome → Unframed
 unframed_of (asks event asked) = Ask event asked
 unframed_of (says to answer) = Say (answer_text answer)

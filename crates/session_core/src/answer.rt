@@ -12,20 +12,21 @@ use xdlms_apdu::{InvokeId, Response, append_response};
 
 /// The wrapper port of the server.
 pub(crate) const SERVER_PORT: u16 = 1;
-/// An answer is begun with memory for so many bytes. Most are shorter.
+/// The initial capacity of an answer in bytes. Most answers are shorter.
 const ROOM: usize = 64;
 
-/// The tag of a Get-Response, its form Normal, and the choice of a value in it (IEC 62056-5-3).
+/// The tag of a Get-Response; below, the numbers of its form normal and of its choice data (IEC
+/// 62056-5-3, GET).
 const GET_RESPONSE: u8 = 0xC4;
 
 const NORMAL: u8 = 1;
 
 const DATA: u8 = 0;
 
-/// What the server answers.
+/// An answer of the server.
 #[derive(Drop)]
 pub(crate) enum Answer {
-    /// An AARE, to an AARQ that could be read.
+    /// An AARE, to an AARQ that was readable.
     Association(Aare),
     /// An RLRE.
     Release,
@@ -34,7 +35,7 @@ pub(crate) enum Answer {
 }
 
 impl Answer {
-    /// The bytes of the answer, behind those that are left for a header.
+    /// Returns the bytes of the answer, after those reserved for the frame's header.
     #[tactic(auto, unfolding(crate::specs::Answers::answer_text))]
     pub(crate) fn write(&self, alloc: Global, way: Way) -> Result<Octets, AllocError>
         ensures header { IfOk result (λ text. way_size way ≤ length text) }
@@ -48,17 +49,17 @@ impl Answer {
     }
 }
 
-/// How an answer goes out.
+/// How an answer is sent.
 #[derive(Clone, Copy, PartialEq, Eq)]
 pub(crate) enum Way {
     /// In a frame to the client's port.
     Framed,
-    /// As it is.
+    /// Without a frame.
     Bare,
 }
 
 impl Way {
-    // Bytes for the header that a payload gets, with room for a short one behind them.
+    // Returns the bytes reserved for the header, with capacity for a short payload after them.
     fn begin(self, alloc: Global) -> Result<Octets, AllocError>
         ensures { IfOk result (λ text. length text ≡ way_size self) }
     {
@@ -70,7 +71,7 @@ impl Way {
         Ok(Octets::from_vec(text))
     }
 
-    /// The text of a response, behind the bytes that are left for a header.
+    /// Returns the bytes of a response, after those reserved for the header.
     #[tactic(auto, using(std::proofs::lemmas::List::drop_at))]
     pub(crate) fn write(self, alloc: Global, response: &Response) -> Result<Octets, AllocError>
         ensures header { IfOk result (λ text. way_size self ≤ length text) }
@@ -81,7 +82,7 @@ impl Way {
         Ok(text)
     }
 
-    /// The text of the response with a value, behind the bytes that are left for a header.
+    /// Returns the bytes of the response with a value, after those reserved for the header.
     #[tactic(auto, unfolding(xdlms_apdu::specs::Text::response_text), using(std::proofs::lemmas::List::drop_at))]
     pub(crate) fn write_value(
         self,
@@ -98,7 +99,7 @@ impl Way {
         Ok(text)
     }
 
-    // A payload, behind the bytes that are left for a header.
+    // Returns a copy of a payload, after the bytes reserved for the header.
     #[tactic(auto, using(std::proofs::lemmas::List::drop_at))]
     fn copy(self, alloc: Global, payload: &[u8]) -> Result<Octets, AllocError>
         ensures header { IfOk result (λ text. way_size self ≤ length text) }
@@ -109,7 +110,7 @@ impl Way {
         Ok(text)
     }
 
-    /// The payload of a text that was written for this way.
+    /// Returns the payload in bytes that were written for this way.
     pub(crate) fn payload(self, text: &Octets) -> &[u8]
         requires { way_size self ≤ length text.now }
         ensures { result.now ≡ drop (way_size self) text.now }
@@ -120,7 +121,7 @@ impl Way {
         }
     }
 
-    /// The text as it goes out: in a frame the header is put in front of its payload. It takes no memory.
+    /// Returns the bytes as they are sent: in a frame, fills in the header. Does not allocate.
     #[tactic(auto, unfolding(crate::specs::Answers::due_text))]
     pub(crate) fn end(self, to: u16, text: Octets) -> Octets
         requires header { way_size self ≤ length text }

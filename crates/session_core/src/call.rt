@@ -6,23 +6,23 @@ use acse_ber::is_release;
 use std::alloc::{AllocError, Global};
 use xdlms_apdu::{ApduFault, Exception, Request, read_request};
 
-/// The tag of an AARQ, which asks for an association.
+/// The tag of an AARQ, which requests an association.
 pub(crate) const AARQ: u8 = 0x60;
-/// The tag of an RLRQ, which asks for its release.
+/// The tag of an RLRQ, which requests the release of an association.
 pub(crate) const RLRQ: u8 = 0x62;
 
-/// What the payload of a client that has an association asks for.
+/// A request in a payload from the client of an association.
 #[derive(Drop)]
 pub(crate) enum Call {
     /// The release of the association.
     Release,
-    /// A service.
+    /// A request for a service.
     Service(Request),
-    /// Nothing that is served.
+    /// Not readable, or not supported.
     Refused(Exception),
 }
 
-/// Whether a payload begins with this tag.
+/// Whether the payload begins with this tag.
 pub(crate) fn has_tag(tag: u8, payload: &[u8]) -> bool
     ensures { result ≡ tag_is tag payload.now }
 {
@@ -32,7 +32,7 @@ pub(crate) fn has_tag(tag: u8, payload: &[u8]) -> bool
     }
 }
 
-/// Whether a payload begins with the tag of a release or of a service.
+/// Whether the payload begins with the tag of a release or of a service.
 pub(crate) fn is_call(payload: &[u8]) -> bool
     ensures { result ≡ is_call payload.now }
 {
@@ -42,7 +42,8 @@ pub(crate) fn is_call(payload: &[u8]) -> bool
         || has_tag(ACTION_REQUEST, payload)
 }
 
-/// What a payload asks for where these bits were negotiated: its form is judged before its body.
+/// Reads the request in a payload, given the negotiated conformance bits. Its form is judged before
+/// its body.
 #[tactic(auto, unfolding(crate::specs::Calls::call_of))]
 pub(crate) fn read_call(alloc: Global, conformance: u32, payload: &[u8]) -> Result<Call, AllocError>
     ensures { IfOk result (λ call. call ≡ call_of conformance payload.now) }
@@ -57,7 +58,7 @@ pub(crate) fn read_call(alloc: Global, conformance: u32, payload: &[u8]) -> Resu
     }
 }
 
-// What the payload of a service asks for.
+// Reads the request in a service's payload.
 fn read_service(alloc: Global, conformance: u32, payload: &[u8]) -> Result<Call, AllocError>
     ensures { IfOk result (λ call. call ≡ request_call conformance payload.now) }
 {

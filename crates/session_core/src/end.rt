@@ -11,13 +11,13 @@ pub enum SessionEnd {
     Closed = 1,
     /// The input ended within a frame.
     Cut = 2,
-    /// A header of another version than 0001 came.
+    /// A header with a version other than 0001 arrived.
     BadVersion = 3,
-    /// A header came that announces a payload of more than 1,024 bytes.
+    /// A header that announces a payload of more than 1,024 bytes arrived.
     TooLong = 4,
 }
 
-/// The number of the end, 1 to 4.
+/// Converts an end to its number, 1 to 4.
 impl From<SessionEnd> for u8 {
     ghost from_gives = { λ end number. number ≡ end_number end };
 

@@ -11,7 +11,7 @@ use std::alloc::AllocError;
 use xdlms_apdu::{Block, InvokeId, Response};
 use xdlms_blocks::{BlockFault, JoinBlocks};
 
-/// The services whose requests may come in blocks.
+/// The services whose requests may arrive in blocks.
 #[derive(Clone, Copy, PartialEq, Eq)]
 pub(crate) enum LongService {
     Set,
@@ -19,7 +19,7 @@ pub(crate) enum LongService {
 }
 
 impl LongService {
-    /// The answer to a block that came and isn't the last.
+    /// Returns the answer to a block that is not the last.
     pub(crate) fn received(self, id: InvokeId, number: u32) -> Response
         ensures response { result ≡ received self id number }
         ensures small { IsSmall result }
@@ -30,7 +30,7 @@ impl LongService {
         }
     }
 
-    /// The answer that ends a transfer with this result.
+    /// Returns the answer that ends a transfer with this result.
     pub(crate) fn refused(self, id: InvokeId, number: u32, code: ResultCode) -> Response
         ensures response { result ≡ refused self id number code }
         ensures small { IsSmall result }
@@ -41,7 +41,7 @@ impl LongService {
         }
     }
 
-    /// The answer to a block that isn't added.
+    /// Returns the answer to a block that is not added.
     pub(crate) fn fault(self, to: u16, id: InvokeId, number: u32, fault: BlockFault) -> Due
         ensures to { result.to ≡ to }
         ensures answer { result.answer ≡ Service (refused self id number (block_code self fault)) }
@@ -49,7 +49,7 @@ impl LongService {
         Due::response(to, self.refused(id, number, self.code(fault)))
     }
 
-    /// The result that stands for a fault of a transfer.
+    /// Returns the result code of a fault of a transfer.
     pub(crate) fn code(self, fault: BlockFault) -> ResultCode
         ensures { result ≡ block_code self fault }
     {
@@ -63,7 +63,7 @@ impl LongService {
     }
 }
 
-/// What a request that comes in blocks is for.
+/// The purpose of a request that arrives in blocks.
 #[derive(Clone, Copy)]
 pub(crate) enum Purpose {
     /// To set an attribute.
@@ -73,7 +73,7 @@ pub(crate) enum Purpose {
 }
 
 impl Purpose {
-    /// The service.
+    /// Returns the service.
     pub(crate) fn service(self) -> LongService
         ensures { result ≡ service_of self }
     {
@@ -85,7 +85,7 @@ impl Purpose {
 }
 
 impl Purpose {
-    /// Whether a transfer is one of this service.
+    /// Whether the purpose is one of this service.
     pub(crate) fn is_of(self, service: LongService) -> bool
         ensures { result ≡ is_of service self }
     {
@@ -97,26 +97,26 @@ impl Purpose {
     }
 }
 
-/// A long SET or ACTION of which blocks came, and not the last.
+/// A long SET or ACTION in progress: some blocks have arrived, but not the last.
 #[derive(Drop)]
 pub(crate) struct Incoming {
     pub(crate) purpose: Purpose,
     pub(crate) blocks: JoinBlocks,
 }
 
-/// What became of a transfer by one more block.
+/// The result of adding a block to a transfer.
 #[derive(Drop)]
 pub(crate) enum Added {
-    /// It goes on, and this is the answer.
+    /// The transfer continues, with this answer.
     GoesOn(Due),
-    /// It is over, and this is the answer.
+    /// The transfer has ended, with this answer.
     Refused(Due),
-    /// The block was the last.
+    /// The block was the last, and the transfer is complete.
     Whole(Joined),
 }
 
 impl Added {
-    /// Whether the transfer is over.
+    /// Whether the transfer has ended.
     pub(crate) fn is_over(&self) -> bool
         ensures { result ≡ is_over self.now }
     {
@@ -128,7 +128,7 @@ impl Added {
 }
 
 impl Incoming {
-    /// Adds a block. Want of memory changes nothing.
+    /// Adds a block. If out of memory, nothing has changed.
     #[tactic(auto, unfolding(crate::specs::Incoming::block_outcome_of, crate::specs::Incoming::block_after))]
     pub(crate) fn add(
         &mut self,
@@ -162,7 +162,7 @@ impl Incoming {
     }
 }
 
-/// Adds a block to a transfer of this service. Want of memory changes nothing.
+/// Adds a block to a transfer of this service. If out of memory, nothing has changed.
 pub(crate) fn add_to(
     transfer: &mut Option<Incoming>,
     link: Link,

@@ -14,7 +14,7 @@ use relay_events::Event;
 use std::alloc::{AllocError, Global};
 use xdlms_apdu::InvokeId;
 
-/// A long SET or ACTION of which all blocks came.
+/// A long SET or ACTION whose blocks have all arrived.
 #[derive(Drop)]
 pub(crate) struct Joined {
     pub(crate) link: Link,
@@ -22,12 +22,12 @@ pub(crate) struct Joined {
     pub(crate) id: InvokeId,
     /// The number of the last block.
     pub(crate) number: u32,
-    /// What the blocks hold, end to end.
+    /// The bytes of all blocks, concatenated.
     pub(crate) bytes: Octets,
 }
 
 impl Joined {
-    /// What the blocks ask for. They hold one Data and nothing more, or they are refused.
+    /// Decodes the joined bytes. Unless they are exactly one Data, the request is refused.
     #[tactic(auto, unfolding(crate::specs::Incoming::whole_outcome))]
     pub(crate) fn read(&self, alloc: Global) -> Result<Step, AllocError>
         ensures outcome { IfOk result (λ step. step_outcome step ≡ whole_outcome self.now) }
@@ -43,7 +43,7 @@ impl Joined {
         }
     }
 
-    // The event of a transfer that holds this value.
+    // Returns the event of a transfer that contains this value.
     fn ask(&self, value: Data) -> Step
         ensures step { step_outcome result ≡ asks (event_by self.now.link.level self.now.purpose value) (record { link = self.now.link; form = form_by self.now.purpose self.now.id self.now.number }) }
         ensures settled { IsTrue (is_settled result) }
@@ -78,7 +78,7 @@ impl Joined {
     }
 }
 
-// The one Data that bytes are, or None.
+// Decodes bytes that are exactly one Data; `None` if they are not.
 #[tactic(auto, unfolding(crate::specs::Incoming::whole_data))]
 fn read_whole(alloc: Global, bytes: &[u8]) -> Result<Option<Data>, AllocError>
     ensures { IfOk result (λ value. value ≡ whole_data bytes.now) }

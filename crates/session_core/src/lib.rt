@@ -1,4 +1,5 @@
-//! One session of a client with the server: frames in, events and answers out (IEC 62056-5-3, IEC 62056-4-7).
+//! One session of a client with the server: frames in, events and answers out (IEC 62056-5-3, IEC
+//! 62056-4-7).
 #![tactic(auto)]
 
 mod answer;

@@ -8,17 +8,17 @@ use cosem_names::Level;
 /// An open association: what the client and the server agreed on.
 #[derive(Clone, Copy, Debug)]
 pub(crate) struct Link {
-    /// The port of the client.
+    /// The client's wrapper port.
     pub(crate) source: u16,
-    /// What the client may do.
+    /// The client's access rights.
     pub(crate) level: Level,
     /// The negotiated conformance block.
     pub(crate) conformance: u32,
-    /// The longest PDU that the client takes.
+    /// The longest PDU that is sent to the client.
     pub(crate) limit: Limit,
 }
 
-/// The association of a client that is accepted.
+/// Returns the association of a client that is accepted.
 pub(crate) fn opened(source: u16, verdict: Verdict) -> Option<Link>
     ensures { result ≡ link_by source verdict }
 {
@@ -33,7 +33,7 @@ pub(crate) fn opened(source: u16, verdict: Verdict) -> Option<Link>
     }
 }
 
-/// The answer to an AARQ that was judged.
+/// Returns the answer to an AARQ, by its verdict.
 pub(crate) fn answer_to(verdict: Verdict) -> Aare
     ensures { result ≡ aare_by verdict }
 {
@@ -59,11 +59,11 @@ pub(crate) fn answer_to(verdict: Verdict) -> Aare
     }
 }
 
-/// accepted
+/// Association result accepted (IEC 62056-5-3, AARE).
 pub(crate) const ACCEPTED: u8 = 0;
-/// rejected-permanent
+/// Association result rejected-permanent.
 pub(crate) const REJECTED: u8 = 1;
-/// null
+/// Diagnostic null of acse-service-user.
 pub(crate) const NULL_DIAGNOSTIC: u8 = 0;
-/// no-reason-given
+/// Diagnostic no-reason-given of acse-service-user.
 pub(crate) const NO_REASON_GIVEN: u8 = 1;

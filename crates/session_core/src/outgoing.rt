@@ -14,7 +14,8 @@ use std::marker::Model;
 use xdlms_apdu::{Block, InvokeId, Response};
 use xdlms_blocks::{BlockFault, GetBlocks, Piece};
 
-/// A long answer to a GET that goes out in blocks, each of which has room in a PDU. Contracts see what `xdlms_blocks` says of it.
+/// A long answer to a GET, sent in blocks that each fit in a PDU. Contracts see the transfer of
+/// `xdlms_blocks`.
 #[derive(Drop)]
 pub(crate) struct Outgoing {
     blocks: GetBlocks,
@@ -33,7 +34,7 @@ impl Model for Outgoing {
 }
 
 impl Outgoing {
-    /// A transfer of which no block is given.
+    /// Makes a transfer before its first block.
     pub(crate) fn new(raw: Octets, limit: Limit) -> Outgoing
         requires some { 0 < length raw }
         requires numbered { length raw ≤ max_blocks * (limit - block_header) }
@@ -44,7 +45,7 @@ impl Outgoing {
         }
     }
 
-    /// The next block, where `after` is the number of the block last given.
+    /// Returns the next block. `after` is the number of the block sent last.
     pub(crate) fn next(&mut self, alloc: Global, after: u32) -> Result<Piece, BlockFault>
         ensures no_transfer { IsErrOf result BlockFault.NoTransfer ↔ (self.old.is_open ≡ false) }
         ensures wrong_number { IsErrOf result BlockFault.WrongNumber ↔ ((self.old.is_open ≡ true) × (after ≢ self.old.number)) }
@@ -58,7 +59,7 @@ impl Outgoing {
     }
 }
 
-/// The result that stands for a fault of a long GET.
+/// Returns the result code of a fault of a long GET.
 fn code(fault: BlockFault) -> ResultCode
     ensures { result ≡ get_code fault }
 {
@@ -69,7 +70,8 @@ fn code(fault: BlockFault) -> ResultCode
     }
 }
 
-/// The answer to a GET-next, which names the block last received. Want of memory changes nothing.
+/// Returns the answer to a GET-next, which names the block last received. If out of memory, nothing
+/// has changed.
 #[tactic(auto, unfolding(crate::specs::Outgoing::continued_response, crate::specs::Outgoing::continued))]
 pub(crate) fn continue_by(
     transfer: &mut Option<Outgoing>,
@@ -101,7 +103,7 @@ pub(crate) fn continue_by(
     }
 }
 
-/// The answer with a block.
+/// Returns the answer that carries a block.
 pub(crate) fn block_given(to: u16, id: InvokeId, piece: Piece) -> Due
     requires { length piece.raw ≤ greatest_raw }
     ensures to { result.to ≡ to }
@@ -117,7 +119,7 @@ pub(crate) fn block_given(to: u16, id: InvokeId, piece: Piece) -> Due
     )
 }
 
-// The answer to a GET-next that gets no block: it repeats the number that was asked for.
+// Returns the answer to a GET-next that is refused: it repeats the requested block number.
 fn block_refused(to: u16, id: InvokeId, number: u32, fault: BlockFault) -> Due
     ensures to { result.to ≡ to }
     ensures answer { result.answer ≡ Service (Response.GetBlockRefused id true number (get_code fault)) }

@@ -12,7 +12,8 @@ use relay_events::Reply;
 use std::alloc::{AllocError, Global};
 use std::marker::Model;
 
-/// The answer of a request without a frame to a reply that has no value, made before its event: what is left to do takes no memory. Contracts see its form.
+/// The answer to a request without a frame, allocated before its event and completed by a reply
+/// without a value, so that completing it never allocates. Contracts see its form.
 #[derive(Debug, Drop)]
 pub struct PreparedAnswer {
     form: ReplyForm,
@@ -35,7 +36,7 @@ impl Model for PreparedAnswer {
 }
 
 impl PreparedAnswer {
-    /// Takes the memory for an answer.
+    /// Allocates the answer. Fails if out of memory.
     pub fn new(alloc: Global, asked: Asked) -> Result<PreparedAnswer, AllocError>
         ensures { IfOk result (λ prepared. prepared ≡ form_of asked) }
     {
@@ -50,7 +51,8 @@ impl PreparedAnswer {
         Ok(PreparedAnswer { form, text })
     }
 
-    /// The answer to a reply: its result, or other-reason where it is none. It takes no memory.
+    /// Returns the answer to a reply: its result code, or other-reason if the reply has none. Does
+    /// not allocate.
     #[tactic(auto, using(crate::proofs::Placed::placed, crate::proofs::Placed::within))]
     pub fn finish(self, reply: &Reply) -> Octets
         ensures { result ≡ answer_text (Service (code_response self (reply_code reply.now))) }
@@ -62,7 +64,7 @@ impl PreparedAnswer {
     }
 }
 
-// Where the result stands in an answer without a value.
+// Returns the index of the result code in an answer without a value.
 fn code_place(form: ReplyForm) -> usize
     ensures { result ≡ code_place form }
 {

@@ -20,19 +20,19 @@ use std::alloc::{AllocError, Global};
 use xdlms_apdu::{InvokeId, Response};
 use xdlms_blocks::{BlockFault, GetBlocks};
 
-/// The bytes of a Get-Response-Normal before its value's.
+/// The length of a Get-Response-Normal before the bytes of its value.
 const GET_HEADER: usize = 4;
-/// The bytes of a Get-Response-With-List before those of its results.
+/// The length of a Get-Response-With-List before the bytes of its results.
 const GET_LIST_HEADER: usize = 3;
 
-/// What answers a reply, and the long GET that goes on after it.
+/// The answer to a reply, and the long GET that is in progress after it.
 #[derive(Drop)]
 pub(crate) struct Answered {
     pub(crate) text: Octets,
     pub(crate) outgoing: Option<Outgoing>,
 }
 
-/// The answer to a reply, as it goes out this way. Want of memory gives the reply back.
+/// Returns the answer to a reply, as it is sent this way. If out of memory, returns the reply too.
 #[tactic(auto, unfolding(crate::specs::Outgoing::reply_response, crate::specs::Outgoing::begun_by), using(crate::proofs::Tasks::value_cut, crate::proofs::Tasks::values_cut))]
 pub(crate) fn answer_reply(
     alloc: Global,
@@ -72,7 +72,8 @@ pub(crate) fn answer_reply(
     }
 }
 
-/// The frame with the answer to the reply to a GET of one attribute. The long GET that it begins takes the place of the last one. Want of memory changes nothing.
+/// Returns the frame with the answer to the reply to a GET of one attribute. A long GET that it
+/// begins replaces the last one. If out of memory, nothing has changed.
 #[tactic(auto, unfolding(crate::specs::Outgoing::reply_response, crate::specs::Outgoing::begun_by), using(crate::proofs::Tasks::value_cut))]
 #[inline(always)]
 pub(crate) fn answer_get(
@@ -101,7 +102,7 @@ pub(crate) fn answer_get(
     answer_value(alloc, asked.link, id, value, outgoing)
 }
 
-// The frame with the answer to a value.
+// Returns the frame with the answer to a value.
 #[tactic(auto, unfolding(crate::specs::Answers::answer_text))]
 #[inline(always)]
 fn answer_value(
@@ -128,7 +129,7 @@ fn answer_value(
     Ok(answered.text)
 }
 
-// The answer to values. Want of memory gives them back.
+// Returns the answer to values. If out of memory, returns them too.
 fn answer_values(
     alloc: Global,
     link: Link,
@@ -148,7 +149,7 @@ fn answer_values(
     }
 }
 
-// The reply whose values a response has.
+// Returns the reply whose values a response has.
 fn reply_in(normal: Response) -> Reply
     ensures { result ≡ reply_in normal }
 {
@@ -169,7 +170,8 @@ fn reply_in(normal: Response) -> Reply
     }
 }
 
-// The answer to a reply that is a result, or that is taken as one.
+// Returns the answer that has only the reply's result code. If out of memory, returns the reply
+// too.
 fn answer_result(
     alloc: Global,
     asked: Asked,
@@ -186,7 +188,7 @@ fn answer_result(
     }
 }
 
-/// The result that a reply is. Any other reply is taken as one.
+/// Returns the result code of a reply; OtherReason for a reply of another kind.
 pub(crate) fn reply_code(reply: &Reply) -> ResultCode
     ensures { result ≡ reply_code reply.now }
 {
@@ -201,7 +203,7 @@ pub(crate) fn reply_code(reply: &Reply) -> ResultCode
     }
 }
 
-/// The answer with a result alone.
+/// Returns the answer that has only a result code.
 pub(crate) fn answer_code(
     alloc: Global,
     asked: Asked,
@@ -218,7 +220,7 @@ pub(crate) fn answer_code(
     })
 }
 
-// The response with a result alone.
+// Returns the response that has only a result code.
 fn code_response(form: ReplyForm, code: ResultCode) -> Response
     ensures response { result ≡ code_response form code }
     ensures small { IsSmall result }
@@ -234,7 +236,8 @@ fn code_response(form: ReplyForm, code: ResultCode) -> Response
     }
 }
 
-// The answer with values: as it is where it has room, else in blocks. So many of its bytes don't go in blocks.
+// Returns the answer with values: whole if it fits, else its first block. The first `header` bytes
+// are not sent in blocks.
 #[tactic(auto, unfolding(crate::specs::Answers::answer_text))]
 fn answer_long(
     alloc: Global,
@@ -261,7 +264,8 @@ fn answer_long(
     answered
 }
 
-// The answer with values that have no room in one: the first block of these bytes, else a refusal.
+// Returns the answer with values that don't fit in one PDU: the first block of these bytes, else a
+// refusal.
 fn answer_in_blocks(
     alloc: Global,
     link: Link,
@@ -283,7 +287,8 @@ fn answer_in_blocks(
     answer_code(alloc, asked, way, ResultCode::OtherReason)
 }
 
-// Whether bytes may go to the client in blocks: this was negotiated, and there are numbers for all blocks.
+// Whether bytes can be sent to the client in blocks: block transfer was negotiated, and the block
+// numbers suffice.
 fn can_go_in_blocks(link: Link, raw: &[u8]) -> bool
     ensures { result ≡ can_go_in_blocks link raw.now }
 {
@@ -291,7 +296,7 @@ fn can_go_in_blocks(link: Link, raw: &[u8]) -> bool
         && GetBlocks::has_numbers_for(raw, link.limit.raw())
 }
 
-// Begins to send bytes in blocks: the answer has the first.
+// Begins a transfer in blocks; the answer has the first block.
 fn begin(
     alloc: Global,
     link: Link,
@@ -317,7 +322,7 @@ fn begin(
     }
 }
 
-// The answer with the first block of a transfer, and whether this is the last.
+// Returns the answer with the first block of a transfer, and whether this is the last.
 fn give_first(
     alloc: Global,
     link: Link,

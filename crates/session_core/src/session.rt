@@ -20,10 +20,11 @@ use std::fmt::{self, Debug, Formatter};
 use std::mem::replace;
 use wrapper_frame::{Deframer, Head, WrapperFault};
 
-/// A client's session with the server, from the bytes that come to the frames that are sent.
+/// A client's session with the server, from the received bytes to the frames that are sent.
 ///
-/// Its caller feeds it the bytes of the stream, in any cut, and asks it what is next: an event for the meter, whose reply it is then given, a frame for the client,
-/// or more input.
+/// The caller feeds it the bytes of the stream, in pieces of any length, and asks it what is next:
+/// an event for the meter, whose reply the caller then passes in, a frame for the client, or more
+/// input.
 #[derive(Drop)]
 pub struct Session {
     password: Password,
@@ -33,7 +34,7 @@ pub struct Session {
     task: Task,
 }
 
-// It tells nothing of the password, nor of bytes that may hold one.
+// It shows neither the password nor bytes that may contain one.
 impl Debug for Session {
     fn fmt<W: fmt::Write>(&self, f: &mut Formatter<W>) -> fmt::Result {
         f.debug_struct("Session").finish_non_exhaustive()
@@ -44,7 +45,8 @@ impl Session {
     ghost use Rattle.session_core.specs.Remaining.{is_asking, is_asking_value, ended, is_finished, is_idle, load};
     ghost use Rattle.session_core.specs.Progress.{Owes, IsQuiet, Feeds, Finishes, StepsBy, Leaves, Takes, AnswersBy, AsksFor, WorksBy, task_by, next_by};
 
-    /// A session of which no byte has come. The management client has this password, 1 to 32 bytes.
+    /// Makes a session before its first byte. `password` is the management client's, 1 to 32 bytes.
+    /// Fails if out of memory.
     pub fn new(alloc: Global, password: &Octets) -> Result<Session, AllocError>
         requires { IsPassword password.now }
         ensures { IfOk result (Owes password.now) }
@@ -58,8 +60,9 @@ impl Session {
         })
     }
 
-    /// Appends the next bytes of the stream, in any cut. Once the session is over or its input has
-    /// ended, the call succeeds and changes nothing. Out of memory, nothing has changed.
+    /// Appends the next bytes of the stream, in pieces of any length. Once the session is over or
+    /// its input has ended, the call succeeds and changes nothing. If out of memory, nothing has
+    /// changed.
     #[tactic(auto, unfolding(crate::specs::Remaining::is_finished))]
     pub fn feed(&mut self, bytes: &[u8]) -> Result<(), AllocError>
         ensures ok { OnOk result (Feeds self.old bytes.now self.new) }
@@ -81,14 +84,14 @@ impl Session {
         }
     }
 
-    /// The input has ended.
+    /// Ends the input.
     pub fn finish(&mut self)
         ensures { Finishes self.old self.new }
     {
         self.is_finished = true;
     }
 
-    /// Whether the reply to an event is awaited.
+    /// Whether the session awaits the reply to an event.
     #[tactic(auto, unfolding(crate::specs::Remaining::is_asking))]
     pub fn asking(&self) -> bool
         ensures { result ≡ is_asking self.now }
@@ -100,16 +103,16 @@ impl Session {
     }
 
     /// Returns what the session needs next: an event for the meter to answer, a frame to send, more
-    /// input, or nothing more. Out of memory, it still asks and sends the same, and the call may be
-    /// repeated. Its fields may differ: a frame for another port may have been dropped before, or the
-    /// blocks of a value joined, which the next call does not do again.
+    /// input, or nothing more. If out of memory, the session has yet to ask and to send what it had
+    /// before, and the call may be repeated. Its fields may differ: a frame for another port may
+    /// have been dropped, or the blocks of a value joined, which the next call does not repeat.
     pub fn next(&mut self, alloc: Global) -> Result<Next, AllocError>
         ensures steps { StepsBy self.old result self.new }
         ensures leaves { IfOk result (λ next. Leaves self.old next self.new) }
-        // While a reply is awaited, and once the session is over, this is said again.
+        // While a reply is awaited, and once the session is over, `next` returns the same again.
         ensures waits { is_asking self.old ≡ true → (result ≡ Ok Next.Wait) × (self.new ≡ self.old) }
         ensures again { (end : SessionEnd) → ended self.old ≡ Some end → (result ≡ Ok (Next.End end)) × (self.new ≡ self.old) }
-        // Out of memory, no reply is awaited, and no more work is kept than before.
+        // If out of memory, no reply is awaited, and the load is no greater than before.
         ensures silent { OnErr result (is_asking self.new ≡ false) }
         ensures kept { OnErr result (load self.new ≤ load self.old) }
     {
@@ -126,7 +129,8 @@ impl Session {
         }
     }
 
-    /// Takes in the reply to the event that was asked. Want of memory gives it back.
+    /// Takes in the reply to the event that `next` returned. If out of memory, returns the reply,
+    /// and nothing has changed.
     #[tactic(auto, unfolding(crate::specs::Remaining::is_asking))]
     pub fn answer(&mut self, alloc: Global, reply: Reply) -> Result<(), (AllocError, Reply)>
         requires { is_asking self.now ≡ true }
@@ -143,8 +147,10 @@ impl Session {
         Ok(())
     }
 
-    /// Takes the frame at the front where it is whole and a GET of one attribute, with no selection, by the client of the association: then the meter is to be asked
-    /// `Event::Get` of this level and attribute, and `answer_get` takes its reply. Where it gives none all is as it was, and `next` tells what the session wants.
+    /// Takes the frame at the front if it is whole and is a GET of one attribute, without selective
+    /// access, from the client of the association. The caller then asks the meter `Event::Get` with
+    /// this level and attribute, and passes the reply to `answer_get`. If it returns `None`,
+    /// nothing has changed, and `next` says what the session needs.
     #[inline(always)]
     pub fn next_get(&mut self) -> Option<(Level, AttrRef)>
         ensures asks { IfSome result (λ get. AsksFor self.old get.0 get.1 self.new) }
@@ -168,7 +174,8 @@ impl Session {
         Some((level, attr))
     }
 
-    /// Takes in the reply to the event of `next_get`, and gives the frame with its answer, as `answer` and then `next` would. Want of memory changes nothing.
+    /// Takes in the reply to the event of `next_get` and returns the frame with its answer, as
+    /// `answer` followed by `next` would. If out of memory, nothing has changed.
     #[inline(always)]
     #[tactic(auto, unfolding(crate::specs::Remaining::is_asking_value))]
     pub fn answer_get(&mut self, alloc: Global, reply: &Reply) -> Result<Octets, AllocError>
@@ -184,7 +191,7 @@ impl Session {
         Ok(text)
     }
 
-    // The end that was told.
+    // Returns the end that was reported, if the session is over.
     #[tactic(auto, unfolding(crate::specs::Remaining::ended))]
     fn ended(&self) -> Option<SessionEnd>
         ensures { result ≡ ended self.now }
@@ -207,7 +214,7 @@ impl Session {
         }
     }
 
-    // Does the next task.
+    // Performs the next task. `None` if another task must follow.
     #[tactic(auto, unfolding(crate::specs::Remaining::is_asking))]
     fn work(&mut self, alloc: Global) -> Result<Option<Next>, AllocError>
         ensures works { WorksBy self.old result self.new }
@@ -236,7 +243,7 @@ impl Session {
         }
     }
 
-    // Takes what stands at the front of the input.
+    // Takes the frame at the front of the input, or ends the session.
     #[tactic(auto, unfolding(crate::specs::Remaining::is_asking))]
     fn listen(&mut self, alloc: Global) -> Result<Option<Next>, AllocError>
         requires { self.now.task ≡ Listen }
@@ -254,7 +261,8 @@ impl Session {
         }
     }
 
-    // Hears the frame at the front, whose payload has so many bytes. One for another port is passed over.
+    // Handles the frame at the front. `size` is the length of its payload in bytes. Drops a frame
+    // for another port.
     #[tactic(auto, unfolding(crate::specs::Remaining::is_asking))]
     fn hear(&mut self, alloc: Global, size: usize) -> Result<Option<Next>, AllocError>
         requires listening { self.now.task ≡ Listen }
@@ -275,7 +283,7 @@ impl Session {
         Ok(self.take(step))
     }
 
-    // The session is over.
+    // Ends the session.
     fn end(&mut self, end: SessionEnd) -> Option<Next>
         ensures after { self.new ≡ record self.old { task = Over end } }
         ensures next { result ≡ Some (Next.End end) }
@@ -284,7 +292,7 @@ impl Session {
         Some(Next::End(end))
     }
 
-    // What comes of a frame, or of a value that came in blocks.
+    // Turns to the task of a step, and returns what it needs from the caller, if anything.
     fn take(&mut self, step: Step) -> Option<Next>
         ensures after { self.new ≡ record self.old { task = task_by step } }
         ensures next { result ≡ next_by step }
@@ -305,7 +313,7 @@ impl Session {
         }
     }
 
-    // The next task.
+    // Sets the next task.
     #[inline(always)]
     fn turn_to(&mut self, task: Task)
         ensures { self.new ≡ record self.old { task = task } }

@@ -24,7 +24,8 @@ use std::alloc::{AllocError, Global};
 use xdlms_apdu::{Block, Exception, InvokeId, Request};
 use xdlms_blocks::JoinBlocks;
 
-/// What a session keeps from one frame to the next: the association and the transfers in blocks.
+/// The state that a session keeps from one frame to the next: the association and the transfers in
+/// blocks.
 #[derive(Drop)]
 pub(crate) struct State {
     pub(crate) link: Option<Link>,
@@ -37,7 +38,7 @@ impl State {
     ghost use Rattle.session_core.specs.Outcome.{asks, says};
     ghost use Rattle.session_core.specs.Outgoing.{continued, continued_response};
 
-    /// No association, and no transfer.
+    /// Returns the state of a new session: no association and no transfer.
     pub(crate) fn new() -> State
         ensures { result ≡ record { link = None; incoming = None; outgoing = None } }
     {
@@ -48,7 +49,7 @@ impl State {
         }
     }
 
-    /// Takes in a frame for the server. Want of memory changes nothing.
+    /// Handles a frame for the server. If out of memory, nothing has changed.
     #[tactic(auto, unfolding(crate::specs::Rules::turn_of, crate::specs::Rules::link_after, crate::specs::Rules::incoming_after, crate::specs::Rules::outgoing_after))]
     pub(crate) fn hear(
         &mut self,
@@ -73,8 +74,9 @@ impl State {
         }
     }
 
-    /// Takes in a frame for the server that is a single GET of the client of the association: its attribute, and what the answer needs to know. Any other frame
-    /// changes nothing.
+    /// Handles a frame for the server that is a GET of one attribute from the client of the
+    /// association. Returns the attribute, and what its answer needs to know. For any other frame
+    /// returns `None` and changes nothing.
     #[inline(always)]
     pub(crate) fn hear_get(&mut self, src: u16, payload: &[u8]) -> Option<(Asked, AttrRef)>
         ensures heard { IfSome result (λ heard. HearsGet self.old (heard_frame src payload.now) heard.0 heard.1 self.new) }
@@ -94,7 +96,7 @@ impl State {
         Some((asked, get.attr))
     }
 
-    // An AARQ ends the association, and opens another if it is accepted.
+    // Handles an AARQ: it ends the association, and opens another if it is accepted.
     fn open(
         &mut self,
         alloc: Global,
@@ -115,7 +117,7 @@ impl State {
         Ok(Step::Say(due))
     }
 
-    /// What the client of the association asks for.
+    /// Handles a request from the client of the association.
     pub(crate) fn call(
         &mut self,
         alloc: Global,
@@ -140,7 +142,7 @@ impl State {
         }
     }
 
-    // A service.
+    // Handles a request for a service.
     fn serve(&mut self, alloc: Global, link: Link, request: Request) -> Result<Step, AllocError>
         ensures outcome { IfOk result (λ step. step_outcome step ≡ resolved self.old.outgoing (request_turn link self.old.incoming request)) }
         ensures after { OnOk result (self.new ≡ state_by_call link (Call.Service request) self.old) }
@@ -185,7 +187,7 @@ impl State {
         }
     }
 
-    // An event for the meter. It ends the transfers.
+    // Returns the step that asks the meter an event. This ends the transfers.
     fn ask(&mut self, event: Event, link: Link, form: ReplyForm) -> Step
         ensures step { step_outcome result ≡ asks event (record { link = link; form = form }) }
         ensures after { self.new ≡ record { link = self.old.link; incoming = None; outgoing = None } }
@@ -195,7 +197,7 @@ impl State {
         Step::Ask(event, Asked { link, form })
     }
 
-    // The next block of a long GET. It ends a long SET or ACTION.
+    // Sends the next block of a long GET. This ends a long SET or ACTION.
     fn give(
         &mut self,
         alloc: Global,
@@ -212,7 +214,7 @@ impl State {
         Ok(Step::Say(due))
     }
 
-    // The first block of a long SET or ACTION. It ends the transfers before it.
+    // Handles the first block of a long SET or ACTION. This ends the transfers before it.
     fn begin(
         &mut self,
         alloc: Global,
@@ -249,7 +251,7 @@ impl State {
         }
     }
 
-    // A later block of a long SET or ACTION. It ends a long GET.
+    // Handles a later block of a long SET or ACTION. This ends a long GET.
     fn join(
         &mut self,
         link: Link,
@@ -269,7 +271,7 @@ impl State {
     }
 }
 
-// The event of a GET.
+// Returns the event of a GET.
 fn get_event(level: Level, target: AttributeSelection) -> Event
     ensures { result ≡ Event.Get level target.attr target.selected }
 {
@@ -280,7 +282,7 @@ fn get_event(level: Level, target: AttributeSelection) -> Event
     }
 }
 
-// The event of a SET.
+// Returns the event of a SET.
 fn set_event(level: Level, target: AttributeSelection, value: Data) -> Event
     ensures { result ≡ Event.Set level target.attr target.selected value }
 {
@@ -292,7 +294,7 @@ fn set_event(level: Level, target: AttributeSelection, value: Data) -> Event
     }
 }
 
-// The association that a frame with an AARQ opens, and the answer.
+// Returns the association that a frame with an AARQ opens, and the answer.
 #[tactic(auto, unfolding(crate::specs::Association::opened_by))]
 fn read_opening(
     alloc: Global,

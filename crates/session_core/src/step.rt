@@ -4,14 +4,14 @@ use crate::incoming::Added;
 use crate::joined::Joined;
 use relay_events::Event;
 
-/// What comes of a frame.
+/// The outcome of a frame.
 #[derive(Drop)]
 pub(crate) enum Step {
-    /// An event, whose reply is awaited.
+    /// An event, whose reply is then awaited.
     Ask(Event, Asked),
-    /// An answer.
+    /// An answer, which must be sent.
     Say(Due),
-    /// Joined bytes, which are to be read.
+    /// Joined bytes, which must be decoded.
     Join(Joined),
 }
 

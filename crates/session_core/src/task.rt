@@ -7,15 +7,15 @@ use cosem_axdr::Octets;
 /// What a session does next.
 #[derive(Drop)]
 pub(crate) enum Task {
-    /// It takes the next frame.
+    /// Takes the next frame.
     Listen,
-    /// It reads the value that came in blocks.
+    /// Decodes the value that arrived in blocks.
     Read(Joined),
-    /// It awaits the reply to an event.
+    /// Awaits the reply to an event.
     Await(Asked),
-    /// It writes an answer.
+    /// Writes an answer.
     Say(Due),
-    /// It gives a frame to its caller.
+    /// Returns a frame to its caller.
     Send(Octets),
     /// Nothing: the session is over.
     Over(SessionEnd),

@@ -1,4 +1,4 @@
-//! Requests that come without a frame and without an association.
+//! Requests without a frame and without an association.
 ghost use Rattle.std.specs.Prelude.{◌≡◌, None, IsTrue, IfOk};
 ghost use Rattle.session_core.specs.Answers.{answer_text};
 ghost use Rattle.session_core.specs.Calls.{call_of};
@@ -25,10 +25,10 @@ use relay_events::{Event, Reply};
 use std::alloc::{AllocError, Global};
 use xdlms_apdu::Exception;
 
-/// The port of the management client.
+/// The wrapper port of the management client.
 const MANAGEMENT_PORT: u16 = 1;
 
-/// What comes of a request without a frame.
+/// The outcome of a request without a frame.
 #[derive(Debug, Drop)]
 pub enum Unframed {
     /// An event for the meter, and what the answer to its reply needs to know.
@@ -37,8 +37,10 @@ pub enum Unframed {
     Say(Octets),
 }
 
-/// What comes of a request that has no frame and no association: it is judged as one of a management client that negotiated all services of the meter and takes
-/// PDUs of 1,024 bytes. A GET, also with a list, a SET and an ACTION in one piece act; every other form is unknown, since it needs a session (IEC 62056-5-3).
+/// Handles a request without a frame and without an association. It is judged as a request of a
+/// management client that negotiated all services of the meter and receives PDUs of 1,024 bytes. A
+/// GET, a GET with list, a SET and an ACTION in one piece are performed; any other form is unknown,
+/// because it needs a session (IEC 62056-5-3). Fails if out of memory.
 #[tactic(auto, unfolding(crate::specs::Unframed::unframed_outcome))]
 pub fn ask_unframed(alloc: Global, payload: &[u8]) -> Result<Unframed, AllocError>
     ensures { IfOk result (λ unframed. unframed ≡ unframed_of (unframed_outcome payload.now)) }
@@ -59,7 +61,7 @@ pub fn ask_unframed(alloc: Global, payload: &[u8]) -> Result<Unframed, AllocErro
     }
 }
 
-// What comes of a call that no other goes before.
+// Handles a request that no other precedes.
 fn call_alone(alloc: Global, link: Link, payload: &[u8]) -> Result<Step, AllocError>
     ensures { IfOk result (λ step. step_outcome step ≡ resolved None (call_turn link None (call_of link.conformance payload.now))) }
 {
@@ -69,7 +71,7 @@ fn call_alone(alloc: Global, link: Link, payload: &[u8]) -> Result<Step, AllocEr
     step
 }
 
-// What the blocks of a transfer ask for.
+// Decodes the joined bytes of a transfer.
 fn read_joined(alloc: Global, joined: Joined) -> Result<Step, AllocError>
     ensures outcome { IfOk result (λ step. step_outcome step ≡ whole_outcome joined) }
     ensures settled { IfOk result (λ step. IsTrue (is_settled step)) }
@@ -79,7 +81,7 @@ fn read_joined(alloc: Global, joined: Joined) -> Result<Step, AllocError>
     step
 }
 
-// What a step tells.
+// Returns the outcome of a step.
 fn unframed_by(alloc: Global, step: Step) -> Result<Unframed, AllocError>
     requires { IsTrue (is_settled step) }
     ensures { IfOk result (λ unframed. unframed ≡ unframed_of (step_outcome step)) }
@@ -91,7 +93,7 @@ fn unframed_by(alloc: Global, step: Step) -> Result<Unframed, AllocError>
     }
 }
 
-// An answer.
+// Returns an answer without a frame.
 fn say(alloc: Global, due: Due) -> Result<Unframed, AllocError>
     ensures { IfOk result (λ unframed. unframed ≡ Unframed.Say (answer_text due.answer)) }
 {
@@ -113,7 +115,8 @@ fn is_unframed(payload: &[u8]) -> bool
     }
 }
 
-/// The answer to the reply to an event of a request without a frame. A long one is the first block of a transfer that can't be gone on with.
+/// Returns the answer to the reply to an event of a request without a frame. A long answer is the
+/// first block of a transfer that can't be continued. Fails if out of memory.
 pub fn answer_unframed(alloc: Global, asked: Asked, reply: Reply) -> Result<Octets, AllocError>
     ensures { IfOk result (λ text. text ≡ answer_text (Service (reply_response asked reply))) }
 {
