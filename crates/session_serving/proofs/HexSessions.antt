@@ -22,7 +22,7 @@ use Rattle.session_core.specs.Progress.{Owes, Feeds}
 use Rattle.session_core.specs.Remaining.{still_asks, still_sends}
 use Rattle.session_core.specs.declared.session.Session.{Session}
 
--- a core replies as the worlds of its run
+-- a core's replies are those of the run of its world
 replies_are : (old new : RelayCore) (events : List Event) (replies : List Reply) (w : World)
     → Replied CoreSteps old events replies new → StandsFor old w → replies ≡ replies_of events w
 replies_are old new [] [] w ran stands = refl
@@ -38,7 +38,7 @@ fed_all : (password input : List ℕ) (s fed : Session) (core : RelayCore) (writ
     → Reached CoreSteps hex_line (Asks password) (Answers password) end_of core written input fed core written
 fed_all password input s fed core written owes feeds = reached_fed [] input s fed core written (reached_new password s core written owes) feeds
 
--- all was written
+-- everything was written
 pub on_all : (password input : List ℕ) (s fed : Session) (core core' : RelayCore) (written written' : Option (List ℕ))
     → Owes password s → Feeds s input fed
     → DoesAll CoreSteps hex_line (still_asks fed []) (still_sends fed []) core written core' written'
@@ -47,7 +47,7 @@ on_all password input s fed core core' written written' owes feeds all =
     subst (λ (seen : List ℕ). DoesAll CoreSteps hex_line (Asks password seen) (Answers password seen) core written core' written') (append-nil input)
     (does_all_on input [] fed core core' written written' (fed_all password input s fed core written owes feeds) all)
 
--- memory ran out in the session
+-- the session ran out of memory
 on_short : (password input : List ℕ) (s fed : Session) (core core' : RelayCore) (written written' : Option (List ℕ)) (failed failed' : ℕ)
     → Owes password s → Feeds s input fed
     → StopsShort CoreSteps hex_line (still_asks fed []) (still_sends fed []) core written core' written'
@@ -56,7 +56,7 @@ on_short password input s fed core core' written written' failed failed' owes fe
     subst (λ (seen : List ℕ). StopsShort CoreSteps hex_line (Asks password seen) (Answers password seen) core written core' written') (append-nil input)
     (stops_on input [] fed core core' written written' failed failed' fault.Memory (fed_all password input s fed core written owes feeds) stops)
 
--- the same of a fault that is want of memory
+-- a fault that is out of memory, in the session
 pub on_short_by : (password input : List ℕ) (s fed : Session) (core core' : RelayCore) (written written' : Option (List ℕ)) (failed failed' : ℕ) (f : ServeFault)
     → f ≡ fault.Memory → Owes password s → Feeds s input fed
     → Stops CoreSteps hex_line (still_asks fed []) (still_sends fed []) core written failed f core' written' failed'
@@ -65,7 +65,7 @@ on_short_by password input s fed core core' written written' failed failed' f is
     on_short password input s fed core core' written written' failed failed' owes feeds
     (subst (λ (g : ServeFault). Stops CoreSteps hex_line (still_asks fed []) (still_sends fed []) core written failed g core' written' failed') is stops)
 
--- what came of a meter that was new
+-- the result for a meter that was new
 pub played_new : (device password input : List ℕ) (core core' : RelayCore) (written written' : Option (List ℕ)) (failed failed' : ℕ) (result : Result (Unit {0}) HexFault)
     → StandsFor core (new_world device) → PlayedOn password input core written failed result core' written' failed'
     → Played device password input written failed result written' failed'
@@ -80,7 +80,7 @@ played_new device password input core core' written written' failed failed' (Err
 played_new device password input core core' written written' failed failed' (Err hex_fault.Memory) is_new (inr stops) =
     inr (record { core = core; core' = core'; is_new = is_new; stops = stops })
 
--- a core takes every event
+-- a core never refuses an event as Exhausted
 pub never_used_up : (asks : List Event) (sends : List Reply → List (List ℕ)) (core core' : RelayCore) (written written' : Option (List ℕ))
     → IsUsedUp CoreSteps hex_line asks sends core written core' written' → ⊥
 never_used_up asks sends core core' written written' used = used.refused.refused

@@ -1,4 +1,4 @@
--- How the order of a session's reads, writes and calls comes on.
+-- How each step of a session extends the ordered list of its reads, writes and calls.
 use Rattle.std.proofs.Common.{◌≡◌, IsErrAnd, ℕ, Option, Some, None, List, [], ◌∷◌, ◌++◌, Result, Ok, Err, refl, sym, ap, ◌∙◌, subst, append_assoc, append-nil}
 use Rattle.std.specs.List.{flat_map}
 use Rattle.std.specs.Io.KnownBytes.{Consumes}
@@ -34,10 +34,11 @@ all_more new more None middle after passed now = now ∙ ap (after_all more) pas
 all_more new more (Some earlier) middle after passed now =
     now ∙ ap (after_all more) passed ∙ ap Some (sym (append_assoc more new earlier))
 
--- ---- where a session is
+-- ---- a session's position in the list
 
 module _ {written_as : List ℕ → List ℕ} {password : List ℕ} where
-  -- the answers so far are all, if the session sends nothing more without input and replies
+  -- the answers written so far are all answers, if the session sends nothing more without input and
+  -- replies
   answered : {texts_of still : List ℕ → List Reply → List (List ℕ)} (happened : List Happening)
       → IsAt written_as password texts_of still happened → still [] [] ≡ []
       → IsAnswered written_as password happened
@@ -99,7 +100,7 @@ module _ {written_as : List ℕ → List ℕ} {password : List ℕ} where
     fine = a.fine;
   }
 
-  -- ---- further on
+  -- ---- one step further
 
   pub comes_new : {texts_of still : List ℕ → List Reply → List (List ℕ)} (happened : List Happening)
       (log : Option (List Happening))
@@ -151,7 +152,7 @@ module _ {written_as : List ℕ → List ℕ} {password : List ℕ} where
             way.is_at;
       }
 
-  -- ---- stops
+  -- ---- errors
 
   pub stops_here : {texts_of still : List ℕ → List Reply → List (List ℕ)}
       (happened : List Happening) (before after : Option (List Happening))
@@ -164,7 +165,7 @@ module _ {written_as : List ℕ → List ℕ} {password : List ℕ} where
     ordered = way.is_at.ordered;
   }
 
-  -- a call's answer was not made
+  -- the answer to a reply was not made
   pub stops_asked : {texts_of : List ℕ → List Reply → List (List ℕ)} (happened : List Happening)
       (before middle after : Option (List Happening))
       (old asking : Session) (event : Event) (reply : Reply)
@@ -226,7 +227,7 @@ module _ {written_as : List ℕ → List ℕ} {password : List ℕ} where
   stops_unsent happened before middle after fault.Exhausted way passed = absurd passed
   stops_unsent happened before middle after fault.Listen way passed = absurd passed
 
-  -- by a result that is a fault
+  -- a claim about each fault, for a result that is a fault
   pub orders_stop : {X : Type 0} (P : ServeFault → Type 0)
       (texts_of still : List ℕ → List Reply → List (List ℕ)) (happened : List Happening)
       (before after : Option (List Happening))
@@ -238,7 +239,7 @@ module _ {written_as : List ℕ → List ℕ} {password : List ℕ} where
 
   -- ---- the input
 
-  -- bytes that came are taken in
+  -- bytes that were read are taken in
   pub at_fed : {texts_of : List ℕ → List Reply → List (List ℕ)} (happened : List Happening)
       (old new : Session) (bytes : List ℕ)
       → Feeds old bytes new
@@ -263,7 +264,7 @@ module _ {written_as : List ℕ → List ℕ} {password : List ℕ} where
     fine = a.fine;
   }
 
-  -- a result that is no fault
+  -- a claim about a result that is not a fault
   pub orders_end : {X : Type 0} (texts_of still : List ℕ → List Reply → List (List ℕ))
       (happened : List Happening) (before after : Option (List Happening))
       (result : Result X ServeFault)
@@ -274,11 +275,11 @@ module _ {written_as : List ℕ → List ℕ} {password : List ℕ} where
 
 -- ---- reads
 
--- the texts of the bytes that were read, and of more
+-- the texts for the bytes that were read, followed by more
 abbrev pub texts_after : List ℕ → List Happening → List ℕ → List Reply → List (List ℕ)
 texts_after password happened more = Answers password (bytes_read happened ++ more)
 
--- a session that is at its list, and waits for input
+-- A session that has done all the list says, and waits for input.
 pub record Waits (password : List ℕ) (s : Session) (before after : Option (List Happening))
     (left left' : Option (List ℕ)) : Type 0 where
   pub happened : List Happening
@@ -286,7 +287,7 @@ pub record Waits (password : List ℕ) (s : Session) (before after : Option (Lis
   pub read : Consumes left left' (bytes_read happened)
   pub is_at : IsAt as_bytes password (texts_after password happened) (still_sends s) happened
 
--- these bytes were read, which the session did not take in yet
+-- These bytes were read, and the session has not yet taken them in.
 pub record HasRead (password : List ℕ) (s : Session) (bytes : List ℕ)
     (before after : Option (List Happening))
     (left left' : Option (List ℕ)) : Type 0 where
@@ -335,7 +336,7 @@ module _ (password : List ℕ) where
     };
   }
 
-  -- it took them in
+  -- the session took the bytes in
   pub waits_next : (s new : Session) (bytes : List ℕ)
       (before middle after : Option (List Happening)) (left left' : Option (List ℕ))
       → (r : HasRead password s bytes before middle left left')

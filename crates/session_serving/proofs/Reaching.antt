@@ -1,4 +1,4 @@
--- How a session comes on, one call after the other.
+-- How each call brings a session further.
 use Rattle.std.proofs.Common.{◌≡◌, ◌⊎◌, ◌<◌, ℕ, true, false, true≢false, is_some, IfOk, IsErrAnd, IfErr, Option, Some, None, List, [], ◌∷◌, ◌++◌, Result, Ok, Err, refl, sym, ap, ◌∙◌, subst, inl, inr, ⊎_elim, append_assoc, append-nil}
 use Rattle.std.specs.List.{flat_map}
 use Rattle.std.specs.Io.KnownBytes.{Appends}
@@ -68,7 +68,7 @@ reached_none s m written = record {
 module _ {M : Type 0} {steps : M → Event → Result Reply CallFault → M → Type 0} {written_as : List ℕ → List ℕ}
     {asks : List ℕ → List Event} {sends : List ℕ → List Reply → List (List ℕ)} {ends : List ℕ → SessionEnd}
     {m : M} {written : Option (List ℕ)} where
-  -- ---- further on
+  -- ---- one step further
 
   pub reached_fed : (seen bytes : List ℕ) (old new : Session) (m' : M) (written' : Option (List ℕ))
       → Reached steps written_as asks sends ends m written seen old m' written' → Feeds old bytes new
@@ -131,7 +131,7 @@ module _ {M : Type 0} {steps : M → Event → Result Reply CallFault → M → 
     wrote = r.wrote;
   }
 
-  -- an attribute was asked for, and the answer written
+  -- an attribute was asked for, and its answer was written
   pub reached_answered : (seen : List ℕ) (old middle new : Session) (m' m'' : M) (written' written'' : Option (List ℕ)) (event : Event) (reply : Reply) (text : List ℕ)
       → Reached steps written_as asks sends ends m written seen old m' written' → Steps old (event ∷ []) [] middle → steps m' event (Ok reply) m''
       → AnswersBy middle reply text new → Appends written' written'' (written_as text)
@@ -139,7 +139,7 @@ module _ {M : Type 0} {steps : M → Event → Result Reply CallFault → M → 
   reached_answered seen old middle new m' m'' written' written'' event reply text r st step answered wrote =
       reached_sent seen answered.between new m'' written' written'' text (reached_asked seen old middle answered.between m' m'' written' event reply r st step answered.takes) answered.sends wrote
 
-  -- after the end of the input, whatever bytes come then
+  -- after the end of the input, no bytes change anything
   pub reached_finished : (seen : List ℕ) (old new : Session) (m' : M) (written' : Option (List ℕ))
       → Reached steps written_as asks sends ends m written seen old m' written' → Finishes old new
       → Reached steps written_as (λ _. asks seen) (λ _. sends seen) (λ _. ends seen) m written [] new m' written'
@@ -155,7 +155,7 @@ module _ {M : Type 0} {steps : M → Event → Result Reply CallFault → M → 
     wrote = r.wrote;
   }
 
-  -- two ways, one after the other
+  -- two stretches of a session, one after the other
   pub reached_on : (seen bytes : List ℕ) (old new : Session) (m' m'' : M) (written' written'' : Option (List ℕ))
       → Reached steps written_as asks sends ends m written seen old m' written'
       → Reached steps written_as (still_asks old) (still_sends old) (still_ends old) m' written' bytes new m'' written''
@@ -175,14 +175,14 @@ module _ {M : Type 0} {steps : M → Event → Result Reply CallFault → M → 
     wrote = wrote_on written_as written written' written'' r.sent next.sent r.wrote next.wrote;
   }
 
-  -- ---- the ends
+  -- ---- the end of a session
 
-  -- the texts for the replies that came
+  -- the texts sent so far are those for the replies so far
   sent_so_far : (seen : List ℕ) (s : Session) (m' : M) (written' : Option (List ℕ)) (r : Reached steps written_as asks sends ends m written seen s m' written') (more : List ℕ)
       → sends (seen ++ more) r.replies ≡ r.sent ++ still_sends s more []
   sent_so_far seen s m' written' r more = ap (sends (seen ++ more)) (sym (append-nil r.replies)) ∙ r.sends_rest more []
 
-  -- nothing more is due
+  -- a session that has nothing left to do has done everything
   pub does_all : (seen more : List ℕ) (s : Session) (m' : M) (written' : Option (List ℕ))
       → Reached steps written_as asks sends ends m written seen s m' written' → still_asks s more ≡ [] → ((replies : List Reply) → still_sends s more replies ≡ [])
       → DoesAll steps written_as (asks (seen ++ more)) (sends (seen ++ more)) m written m' written'
@@ -196,7 +196,7 @@ module _ {M : Type 0} {steps : M → Event → Result Reply CallFault → M → 
         wrote = subst (λ (ts : List (List ℕ)). Appends written written' (flat_map written_as ts)) (sym all_sent) r.wrote;
       }
 
-  -- memory ran out before the next task
+  -- out of memory before the next task
   pub starved : (seen more : List ℕ) (s : Session) (m' : M) (written' : Option (List ℕ))
       → Reached steps written_as asks sends ends m written seen s m' written'
       → StopsShort steps written_as (asks (seen ++ more)) (sends (seen ++ more)) m written m' written'
@@ -225,7 +225,7 @@ module _ {M : Type 0} {steps : M → Event → Result Reply CallFault → M → 
     refused = step;
   }
 
-  -- one event more is among those of the session
+  -- one more event, the next of the session's
   asked_next : (seen more : List ℕ) (old new : Session) (m' : M) (written' : Option (List ℕ)) (event : Event)
       (r : Reached steps written_as asks sends ends m written seen old m' written') → Steps old (event ∷ []) [] new
       → asks (seen ++ more) ≡ (r.asked ++ event ∷ []) ++ still_asks new more
@@ -262,7 +262,7 @@ module _ {M : Type 0} {steps : M → Event → Result Reply CallFault → M → 
         wrote = subst (λ (ts : List (List ℕ)). Appends written written' (flat_map written_as ts)) (sym all_sent) r.wrote;
       })
 
-  -- the same, where the fault is what a call's was turned into
+  -- out of memory, for a fault that a call's error was converted to
   pub starved_by : {X : Type 0} (seen more : List ℕ) (old new : Session) (m' : M) (written' : Option (List ℕ)) (failed failed' : ℕ) (result : Result X ServeFault)
       → Reached steps written_as asks sends ends m written seen old m' written' → Steps old [] [] new → IsErrAnd result (λ f. f ≡ fault.Memory)
       → IfErr result (λ f. Stops steps written_as (asks (seen ++ more)) (sends (seen ++ more)) m written failed f m' written' failed')
@@ -279,7 +279,7 @@ module _ {M : Type 0} {steps : M → Event → Result Reply CallFault → M → 
   refused_by seen more old new m' m'' written' failed failed' event f (Err g) r st awaits step is =
       refused seen more old new m' m'' written' failed failed' event f g r st awaits step is
 
-  -- memory ran out while a reply was answered
+  -- out of memory while a reply was answered
   pub unanswered : (seen more : List ℕ) (old new : Session) (m' m'' : M) (written' : Option (List ℕ)) (event : Event) (reply : Reply)
       → Reached steps written_as asks sends ends m written seen old m' written' → Steps old (event ∷ []) [] new → steps m' event (Ok reply) m''
       → StopsShort steps written_as (asks (seen ++ more)) (sends (seen ++ more)) m written m'' written'
@@ -338,7 +338,7 @@ module _ {M : Type 0} {steps : M → Event → Result Reply CallFault → M → 
       subst (λ (h : ServeFault). Stops steps written_as (asks (seen ++ more)) (sends (seen ++ more)) m written failed h m' written'' failed') (sym is)
       (unsent seen more old new m' written' written'' failed failed1 failed' frame f r st even fails)
 
-  -- ---- a stop further on
+  -- ---- errors in a later stretch
 
   short_on : (seen more : List ℕ) (s : Session) (m' m'' : M) (written' written'' : Option (List ℕ))
       → Reached steps written_as asks sends ends m written seen s m' written'
@@ -409,7 +409,7 @@ module _ {M : Type 0} {steps : M → Event → Result Reply CallFault → M → 
 pub steps_none : (s : Session) → Steps s [] [] s
 steps_none s = record { asks = λ more. refl; sends = λ more replies. refl; ends = λ more. refl; finished = refl }
 
--- ---- all that is due was done
+-- ---- everything that the input asks for was done
 
 by_task : (task : Task) (end : SessionEnd) → end_in task ≡ Some end → awaits task ≡ false
 by_task task.Listen end over = refl
@@ -452,11 +452,11 @@ module _ {M : Type 0} (steps : M → Event → Result Reply CallFault → M → 
     finished = st.finished ∙ finished;
   }
 
-  -- nothing is due
+  -- an idle session has nothing to do
   settled_idle : (s : Session) (m : M) (written : Option (List ℕ)) → IsQuiet s → Settled steps written_as s m written [] None s m written
   settled_idle s m written quiet = settled_quiet s s s m m written written (reached_none s m written) quiet.silent refl (steps_none s) (inr quiet)
 
-  -- bytes that came first are taken in
+  -- the effect of bytes that were fed first
   settled_fed : (old middle new : Session) (bytes : List ℕ) (m m' : M) (written written' : Option (List ℕ)) (end : Option SessionEnd)
       → Feeds old bytes middle → Settled steps written_as middle m written [] end new m' written'
       → Settled steps written_as old m written bytes end new m' written'
@@ -469,7 +469,7 @@ module _ {M : Type 0} (steps : M → Event → Result Reply CallFault → M → 
     finished = settled.finished ∙ fed.finished;
   }
 
-  -- and nothing is due after them
+  -- and after these bytes there is nothing to do
   pub settled_by_feeding : (old new : Session) (bytes : List ℕ) (m : M) (written : Option (List ℕ)) → Feeds old bytes new → IsQuiet new
       → Settled steps written_as old m written bytes None new m written
   settled_by_feeding old new bytes m written fed quiet = settled_fed old new new bytes m m written written None fed (settled_idle new m written quiet)

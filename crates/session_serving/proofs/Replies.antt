@@ -1,4 +1,4 @@
--- Events that a meter answers, one after the other.
+-- Events that a meter replied to, one after the other.
 use Rattle.std.proofs.Common.{List, [], ◌∷◌, ◌++◌, Result, Ok, refl, sym, ap, ◌∙◌, subst, append_assoc}
 use Rattle.session_serving.specs.Meters.{Replied, Refused}
 use Rattle.relay_events.specs.declared.event.Event.{Event}
@@ -6,7 +6,7 @@ use Rattle.relay_events.specs.declared.reply.Reply.{Reply}
 use Rattle.call_fault.specs.declared.fault.CallFault.{CallFault}
 
 module _ {M : Type 0} (steps : M → Event → Result Reply CallFault → M → Type 0) where
-  -- one event more
+  -- one more event
   pub replied_more : (first next last : M) (events : List Event) (replies : List Reply) (event : Event) (reply : Reply)
       → Replied steps first events replies next → steps next event (Ok reply) last → Replied steps first (events ++ event ∷ []) (replies ++ reply ∷ []) last
   replied_more first next last [] [] event reply ran step = (last, subst (λ (m : M). steps m event (Ok reply) last) ran step, refl)
@@ -14,7 +14,7 @@ module _ {M : Type 0} (steps : M → Event → Result Reply CallFault → M → 
   replied_more first next last (e ∷ events) [] event reply ran step = absurd ran
   replied_more first next last (e ∷ events) (r ∷ replies) event reply (m, one, ran) step = (m, one, replied_more m next last events replies event reply ran step)
 
-  -- further events
+  -- several more events
   pub replied_on : (first next last : M) (events more : List Event) (replies later : List Reply)
       → Replied steps first events replies next → Replied steps next more later last → Replied steps first (events ++ more) (replies ++ later) last
   replied_on first next last [] more [] later ran then_ran = subst (λ (m : M). Replied steps m more later last) ran then_ran

@@ -1,4 +1,4 @@
--- What goes to the threads of sessions and workers may go to a thread.
+-- The values that are passed to the threads of sessions and workers are `Send`.
 use denote.Param.Send.{IsSend, sendable}
 use Rattle.std.proofs.Crossing.{crosses}
 use Rattle.octets.proofs.Octets.TheSendSync.{the_send as octets_send}

@@ -21,14 +21,14 @@ use Rattle.call_fault.specs.declared.fault.CallFault.{CallFault}
 use Rattle.wrapper_frame.specs.Messages.{frames_of, rest_of, cut_in}
 use Rattle.wrapper_frame.specs.Header.{head_of}
 
--- where the input ended, a session may end in any way
+-- at the end of the input, a session may end in any way
 ends_before : (end : SessionEnd) (left : Option (List ℕ)) → IsAtEnd left → EndsBefore end left
 ends_before ending.Closed left at_end = at_end
 ends_before ending.Cut left at_end = at_end
 ends_before ending.BadVersion left at_end = tt
 ends_before ending.TooLong left at_end = tt
 
--- a session may end at a wrong header whatever bytes are left
+-- a session may end at an invalid header, whatever bytes are left
 pub wrong_ends : (end : SessionEnd) (left : Option (List ℕ)) → IsWrongHeader end
     → EndsBefore end left
 wrong_ends ending.Closed left wrong = absurd wrong
@@ -44,23 +44,23 @@ no_answers : (password : List ℕ) (replies : List Reply) → Answers password [
 unfolding Answers frames_of cut_in
 no_answers password replies = refl
 
--- of a new session nothing is due
+-- a new session has nothing to do
 pub settled_new : (password : List ℕ) (s : Session) → Owes password s → IsSettled s
 settled_new password s owes = record {
   asks = owes.asks [] ∙ no_asks password;
   sends = λ replies. owes.sends [] replies ∙ no_answers password replies;
 }
 
--- no input is no wrong header
+-- an empty input has no invalid header
 nothing_ends : EndsWithInput (end_of [])
 unfolding end_of rest_of cut_in head_of
 nothing_ends = tt
 
--- a new session has no wrong header
+-- a new session has no invalid header
 pub ends_new : (password : List ℕ) (s : Session) → Owes password s → EndsWithInput (still_ends s [])
 ends_new password s owes = subst EndsWithInput (sym (owes.ends [])) nothing_ends
 
--- ---- the pieces of the input
+-- ---- the reads
 
 stops_after : (seen bytes : List ℕ) → length bytes ≤ longest_piece → EndsWithInput (end_of seen)
     → StopsAtHeader (seen ++ bytes)
@@ -99,7 +99,7 @@ pieces_so_far seen count made made' short most counted = record {
 }
 
 module _ {M : Type 0} (steps : M → Event → Result Reply CallFault → M → Type 0) (written_as : List ℕ → List ℕ) where
-  -- what a session did that owes all that one with this password does
+  -- the effect of a session, stated for its password
   owed : (password seen : List ℕ) (old s : Session) (m m' : M) (written written' : Option (List ℕ)) → Owes password old
       → Reached steps written_as (still_asks old) (still_sends old) (still_ends old) m written seen s m' written'
       → Reached steps written_as (Asks password) (Answers password) end_of m written seen s m' written'
@@ -118,7 +118,7 @@ module _ {M : Type 0} (steps : M → Event → Result Reply CallFault → M → 
     silent = silent;
   }
 
-  -- the end of what was read so far
+  -- how the bytes read so far would end a session
   ends_so_far : (password : List ℕ) (old s : Session) (m m' : M)
       (written written' left left' : Option (List ℕ)) (count : ℕ)
       → Owes password old → (st : Stands steps written_as old m written left count s m' written'
@@ -130,7 +130,7 @@ module _ {M : Type 0} (steps : M → Event → Result Reply CallFault → M → 
       ∙ st.reached.ends_rest [] in
       subst EndsWithInput (sym e) st.ends
 
-  -- one read more
+  -- one more read
   stands_on : (old s new : Session) (m m' m'' : M)
       (written written' written'' left left' left'' : Option (List ℕ))
       (count : ℕ) (bytes : List ℕ) (end : Option SessionEnd)
@@ -150,7 +150,7 @@ module _ {M : Type 0} (steps : M → Event → Result Reply CallFault → M → 
         silent = settled.silent;
       }
 
-  -- the same, if no wrong header ended the session
+  -- one more read, unless an invalid header ended the session
   pub stands_next : (old s new : Session) (m m' m'' : M)
       (written written' written'' left left' left'' : Option (List ℕ))
       (count : ℕ) (bytes : List ℕ) (end : Option SessionEnd)
@@ -169,7 +169,7 @@ module _ {M : Type 0} (steps : M → Event → Result Reply CallFault → M → 
       (Some end) st consumed piece settled
       (subst EndsWithInput (sym (settled.done.ends [])) continues)
 
--- a read into a buffer of 1,024 bytes returns no more
+-- a read into a buffer of 1,024 bytes returns at most 1,024
 pub piece_of : (buffer : List ℕ) (count : ℕ) → count ≤ length buffer → length buffer ≡ longest_piece
     → length (take count buffer) ≤ longest_piece
 piece_of buffer count bound room = let e = length-take-le count buffer bound in omega
@@ -188,7 +188,7 @@ module _ {R W M : Type 0}
   did_stop password seen r r' w w' m m' fault.Exhausted stop = stop
   did_stop password seen r r' w w' m m' fault.Listen stop = absurd stop
 
-  -- memory ran out before there was a session
+  -- out of memory before there was a session
   pub served_none : (password : List ℕ) (r : R) (w : W) (m : M) (result : Result SessionEnd ServeFault)
       → IsErrAnd result (λ f. f ≡ fault.Memory)
       → Served remaining reads read_failures contents write_failures steps password r w m result r w m
@@ -225,7 +225,7 @@ module _ {R W M : Type 0}
         }));
   }
 
-  -- a stop after these bytes
+  -- an error after these bytes
   pub served_stop : (password bytes : List ℕ) (count : ℕ) (old s : Session) (r r1 r' : R)
       (w w1 w' : W) (m m1 m' : M) (f : ServeFault)
       → Owes password old → Stands steps as_bytes old m (contents w) (remaining r) count s m1
@@ -250,7 +250,7 @@ module _ {R W M : Type 0}
             st.short piece few counted;
       }
 
-  -- the same, where the fault is the one of a call
+  -- an error after these bytes, for a fault that a call's error was converted to
   pub served_stop_by : (password bytes : List ℕ) (count : ℕ) (old s : Session) (r r1 r' : R)
       (w w1 w' : W) (m m1 m' : M) (f : ServeFault) (result : Result SessionEnd ServeFault)
       → Owes password old → Stands steps as_bytes old m (contents w) (remaining r) count s m1
@@ -269,7 +269,7 @@ module _ {R W M : Type 0}
       (served_stop password bytes count old s r r1 r' w w1 w' m m1 m' f owes st consumed piece few
       counted even stop)
 
-  -- no byte was left
+  -- the input ended
   pub served_end : (password : List ℕ) (count : ℕ) (old s : Session) (r r1 r' : R) (w w1 w' : W)
       (m m1 m' : M) (result : Result SessionEnd ServeFault)
       → Owes password old → Stands steps as_bytes old m (contents w) (remaining r) count s m1
@@ -299,7 +299,7 @@ module _ {R W M : Type 0}
       served_stop password [] count old s r r1 r' w w1 w' m m1 m' f owes st consumed (omega arith)
       few counted even stop
 
-  -- a wrong header came
+  -- an invalid header arrived
   pub served_over : (password bytes : List ℕ) (count : ℕ) (old s new : Session) (r r1 r' : R)
       (w w1 w' : W) (m m1 m' : M) (end : SessionEnd)
       → Owes password old → Stands steps as_bytes old m (contents w) (remaining r) count s m1
@@ -332,7 +332,7 @@ module _ {R W M : Type 0}
             st.short piece few counted);
       }
 
-  -- a read failed, or it was the last
+  -- a read failed, or it was the last one allowed
   pub served_unread : (password : List ℕ) (count : ℕ) (old s : Session) (r r1 r' : R) (w w' : W)
       (m m' : M)
       → Owes password old → Stands steps as_bytes old m (contents w) (remaining r) count s m'

@@ -1,4 +1,4 @@
--- The replies to events that don't only read.
+-- The replies to events that do more than read.
 use Rattle.std.proofs.Common.{◌≡◌, ℕ, List, true, false, refl, ap, sym, ◌∙◌}
 use Rattle.relay_events.specs.Kinds.{Fits, IsCode, IsOfSamples, IsOfClock, is_read}
 use Rattle.relay_events.specs.declared.event.Event.{Event}
@@ -39,7 +39,7 @@ clock_has_none (SampledBoth over under export_over export_under) fits = refl
 clock_has_none (Ran count) fits = refl
 clock_has_none (Stale last) fits = refl
 
--- it has no value
+-- such a reply has no value
 valueless_reply : (event : Event) (reply : Reply) → is_read event ≡ false → Fits event reply → is_valueless reply ≡ true
 valueless_reply (Get level attr selected) reply e fits = absurd cc
 valueless_reply (GetList level items) reply e fits = absurd cc
@@ -49,12 +49,12 @@ valueless_reply Button reply e fits = code_has_none reply fits
 valueless_reply (Samples block) reply e fits = samples_have_none reply fits
 valueless_reply (Moment now) reply e fits = clock_has_none reply fits
 
--- so its answer has a result alone
+-- so its answer has only a result code
 pub prepared_text : (event : Event) (asked : Asked) (reply : Reply) → is_read event ≡ false → Fits event reply
     → answer_text (Service (reply_response asked reply)) ≡ answer_text (Service (code_response (form_of asked) (reply_code reply)))
 prepared_text event asked reply e fits = ap (λ r. answer_text (Service r)) (valueless asked reply (valueless_reply event reply e fits))
 
--- so what was prepared for that form, and finished by the reply, is the answer
+-- so the answer that was prepared for that form and completed by the reply is the answer
 pub prepared_answer : (event : Event) (asked : Asked) (reply given : Reply) (form : ReplyForm) (text : List ℕ) → is_read event ≡ false → Fits event given
     → form ≡ form_of asked → given ≡ reply → text ≡ answer_text (Service (code_response form (reply_code given)))
     → text ≡ answer_text (Service (reply_response asked reply))

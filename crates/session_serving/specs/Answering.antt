@@ -1,4 +1,5 @@
--- The answer to one request (IEC 62056-5-3, GET, SET and ACTION) that comes without a frame and without an association, as this meter takes it too.
+-- The answer to one request (IEC 62056-5-3, GET, SET and ACTION) without a frame and without an
+-- association, which this meter also accepts.
 use Rattle.std.specs.Prelude.{ℕ, List}
 use Rattle.relay_core.specs.Machine.{at_event}
 use Rattle.relay_core.specs.World.{World, Stepped}
@@ -9,7 +10,7 @@ use Rattle.session_core.specs.Unframed.{unframed_outcome}
 use Rattle.session_core.specs.declared.answer.Answer.TheVariants.{Service}
 use Rattle.session_core.specs.declared.asked.Asked.{Asked}
 
--- an answer: the world after it, and the bytes that are sent
+-- An answer: the world after it, and the bytes that are sent.
 pub record Answered : Type 0 where
   pub world : World
   pub text : List ℕ
@@ -18,7 +19,7 @@ pub record Answered : Type 0 where
 abbrev pub replied : Asked → Stepped → Answered
 replied asked stepped = record { world = stepped.world; text = answer_text (Service (reply_response asked stepped.reply)) }
 
--- the answer that comes of a request
+-- the answer to a request, by its outcome
 abbrev pub answer_by : Outcome → World → Answered
 answer_by (asks event asked) w = replied asked (at_event event w)
 answer_by (says to answer) w = record { world = w; text = answer_text answer }

@@ -1,6 +1,6 @@
--- What a meter is asked, and what it answers.
---     Replied     events that were all answered
---     Refused     events of which the last was refused
+-- The events that a meter is asked, and its replies.
+--     Replied     all events had replies
+--     Refused     the last event was refused
 --     CoreSteps   how the core takes an event
 use Rattle.std.specs.Prelude.{◌≡◌, false, List, [], ◌∷◌, ◌++◌, Result, Ok, Err}
 use Rattle.relay_events.specs.declared.event.Event.{Event}
@@ -13,14 +13,15 @@ use Rattle.call_fault.specs.declared.fault.CallFault.{CallFault}
 use Rattle.call_fault.specs.declared.fault.CallFault.TheVariants.{Memory, Exhausted}
 
 module _ {M : Type 0} (steps : M → Event → Result Reply CallFault → M → Type 0) where
-  -- a meter took these events, one after the other, and gave these replies
+  -- a meter took these events, one after the other, and returned these replies
   abbrev pub Replied : M → List Event → List Reply → M → Type 0
   Replied first [] [] last = last ≡ first
   Replied first [] (reply ∷ replies) last = ⊥
   Replied first (event ∷ events) [] last = ⊥
   Replied first (event ∷ events) (reply ∷ replies) last = (next : M) × steps first event (Ok reply) next × Replied next events replies last
 
-  -- a meter took all but the last of these events, gave these replies, and refused the last
+  -- A meter took all but the last of these events, returned these replies, and refused the last
+  -- event.
   pub record Refused (first : M) (events : List Event) (replies : List Reply) (fault : CallFault) (last : M) : Type 0 where
     pub taken : List Event
     pub event : Event
@@ -29,12 +30,13 @@ module _ {M : Type 0} (steps : M → Event → Result Reply CallFault → M → 
     pub replied : Replied first taken replies before
     pub refused : steps before event (Err fault) last
 
--- a core took an event: it stands for the world after it, and the reply is that world's
+-- A core took an event: it represents the world after it, and the reply is that world's.
 pub record TakesEvent (old : RelayCore) (event : Event) (reply : Reply) (new : RelayCore) : Type 0 where
   pub world : (w : World) → StandsFor old w → StandsFor new (at_event event w).world
   pub reply_of : (w : World) → StandsFor old w → reply ≡ (at_event event w).reply
 
--- how a core takes an event; where memory runs out it is as it was, and the event is one that takes memory
+-- how a core takes an event; if out of memory, it is unchanged, and the event is one that may
+-- allocate
 abbrev pub CoreSteps : RelayCore → Event → Result Reply CallFault → RelayCore → Type 0
 CoreSteps old event (Ok reply) new = TakesEvent old event reply new
 CoreSteps old event (Err Memory) new = (new ≡ old) × (is_sure event ≡ false)

@@ -1,6 +1,6 @@
 -- The numbers of the faults.
---     serve_number    that of a server's fault
---     hex_number      that of a fault of a session in hexadecimal
+--     serve_number    the number of a server's fault
+--     hex_number      the number of a fault of a session in hexadecimal
 use Rattle.std.specs.Prelude.{ℕ}
 use Rattle.session_serving.specs.declared.fault.HexFault.{HexFault}
 use Rattle.session_serving.specs.declared.fault.HexFault.TheVariants as hex_fault

@@ -1,8 +1,10 @@
--- The order of a session's reads, writes and calls in time. A list of them has the last of them first.
+-- The order in time of a session's reads, writes and calls. A list of them begins with the last
+-- one.
 --     Happening      a read, a write or a call, with its result
 --     IsAnswered     all answers that the bytes read and the replies ask for were written
---     IsOrdered      each read and each call follows the answers before it, and nothing follows a failure
---     IsInOrder      what passed during a session was in this order
+--     IsOrdered      each read and each call follows the answers before it, and nothing follows a
+--                    failure
+--     IsInOrder      the reads, writes and calls of a session were in this order
 use Rattle.std.specs.Prelude.{◌≡◌, ℕ, Bool, true, false, Option, Some, None, List, [], ◌∷◌, ◌++◌, take, ⊤, Result, Ok, Err}
 use Rattle.std.specs.List.{flat_map}
 use Rattle.std.specs.Io.KnownBytes.{Consumes}
@@ -14,7 +16,7 @@ use Rattle.relay_events.specs.declared.reply.Reply.{Reply}
 use Rattle.session_core.specs.Backwards.{Answers}
 use Rattle.call_fault.specs.declared.fault.CallFault.{CallFault}
 
--- a read, a write or a call
+-- A read, a write or a call of the meter, with its result. A call that was refused is a failure.
 pub data Happening : Type 0 where
   reads : List ℕ → Happening
   fails_to_read : Happening
@@ -23,7 +25,7 @@ pub data Happening : Type 0 where
   calls : Event → Reply → Happening
   refuses : Event → Happening
 
--- by the result of a read into a buffer, of a write, of a call
+-- the entry for a read into a buffer, and below, for a write and for a call
 abbrev pub read_by : Result ℕ StreamFault → List ℕ → Happening
 read_by (Ok count) buffer = reads (take count buffer)
 read_by (Err fault) buffer = fails_to_read
@@ -36,16 +38,16 @@ abbrev pub called_by : Event → Result Reply CallFault → Happening
 called_by event (Ok reply) = calls event reply
 called_by event (Err fault) = refuses event
 
--- the list after these happened, if the list before is known
+-- the list with these entries added, if the list before is known
 abbrev pub after_all : List Happening → Option (List Happening) → Option (List Happening)
 after_all new None = None
 after_all new (Some earlier) = Some (new ++ earlier)
 
--- this happened last
+-- this entry was added last
 abbrev pub Passes : Option (List Happening) → Happening → Option (List Happening) → Type 0
 Passes before happening after = after ≡ after_all (happening ∷ []) before
 
--- a frame was not written; if memory ran out before, nothing happened
+-- a frame was not written; if out of memory, nothing was added to the list
 abbrev pub FailsToPass : Option (List Happening) → ServeFault → Option (List Happening) → Type 0
 FailsToPass before fault.Read after = ⊥
 FailsToPass before fault.Write after = Passes before fails_to_write after
@@ -53,7 +55,7 @@ FailsToPass before fault.Memory after = after ≡ before
 FailsToPass before fault.Exhausted after = ⊥
 FailsToPass before fault.Listen after = ⊥
 
--- ---- what the list holds
+-- ---- the contents of the list
 
 -- the bytes that were read
 abbrev pub bytes_read : List Happening → List ℕ
@@ -85,7 +87,7 @@ replies_in (fails_to_write ∷ earlier) = replies_in earlier
 replies_in (calls event reply ∷ earlier) = replies_in earlier ++ reply ∷ []
 replies_in (refuses event ∷ earlier) = replies_in earlier
 
--- a read, a write or a call failed
+-- whether a read, a write or a call has failed
 abbrev pub has_failed : List Happening → Bool
 has_failed [] = false
 has_failed (reads bytes ∷ earlier) = has_failed earlier
@@ -104,7 +106,7 @@ module _ (written_as : List ℕ → List ℕ) (password : List ℕ) where
       bytes_written happened ≡ flat_map written_as
       (Answers password (bytes_read happened) (replies_in happened))
 
-  -- a read or a call follows the answers
+  -- a read or a call follows all answers so far
   abbrev pub Follows : Happening → List Happening → Type 0
   Follows (reads bytes) earlier = IsAnswered earlier
   Follows fails_to_read earlier = IsAnswered earlier
@@ -119,7 +121,8 @@ module _ (written_as : List ℕ → List ℕ) (password : List ℕ) where
   IsOrdered (happening ∷ earlier) =
       (has_failed earlier ≡ false) × Follows happening earlier × IsOrdered earlier
 
-  -- what passed during a session was in this order, and its reads took these bytes off the input
+  -- The reads, writes and calls of a session were in this order, and its reads took these bytes
+  -- from the input.
   pub record IsInOrder (before after : Option (List Happening)) (left left' : Option (List ℕ)) :
       Type 0 where
     pub happened : List Happening
@@ -127,10 +130,10 @@ module _ (written_as : List ℕ → List ℕ) (password : List ℕ) where
     pub ordered : IsOrdered happened
     pub read : Consumes left left' (bytes_read happened)
 
-  -- ---- how far a session has come
+  -- ---- the position of a session
 
-  -- Of all texts that further bytes and replies give, those of the replies so far were written, and the
-  -- session still sends the others.
+  -- Of the texts for all further bytes and replies, those for the replies so far were written, and
+  -- the session has yet to send the rest.
   pub record IsAt (texts_of still : List ℕ → List Reply → List (List ℕ))
       (happened : List Happening) : Type 0 where
     pub texts : List (List ℕ)
@@ -142,7 +145,7 @@ module _ (written_as : List ℕ → List ℕ) (password : List ℕ) where
     pub ordered : IsOrdered happened
     pub fine : has_failed happened ≡ false
 
-  -- the session came on, with no read
+  -- The session took a step further, without a read.
   pub record ComesOn (texts_of still : List ℕ → List Reply → List (List ℕ))
       (happened : List Happening)
       (before after : Option (List Happening)) : Type 0 where
@@ -151,7 +154,7 @@ module _ (written_as : List ℕ → List ℕ) (password : List ℕ) where
     pub unread : bytes_read (new ++ happened) ≡ bytes_read happened
     pub is_at : IsAt texts_of still (new ++ happened)
 
-  -- it stopped
+  -- The session stopped with an error.
   pub record StopsInOrder (happened : List Happening) (before after : Option (List Happening)) :
       Type 0 where
     pub new : List Happening
@@ -159,7 +162,7 @@ module _ (written_as : List ℕ → List ℕ) (password : List ℕ) where
     pub unread : bytes_read (new ++ happened) ≡ bytes_read happened
     pub ordered : IsOrdered (new ++ happened)
 
-  -- by its result
+  -- by the session's result: it took a step further, or it stopped
   abbrev pub Orders : {X E : Type 0} → (List ℕ → List Reply → List (List ℕ))
       → (List ℕ → List Reply → List (List ℕ))
       → List Happening → Option (List Happening) → Result X E → Option (List Happening) → Type 0

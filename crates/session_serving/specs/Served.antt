@@ -1,10 +1,10 @@
--- What a session did to its streams and its meter.
+-- The effect of a session on its streams and its meter.
 --     DoesAll        all events were asked, and all answers to their replies were written
---     StopsShort     memory ran out
---     IsUsedUp       the meter takes no more events
+--     StopsShort     out of memory
+--     IsUsedUp       the meter accepts no more events
 --     IsUnwritten    a write failed
---     Stops          a session that stopped in its midst
---     Pieces         the reads: how many they were, and what the last of them gave
+--     Stops          a session that stopped early, by its fault
+--     Pieces         the reads: their number and lengths
 --     Served         a whole session, by its result
 use Rattle.std.specs.Prelude.{◌≡◌, ◌⊎◌, ◌+◌, ◌*◌, ◌<◌, ◌≤◌, ℕ, Option, List, ◌++◌, length, ⊤, Result, Ok, Err}
 use Rattle.std.specs.List.{flat_map}
@@ -21,22 +21,23 @@ use Rattle.session_core.specs.declared.end.SessionEnd.TheVariants as ending
 use Rattle.call_fault.specs.declared.fault.CallFault.{CallFault}
 use Rattle.call_fault.specs.declared.fault.CallFault.TheVariants as call
 
--- the texts that are due for replies
+-- the texts to send, for a list of replies
 abbrev pub Sends : Type 0
 Sends = List Reply → List (List ℕ)
 
--- a text that is written as its bytes
+-- a text that is written unchanged
 abbrev pub as_bytes : List ℕ → List ℕ
 as_bytes text = text
 
 module _ {M : Type 0} (steps : M → Event → Result Reply CallFault → M → Type 0) (written_as : List ℕ → List ℕ) where
-  -- all these events were asked, and all answers to their replies were written
+  -- All these events were asked, and all answers to their replies were written.
   pub record DoesAll (asks : List Event) (sends : Sends) (m : M) (written : Option (List ℕ)) (m' : M) (written' : Option (List ℕ)) : Type 0 where
     pub replies : List Reply
     pub replied : Replied steps m asks replies m'
     pub wrote : Appends written written' (flat_map written_as (sends replies))
 
-  -- memory ran out: the first of these events were asked, of which the last may have been refused, and the first answers to their replies were written
+  -- Out of memory: the first of these events were asked, the last of which may have been refused,
+  -- and the first of the answers to their replies were written.
   pub record StopsShort (asks : List Event) (sends : Sends) (m : M) (written : Option (List ℕ)) (m' : M) (written' : Option (List ℕ)) : Type 0 where
     pub asked : List Event
     pub later : List Event
@@ -48,7 +49,8 @@ module _ {M : Type 0} (steps : M → Event → Result Reply CallFault → M → 
     pub all_sent : sends replies ≡ sent ++ unsent
     pub wrote : Appends written written' (flat_map written_as sent)
 
-  -- the meter took the first of these events and then one no more, and all answers to its replies were written
+  -- The meter took the first of these events and refused the next as Exhausted, and all answers to
+  -- its replies were written.
   pub record IsUsedUp (asks : List Event) (sends : Sends) (m : M) (written : Option (List ℕ)) (m' : M) (written' : Option (List ℕ)) : Type 0 where
     pub asked : List Event
     pub later : List Event
@@ -57,7 +59,7 @@ module _ {M : Type 0} (steps : M → Event → Result Reply CallFault → M → 
     pub refused : Refused steps m asked replies call.Exhausted m'
     pub wrote : Appends written written' (flat_map written_as (sends replies))
 
-  -- a write failed: the first of these events were asked
+  -- A write failed: the first of these events were asked.
   pub record IsUnwritten (asks : List Event) (m m' : M) : Type 0 where
     pub asked : List Event
     pub later : List Event
@@ -65,7 +67,8 @@ module _ {M : Type 0} (steps : M → Event → Result Reply CallFault → M → 
     pub replies : List Reply
     pub replied : Replied steps m asked replies m'
 
-  -- a session stopped in its midst; the numbers are those of the writes that failed before and after
+  -- a session stopped early; `failed` and `failed'` are the numbers of failed writes before and
+  -- after
   abbrev pub Stops : List Event → Sends → M → Option (List ℕ) → ℕ → ServeFault → M → Option (List ℕ) → ℕ → Type 0
   Stops asks sends m written failed fault.Read m' written' failed' = ⊥
   Stops asks sends m written failed fault.Write m' written' failed' = IsUnwritten asks m m' × (failed < failed')
@@ -81,7 +84,7 @@ most_reads = 4294967295
 abbrev pub longest_piece : ℕ
 longest_piece = 1024
 
--- no read follows the piece that completes a wrong header
+-- No read follows the one that completes an invalid header.
 pub record StopsAtHeader (seen : List ℕ) : Type 0 where
   pub earlier : List ℕ
   pub last : List ℕ
@@ -89,15 +92,16 @@ pub record StopsAtHeader (seen : List ℕ) : Type 0 where
   pub short : length last ≤ longest_piece
   pub ends : EndsWithInput (end_of earlier)
 
--- The bytes came in pieces. The numbers are those of the reads that succeeded, before and after: what
--- they rose by is how many pieces there were, with the one at the end of the input, which has no byte.
+-- The bytes arrived in pieces. `made` and `made'` are the numbers of successful reads before and
+-- after; their difference is the number of pieces, including the empty one at the end of the input.
 pub record Pieces (seen : List ℕ) (made made' : ℕ) : Type 0 where
   pub count : ℕ
   pub most : count ≤ most_reads
   pub short : length seen ≤ count * longest_piece
   pub counted : made' ≡ made + count
 
--- a session ends so, where these bytes are left: the input must have ended where no header ends the session
+-- a session may end in this way with these bytes left: unless a header ends it, the input must have
+-- ended
 abbrev pub EndsBefore : SessionEnd → Option (List ℕ) → Type 0
 EndsBefore ending.Closed left = IsAtEnd left
 EndsBefore ending.Cut left = IsAtEnd left
@@ -108,7 +112,7 @@ module _ {R W M : Type 0}
     (remaining : R → Option (List ℕ)) (reads read_failures : R → ℕ)
     (contents : W → Option (List ℕ)) (write_failures : W → ℕ)
     (steps : M → Event → Result Reply CallFault → M → Type 0) where
-  -- what came of the bytes that were read
+  -- the effect of the bytes that were read, by the result
   abbrev pub Did : List ℕ → List ℕ → R → W → M → Result SessionEnd ServeFault → R → W → M → Type 0
   Did password seen r w m (Ok end) r' w' m' =
       DoesAll steps as_bytes (Asks password seen) (Answers password seen) m (contents w) m' (contents w')
@@ -124,7 +128,7 @@ module _ {R W M : Type 0}
       IsUsedUp steps as_bytes (Asks password seen) (Answers password seen) m (contents w) m' (contents w')
   Did password seen r w m (Err fault.Listen) r' w' m' = ⊥
 
-  -- a session was served: some bytes were read, and this came of them
+  -- A session was served: some bytes were read, with this effect.
   pub record Served (password : List ℕ) (r : R) (w : W) (m : M) (result : Result SessionEnd ServeFault) (r' : R) (w' : W) (m' : M) : Type 0 where
     pub seen : List ℕ
     pub read : Consumes (remaining r) (remaining r') seen

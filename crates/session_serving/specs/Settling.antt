@@ -1,7 +1,7 @@
--- How far a session has come.
---     Reached      what was asked and written, and that the session owes the rest
---     IsSettled    nothing is due without more input
---     Settled      all that is due was done
+-- The progress of a session.
+--     Reached      what was asked and written so far, and that the session has yet to do the rest
+--     IsSettled    there is nothing to do without more input
+--     Settled      everything that the input asks for was done
 --     Stands       a session between two reads
 use Rattle.std.specs.Prelude.{◌≡◌, ◌*◌, ◌<◌, ◌≤◌, ℕ, false, Option, Some, None, List, [], ◌++◌, length, ⊤, Result}
 use Rattle.std.specs.List.{flat_map}
@@ -21,12 +21,12 @@ use Rattle.session_core.specs.declared.session.Session.{Session}
 use Rattle.call_fault.specs.declared.fault.CallFault.{CallFault}
 use Rattle.call_fault.specs.declared.fault.CallFault.TheVariants as call
 
--- the fault of a session whose meter has this one
+-- the session's fault for a fault of its meter
 abbrev pub fault_of : CallFault → ServeFault
 fault_of call.Memory = fault.Memory
 fault_of call.Exhausted = fault.Exhausted
 
--- a frame was not written; the numbers are those of the writes that failed before and after
+-- a frame was not written; `failed` and `failed'` are the numbers of failed writes before and after
 abbrev pub FailsToWrite : Option (List ℕ) → ℕ → ServeFault → Option (List ℕ) → ℕ → Type 0
 FailsToWrite written failed fault.Read written' failed' = ⊥
 FailsToWrite written failed fault.Write written' failed' = failed < failed'
@@ -34,30 +34,32 @@ FailsToWrite written failed fault.Memory written' failed' = Appends written writ
 FailsToWrite written failed fault.Exhausted written' failed' = ⊥
 FailsToWrite written failed fault.Listen written' failed' = ⊥
 
--- nothing is asked and nothing sent without more input
+-- There is nothing to ask and nothing to send without more input.
 pub record IsSettled (s : Session) : Type 0 where
   pub asks : still_asks s [] ≡ []
   pub sends : (replies : List Reply) → still_sends s [] replies ≡ []
 
--- a wrong header ended the session
+-- whether an invalid header ended the session
 abbrev pub IsWrongHeader : SessionEnd → Type 0
 IsWrongHeader ending.Closed = ⊥
 IsWrongHeader ending.Cut = ⊥
 IsWrongHeader ending.BadVersion = ⊤
 IsWrongHeader ending.TooLong = ⊤
 
--- no wrong header ended the session, if it is over
+-- no invalid header ended the session, if it is over
 abbrev pub MayContinue : Option SessionEnd → Type 0
 MayContinue None = ⊤
 MayContinue (Some end) = EndsWithInput end
 
--- what a session whose input ended owes no more; one whose input may continue met no wrong header
+-- a session whose input has ended has nothing left to do; one whose input may continue has met no
+-- invalid header
 abbrev pub IsDone : Option SessionEnd → Session → Type 0
 IsDone None s = (is_finished s ≡ false) × EndsWithInput (still_ends s [])
 IsDone (Some end) s = IsOver end s
 
 module _ {M : Type 0} (steps : M → Event → Result Reply CallFault → M → Type 0) (written_as : List ℕ → List ℕ) where
-  -- of the events, texts and end that each input gives, some were asked and sent after these bytes, and the session owes the rest
+  -- Of the events, texts and end of each input, some were asked and sent after these bytes, and the
+  -- session has yet to do the rest.
   pub record Reached (asks : List ℕ → List Event) (sends : List ℕ → List Reply → List (List ℕ)) (ends : List ℕ → SessionEnd)
       (m : M) (written : Option (List ℕ)) (seen : List ℕ) (s : Session) (m' : M) (written' : Option (List ℕ)) : Type 0 where
     pub asked : List Event
@@ -69,7 +71,7 @@ module _ {M : Type 0} (steps : M → Event → Result Reply CallFault → M → 
     pub replied : Replied steps m asked replies m'
     pub wrote : Appends written written' (flat_map written_as sent)
 
-  -- a session took in bytes, and did all that was due
+  -- A session took in bytes, and did everything that they ask for.
   pub record Settled (old : Session) (m : M) (written : Option (List ℕ)) (bytes : List ℕ) (end : Option SessionEnd) (new : Session) (m' : M) (written' : Option (List ℕ)) : Type 0 where
     pub reached : Reached (still_asks old) (still_sends old) (still_ends old) m written bytes new m' written'
     pub settled : IsSettled new
@@ -77,7 +79,7 @@ module _ {M : Type 0} (steps : M → Event → Result Reply CallFault → M → 
     pub silent : is_asking new ≡ false
     pub finished : is_finished new ≡ is_finished old
 
-  -- a session after this number of reads, with all done that the bytes read so far ask for
+  -- A session after `count` reads, with everything done that the bytes read so far ask for.
   pub record Stands (old : Session) (m : M) (written left : Option (List ℕ)) (count : ℕ)
       (s : Session) (m' : M) (written' left' : Option (List ℕ)) : Type 0 where
     pub seen : List ℕ

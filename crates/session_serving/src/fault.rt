@@ -11,16 +11,16 @@ use thiserror::Error;
 /// Why a server stopped.
 #[derive(Clone, Copy, Debug, PartialEq, Eq, Error)]
 pub enum ServeFault {
-    /// A read failed, or the session had as many reads as it may have.
+    /// A read failed, or the session has made the largest allowed number of reads.
     #[error("a read failed or timed out")]
     Read = 1,
     /// A write failed.
     #[error("a write failed or timed out")]
     Write = 2,
-    /// Memory ran out.
+    /// Out of memory.
     #[error("out of memory")]
     Memory = 3,
-    /// The meter takes no more events.
+    /// The meter accepts no more events.
     #[error("the meter accepts no more calls")]
     Exhausted = 4,
     /// No connection could be accepted.
@@ -47,7 +47,7 @@ impl From<CallFault> for ServeFault {
     }
 }
 
-/// The number of the fault, 1 to 5.
+/// Converts a fault to its number, 1 to 5.
 impl From<ServeFault> for u8 {
     ghost from_gives = { λ fault number. number ≡ serve_number fault };
 
@@ -59,7 +59,7 @@ impl From<ServeFault> for u8 {
 /// Why a text of hexadecimal was not played to its end.
 #[derive(Clone, Copy, Debug, PartialEq, Eq, Error)]
 pub enum HexFault {
-    /// The text is no pairs of hexadecimal digits.
+    /// The text isn't pairs of hexadecimal digits.
     #[error("no pairs of hexadecimal digits")]
     Digits = 1,
     /// The text has more than 1,048,576 characters.
@@ -71,7 +71,7 @@ pub enum HexFault {
     /// A write failed.
     #[error("a write failed")]
     Write = 4,
-    /// Memory ran out.
+    /// Out of memory.
     #[error("no memory")]
     Memory = 5,
 }
@@ -84,7 +84,7 @@ impl From<AllocError> for HexFault {
     }
 }
 
-/// The number of the fault, 1 to 5.
+/// Converts a fault to its number, 1 to 5.
 impl From<HexFault> for u8 {
     ghost from_gives = { λ fault number. number ≡ hex_number fault };
 

@@ -10,9 +10,9 @@ use crate::watch::Watch;
 use byte_streams::Writer;
 use std::alloc::{AllocError, Global};
 
-/// How the frames that are sent are written.
+/// A form in which frames are written.
 pub(crate) trait Form {
-    // What is written of a frame.
+    // The bytes that are written for a frame.
     ghost written_as: { List ℕ → List ℕ };
 
     /// Writes a frame.
@@ -35,7 +35,7 @@ pub(crate) trait Form {
             (λ fault. FailsToPass (V.passed watch.old) fault (V.passed watch.new)) };
 }
 
-/// As the bytes that it has.
+/// Frames are written as their bytes.
 pub(crate) struct AsBytes;
 
 impl Form for AsBytes {
@@ -54,7 +54,7 @@ impl Form for AsBytes {
     }
 }
 
-/// As a line of hexadecimal in capitals.
+/// Each frame is written as a line of upper-case hexadecimal.
 pub(crate) struct AsHexLine;
 
 impl Form for AsHexLine {
@@ -74,7 +74,7 @@ impl Form for AsHexLine {
     }
 }
 
-/// The line of a frame.
+/// Returns the line of a frame.
 fn line_of(alloc: Global, frame: &[u8]) -> Result<String, AllocError>
     ensures { IfOk result (λ line. string_bytes line ≡ hex_line frame.now) }
 {

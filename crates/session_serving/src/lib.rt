@@ -1,4 +1,5 @@
-//! A client of the meter served: from the bytes of a request to the bytes of its answer, and from a session's reader to its writer.
+//! Serving a client of the meter: from the bytes of a request to the bytes of its answer, and from
+//! a session's reader to its writer.
 #![tactic(auto)]
 
 mod answering;

@@ -10,18 +10,18 @@ use relay_core::RelayCore;
 use relay_events::{Event, Reply};
 use std::alloc::Global;
 
-/// What takes the events of a session: the meter's core, or a port to one that is shared.
+/// The meter of a session: its core, or a port to one that is shared.
 pub trait Meter {
-    // How a call goes: the meter before it, the event, its result, and the meter after it.
+    // The relation of a call: the meter before it, the event, the result, and the meter after it.
     ghost steps: { Self → Event → Result Reply CallFault → Self → Type 0 };
 
-    /// Takes an event, and answers it.
+    /// Applies an event and returns the reply.
     fn call(&mut self, alloc: Global, event: Event) -> Result<Reply, CallFault>
         ensures step { steps self.old event result self.new }
         ensures fits { IfOk result (Fits event) };
 }
 
-/// A core of its own takes every event, unless memory runs out.
+/// A core of its own takes every event, unless it runs out of memory.
 impl Meter for RelayCore {
     ghost steps = { CoreSteps };
 

@@ -24,7 +24,8 @@ const MAX_READ: usize = 1_024;
 // The largest number of reads in a session.
 const MOST_READS: u32 = 4_294_967_295;
 
-/// Asks the meter, and writes all that is due. It gives the end of a session that is over.
+/// Asks the meter and writes the answers until the session needs more input or is over. Returns the
+/// session's end if it is over.
 fn settle<F: Form, V: Watch, W: Writer, M: Meter>(
     alloc: Global,
     session: &mut Session,
@@ -76,7 +77,7 @@ fn settle<F: Form, V: Watch, W: Writer, M: Meter>(
     }
 }
 
-/// Takes in bytes that came, and does all that is then due.
+/// Feeds the session bytes, and does everything that they ask for.
 fn take_in<V: Watch, W: Writer, M: Meter>(
     alloc: Global,
     session: &mut Session,
@@ -104,7 +105,7 @@ fn take_in<V: Watch, W: Writer, M: Meter>(
     settle::<AsBytes, V, W, M>(alloc, session, watch, writer, meter)
 }
 
-/// Ends the input, and does all that is then due.
+/// Ends the input, and does everything that is left to do.
 pub(crate) fn end_input<F: Form, V: Watch, W: Writer, M: Meter>(
     alloc: Global,
     session: &mut Session,
@@ -129,7 +130,8 @@ pub(crate) fn end_input<F: Form, V: Watch, W: Writer, M: Meter>(
     }
 }
 
-// The end of a session at a wrong header. In the two other ways it ends once its input has ended.
+// Returns the end of a session that ended at an invalid header. A session ends in the two other
+// ways only after its input has ended.
 fn wrong_header(end: Option<SessionEnd>) -> Option<SessionEnd>
     ensures some { IfSome result (λ wrong. (end ≡ Some wrong) × IsWrongHeader wrong) }
     ensures none { IfNone result (MayContinue end) }
@@ -142,7 +144,7 @@ fn wrong_header(end: Option<SessionEnd>) -> Option<SessionEnd>
     }
 }
 
-/// Serves a session of which no byte has come.
+/// Serves a session that was fed no bytes yet.
 fn serve<V: Watch, R: Reader, W: Writer, M: Meter>(
     alloc: Global,
     session: &mut Session,
@@ -181,9 +183,10 @@ fn serve<V: Watch, R: Reader, W: Writer, M: Meter>(
     Err(ServeFault::Read)
 }
 
-/// Serves one session as `serve_session` does, and passes each read, write and call through `watch`.
+/// Serves one session as `serve_session` does, and passes each read, write and call through
+/// `watch`.
 ///
-/// If the list of what passed is known, it states the order in time: before each read and each call all
+/// If the watch's list is known, it states the order in time: before each read and each call, all
 /// answers to what was read and replied so far were written, and nothing follows a failure.
 pub fn watch_session<V: Watch, R: Reader, W: Writer, M: Meter>(
     alloc: Global,
@@ -207,16 +210,16 @@ pub fn watch_session<V: Watch, R: Reader, W: Writer, M: Meter>(
     end
 }
 
-/// Serves one session: reads what the client sends, asks the meter and writes the answers, up to the
-/// end of the input or a wrong header. `password` is the management client's, 1 to 32 bytes.
+/// Serves one session: reads what the client sends, asks the meter and writes the answers, up to
+/// the end of the input or an invalid header. `password` is the management client's, 1 to 32 bytes.
 ///
 /// However the bytes arrive, the meter is asked exactly the events of the session, and exactly the
 /// answers to its replies are written, each before the next read or call. A read asks for at most
-/// 1,024 bytes, and no read follows the one that completes a wrong header.
+/// 1,024 bytes, and no read follows the one that completes an invalid header.
 ///
 /// Errors: `Read` if the reader failed, or after 4,294,967,295 reads; `Write` if the writer failed;
-/// `Memory` if memory ran out; `Exhausted` if the meter accepts no more events. After an error nothing
-/// more is written.
+/// `Memory` if out of memory; `Exhausted` if the meter accepts no more events. After an error
+/// nothing more is written.
 pub fn serve_session<R: Reader, W: Writer, M: Meter>(
     alloc: Global,
     reader: &mut R,

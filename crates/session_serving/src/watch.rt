@@ -10,12 +10,12 @@ use call_fault::CallFault;
 use relay_events::{Event, Reply};
 use std::alloc::Global;
 
-/// Passes on the reads, the writes and the calls of a session, in the order in which they are made.
+/// Performs the reads, the writes and the calls of a session, and may record their order.
 ///
-/// Reader, writer and meter are three values with no common history. A watch has one: a list of all that
-/// passed, so that the contract of `watch_session` can state what came before what.
+/// Reader, writer and meter are three values without a common history. A watch has one: a list of
+/// all reads, writes and calls, so that the contract of `watch_session` can state their order.
 pub trait Watch {
-    // What passed so far, the last first, if that is known.
+    // The reads, writes and calls so far, the last one first, if they are known.
     ghost passed: { Self → Option (List Happening) };
 
     /// Reads from the reader into the buffer, and returns the reader's result.

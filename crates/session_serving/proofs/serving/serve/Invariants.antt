@@ -1,4 +1,4 @@
--- After each read nothing more is due.
+-- After each read, everything that the bytes read so far ask for has been done.
 use Rattle.std.proofs.Common.{◌≡◌, ◌+◌, ℕ, List, length}
 use Rattle.session_core.specs.Progress.{Owes}
 use Rattle.session_serving.proofs.Ordering.{Waits}

@@ -74,7 +74,7 @@ returns-in_err-write-in-Ok-clause-err g c =
     (event.Get c.in-Some.level c.in-Some.attr false) c.in_ok-reply-in-Some.reply c.due.invariant.reached asked.steps c.in_ok-reply-in-Some.ensures.step answered.takes)
     answered.sends c.due.invariant.even c.in_err-write-in-Ok.ensures.err c.from_residual-in_err-write-in-Ok.ensures.1
 
--- ---- all else
+-- ---- all other tasks
 
 pub returns-in_err-event-in-None-clause-err : goal.returns-in_err-event-in-None-clause-err
 returns-in_err-event-in-None-clause-err g c =

@@ -1,4 +1,5 @@
--- What was done so far, and that the session owes the rest. Each task is work done.
+-- What has been done so far, and that the session has yet to do the rest. Each task reduces the
+-- load.
 use Rattle.std.proofs.Common.{◌≡◌, ℕ, List, [], false}
 use Rattle.session_serving.specs.Order.{Happening, IsAt, ComesOn}
 use Rattle.relay_events.specs.declared.reply.Reply.{Reply}
