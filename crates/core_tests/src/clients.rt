@@ -1,4 +1,5 @@
-//! Sessions of clients with a meter: which frame answers which, how the supply stands then, and what a session that is not open says.
+//! Sessions of clients with a meter: the answer to each frame, the state of the supply after it,
+//! and the errors of a session that is not open.
 use crate::meters::{Standing, new_meter, standing};
 use session_core::SessionEnd;
 use std::alloc::Global;
@@ -6,14 +7,14 @@ use std::process::Abort;
 use std::test::Fail;
 use supply_meter::{Given, MeterFault, SupplyMeter};
 
-/// The request of the management client at port 1, with the password 12345678, and its answer.
+/// The AARQ of the management client at port 1, with the password 12345678, and its answer.
 const AARQ: &str =
     "00010001000100386036A1090607608574050801018A0207808B0760857405080201AC0A80083132333435363738BE10040E01000000065F1F0400001C190400";
 
 const AARE: &str =
     "000100010001002B6129A109060760857405080101A203020100A305A103020100BE10040E0800065F1F0400001C1904000007";
 
-/// How many bytes the answer has.
+/// The length of the answer in bytes.
 const AARE_BYTES: usize = 51;
 
 /// A SET of control_mode 1 and its answer; remote_disconnect, remote_reconnect and their answer.
@@ -27,7 +28,7 @@ const RECONNECT: &str = "000100010001000FC301C10046000060030AFF02010F00";
 
 const ACTION_DONE: &str = "0001000100010005C701C10000";
 
-/// What a client sends, what answers it, and how the meter stands then.
+/// What a client sends, the answer, and the meter's state after it.
 static TALK: [(&str, &str, Standing); 5] = [
     (AARQ, AARE, (1, 0, true)),
     (SET_MODE_1, SET_DONE, (1, 1, true)),
@@ -36,7 +37,7 @@ static TALK: [(&str, &str, Standing); 5] = [
     (RECONNECT, ACTION_DONE, (2, 1, false)),
 ];
 
-/// Whether bytes of a session are answered by one frame, this one.
+/// Whether the bytes fed to a session have exactly this frame as their answer.
 fn is_answered(
     alloc: Global,
     meter: &mut SupplyMeter,
@@ -51,7 +52,7 @@ fn is_answered(
     Ok(given == Given::Frame(answer.len()) && buffer.starts_with(answer) && rest == Given::Wait)
 }
 
-/// The same of texts in hexadecimal.
+/// Whether the bytes fed to a session have exactly this frame as their answer, both in hexadecimal.
 fn is_text_answered(
     alloc: Global,
     meter: &mut SupplyMeter,
@@ -67,7 +68,8 @@ fn is_text_answered(
     Ok(is_so?)
 }
 
-/// A client cuts the supply, and makes it ready; the button restores it.
+/// A client disconnects the supply and then makes it ready for reconnection; the button restores
+/// it.
 fn talk(rt: &impl Abort, alloc: Global, meter: &mut SupplyMeter) -> Result<(), Fail> {
     meter.open_session(alloc, 3)?;
     for (asked, answer, stands) in &TALK {
@@ -90,7 +92,8 @@ fn a_client_cuts_and_restores_the_supply(rt: HostRuntime) -> Result<(), Fail> {
     done
 }
 
-/// A frame of 51 bytes is due, for which 50 are no room.
+/// Checks that a frame of 51 bytes is written only to a buffer that is long enough, not to 50
+/// bytes.
 fn give_room(rt: &impl Abort, alloc: Global, meter: &mut SupplyMeter) -> Result<(), Fail> {
     meter.open_session(alloc, 0)?;
     let asked = hex::decode(alloc, AARQ)?;
@@ -114,7 +117,7 @@ fn a_frame_without_room_stays_due(rt: HostRuntime) -> Result<(), Fail> {
     done
 }
 
-/// Whether each call of a session says that none is open.
+/// Whether each call on a session returns that it is not open.
 fn is_none(alloc: Global, meter: &mut SupplyMeter, session: u8) -> bool {
     meter.feed(session, b"\x00") == Err(MeterFault::NoSession)
         && meter.next(alloc, session, &mut []) == Err(MeterFault::NoSession)
@@ -122,7 +125,7 @@ fn is_none(alloc: Global, meter: &mut SupplyMeter, session: u8) -> bool {
         && meter.close_session(session) == Err(MeterFault::NoSession)
 }
 
-/// Sessions are opened and let go.
+/// Opens and closes sessions.
 fn open_and_close(rt: &impl Abort, alloc: Global, meter: &mut SupplyMeter) -> Result<(), Fail> {
     assert!(rt; is_none(alloc, meter, 7));
     meter.open_session(alloc, 7)?;

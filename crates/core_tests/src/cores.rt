@@ -1,5 +1,5 @@
-//! What the tests share: names, events, and short ways to give them to a core. What the tables and the limiter's rules give for long lists of events is played by the
-//! trace player (tests/core_rows.py of the repository), which costs no proof.
+//! Names, events and helpers that the tests of cores share. Long lists of events are tested through
+//! the trace player (tests/core_rows.py of the repository), which costs no proof.
 
 mod advance;
 mod opening;
@@ -21,7 +21,7 @@ const IMPORT_LIMITER: Obis = Obis([0, 0, 17, 0, 0, 255]);
 
 const EXPORT_LIMITER: Obis = Obis([0, 1, 17, 0, 0, 255]);
 
-/// Actions of a limiter: script 1 at the upper side, none at the lower.
+/// Actions of a limiter: script 1 over the threshold, none under it.
 const OVER_1: &[u8] = b"\x02\x02\x02\x02\x09\x06\x00\x00\x0A\x00\x6A\xFF\x12\x00\x01\
     \x02\x02\x09\x06\x00\x00\x0A\x00\x6A\xFF\x12\x00\x00";
 
@@ -47,7 +47,7 @@ fn attribute_at(place: Place) -> AttrRef {
     }
 }
 
-/// The Data that bytes spell.
+/// Decodes bytes to the Data that they encode.
 fn data(alloc: Global, bytes: &[u8]) -> Result<Data, AllocError> {
     match read_data(alloc, bytes) {
         Ok((value, _)) => Ok(value),
@@ -55,7 +55,7 @@ fn data(alloc: Global, bytes: &[u8]) -> Result<Data, AllocError> {
     }
 }
 
-/// A management client's write of a value.
+/// Returns a management client's write of a value.
 fn set(place: Place, value: Data) -> Event {
     Event::Set {
         level: Level::Management,
@@ -65,12 +65,12 @@ fn set(place: Place, value: Data) -> Event {
     }
 }
 
-/// A management client's write of what bytes spell.
+/// Returns a management client's write of encoded Data.
 fn written(alloc: Global, place: Place, bytes: &[u8]) -> Result<Event, AllocError> {
     Ok(set(place, data(alloc, bytes)?))
 }
 
-/// A management client's execution of a method of the switch, without a parameter.
+/// Returns a management client's execution of a method of the switch, without a parameter.
 fn execute(number: u8) -> Event {
     Event::Execute {
         level: Level::Management,
@@ -83,7 +83,7 @@ fn execute(number: u8) -> Event {
     }
 }
 
-/// The code of a reply, or 255 where it has none.
+/// Returns the code of a reply, or 255 if it has none.
 fn code(reply: &Reply) -> u8 {
     match reply {
         Reply::Code(code) => code.code(),
@@ -91,7 +91,7 @@ fn code(reply: &Reply) -> u8 {
     }
 }
 
-/// Lets a core take an event, and tells the code of the reply.
+/// Applies an event to a core and returns the code of the reply.
 fn code_of(core: &mut RelayCore, alloc: Global, event: &Event) -> Result<u8, AllocError> {
     let reply = core.step(alloc, event)?;
     let told = code(&reply);
@@ -99,7 +99,7 @@ fn code_of(core: &mut RelayCore, alloc: Global, event: &Event) -> Result<u8, All
     Ok(told)
 }
 
-/// Whether a core takes a write of what bytes spell with success.
+/// Whether a core's reply to a write of encoded Data is Success.
 fn takes(
     core: &mut RelayCore,
     alloc: Global,
@@ -112,7 +112,7 @@ fn takes(
     Ok(told? == 0)
 }
 
-/// Whether it takes all of these.
+/// Whether a core's replies to all these writes are Success.
 fn takes_all(
     core: &mut RelayCore,
     alloc: Global,
@@ -126,12 +126,12 @@ fn takes_all(
     Ok(true)
 }
 
-/// What a new core is led through.
+/// A scenario for a new core.
 #[derive(Clone, Copy)]
 enum Scenario {
-    /// Events are taken without a reply.
+    /// Events are applied by `advance`, without a reply.
     Advancing,
-    /// A core that was set is written down, and opened again.
+    /// A core with settings is saved and restored.
     WritingDown,
     /// A run in mode 1.
     Running,
@@ -139,11 +139,12 @@ enum Scenario {
     ListReading,
     /// Lists of each length are read.
     LongListReading,
-    /// A firing raises the threshold within a block, scanned at this threshold if there is one.
+    /// A firing raises the threshold during a block, which is scanned with this threshold if there
+    /// is one.
     Firing(Option<u32>),
 }
 
-/// Whether a core does as a scenario wants.
+/// Whether a core behaves as the scenario expects.
 fn does(core: &mut RelayCore, alloc: Global, scenario: Scenario) -> Result<bool, AllocError> {
     match scenario {
         Scenario::Advancing => advance::advances(core, alloc),
@@ -155,7 +156,8 @@ fn does(core: &mut RelayCore, alloc: Global, scenario: Scenario) -> Result<bool,
     }
 }
 
-/// Whether a new core does so. It is let go here alone: that it may be is long to prove.
+/// Whether a new core behaves as the scenario expects. Cores are dropped only here, because proving
+/// that a core may be dropped takes long.
 fn is_done(alloc: Global, scenario: Scenario) -> Result<bool, AllocError> {
     let mut core = new_core(alloc)?;
     let done = does(&mut core, alloc, scenario);

@@ -1,11 +1,12 @@
-//! Samples and moments of a meter that goes on from a trace, and the trace that it tells itself.
+//! Samples and moments of a meter that continues from a trace, and the trace that it exports
+//! itself.
 use crate::meters::{Standing, resumed, standing};
 use std::alloc::{AllocError, Global};
 use std::process::Abort;
 use std::test::Fail;
 use supply_meter::{Fired, MeterFault, SupplyMeter, Tick, TraceFault};
 
-/// A switch that was cut and restored remotely, in mode 1.
+/// A switch that was disconnected and reconnected remotely, in mode 1.
 const RESTORED: &[u8] = b"RELAYTRACE 1
 device 52454C415931
 state 1
@@ -34,7 +35,7 @@ execute 1 70 000060030AFF 2 -
 button
 ";
 
-/// How the trace ends of a meter that went on from there with two samples and two moments.
+/// The end of the trace of a meter that continued from there with two samples and two moments.
 const OWN_EVENTS: &[u8] = b"
 events 3
 samples 10 20
@@ -42,7 +43,8 @@ moment 5
 moment 4
 ";
 
-/// A meter in mode 5 whose export limiter executed script 1, which cuts the supply, at ten samples over 5,000 watts; the button restored it.
+/// A meter in mode 5 whose export limiter executed script 1, which disconnects the supply, after
+/// ten samples over 5,000 watts; then the button restored the supply.
 const EXPORTING: &[u8] = b"RELAYTRACE 2
 device 52454C415931
 state 1
@@ -78,7 +80,7 @@ pairs 0 5001 0 5001 0 5001 0 5001 0 5001 0 5001 0 5001 0 5001 0 5001 0 5001
 button
 ";
 
-/// Samples and moments, and what they bring.
+/// Applies samples and moments, and checks the results.
 fn take(rt: &impl Abort, alloc: Global, meter: &mut SupplyMeter) -> Result<(), Fail> {
     assert!(rt; standing(meter) == (1, 1, true) && meter.last_moment() == None);
     let fired = meter.samples(alloc, &[10, 20])?;
@@ -97,7 +99,7 @@ fn take(rt: &impl Abort, alloc: Global, meter: &mut SupplyMeter) -> Result<(), F
     Ok(())
 }
 
-/// Whether a trace ends as the one of those samples and moments.
+/// Whether the meter's trace ends with those samples and moments.
 fn is_told(alloc: Global, meter: &SupplyMeter) -> Result<bool, AllocError> {
     let text = meter.export(alloc)?;
     let is_so = text.as_slice().ends_with(OWN_EVENTS);
@@ -105,7 +107,7 @@ fn is_told(alloc: Global, meter: &SupplyMeter) -> Result<bool, AllocError> {
     Ok(is_so)
 }
 
-/// How a meter stands that goes on from the trace of another, and the last moment there.
+/// Returns the state and the last moment of a meter that continues from the trace of another.
 fn standing_after(
     rt: &impl Abort,
     alloc: Global,
@@ -120,7 +122,8 @@ fn standing_after(
     Ok(seen)
 }
 
-/// The same, with the trace that tells them.
+/// Applies the samples and moments, and checks the meter's trace and a meter that continues from
+/// it.
 fn take_and_tell(rt: &impl Abort, alloc: Global, meter: &mut SupplyMeter) -> Result<(), Fail> {
     take(rt, alloc, meter)?;
     assert!(rt; is_told(alloc, meter)?);
@@ -137,7 +140,7 @@ fn a_meter_goes_on_from_its_trace(rt: HostRuntime) -> Result<(), Fail> {
     done
 }
 
-/// A pair whose exported power is over its threshold, and pairs that are uneven.
+/// Applies a pair whose exported power is over its threshold, and pairs of unequal numbers.
 fn take_pairs(rt: &impl Abort, alloc: Global, meter: &mut SupplyMeter) -> Result<(), Fail> {
     let fired = meter.sample_pairs(alloc, &[0], &[5001])?;
     let under = Fired {
@@ -160,7 +163,7 @@ fn pairs_reach_both_limiters(rt: HostRuntime) -> Result<(), Fail> {
     done
 }
 
-/// The fault of a text, or None where it is a trace.
+/// Returns the fault of a text, or `None` if it is a trace.
 fn fault_of(rt: &impl Abort, alloc: Global, text: &[u8]) -> Option<TraceFault> {
     match resumed(rt, alloc, text) {
         Ok(meter) => {

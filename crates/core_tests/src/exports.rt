@@ -1,4 +1,4 @@
-//! What a recorder writes down plays to the replies that it gave.
+//! A recorder's export, played again, gives the recorder's replies.
 use crate::recorders::{Scenario, code, code_of, disconnect, with_recorder, write_mode_1};
 use cosem_names::{ClassId, Level, MethodRef, Obis};
 use relay_core::{Event, Events, Line, RelayCore, run};
@@ -6,7 +6,7 @@ use relay_recorder::{Recorder, Trace};
 use std::alloc::{AllocError, Global};
 use std::process::Abort;
 
-/// A management client's reconnect.
+/// Returns a management client's reconnection.
 fn reconnect() -> Event {
     Event::Execute {
         level: Level::Management,
@@ -19,7 +19,7 @@ fn reconnect() -> Event {
     }
 }
 
-/// Events of each kind in turn.
+/// Returns event number `i`; the five kinds take turns.
 fn event_at(i: u32) -> Event {
     match i % 5 {
         0 => write_mode_1(),
@@ -30,7 +30,7 @@ fn event_at(i: u32) -> Event {
     }
 }
 
-/// Lets a recorder take so many events, and keeps the codes of its replies.
+/// Applies `count` events to a recorder, and returns the codes of its replies.
 fn take_events(
     recorder: &mut Recorder,
     alloc: Global,
@@ -43,7 +43,7 @@ fn take_events(
     Ok(())
 }
 
-/// The codes of a run's replies.
+/// Returns the codes of a run's replies.
 fn codes_of(alloc: Global, lines: &[Line]) -> Result<Vec<u8>, AllocError> {
     let mut codes = Vec::new(alloc);
     for line in lines {
@@ -52,7 +52,7 @@ fn codes_of(alloc: Global, lines: &[Line]) -> Result<Vec<u8>, AllocError> {
     Ok(codes)
 }
 
-/// The codes of the replies when a core takes these events.
+/// Returns the codes of a core's replies to these events.
 fn run_codes(core: &mut RelayCore, alloc: Global, events: &Events) -> Result<Vec<u8>, AllocError> {
     match run(core, alloc, events) {
         Ok(lines) => {
@@ -67,7 +67,7 @@ fn run_codes(core: &mut RelayCore, alloc: Global, events: &Events) -> Result<Vec
     }
 }
 
-/// The codes of the replies when a trace's events are taken from its opening on.
+/// Returns the codes of the replies if a trace's events are applied to its opening.
 fn played_codes(alloc: Global, trace: &Trace) -> Result<Vec<u8>, AllocError> {
     match RelayCore::from_opening(alloc, &trace.opening) {
         Ok(mut core) => {
@@ -79,7 +79,7 @@ fn played_codes(alloc: Global, trace: &Trace) -> Result<Vec<u8>, AllocError> {
     }
 }
 
-/// Whether a trace of so many events plays to the last of these codes.
+/// Whether a trace has `count` events and plays to the last of these codes.
 fn trace_plays_to(
     alloc: Global,
     trace: &Trace,
@@ -90,7 +90,7 @@ fn trace_plays_to(
     Ok(last.len() == usize::from(count) && codes.ends_with(last.as_slice()))
 }
 
-/// Whether the run of a recorder's export ends in the last of these codes, one for each kept event.
+/// Whether a run of a recorder's export ends with the last of these codes, one for each kept event.
 fn plays_to(alloc: Global, recorder: &Recorder, codes: &[u8]) -> Result<bool, AllocError> {
     let trace = recorder.export(alloc)?;
     let plays = trace_plays_to(alloc, &trace, recorder.count(), codes);
@@ -98,7 +98,7 @@ fn plays_to(alloc: Global, recorder: &Recorder, codes: &[u8]) -> Result<bool, Al
     plays
 }
 
-/// The export of a recorder, pushed around by so many events, plays to the replies that it gave.
+/// Applies `count` events to a recorder, and checks that its export plays to its replies.
 pub(crate) fn plays_again(
     rt: &impl Abort,
     recorder: &mut Recorder,

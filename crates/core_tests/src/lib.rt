@@ -1,7 +1,9 @@
-//! Tests of `relay_core`, `relay_recorder`, `session_core` and `supply_meter`: events, runs, openings, what a recorder keeps and writes down; sessions of clients with a meter, frame
-//! by frame; a meter with its sessions, the events of its own, and its trace. `tests/firmware.py` tests the library for C that stands on it.
+//! Tests of `relay_core`, `relay_recorder`, `session_core` and `supply_meter`: events, runs,
+//! openings, the events that a recorder keeps and exports; sessions of clients with a meter, frame
+//! by frame; a meter with its sessions, its own events, and its trace. `tests/firmware.py` tests
+//! the C library, which depends on them.
 //!
-//! They stand apart from what they test, since a check of tests proves anew all that stands in their crate.
+//! Tests are in a crate of their own because a check of tests proves their whole crate again.
 #![tactic(auto)]
 
 #[cfg(test)]

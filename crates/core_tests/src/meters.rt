@@ -1,14 +1,15 @@
-//! Meters, and how they stand.
+//! Meters and their states.
 use cosem_axdr::Octets;
 use std::alloc::{AllocError, Global};
 use std::process::Abort;
 use std::test::Fail;
 use supply_meter::{SupplyMeter, TraceFault};
 
-/// How many events these meters keep.
+/// The number of events that these meters keep.
 const KEPT_EVENTS: u16 = 16;
 
-/// How a meter stands: the numbers of its control state and of its control mode, and whether the supply is on.
+/// A meter's state: the numbers of its control state and of its control mode, and whether the
+/// supply is on.
 pub(crate) type Standing = (u8, u8, bool);
 
 pub(crate) fn standing(meter: &SupplyMeter) -> Standing {
@@ -19,7 +20,7 @@ pub(crate) fn standing(meter: &SupplyMeter) -> Standing {
     )
 }
 
-/// A new meter RELAY1 with this password.
+/// Returns a new meter RELAY1 with this password.
 fn new_meter_of(
     rt: &impl Abort,
     alloc: Global,
@@ -34,12 +35,12 @@ fn new_meter_of(
     meter
 }
 
-/// A new meter RELAY1 with the password 12345678.
+/// Returns a new meter RELAY1 with the password 12345678.
 pub(crate) fn new_meter(rt: &impl Abort, alloc: Global) -> Result<SupplyMeter, AllocError> {
     new_meter_of(rt, alloc, b"12345678")
 }
 
-/// A meter that goes on from the text of a trace.
+/// Returns a meter that continues from the text of a trace.
 pub(crate) fn resumed(
     rt: &impl Abort,
     alloc: Global,
@@ -52,7 +53,7 @@ pub(crate) fn resumed(
     meter
 }
 
-/// Whether Debug writes the same of two meters.
+/// Whether `Debug` writes the same for two meters.
 fn are_shown_alike(
     alloc: Global,
     one: &SupplyMeter,

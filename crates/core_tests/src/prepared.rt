@@ -1,4 +1,4 @@
-//! Answers of requests without a frame that are made before their event.
+//! Answers to requests without a frame that are allocated before their event.
 use cosem_axdr::Octets;
 use cosem_names::ResultCode;
 use relay_core::Reply;
@@ -12,7 +12,8 @@ const SET: &str = "C101C10046000060030AFF04001601";
 
 const DISCONNECT: &str = "C301C10046000060030AFF0100";
 
-/// A request, what the meter replies, and the answer (IEC 62056-5-3, Set-Response-Normal, Action-Response-Normal).
+/// A request, the meter's reply, and the answer (IEC 62056-5-3, Set-Response-Normal,
+/// Action-Response-Normal).
 const ANSWERS: [(&str, Reply, &str); 5] = [
     (SET, Reply::Code(ResultCode::Success), "C501C100"),
     (SET, Reply::Code(ResultCode::TemporaryFailure), "C501C102"),
@@ -25,7 +26,7 @@ const ANSWERS: [(&str, Reply, &str); 5] = [
     ),
 ];
 
-/// The answer that was prepared for a request, once its reply has come.
+/// Returns the prepared answer to a request, completed by the reply.
 fn prepared(alloc: Global, request: &[u8], reply: &Reply) -> Result<Octets, AllocError> {
     match ask_unframed(alloc, request)? {
         Unframed::Ask(event, asked) => {
@@ -36,7 +37,7 @@ fn prepared(alloc: Global, request: &[u8], reply: &Reply) -> Result<Octets, Allo
     }
 }
 
-/// Whether bytes are these, in hexadecimal.
+/// Whether the bytes are those of a text in hexadecimal.
 fn is_text(alloc: Global, text: &str, bytes: &[u8]) -> Result<bool, Fail> {
     let wanted = hex::decode(alloc, text)?;
     let is_so = wanted.as_slice() == bytes;
@@ -44,7 +45,7 @@ fn is_text(alloc: Global, text: &str, bytes: &[u8]) -> Result<bool, Fail> {
     Ok(is_so)
 }
 
-/// The same of a text in hexadecimal, and whether it is the answer.
+/// Whether the prepared answer to a request is this answer, both in hexadecimal.
 fn is_answered(alloc: Global, request: &str, reply: &Reply, answer: &str) -> Result<bool, Fail> {
     let request = hex::decode(alloc, request)?;
     let text = prepared(alloc, request.as_slice(), reply);

@@ -1,4 +1,4 @@
-//! What a recorder keeps, and the two cores that stand before and behind it.
+//! The events that a recorder keeps, its current core, and its core before the kept events.
 use crate::exports::plays_again;
 use cosem_axdr::{Data, Octets};
 use cosem_names::{AttrRef, ClassId, Level, MethodRef, Obis};
@@ -19,7 +19,7 @@ fn new_recorder(rt: &impl Abort, alloc: Global, capacity: u16) -> Result<Recorde
     made
 }
 
-/// A management client's write of an attribute.
+/// Returns a management client's write of an attribute.
 fn set(class: u16, name: Obis, number: u8, value: Data) -> Event {
     Event::Set {
         level: Level::Management,
@@ -33,12 +33,12 @@ fn set(class: u16, name: Obis, number: u8, value: Data) -> Event {
     }
 }
 
-/// A management client's write of mode 1.
+/// Returns a management client's write of mode 1.
 pub(crate) fn write_mode_1() -> Event {
     set(70, DISCONNECT_CONTROL, 4, Data::Enum(1))
 }
 
-/// A management client's disconnect.
+/// Returns a management client's disconnection.
 pub(crate) fn disconnect() -> Event {
     Event::Execute {
         level: Level::Management,
@@ -51,7 +51,7 @@ pub(crate) fn disconnect() -> Event {
     }
 }
 
-/// The code of a reply, or 255 where it has none.
+/// Returns the code of a reply, or 255 if it has none.
 pub(crate) fn code(reply: &Reply) -> u8 {
     match reply {
         Reply::Code(code) => code.code(),
@@ -59,7 +59,7 @@ pub(crate) fn code(reply: &Reply) -> u8 {
     }
 }
 
-/// The letter of an event in a trace, or a question mark.
+/// Returns the letter of an event in a trace, or a question mark.
 fn letter(event: &Event) -> char {
     match event {
         Event::Set { .. } => 's',
@@ -70,7 +70,7 @@ fn letter(event: &Event) -> char {
     }
 }
 
-/// Lets a recorder take an event, and tells the code of the reply.
+/// Applies an event to a recorder and returns the code of the reply.
 pub(crate) fn code_of(
     recorder: &mut Recorder,
     alloc: Global,
@@ -82,7 +82,7 @@ pub(crate) fn code_of(
     Ok(told)
 }
 
-/// The letter of the kept event at an index, or a question mark where none is.
+/// Returns the letter of the kept event at an index, or a question mark if there is none.
 fn letter_at(recorder: &Recorder, i: u16) -> char {
     if i < recorder.count() {
         letter(recorder.event(i))
@@ -91,7 +91,7 @@ fn letter_at(recorder: &Recorder, i: u16) -> char {
     }
 }
 
-/// Mode 1 is written, the supply is cut remotely, and the button is pressed.
+/// Writes mode 1, disconnects the supply remotely, and presses the button.
 fn take_three(rt: &impl Abort, recorder: &mut Recorder, alloc: Global) -> Result<(), AllocError> {
     assert!(rt; code_of(recorder, alloc, write_mode_1())? == 0);
     assert!(rt; code_of(recorder, alloc, disconnect())? == 0);
@@ -99,14 +99,14 @@ fn take_three(rt: &impl Abort, recorder: &mut Recorder, alloc: Global) -> Result
     Ok(())
 }
 
-/// What stands before any event.
+/// Checks a recorder before any event.
 fn stands_as_new(rt: &impl Abort, recorder: &Recorder) {
     assert!(rt; recorder.count() == 0);
     assert!(rt; recorder.core().state() == ControlState::Connected);
     assert!(rt; recorder.opening().mode() == ControlMode::Mode0);
 }
 
-/// What stands after the three events, where two are kept.
+/// Checks a recorder after the three events, of which two are kept.
 fn stands_after_three(rt: &impl Abort, recorder: &Recorder) {
     assert!(rt; recorder.core().state() == ControlState::Disconnected);
     assert!(rt; recorder.opening().mode() == ControlMode::Mode1);
@@ -116,7 +116,7 @@ fn stands_after_three(rt: &impl Abort, recorder: &Recorder) {
     assert!(rt; letter_at(recorder, 1) == 'b');
 }
 
-/// The moment of a Moment, or 0.
+/// Returns the moment of a Moment, or 0.
 fn moment(event: &Event) -> u32 {
     match event {
         Event::Moment(now) => *now,
@@ -124,7 +124,7 @@ fn moment(event: &Event) -> u32 {
     }
 }
 
-/// The moment of the kept event at an index, or 0.
+/// Returns the moment of the kept event at an index, or 0.
 fn moment_at(recorder: &Recorder, i: u16) -> u32 {
     if i < recorder.count() {
         moment(recorder.event(i))
@@ -133,7 +133,7 @@ fn moment_at(recorder: &Recorder, i: u16) -> u32 {
     }
 }
 
-/// Takes the moments from 1 on.
+/// Applies the moments 1 to `count`.
 fn take_moments(recorder: &mut Recorder, alloc: Global, count: u32) -> Result<(), AllocError> {
     for now in 0..count {
         let _ran = code_of(recorder, alloc, Event::Moment(now.saturating_add(1)))?;
@@ -141,7 +141,8 @@ fn take_moments(recorder: &mut Recorder, alloc: Global, count: u32) -> Result<()
     Ok(())
 }
 
-/// The last `kept` of this many moments, from 1 on, are kept, and both cores are told the moments before and of them.
+/// Checks that the last `kept` of the moments 1 to `moments` are kept, and that the two cores have
+/// the moment before these and the last moment.
 fn keeps_the_last(rt: &impl Abort, recorder: &Recorder, kept: u16, moments: u32) {
     assert!(rt; kept >= 1 && u32::from(kept) < moments);
     let first = moments - u32::from(kept);
@@ -152,16 +153,16 @@ fn keeps_the_last(rt: &impl Abort, recorder: &Recorder, kept: u16, moments: u32)
     assert!(rt; recorder.core().last_moment() == Some(moments));
 }
 
-/// What a new recorder is led through.
+/// A scenario for a new recorder.
 #[derive(Clone, Copy)]
 pub(crate) enum Scenario {
-    /// No event comes.
+    /// No event.
     Nothing,
-    /// Three events come, of which two are kept.
+    /// Three events, of which two are kept.
     Three,
-    /// So many moments come, from 1 on, of which so many are kept.
+    /// The moments 1 to `count`, of which `kept` are kept.
     Moments { count: u32, kept: u16 },
-    /// So many events of all kinds come, and the export is played.
+    /// `count` events of all kinds, and then the export is played.
     Export { count: u32 },
 }
 
@@ -186,7 +187,8 @@ fn lead(
     Ok(())
 }
 
-/// Leads a new recorder of a capacity, 1 to 1,024, through a scenario. Recorders are let go here alone: that one may be is long to prove.
+/// Takes a new recorder with this capacity, 1 to 1,024, through a scenario. Recorders are dropped
+/// only here, because proving that one may be dropped takes long.
 pub(crate) fn with_recorder(
     rt: &impl Abort,
     alloc: Global,

@@ -20,10 +20,10 @@ const MANAGEMENT: (&str, &str) = (
     "000100010001002B6129A109060760857405080101A203020100A305A103020100BE10040E0800065F1F0400001C1904000007",
 );
 
-/// What a session wants once it was given what it wanted.
+/// What a session needs after it was given what it needed last.
 #[derive(Clone, Copy)]
 enum Left {
-    /// Something else.
+    /// Something else than input.
     More,
     /// More input.
     Input,
@@ -31,7 +31,7 @@ enum Left {
     Nothing(SessionEnd),
 }
 
-/// Gives the session a reply.
+/// Passes a reply to the session.
 fn give(alloc: Global, session: &mut Session, reply: Reply) -> Result<Left, AllocError>
     requires { is_asking session.old ≡ true }
 {
@@ -44,7 +44,7 @@ fn give(alloc: Global, session: &mut Session, reply: Reply) -> Result<Left, Allo
     }
 }
 
-/// Gives the session the meter's reply to an event.
+/// Passes the meter's reply to an event to the session.
 fn answer(
     alloc: Global,
     core: &mut RelayCore,
@@ -59,13 +59,13 @@ fn answer(
     }
 }
 
-/// Puts a frame behind those that were sent.
+/// Appends a frame to those that were sent.
 fn put(sent: &mut Octets, frame: &[u8]) -> Result<Left, AllocError> {
     sent.extend_from_slice(frame)?;
     Ok(Left::More)
 }
 
-/// Gives the session what it wants next.
+/// Does what the session needs next.
 fn take_next(
     alloc: Global,
     core: &mut RelayCore,
@@ -88,7 +88,7 @@ fn take_next(
     }
 }
 
-/// Gives the session what it wants, until it wants more input or is over. More: there is no end.
+/// Does what the session needs until it needs more input or is over. `More` if it never does.
 fn settle(
     alloc: Global,
     core: &mut RelayCore,
@@ -104,7 +104,8 @@ fn settle(
     Ok(Left::More)
 }
 
-/// Gives a session an input in pieces of this size and its end, and tells how it ends.
+/// Feeds a session an input in pieces of this size, ends the input, and returns how the session
+/// ends.
 fn drive(
     alloc: Global,
     core: &mut RelayCore,
@@ -141,7 +142,8 @@ fn new_core(alloc: Global) -> Result<RelayCore, AllocError> {
     core
 }
 
-/// How a new session with a meter ends, for an input that comes in pieces of this size, and what is sent.
+/// Returns how a new session with a meter ends, for an input in pieces of this size, and appends
+/// what it sends.
 fn run_with(
     alloc: Global,
     core: &mut RelayCore,
@@ -155,7 +157,7 @@ fn run_with(
     left
 }
 
-/// The same with a new meter.
+/// Runs a new session with a new meter.
 fn run(alloc: Global, input: &[u8], size: usize, sent: &mut Octets) -> Result<Left, AllocError> {
     let mut core = new_core(alloc)?;
     let left = run_with(alloc, &mut core, input, size, sent);
@@ -181,7 +183,7 @@ fn is_answered(
     }
 }
 
-/// The same of an input whole, and byte by byte.
+/// Whether an input has these answers and this end, in one piece and byte by byte.
 fn is_answered_so(
     alloc: Global,
     input: &[u8],
@@ -194,7 +196,7 @@ fn is_answered_so(
     )
 }
 
-/// Puts the bytes that a text spells behind others.
+/// Appends the bytes of a text in hexadecimal.
 fn add_hex(alloc: Global, bytes: &mut Octets, text: &str) -> Result<(), AllocError> {
     match hex::decode(alloc, text) {
         Ok(more) => {
@@ -222,7 +224,7 @@ fn add_frames(
     Ok(())
 }
 
-/// Whether these frames have these answers and this end, whole and byte by byte.
+/// Whether these frames have these answers and this end, in one piece and byte by byte.
 fn are_answered(alloc: Global, frames: Frames, end: SessionEnd) -> Result<bool, AllocError> {
     let mut input = Octets::new(alloc);
     let mut expected = Octets::new(alloc);
@@ -315,7 +317,8 @@ fn answers_go_to_ports_above_32767(rt: HostRuntime) {
     );
 }
 
-/// Appends a public client's AARQ of 537 bytes. Its calling AP title is an OCTET STRING of 496 bytes.
+/// Appends a public client's AARQ of 537 bytes. Its calling AP title is an OCTET STRING of 496
+/// bytes.
 fn add_long_opening(alloc: Global, input: &mut Octets) -> Result<(), AllocError> {
     add_hex(
         alloc,
@@ -326,7 +329,7 @@ fn add_long_opening(alloc: Global, input: &mut Octets) -> Result<(), AllocError>
     add_hex(alloc, input, "BE10040E01000000065F1F0400007E1F04B0")
 }
 
-/// Whether a long AARQ has the usual AARE, and the state is read after it.
+/// Whether a long AARQ has the usual AARE, and a read of the state after it is answered.
 fn is_long_opening_answered(alloc: Global) -> Result<bool, AllocError> {
     let mut input = Octets::new(alloc);
     let mut expected = Octets::new(alloc);
@@ -495,7 +498,7 @@ fn a_long_list_is_refused_without_block_transfer(rt: HostRuntime) {
     );
 }
 
-/// Inputs that have no answer, and how they end.
+/// Inputs without an answer, and their ends.
 const UNANSWERED: &[(Frames, SessionEnd)] = &[
     (&[("", "")], SessionEnd::Closed),
     (&[("0002001000010000", "")], SessionEnd::BadVersion),
@@ -518,7 +521,7 @@ fn wrong_headers_and_cuts_end_the_session(rt: HostRuntime) {
     assert!(rt; matches!(all_end(rt.alloc(), UNANSWERED), Ok(true)));
 }
 
-/// Whether a session waits, and says so before it is asked.
+/// Whether a session waits for input, and `is_idle` returned true before.
 fn waits(alloc: Global, session: &mut Session) -> Result<bool, AllocError> {
     let is_idle = session.is_idle();
     let next = session.next(alloc)?;
@@ -527,7 +530,7 @@ fn waits(alloc: Global, session: &mut Session) -> Result<bool, AllocError> {
     Ok(is_idle && waits && !session.asking())
 }
 
-/// Whether a session is over for another version, and not idle.
+/// Whether a session is over because of a header of another version, and is not idle.
 fn is_over(alloc: Global, session: &mut Session) -> Result<bool, AllocError> {
     let is_idle = session.is_idle();
     let next = session.next(alloc)?;
@@ -536,7 +539,8 @@ fn is_over(alloc: Global, session: &mut Session) -> Result<bool, AllocError> {
     Ok(is_over && !is_idle)
 }
 
-/// Whether a session that waits is ended by a frame of another version, and says so whatever comes then.
+/// Whether a frame of another version ends a session that waits, and the session stays over
+/// whatever it is fed.
 fn says_so_again(alloc: Global, session: &mut Session) -> Result<bool, AllocError> {
     let waits = waits(alloc, session)?;
     session.feed(&[0, 2, 0, 16, 0, 1, 0, 0])?;
@@ -545,7 +549,7 @@ fn says_so_again(alloc: Global, session: &mut Session) -> Result<bool, AllocErro
     Ok(waits && ends && is_over(alloc, session)?)
 }
 
-/// Whether a new session does so.
+/// Whether a frame of another version ends a new session that waits, and the session stays over.
 fn a_new_one_says_so_again(alloc: Global) -> Result<bool, AllocError> {
     let mut session = new_session(alloc)?;
     let says_so = says_so_again(alloc, &mut session);
@@ -558,7 +562,7 @@ fn a_session_that_is_over_says_so_again(rt: HostRuntime) {
     assert!(rt; matches!(a_new_one_says_so_again(rt.alloc()), Ok(true)));
 }
 
-/// Whether Debug writes nothing of a session but its name: it has a password.
+/// Whether `Debug` writes only the name of a session's type, because the session has a password.
 fn is_shown_by_name(alloc: Global, session: &Session) -> Result<bool, AllocError> {
     let text = format!(in alloc; "{session:?}")?;
     let is_same = text.as_str() == "Session { .. }";
@@ -575,7 +579,7 @@ fn a_session_does_not_show_its_password(rt: HostRuntime) -> Result<(), Fail> {
     Ok(())
 }
 
-/// Gives a session the bytes that a text spells.
+/// Feeds a session the bytes of a text in hexadecimal.
 fn feed_hex(alloc: Global, session: &mut Session, text: &str) -> Result<(), AllocError> {
     let mut input = Octets::new(alloc);
     let fed = match add_hex(alloc, &mut input, text) {
@@ -596,7 +600,8 @@ fn associate(alloc: Global, core: &mut RelayCore, session: &mut Session) -> Resu
     Ok(())
 }
 
-/// The frame of the answer to a GET of one attribute at the front, by the short way. No bytes: none is there.
+/// Returns the frame with the answer to a GET of one attribute at the front, by `next_get` and
+/// `answer_get`. No bytes if there is no such GET.
 fn answer_shortly(
     alloc: Global,
     core: &mut RelayCore,
@@ -618,7 +623,8 @@ fn answer_shortly(
     frame
 }
 
-/// The same for a frame of the public client.
+/// Feeds a session a frame of the public client, and returns its answer by `next_get` and
+/// `answer_get`.
 fn answer_public(
     alloc: Global,
     core: &mut RelayCore,
@@ -630,7 +636,8 @@ fn answer_public(
     answer_shortly(alloc, core, session)
 }
 
-/// Whether a frame of the public client has this answer from a new meter, by the short way.
+/// Whether a frame of the public client has this answer from a new meter, by `next_get` and
+/// `answer_get`.
 fn is_answered_shortly(alloc: Global, request: &str, answer: &str) -> Result<bool, AllocError> {
     let mut session = new_session(alloc)?;
     let answered = match new_core(alloc) {
@@ -652,7 +659,8 @@ fn is_answered_shortly(alloc: Global, request: &str, answer: &str) -> Result<boo
     Ok(same)
 }
 
-/// The state of the switch; a name that no object has; a write, and another client's GET, which go the long way.
+/// A read of the switch's state and of an unknown object. A write and another client's GET have no
+/// answer by `next_get`.
 static BY_THE_SHORT_WAY: [(&str, &str); 4] = [
     (
         "000100100001000DC001C10046000060030AFF0300",

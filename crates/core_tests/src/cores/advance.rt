@@ -1,11 +1,11 @@
 use super::*;
 
-/// Script 3: mode 0 is written, and the supply is disconnected.
+/// Script 3: writes mode 0 and disconnects the supply.
 const MODE_0_AND_DISCONNECT: &[u8] = b"\x01\x01\x02\x02\x12\x00\x03\x01\x02\
     \x02\x05\x16\x01\x12\x00\x46\x09\x06\x00\x00\x60\x03\x0A\xFF\x0F\x04\x16\x00\
     \x02\x05\x16\x02\x12\x00\x46\x09\x06\x00\x00\x60\x03\x0A\xFF\x0F\x01\x0F\x00";
 
-/// How many steps the script of this identifier has, of scripts that are moved in.
+/// Returns the number of steps of the script with this identifier, if the parts are scripts.
 fn steps_of(parts: &Parts, identifier: u16) -> Option<u8> {
     match parts {
         Parts::Scripts(scripts) => scripts.step_count(identifier),
@@ -13,7 +13,7 @@ fn steps_of(parts: &Parts, identifier: u16) -> Option<u8> {
     }
 }
 
-/// Whether script 3 of what the event moves in has two steps, and there is no script 1.
+/// Whether script 3 in the parts of the event has two steps, and there is no script 1.
 fn moves_script_3(alloc: Global, event: &Event) -> Result<bool, AllocError> {
     let parts = RelayCore::parts(alloc, event)?;
     let moves = steps_of(&parts, 3) == Some(2) && steps_of(&parts, 1) == None;
@@ -41,14 +41,14 @@ fn written_scripts_are_moved_in(rt: HostRuntime) {
     assert!(rt; matches!(is_plain(rt.alloc(), &Event::Button), Ok(true)));
 }
 
-/// Takes an event with its parts read apart, and without a reply.
+/// Applies an event whose parts are decoded before, without a reply.
 fn advance_apart(core: &mut RelayCore, alloc: Global, event: &Event) -> Result<(), AllocError> {
     let parts = RelayCore::parts(alloc, event)?;
     core.advance(event, parts);
     Ok(())
 }
 
-/// Takes a copy of an event so.
+/// Applies a copy of an event in this way.
 fn advance(core: &mut RelayCore, alloc: Global, event: &Event) -> Result<(), AllocError> {
     let copy = event.try_copy(alloc)?;
     let taken = advance_apart(core, alloc, &copy);
@@ -63,7 +63,7 @@ fn advance_write(core: &mut RelayCore, alloc: Global, bytes: &[u8]) -> Result<()
     taken
 }
 
-/// In mode 1 a moment comes, and the supply is disconnected.
+/// In mode 1, applies a moment and disconnects the supply.
 fn advance_to_disconnected(core: &mut RelayCore, alloc: Global) -> Result<(), AllocError> {
     advance_write(core, alloc, &[0x16, 1])?;
     advance(core, alloc, &Event::Moment(5))?;
@@ -77,7 +77,7 @@ fn is_disconnected(core: &RelayCore) -> bool {
         && core.last_moment() == Some(5)
 }
 
-/// Whether a copy is in the same state.
+/// Whether a copy of the core is in the same state.
 fn is_copied(core: &RelayCore, alloc: Global) -> Result<bool, AllocError> {
     let copy = core.try_copy(alloc)?;
     let same = is_disconnected(&copy);
@@ -85,7 +85,7 @@ fn is_copied(core: &RelayCore, alloc: Global) -> Result<bool, AllocError> {
     Ok(same)
 }
 
-/// Whether a core comes to that state, and a copy is in it too.
+/// Whether a core reaches that state, and a copy of it has it too.
 pub(super) fn advances(core: &mut RelayCore, alloc: Global) -> Result<bool, AllocError> {
     advance_to_disconnected(core, alloc)?;
     Ok(is_disconnected(core) && is_copied(core, alloc)?)

@@ -3,7 +3,7 @@ use cosem_names::Which;
 use disconnect_control::{ControlMode, ControlState};
 use limiter_core::Count;
 
-/// The switch in mode 5, limiters with thresholds, and a group of the export limiter.
+/// Mode 5, limiters with thresholds, and a group id of the export limiter.
 const SETTINGS: &[(Place, &[u8])] = &[
     (MODE, &[0x16, 5]),
     ((71, IMPORT_LIMITER, 4), b"\x06\x00\x00\x13\x88"),
@@ -13,7 +13,7 @@ const SETTINGS: &[(Place, &[u8])] = &[
     ((71, EXPORT_LIMITER, 9), b"\x01\x01\x12\x00\x07"),
 ];
 
-/// Three pairs of 5001 and 9001 W.
+/// Returns a block of three pairs of 5001 W and 9001 W.
 fn three_pairs(alloc: Global) -> Result<Event, AllocError> {
     match Block::from_pairs(alloc, &[5001; 3], &[9001; 3]) {
         Ok(pairs) => Ok(Event::Samples(pairs)),
@@ -21,7 +21,7 @@ fn three_pairs(alloc: Global) -> Result<Event, AllocError> {
     }
 }
 
-/// Moment 50 comes, and three pairs of 5001 and 9001 W.
+/// Applies moment 50, and then three pairs of 5001 W and 9001 W.
 fn pass(core: &mut RelayCore, alloc: Global) -> Result<(), AllocError> {
     let _ran = code_of(core, alloc, &Event::Moment(50))?;
     let sampled = three_pairs(alloc)?;
@@ -63,12 +63,12 @@ fn tells(core: &RelayCore, alloc: Global) -> Result<bool, AllocError> {
     Ok(told)
 }
 
-/// Whether a core has these last samples, and tells so.
+/// Whether a core has these last samples, and saves them.
 fn is_the_same(core: &RelayCore, alloc: Global) -> Result<bool, AllocError> {
     Ok(core.value() == 5001 && core.value_of(Which::Export) == 9001 && tells(core, alloc)?)
 }
 
-/// Whether a core of an opening is the same.
+/// Whether a core restored from an opening is the same.
 fn is_opened_again(alloc: Global, opening: &Opening) -> Result<bool, AllocError> {
     match RelayCore::from_opening(alloc, opening) {
         Ok(core) => {

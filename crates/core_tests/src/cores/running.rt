@@ -2,7 +2,7 @@ use super::*;
 use cosem_names::{AttributeSelection, GetResult, ResultCode};
 use listed::Listed;
 
-/// Puts an event behind the others.
+/// Appends an event.
 fn push(events: &mut Events, event: Event) -> Result<(), AllocError> {
     match events.push(event) {
         Ok(()) => Ok(()),
@@ -21,7 +21,7 @@ fn push_in_mode_1(events: &mut Events) -> Result<(), AllocError> {
     push(events, Event::Button)
 }
 
-/// Mode 1, disconnect, disconnect, reconnect, Button.
+/// Returns the events: mode 1, disconnect, disconnect, reconnect, Button.
 fn events_in_mode_1(alloc: Global) -> Result<Events, AllocError> {
     let mut events = Events::new(alloc);
     match push_in_mode_1(&mut events) {
@@ -33,7 +33,7 @@ fn events_in_mode_1(alloc: Global) -> Result<Events, AllocError> {
     }
 }
 
-/// Whether lines have these states and supply outputs, and the code 0.
+/// Whether the lines have these states and supply outputs, and the code 0.
 fn are_lines(lines: &Lines, expected: &[(u8, bool)]) -> bool {
     lines.len() == expected.len()
         && lines.as_slice().iter().zip(expected).all(|(line, (state, output))| {
@@ -41,7 +41,8 @@ fn are_lines(lines: &Lines, expected: &[(u8, bool)]) -> bool {
         })
 }
 
-/// Whether a core that takes these events, and has memory, gives the lines of the tables.
+/// Whether a core that takes these events without running out of memory gives the lines of the
+/// tables.
 fn runs_by_the_tables(
     core: &mut RelayCore,
     alloc: Global,
@@ -73,7 +74,7 @@ fn a_run_in_mode_1_has_the_lines_of_the_tables(rt: HostRuntime) {
     assert!(rt; matches!(is_done(rt.alloc(), Scenario::Running), Ok(true)));
 }
 
-/// The state of the switch, and an object that isn't there, in one list.
+/// Returns a read of the state of the switch and of an unknown object, in one list.
 fn state_and_unknown(alloc: Global) -> Result<Event, AllocError> {
     let mut items = Listed::new(alloc);
     for name in [DISCONNECT_CONTROL, Obis([0, 0, 96, 3, 11, 255])] {
@@ -88,7 +89,7 @@ fn state_and_unknown(alloc: Global) -> Result<Event, AllocError> {
     })
 }
 
-/// Whether a reply is a list of the state Connected, and of what is refused as unknown.
+/// Whether a reply is a list of the state Connected and the refusal of an unknown object.
 fn is_state_and_unknown(reply: &Reply) -> bool {
     let Reply::Values(results) = reply else {
         return false;
@@ -102,7 +103,7 @@ fn is_state_and_unknown(reply: &Reply) -> bool {
     }
 }
 
-/// Whether a core that takes this event replies so.
+/// Whether a core gives this reply to the event.
 fn replies_to(core: &mut RelayCore, alloc: Global, event: &Event) -> Result<bool, AllocError> {
     let reply = core.step(alloc, event)?;
     let so = is_state_and_unknown(&reply);

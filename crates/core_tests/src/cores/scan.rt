@@ -1,15 +1,16 @@
-//! What a block brings of scans changes nothing.
+//! A block's scans don't change its effect.
 
 use super::*;
 
-/// Script 1: 9000 is written to threshold_normal of the import limiter.
+/// Script 1: writes 9000 W to threshold_normal of the import limiter.
 const RAISE_IMPORT: &[u8] = b"\x01\x01\x02\x02\x12\x00\x01\x01\x01\
     \x02\x05\x16\x01\x12\x00\x47\x09\x06\x00\x00\x11\x00\x00\xFF\x0F\x04\x06\x00\x00\x23\x28";
 
 /// 5000 W.
 const W5000: &[u8] = b"\x06\x00\x00\x13\x88";
 
-/// Four seconds over 5000 W raise the threshold of the import limiter to 9000 W; five seconds under it count.
+/// Settings: 4 seconds over 5000 W raise the threshold of the import limiter to 9000 W, and 5
+/// seconds under the threshold fire the lower side.
 const RAISES: &[(Place, &[u8])] = &[
     (SCRIPTS, RAISE_IMPORT),
     ((71, IMPORT_LIMITER, 4), W5000),
@@ -18,7 +19,7 @@ const RAISES: &[(Place, &[u8])] = &[
     ((71, IMPORT_LIMITER, 11), OVER_1),
 ];
 
-/// The block, scanned at this threshold if there is one.
+/// Scans the block with this threshold, if there is one.
 fn scanned(mut block: Block, scan: Option<u32>) -> Block {
     if let Some(threshold) = scan {
         block.scan(threshold, 5000);
@@ -26,7 +27,7 @@ fn scanned(mut block: Block, scan: Option<u32>) -> Block {
     block
 }
 
-/// A block of 256 import values of 6000 W, scanned at this threshold if there is one.
+/// Returns a block of 256 import samples of 6000 W, scanned with this threshold if there is one.
 fn block_of(alloc: Global, scan: Option<u32>) -> Result<Block, AllocError> {
     let values = [6000; 256];
     match Block::from_slice(alloc, values.as_slice()) {
@@ -35,7 +36,7 @@ fn block_of(alloc: Global, scan: Option<u32>) -> Result<Block, AllocError> {
     }
 }
 
-/// Whether a core that takes this event replies that each side fired once.
+/// Whether a core's reply to this event is that each side fired once.
 fn fires_both(core: &mut RelayCore, alloc: Global, event: &Event) -> Result<bool, AllocError> {
     let reply = core.step(alloc, event)?;
     let fired = matches!(&reply, Reply::Sampled { over: 1, under: 1 });
@@ -43,7 +44,7 @@ fn fires_both(core: &mut RelayCore, alloc: Global, event: &Event) -> Result<bool
     Ok(fired)
 }
 
-/// Whether each side fires once: the upper at the 40th sample, and the lower at the 50th after it.
+/// Whether each side fires once: over the threshold at sample 40, and under it 50 samples later.
 fn fires_twice(core: &mut RelayCore, alloc: Global, scan: Option<u32>) -> Result<bool, AllocError> {
     let event = Event::Samples(block_of(alloc, scan)?);
     let fired = fires_both(core, alloc, &event);
@@ -51,7 +52,7 @@ fn fires_twice(core: &mut RelayCore, alloc: Global, scan: Option<u32>) -> Result
     Ok(fired? && core.threshold() == 9000)
 }
 
-/// Whether it does so once it is set.
+/// Whether a core with these settings fires in this way.
 pub(super) fn fires_with(
     core: &mut RelayCore,
     alloc: Global,

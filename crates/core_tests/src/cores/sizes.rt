@@ -1,4 +1,4 @@
-//! Device names and lists of each length within their limits.
+//! Device names and lists of every length within their limits.
 use super::{DISCONNECT_CONTROL, Scenario, attribute_at, is_done};
 use cosem_axdr::{Data, Octets};
 use cosem_names::{AttributeSelection, GetResult, Level};
@@ -8,7 +8,7 @@ use std::alloc::{AllocError, Global};
 
 const NAME: &[u8] = b"ABCDEFGHIJKLMNOP";
 
-/// Whether a meter may have the first `length` bytes of a name, 1 to 16.
+/// Whether a meter can have the first `length` bytes of a name, 1 to 16.
 fn is_name(alloc: Global, length: usize) -> Result<bool, AllocError> {
     if length < 1 || length > NAME.len() {
         return Ok(false);
@@ -29,7 +29,7 @@ fn a_device_name_may_have_each_length(rt: HostRuntime) {
     }
 }
 
-/// A read of the state of the switch, `count` times.
+/// Returns a list that reads the state of the switch `count` times.
 fn states(alloc: Global, count: u8) -> Result<Event, AllocError> {
     let mut items = Listed::new(alloc);
     for _ in 0..count {
@@ -44,7 +44,7 @@ fn states(alloc: Global, count: u8) -> Result<Event, AllocError> {
     })
 }
 
-/// Whether a reply is the state Connected, `count` times.
+/// Whether a reply is `count` times the state Connected.
 fn are_connected(reply: &Reply, count: u8) -> bool {
     let Reply::Values(results) = reply else {
         return false;
@@ -53,7 +53,7 @@ fn are_connected(reply: &Reply, count: u8) -> bool {
     results.as_slice().len() == usize::from(count) && results.as_slice().iter().all(is_connected)
 }
 
-/// Whether a list of `count` attributes is read.
+/// Whether a core reads a list of `count` attributes.
 fn reads_list(core: &mut RelayCore, alloc: Global, count: u8) -> Result<bool, AllocError> {
     let event = states(alloc, count)?;
     let taken = core.step(alloc, &event);
@@ -64,7 +64,7 @@ fn reads_list(core: &mut RelayCore, alloc: Global, count: u8) -> Result<bool, Al
     Ok(is_so)
 }
 
-/// Whether lists of 0 to 102 attributes, as many as a request holds, are read.
+/// Whether a core reads lists of 0 to 102 attributes, the largest number that a request can have.
 pub(super) fn reads_each_list(core: &mut RelayCore, alloc: Global) -> Result<bool, AllocError> {
     for count in 0..103 {
         if !reads_list(core, alloc, count)? {
