@@ -1,4 +1,4 @@
-//! Sessions over texts in hexadecimal.
+//! Sessions whose bytes are written in hexadecimal.
 ghost use Rattle.acse_ber.specs.Password.{IsPassword};
 ghost use Rattle.relay_core.specs.World.{IsDeviceName};
 
@@ -13,14 +13,15 @@ use std::io::Read;
 use std::process::Abort;
 use std::test::Fail;
 
-/// What came of a text.
+/// The result of a text.
 #[derive(Drop)]
 struct Ran {
     lines: Vec<u8>,
     result: Result<(), HexFault>,
 }
 
-/// Plays a text as a meter with this name and password. One of its reads and one of its writes may fail.
+/// Plays a text on a meter with this device name and password. One of its reads and one of its
+/// writes may fail.
 fn play(alloc: Global, text: &str, failing: (u32, u32), device: &Octets, password: &Octets) -> Ran
     requires device { IsDeviceName device.now }
     requires password { IsPassword password.now }
@@ -44,7 +45,7 @@ fn play(alloc: Global, text: &str, failing: (u32, u32), device: &Octets, passwor
     }
 }
 
-/// The same as the meter RELAY1, whose management client has the password 12345678.
+/// Plays a text on the meter RELAY1, whose management client has the password 12345678.
 fn run(alloc: Global, text: &str, failing: (u32, u32)) -> Result<Ran, AllocError> {
     let device = Octets::from_slice(alloc, b"RELAY1")?;
     let password = Octets::from_slice(alloc, b"12345678")?;
@@ -67,11 +68,11 @@ fn gives(
     Ok(is_so)
 }
 
-/// A text, the lines that are written to it, and what comes of it.
+/// A text, the lines that are written for it, and its result.
 type Played = (&'static str, &'static str, Result<(), HexFault>);
 
 static TEXTS: [Played; 10] = [
-    // Digits have either case and blanks between.
+    // Digits may be of either case and have blanks between them.
     (
         " 0001 0010 0001\r\n000 1cA\n\n",
         "0001000100100003D80202\n",
@@ -79,7 +80,7 @@ static TEXTS: [Played; 10] = [
     ),
     ("", "", Ok(())),
     (" \r\n", "", Ok(())),
-    // A session that is cut is no fault.
+    // A session that is cut off is not a fault.
     (
         "0001001000010001CA00010010",
         "0001000100100003D80202\n",
@@ -91,7 +92,7 @@ static TEXTS: [Played; 10] = [
         Ok(()),
     ),
     ("0001001000010401", "", Ok(())),
-    // Other characters are no digits.
+    // Other characters are not digits.
     ("0", "", Err(HexFault::Digits)),
     ("0001001000010001CA0", "", Err(HexFault::Digits)),
     ("0001001000010001CA0G", "", Err(HexFault::Digits)),
@@ -111,12 +112,12 @@ fn texts_are_played(rt: HostRuntime) -> Result<(), Fail> {
     Ok(())
 }
 
-/// The opening of the public client and its GET.
+/// Returns the AARQ of the public client, followed by its GET.
 fn opened(alloc: Global) -> Result<String, AllocError> {
     format!(in alloc; "{PUBLIC_AARQ}{PUBLIC_GET}")
 }
 
-/// Whether a text gives the lines of the answers to them.
+/// Whether a text gives the lines of the answers to these two.
 fn gives_both_lines(alloc: Global, text: &str) -> Result<bool, AllocError> {
     let lines = format!(in alloc; "{PUBLIC_AARE}\n{PUBLIC_STATE}\n")?;
     let is_so = gives(alloc, text, lines.as_str(), Ok(()));
@@ -133,7 +134,7 @@ fn each_frame_is_a_line(rt: HostRuntime) -> Result<(), Fail> {
     Ok(())
 }
 
-/// Whether a text of 4,278 characters, an opening and 100 equal requests, gives 101 lines.
+/// Whether a text of 4,278 characters, an AARQ and 100 equal requests, gives 101 lines.
 fn gives_101_lines(alloc: Global) -> Result<bool, AllocError> {
     let text = repeated(alloc, PUBLIC_AARQ, PUBLIC_GET, "", 100)?;
     let lines = repeated(alloc, PUBLIC_AARE, PUBLIC_STATE, "\n", 100)?;
@@ -150,7 +151,7 @@ fn a_text_of_4278_characters_is_played(rt: HostRuntime) -> Result<(), Fail> {
     Ok(())
 }
 
-/// What so many blanks give.
+/// Returns the result of a text of `count` blanks.
 fn run_blanks(alloc: Global, count: u64) -> Result<Result<(), HexFault>, AllocError> {
     let device = Octets::from_slice(alloc, b"RELAY1")?;
     let password = Octets::from_slice(alloc, b"12345678")?;
@@ -172,7 +173,7 @@ fn a_text_has_1048576_characters(rt: HostRuntime) -> Result<(), Fail> {
     Ok(())
 }
 
-/// Which read or write fails, the fault, and how many bytes are written.
+/// The number of the read and of the write that fails, the fault, and the number of bytes written.
 static FAILING: [((u32, u32), HexFault, usize); 4] = [
     ((1, 0), HexFault::Read, 0),
     ((2, 0), HexFault::Read, 0),
@@ -180,7 +181,7 @@ static FAILING: [((u32, u32), HexFault, usize); 4] = [
     ((0, 2), HexFault::Write, PUBLIC_AARE.len() + 1),
 ];
 
-/// Whether a text fails so after it has written so many bytes.
+/// Whether a text fails in this way after `size` bytes were written.
 fn fails(
     alloc: Global,
     text: &str,

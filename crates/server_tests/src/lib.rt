@@ -1,6 +1,6 @@
 //! Tests of `session_serving`: requests and sessions.
 //!
-//! They stand apart from what they test, since a check of tests proves anew all that stands in their crate.
+//! Tests are in a crate of their own because a check of tests proves their whole crate again.
 #![tactic(auto)]
 
 #[cfg(test)]

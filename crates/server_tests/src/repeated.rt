@@ -1,7 +1,7 @@
 //! Long texts of equal parts.
 use std::alloc::{AllocError, Global};
 
-/// The text `head`, followed by `part` repeated `count` times and `end` after each.
+/// Returns the text `head`, followed by `part` repeated `count` times, with `end` after each.
 pub(crate) fn repeated(
     alloc: Global,
     head: &str,

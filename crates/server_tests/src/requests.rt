@@ -14,7 +14,7 @@ fn new_core(rt: &impl Abort, alloc: Global) -> Result<RelayCore, AllocError> {
     core
 }
 
-/// Whether bytes are those of a text in hexadecimal.
+/// Whether the bytes are those of a text in hexadecimal.
 fn are_of(alloc: Global, bytes: &[u8], text: &str) -> Result<bool, Fail> {
     let expected = hex::decode(alloc, text)?;
     let same = bytes == expected.as_slice();
@@ -35,7 +35,7 @@ fn answers(
     same
 }
 
-/// Whether a core answers the request of the first text as the second says. Both are hexadecimal.
+/// Whether a core answers the request in the first text with the second. Both are in hexadecimal.
 fn is_answered(alloc: Global, core: &mut RelayCore, pair: &(&str, &str)) -> Result<bool, Fail> {
     let request = hex::decode(alloc, pair.0)?;
     let is_so = answers(alloc, core, request.as_slice(), pair.1);
@@ -43,7 +43,7 @@ fn is_answered(alloc: Global, core: &mut RelayCore, pair: &(&str, &str)) -> Resu
     is_so
 }
 
-/// Asks a core for all requests, in order.
+/// Passes all requests to a core, in order, and checks the answers.
 fn ask_all(
     rt: &impl Abort,
     alloc: Global,
@@ -57,7 +57,7 @@ fn ask_all(
     Ok(())
 }
 
-/// What is shown, and requests to a new meter and their answers.
+/// What a case shows, and requests to a new meter with their answers.
 type Asked = (&'static str, &'static [(&'static str, &'static str)]);
 
 static REQUESTS: [Asked; 6] = [
@@ -133,7 +133,7 @@ static REQUESTS: [Asked; 6] = [
     ),
 ];
 
-/// Asks a new meter.
+/// Passes the requests of a case to a new meter.
 fn ask_new(rt: &impl Abort, alloc: Global, (what, pairs): &Asked) -> Result<(), Fail> {
     let mut core = new_core(rt, alloc)?;
     let asked = ask_all(rt, alloc, &mut core, what, pairs);
@@ -160,7 +160,7 @@ const FORTY: (&str, &str) = ("C003C128", "C403C128");
 /// The logical name of the disconnect control as an item of the request, and as a result with data.
 const NAME: (&str, &str) = ("0046000060030AFF0100", "000906000060030AFF");
 
-/// Whether a core answers a request of 404 bytes by a response of 364.
+/// Whether a core answers a request of 404 bytes with a response of 364.
 fn is_long_answered(alloc: Global, core: &mut RelayCore) -> Result<bool, Fail> {
     let request = repeated(alloc, FORTY.0, NAME.0, "", 40)?;
     let answer = repeated(alloc, FORTY.1, NAME.1, "", 40)?;

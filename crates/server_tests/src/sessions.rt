@@ -13,14 +13,14 @@ use std::io::{ErrorKind, Read, Write};
 use std::process::Abort;
 use std::test::Fail;
 
-/// The request of a public client at port 16 for an association, and its answer.
+/// The AARQ of a public client at port 16, and its answer.
 pub(crate) const PUBLIC_AARQ: &str =
     "000100100001001F601DA109060760857405080101BE10040E01000000065F1F0400007E1F04B0";
 
 pub(crate) const PUBLIC_AARE: &str =
     "000100010010002B6129A109060760857405080101A203020100A305A103020100BE10040E0800065F1F0400001E1904000007";
 
-/// The request of the management client at port 1, with the password 12345678, and its answer.
+/// The AARQ of the management client at port 1, with the password 12345678, and its answer.
 const MANAGEMENT_AARQ: &str =
     "00010001000100386036A1090607608574050801018A0207808B0760857405080201AC0A80083132333435363738BE10040E01000000065F1F0400001C190400";
 
@@ -32,7 +32,7 @@ pub(crate) const PUBLIC_GET: &str = "000100100001000DC001C10046000060030AFF0300"
 
 pub(crate) const PUBLIC_STATE: &str = "0001000100100006C401C1001601";
 
-/// The bytes of a stream, so many at each read. One of the reads may fail.
+/// A stream that returns this number of bytes at each read. One of the reads may fail.
 #[derive(Drop)]
 pub(crate) struct Input<'a> {
     pub(crate) rest: &'a [u8],
@@ -55,7 +55,7 @@ impl<'a> Read for Input<'a> {
     }
 }
 
-/// What was written. One of the writes may fail.
+/// A stream that keeps what was written. One of the writes may fail.
 #[derive(Drop)]
 pub(crate) struct Output {
     pub(crate) bytes: Vec<u8>,
@@ -78,7 +78,7 @@ impl Write for Output {
     }
 }
 
-/// A core that takes so many events.
+/// A core that takes at most this number of events.
 #[derive(Drop)]
 struct Limited {
     core: RelayCore,
@@ -99,19 +99,20 @@ impl Meter for Limited {
     }
 }
 
-/// How a session of a new meter is run.
+/// How a session with a new meter is run.
 #[derive(Clone, Copy)]
 pub(crate) struct Plan {
     pub(crate) password: &'static str,
-    /// How many bytes come at a read.
+    /// The number of bytes that a read returns.
     pub(crate) piece: usize,
-    /// The read and the write that fail, counted from 1, and how many events the meter takes.
+    /// The number of the read and of the write that fails, from 1, and the number of events that
+    /// the meter takes.
     pub(crate) failing_read: u32,
     pub(crate) failing_write: u32,
     pub(crate) events: u32,
 }
 
-/// Nothing fails.
+/// The plan in which nothing fails.
 pub(crate) const AMPLE: Plan = Plan {
     password: "12345678",
     piece: 1_024,
@@ -122,14 +123,14 @@ pub(crate) const AMPLE: Plan = Plan {
 
 pub(crate) const BY_BYTES: Plan = Plan { piece: 1, ..AMPLE };
 
-/// What came of a session.
+/// The result of a session.
 #[derive(Drop)]
 pub(crate) struct Ran {
     pub(crate) bytes: Vec<u8>,
     pub(crate) result: Result<SessionEnd, ServeFault>,
 }
 
-/// A session of a meter.
+/// Serves a session of a meter.
 fn serve(alloc: Global, plan: &Plan, input: &[u8], meter: &mut Limited, password: &Octets) -> Ran
     requires { IsPassword password.now }
 {
@@ -152,7 +153,7 @@ fn serve(alloc: Global, plan: &Plan, input: &[u8], meter: &mut Limited, password
     }
 }
 
-/// A new meter that takes so many events.
+/// Returns a new meter that takes at most `events` events.
 fn new_meter(alloc: Global, events: u32) -> Result<Limited, AllocError> {
     let device = Octets::from_slice(alloc, b"RELAY1")?;
     let core = RelayCore::new(alloc, &device);
@@ -163,7 +164,7 @@ fn new_meter(alloc: Global, events: u32) -> Result<Limited, AllocError> {
     }
 }
 
-/// A password of 1 to 32 bytes.
+/// Returns a password of 1 to 32 bytes.
 fn password_of(alloc: Global, text: &str) -> Result<Octets, AllocError>
     ensures { IfOk result IsPassword }
 {
@@ -174,7 +175,7 @@ fn password_of(alloc: Global, text: &str) -> Result<Octets, AllocError>
     Octets::from_slice(alloc, bytes)
 }
 
-/// A session of a new meter with this password.
+/// Serves a session of a new meter with this password.
 fn serve_new(alloc: Global, plan: &Plan, input: &[u8], password: &Octets) -> Result<Ran, AllocError>
     requires { IsPassword password.now }
 {
@@ -184,7 +185,7 @@ fn serve_new(alloc: Global, plan: &Plan, input: &[u8], password: &Octets) -> Res
     Ok(ran)
 }
 
-/// A session of a new meter.
+/// Serves a session of a new meter.
 pub(crate) fn run(alloc: Global, plan: &Plan, input: &[u8]) -> Result<Ran, AllocError> {
     let password = password_of(alloc, plan.password)?;
     let ran = serve_new(alloc, plan, input, &password);
@@ -192,7 +193,7 @@ pub(crate) fn run(alloc: Global, plan: &Plan, input: &[u8]) -> Result<Ran, Alloc
     ran
 }
 
-/// Whether a session on the input gives this output and this end.
+/// Whether a session with the input gives this output and this end.
 pub(crate) fn gives(
     alloc: Global,
     plan: &Plan,
@@ -206,7 +207,7 @@ pub(crate) fn gives(
     Ok(is_so)
 }
 
-/// The same with the input whole and byte by byte, and an end that is no fault.
+/// Whether a session gives this output and this end, with the input in one piece and byte by byte.
 pub(crate) fn gives_both(
     alloc: Global,
     password: &'static str,
@@ -225,7 +226,7 @@ pub(crate) fn gives_both(
     )
 }
 
-/// Puts a frame from one port to another at the end of a text.
+/// Appends a frame from one port to another.
 pub(crate) fn push_payload(
     text: &mut Vec<u8>,
     ports: (u8, u8),
@@ -238,7 +239,7 @@ pub(crate) fn push_payload(
     Ok(())
 }
 
-/// The same of a payload in hexadecimal.
+/// Appends a frame with a payload in hexadecimal.
 fn push_frame(
     alloc: Global,
     text: &mut Vec<u8>,
@@ -251,14 +252,15 @@ fn push_frame(
     pushed
 }
 
-/// Whether a talk's requests or its answers are wanted.
+/// The side of a talk: its requests or its answers.
 #[derive(Clone, Copy, PartialEq, Eq)]
 enum Side {
     Asked,
     Answered,
 }
 
-/// A talk: an opening and its answer, and then the payloads of requests from a port and of their answers.
+/// A talk: an AARQ and its answer, and then the payloads of requests from a port and of their
+/// answers.
 #[derive(Clone, Copy)]
 struct Talk {
     opening: (&'static str, &'static str),
@@ -266,7 +268,7 @@ struct Talk {
     pairs: &'static [(&'static str, &'static str)],
 }
 
-/// Puts the frames of a side of a talk behind its opening.
+/// Appends the frames of one side of a talk, without its AARQ or AARE.
 fn push_frames(alloc: Global, text: &mut Vec<u8>, talk: &Talk, side: Side) -> Result<(), Fail> {
     for (request, answer) in talk.pairs {
         match side {
@@ -277,7 +279,7 @@ fn push_frames(alloc: Global, text: &mut Vec<u8>, talk: &Talk, side: Side) -> Re
     Ok(())
 }
 
-/// The bytes of a side of a talk.
+/// Returns the bytes of one side of a talk.
 fn bytes_of(alloc: Global, talk: &Talk, side: Side) -> Result<Vec<u8>, Fail> {
     let opening = match side {
         Side::Asked => talk.opening.0,
@@ -315,7 +317,8 @@ pub(crate) const PUBLIC: (&str, &str) = (PUBLIC_AARQ, PUBLIC_AARE);
 
 pub(crate) const MANAGEMENT: (&str, &str) = (MANAGEMENT_AARQ, MANAGEMENT_AARE);
 
-/// What a session shows, the password of the management client, what is sent and answered, in hexadecimal, and the end.
+/// What a session shows, the password of the management client, what is sent and answered (in
+/// hexadecimal), and the end.
 type Session = (
     &'static str,
     &'static str,
@@ -417,7 +420,7 @@ static SESSIONS: [Session; 14] = [
         ("0001001000010000", "0001000100100003D80202"),
         SessionEnd::Closed,
     ),
-    // After the opening of the public client come a request from port 1 and one from port 16.
+    // After the public client's AARQ come a request from port 1 and one from port 16.
     (
         "another port has no association",
         "12345678",
@@ -433,7 +436,7 @@ static SESSIONS: [Session; 14] = [
     ),
 ];
 
-/// Whether a session is answered as it is to be, whole and byte by byte.
+/// Whether a session has its answers and its end, in one piece and byte by byte.
 fn is_answered(alloc: Global, session: &Session) -> Result<bool, Fail> {
     let (_, password, pair, end) = session;
     let talk = Talk {
@@ -444,7 +447,7 @@ fn is_answered(alloc: Global, session: &Session) -> Result<bool, Fail> {
     is_talked(alloc, &talk, password, *end)
 }
 
-/// Whether a talk goes as it is to go, whole and byte by byte.
+/// Whether a talk has its answers, in one piece and byte by byte.
 fn is_talked(
     alloc: Global,
     talk: &Talk,
@@ -475,17 +478,17 @@ fn sessions_are_answered_to_their_end(rt: HostRuntime) -> Result<(), Fail> {
     answer_all(&rt, rt.alloc(), &SESSIONS)
 }
 
-/// The opening of a public client whose PDU size is 64, and its answer.
+/// The AARQ of a public client whose PDU size is 64, and its answer.
 pub(crate) const SMALL: (&str, &str) = (
     "000100100001001F601DA109060760857405080101BE10040E01000000065F1F0400007E1F0040",
     PUBLIC_AARE,
 );
 
-/// Ten times the logical name of the switch is asked for: 91 bytes are to be answered.
+/// A GET with list of ten logical names of the switch, whose answer is 91 bytes long.
 const TEN_NAMES: &str =
     "C003C10A0046000060030AFF01000046000060030AFF01000046000060030AFF01000046000060030AFF01000046000060030AFF01000046000060030AFF01000046000060030AFF01000046000060030AFF01000046000060030AFF01000046000060030AFF0100";
 
-/// The two blocks in which they are answered.
+/// The two blocks of that answer.
 const FIRST_BLOCK: &str =
     "C402C1000000000100340A000906000060030AFF000906000060030AFF000906000060030AFF000906000060030AFF000906000060030AFF000906000060";
 
@@ -597,7 +600,8 @@ fn talks_go_on_until_the_input_ends(rt: HostRuntime) -> Result<(), Fail> {
     talk_all(&rt, rt.alloc(), &TALKS)
 }
 
-/// Whether the first bytes of an opening, so many, end a session that answers nothing.
+/// Whether a session that gets only the first `size` bytes of an AARQ ends there and answers
+/// nothing.
 fn is_cut(alloc: Global, opening: &[u8], size: usize) -> Result<bool, AllocError> {
     let end = if size == 0 {
         SessionEnd::Closed
@@ -630,14 +634,14 @@ fn a_cut_opening_is_not_answered(rt: HostRuntime) -> Result<(), Fail> {
     Ok(())
 }
 
-/// The first bytes of a text, so many.
+/// Returns the first `size` bytes of a text.
 pub(crate) fn front(text: &[u8], size: usize) -> &[u8] {
     &text[..size.min(text.len())]
 }
 
 const GET: (&str, &str) = ("C001C10046000060030AFF0300", "C401C1001601");
 
-/// The opening of the public client, and a GET.
+/// The AARQ of the public client, and a GET.
 const SHORT_TALK: Talk = Talk {
     opening: PUBLIC,
     port: 16,
@@ -648,7 +652,7 @@ fn short_texts(alloc: Global) -> Result<Texts, Fail> {
     texts_of(alloc, &SHORT_TALK)
 }
 
-/// Whether a session of a talk fails so after it has written so many bytes.
+/// Whether a session of a talk fails in this way after `size` bytes were written.
 fn fails_after(
     alloc: Global,
     plan: &Plan,
@@ -660,7 +664,7 @@ fn fails_after(
     gives(alloc, plan, texts.asked.as_slice(), written, Err(fault))
 }
 
-/// How many bytes are written before the read of a number fails, byte by byte.
+/// Returns the number of bytes that are written before read number `read` fails, byte by byte.
 fn written_before(read: u32) -> usize {
     match read {
         0..40 => 0,

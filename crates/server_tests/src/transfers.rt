@@ -6,7 +6,8 @@ use std::alloc::{AllocError, Global};
 use std::process::Abort;
 use std::test::Fail;
 
-/// What the object list of a public client tells of each object: class, version, name, attributes and methods, with the rights to them.
+/// The object list of a public client: for each object its class, version, logical name, attributes
+/// and methods, with the rights to them.
 static OBJECTS: [&str; 12] = [
     "020412000F110109060000280000FF0202010202030F0116010002030F021601000100",
     "02041200011100090600002A0000FF0202010202030F0116010002030F021601000100",
@@ -25,10 +26,10 @@ static OBJECTS: [&str; 12] = [
 /// The public client's GET of the object list.
 const GET_LIST: &str = "C001C1000F0000280000FF0200";
 
-/// The public client's GET of the state of the switch, and its answer: the switch is connected.
+/// The public client's GET of the state of the switch, and its answer: Connected.
 const GET_STATE: (&str, &str) = ("C001C10046000060030AFF0300", "C401C1001601");
 
-/// Puts the bytes of a text in hexadecimal behind others.
+/// Appends the bytes of a text in hexadecimal.
 fn push_hex(alloc: Global, bytes: &mut Vec<u8>, text: &str) -> Result<(), Fail> {
     let decoded = hex::decode(alloc, text)?;
     let pushed = bytes.extend_from_slice(decoded.as_slice());
@@ -36,7 +37,7 @@ fn push_hex(alloc: Global, bytes: &mut Vec<u8>, text: &str) -> Result<(), Fail> 
     Ok(pushed?)
 }
 
-/// The same of several.
+/// Appends the bytes of several texts in hexadecimal.
 fn push_all(alloc: Global, bytes: &mut Vec<u8>, texts: &[&str]) -> Result<(), Fail> {
     for text in texts {
         push_hex(alloc, bytes, text)?;
@@ -44,7 +45,7 @@ fn push_all(alloc: Global, bytes: &mut Vec<u8>, texts: &[&str]) -> Result<(), Fa
     Ok(())
 }
 
-/// The text of the object list of a public client.
+/// Returns the bytes of the public client's object list.
 fn object_list(alloc: Global) -> Result<Vec<u8>, Fail> {
     let mut list = Vec::from_slice(alloc, &[0x01, 12])?;
     match push_all(alloc, &mut list, &OBJECTS) {
@@ -56,25 +57,25 @@ fn object_list(alloc: Global) -> Result<Vec<u8>, Fail> {
     }
 }
 
-/// How long a text is.
+/// Returns the length of a text.
 fn length_of(text: Vec<u8>) -> usize {
     let length = text.len();
     drop(text);
     length
 }
 
-/// What a client sends and is sent.
+/// What a client sends and receives.
 #[derive(Drop)]
 struct Talk {
     port: u8,
     input: Vec<u8>,
     output: Vec<u8>,
-    /// How many bytes were sent and answered after each request.
+    /// The numbers of bytes sent and answered after each request.
     ends: Vec<(usize, usize)>,
 }
 
 impl Talk {
-    /// An opening and its answer, from a port.
+    /// Begins a talk from a port with an AARQ and its answer.
     fn new(alloc: Global, opening: (&str, &str), port: u8) -> Result<Talk, Fail> {
         let mut talk = Talk {
             port,
@@ -97,21 +98,21 @@ impl Talk {
         self.note_end()
     }
 
-    /// A request was sent and answered.
+    /// Notes that a request was sent and answered.
     fn note_end(&mut self) -> Result<(), Fail> {
         let end = (self.input.len(), self.output.len());
         self.ends.push(end)?;
         Ok(())
     }
 
-    /// The payloads of a request and of its answer.
+    /// Appends the payloads of a request and of its answer.
     fn push(&mut self, request: &[u8], answer: &[u8]) -> Result<(), Fail> {
         push_payload(&mut self.input, (self.port, 1), request)?;
         push_payload(&mut self.output, (1, self.port), answer)?;
         self.note_end()
     }
 
-    /// The same in hexadecimal.
+    /// Appends the payloads of a request and of its answer, both in hexadecimal.
     fn ask(&mut self, alloc: Global, pair: (&str, &str)) -> Result<(), Fail> {
         let request = hex::decode(alloc, pair.0)?;
         let answer = hex::decode(alloc, pair.1)?;
@@ -121,7 +122,8 @@ impl Talk {
         pushed
     }
 
-    /// A GET whose value goes out in blocks of so many bytes, and the GET-next of each later block.
+    /// Appends a GET whose value is sent in blocks of `size` bytes, and the GET-next of each later
+    /// block.
     fn read(&mut self, alloc: Global, request: &str, raw: &[u8], size: usize) -> Result<(), Fail> {
         if size == 0 {
             return Err(Fail::from("no size"));
@@ -135,7 +137,7 @@ impl Talk {
         Ok(())
     }
 
-    /// The request of the block after so many, and that block.
+    /// Appends the request of the block after block `before`, and that block.
     fn read_block(
         &mut self,
         alloc: Global,
@@ -157,7 +159,7 @@ impl Talk {
         pushed
     }
 
-    /// A SET of the script table in blocks of so many bytes.
+    /// Appends a SET of the script table in blocks of `size` bytes.
     fn write_scripts(&mut self, alloc: Global, raw: &[u8], size: usize) -> Result<(), Fail> {
         if size == 0 {
             return Err(Fail::from("no size"));
@@ -171,7 +173,7 @@ impl Talk {
         Ok(())
     }
 
-    /// The block of a number, and its answer.
+    /// Appends a block with its number, and its answer.
     fn write_block(
         &mut self,
         alloc: Global,
@@ -193,7 +195,7 @@ impl Talk {
         pushed
     }
 
-    /// The same of several.
+    /// Appends several requests and their answers, all in hexadecimal.
     fn ask_all(&mut self, alloc: Global, pairs: &[(&str, &str)]) -> Result<(), Fail> {
         for pair in pairs {
             self.ask(alloc, *pair)?;
@@ -201,12 +203,13 @@ impl Talk {
         Ok(())
     }
 
-    /// Whether it goes so, whole and byte by byte.
+    /// Whether the talk has its answers, in one piece and byte by byte.
     fn goes(&self, alloc: Global) -> Result<bool, AllocError> {
         self.goes_so_far(alloc, self.input.len())
     }
 
-    /// Whether its first bytes, so many, are answered as far as the requests are whole, whole and byte by byte.
+    /// Whether the first `size` bytes have the answers to the whole requests in them, in one piece
+    /// and byte by byte.
     fn goes_so_far(&self, alloc: Global, size: usize) -> Result<bool, AllocError> {
         let (sent, answered) = last_end(self.ends.as_slice(), size);
         let end = if sent == size {
@@ -223,7 +226,7 @@ impl Talk {
         )
     }
 
-    /// Whether its answers end in the bytes of this text.
+    /// Whether the last answers end with the bytes of this text.
     fn ends_in(&self, alloc: Global, text: &str) -> Result<bool, Fail> {
         let last = hex::decode(alloc, text)?;
         let is_so = self.output.as_slice().ends_with(last.as_slice());
@@ -231,7 +234,8 @@ impl Talk {
         Ok(is_so)
     }
 
-    /// Whether it goes so once this was done, which was answered so often, with this text at the end.
+    /// Whether the talk has its answers, once `done` has succeeded with this number of answers, of
+    /// which the last ends with this text.
     fn goes_after(
         &self,
         alloc: Global,
@@ -248,7 +252,7 @@ impl Talk {
     }
 }
 
-/// The last end before so many bytes were sent.
+/// Returns the last end within the first `size` bytes sent.
 fn last_end(ends: &[(usize, usize)], size: usize) -> (usize, usize) {
     let mut last = (0, 0);
     for end in ends {
@@ -259,12 +263,13 @@ fn last_end(ends: &[(usize, usize)], size: usize) -> (usize, usize) {
     last
 }
 
-/// A payload's head in hexadecimal, and a number behind it.
+/// Returns a payload's head in hexadecimal, followed by a block number.
 fn numbered(alloc: Global, head: &str, number: usize) -> Result<Vec<u8>, Fail> {
     block_of(alloc, head, number, &[], None)
 }
 
-/// The same, with a mark behind it, and bytes with their length.
+/// Returns a payload's head in hexadecimal, followed by a block number, a mark, and bytes with
+/// their length.
 fn block(
     alloc: Global,
     head: &str,
@@ -306,7 +311,7 @@ fn push_block(
     }
 }
 
-/// Puts bytes and their length at the end of a payload.
+/// Appends the length of some bytes, and the bytes.
 fn push_raw(payload: &mut Vec<u8>, raw: &[u8]) -> Result<(), Fail> {
     let size = u16::try_from(raw.len())?;
     match size {
@@ -343,7 +348,7 @@ fn the_object_list_goes_in_13_blocks(rt: HostRuntime) -> Result<(), Fail> {
     Ok(())
 }
 
-/// Reads the first block of the object list, and then goes on with a block that isn't the next.
+/// Reads the first block of the object list, and then requests a block that isn't the next.
 fn read_wrong_block(alloc: Global, talk: &mut Talk) -> Result<(), Fail> {
     let list = object_list(alloc)?;
     let read = talk.read_block(alloc, GET_LIST, 0, false, front(list.as_slice(), 52));
@@ -369,7 +374,7 @@ fn a_wrong_block_number_ends_a_long_get(rt: HostRuntime) -> Result<(), Fail> {
     Ok(())
 }
 
-/// Puts two object lists behind others.
+/// Appends two object lists.
 fn push_two(alloc: Global, lists: &mut Vec<u8>) -> Result<(), Fail> {
     let list = object_list(alloc)?;
     let first = lists.extend_from_slice(list.as_slice());
@@ -381,7 +386,7 @@ fn push_two(alloc: Global, lists: &mut Vec<u8>) -> Result<(), Fail> {
     Ok(second?)
 }
 
-/// The text of two object lists.
+/// Returns the results of two reads of the object list.
 fn two_lists(alloc: Global) -> Result<Vec<u8>, Fail> {
     let mut lists = Vec::from_slice(alloc, &[0x02, 0x00])?;
     match push_two(alloc, &mut lists) {
@@ -393,7 +398,7 @@ fn two_lists(alloc: Global) -> Result<Vec<u8>, Fail> {
     }
 }
 
-/// Reads two object lists in blocks of 52 bytes.
+/// Reads the object list twice in one list, in blocks of 52 bytes.
 fn read_two_lists(alloc: Global, talk: &mut Talk) -> Result<(), Fail> {
     let lists = two_lists(alloc)?;
     let request = "C003C102000F0000280000FF0200000F0000280000FF0200";
@@ -415,7 +420,7 @@ fn two_object_lists_go_in_26_blocks(rt: HostRuntime) -> Result<(), Fail> {
     Ok(())
 }
 
-/// An opening of the public client that proposes only GET, in PDUs of 64 bytes, and its answer.
+/// The AARQ of a public client that proposes only GET, in PDUs of 64 bytes, and its answer.
 const ONLY_GET: (&str, &str) = (
     "000100100001001F601DA109060760857405080101BE10040E01000000065F1F04000000100040",
     "000100010010002B6129A109060760857405080101A203020100A305A103020100BE10040E0800065F1F040000001004000007",
@@ -429,7 +434,7 @@ static WITHOUT_BLOCKS: [(&str, &str); 4] = [
     GET_STATE,
 ];
 
-/// Whether requests are answered so, after an opening from a port.
+/// Whether these requests have these answers, after an AARQ from a port.
 fn is_asked(
     alloc: Global,
     (opening, port): ((&str, &str), u8),
@@ -464,7 +469,7 @@ static IN_BLOCKS: [(&str, &str); 9] = [
     ("C306C101000000020100", "C701C11000"),
 ];
 
-/// Cuts a talk of these requests after each of its bytes.
+/// Cuts off a talk with these requests after each of its bytes.
 fn check_cuts(rt: &impl Abort, alloc: Global, talk: &mut Talk) -> Result<(), Fail> {
     talk.ask_all(alloc, &IN_BLOCKS)?;
     assert!(rt; talk.ends.len() == 1 + 9);
@@ -483,19 +488,19 @@ fn a_cut_talk_is_answered_so_far(rt: HostRuntime) -> Result<(), Fail> {
 }
 
 static NO_VALUES: [(&str, &str); 4] = [
-    // Nine structures in one another.
+    // Nine nested structures.
     (
         "C102C10046000060030AFF040001000000011302010201020102010201020102010201020100",
         "C503C1FA00000001",
     ),
-    // A byte behind the value.
+    // One byte after the value.
     (
         "C102C10046000060030AFF0400010000000103160200",
         "C503C1FA00000001",
     ),
-    // Each has ended its transfer.
+    // Each refusal has ended its transfer.
     ("C103C101000000020116", "C503C11200000002"),
-    // A value that isn't whole.
+    // A value that isn't complete.
     ("C304C10046000060030AFF010100000001020600", "C701C1FA00"),
 ];
 
@@ -505,7 +510,8 @@ fn joined_bytes_that_are_no_value_are_refused(rt: HostRuntime) -> Result<(), Fai
     Ok(())
 }
 
-/// Whether a text is answered alike whole and byte by byte: somehow, and with no end before the input's.
+/// Whether a text has the same answers in one piece and byte by byte: at least one, and the session
+/// ends with its input.
 fn is_alike(alloc: Global, text: &[u8]) -> Result<bool, AllocError> {
     let end = Ok(SessionEnd::Closed);
     let whole = run(alloc, &AMPLE, text)?;
@@ -515,7 +521,7 @@ fn is_alike(alloc: Global, text: &[u8]) -> Result<bool, AllocError> {
     Ok(is_same? && is_answered)
 }
 
-/// The same of a text whose byte is changed so.
+/// Whether an AARQ with one byte changed has the same answers in one piece and byte by byte.
 fn is_alike_changed(
     alloc: Global,
     opening: &[u8],
@@ -551,7 +557,8 @@ fn an_opening_with_a_changed_byte(rt: HostRuntime) -> Result<(), Fail> {
     Ok(())
 }
 
-/// Eight steps of a script: writes of the mode, of thresholds and durations of both limiters and of an emergency profile, and both methods of the switch.
+/// Eight steps of a script: writes of the mode, of thresholds and durations of both limiters and of
+/// an emergency profile, and both methods of the switch.
 static STEPS: [&str; 8] = [
     "020516011200460906000060030AFF0F041605",
     "0205160112004709060000110000FF0F040600002328",
@@ -563,7 +570,7 @@ static STEPS: [&str; 8] = [
     "020516021200460906000060030AFF0F020F00",
 ];
 
-/// Puts 16 scripts of these steps behind others, numbered from 1.
+/// Appends 16 scripts of these steps, numbered from 1.
 fn push_scripts(table: &mut Vec<u8>, steps: &[u8]) -> Result<(), AllocError> {
     for number in 1..=16u8 {
         table.extend_from_slice(&[0x02, 0x02, 0x12, 0x00, number, 0x01, 8])?;
@@ -572,7 +579,7 @@ fn push_scripts(table: &mut Vec<u8>, steps: &[u8]) -> Result<(), AllocError> {
     Ok(())
 }
 
-/// The same of the eight steps.
+/// Appends 16 scripts of the eight steps.
 fn push_table(alloc: Global, table: &mut Vec<u8>) -> Result<(), Fail> {
     let mut steps = Vec::new(alloc);
     let decoded = push_all(alloc, &mut steps, &STEPS);
@@ -582,7 +589,7 @@ fn push_table(alloc: Global, table: &mut Vec<u8>) -> Result<(), Fail> {
     Ok(pushed?)
 }
 
-/// The text of 16 scripts of these eight steps.
+/// Returns the bytes of a table of 16 scripts of these eight steps.
 fn full_table(alloc: Global) -> Result<Vec<u8>, Fail> {
     let mut table = Vec::from_slice(alloc, &[0x01, 16])?;
     match push_table(alloc, &mut table) {
@@ -594,13 +601,15 @@ fn full_table(alloc: Global) -> Result<Vec<u8>, Fail> {
     }
 }
 
-/// Writes a table in blocks of so many bytes, and reads it: the answer's PDUs have 1,024 bytes, of which 12 are the header's.
+/// Writes a table in blocks of `size` bytes, and reads it: the answer's PDUs have 1,024 bytes, of
+/// which 12 are the header.
 fn write_and_read(alloc: Global, talk: &mut Talk, table: &[u8], size: usize) -> Result<(), Fail> {
     talk.write_scripts(alloc, table, size)?;
     talk.read(alloc, "C001C1000900000A006AFF0200", table, 1_012)
 }
 
-/// Whether the full table goes so in blocks of so many bytes, of which there are so many, and is read in four.
+/// Whether the full table is written in blocks of `size` bytes, `blocks` in number, and read in
+/// four.
 fn goes_in_blocks(alloc: Global, table: &[u8], size: usize, blocks: usize) -> Result<bool, Fail> {
     let mut talk = Talk::new(alloc, MANAGEMENT, 1)?;
     let done = write_and_read(alloc, &mut talk, table, size);
@@ -611,7 +620,7 @@ fn goes_in_blocks(alloc: Global, table: &[u8], size: usize, blocks: usize) -> Re
 
 fn check_table(rt: &impl Abort, alloc: Global, table: &[u8]) -> Result<(), Fail> {
     assert!(rt; table.len() == 2 + 16 * (7 + 186));
-    // Small blocks give the same: 31 of 100 bytes in place of 4.
+    // Small blocks give the same result: 31 blocks of 100 bytes instead of 4.
     for (size, blocks) in [(1_000, 4), (100, 31)] {
         assert!(rt; goes_in_blocks(alloc, table, size, blocks)?, "{size} bytes");
     }
