@@ -1,6 +1,7 @@
-//! Tests of `turn_lock` and `session_threads`: what threads see of one another through the ports of a lock, and who is served.
+//! Tests of `turn_lock` and `session_threads`: what threads see of one another's calls through the
+//! ports of a lock, and which clients are served.
 //!
-//! They stand apart from what they test, since a check of tests proves anew all that stands in their crate.
+//! Tests are in a crate of their own because a check of tests proves their whole crate again.
 #![tactic(auto)]
 
 #[cfg(test)]

@@ -1,4 +1,4 @@
-//! What no clause says: that calls succeed, and what threads see of one another.
+//! What no contract states: that calls succeed, and what threads see of one another's calls.
 ghost use Rattle.std.specs.Prelude.{◌≡◌, ◌<◌, ◌≤◌, IfOk, IfSome};
 ghost use Rattle.turn_lock.specs.Rule.{most_turns};
 ghost use Rattle.turn_lock.specs.Trials.{StandsBehind};
@@ -15,10 +15,10 @@ use std::thread::{Threads, join};
 use std::time::{Clock, Duration, Instant};
 use turn_lock::{Busy, Port, Shared, Turned};
 
-// What a call of a test's value answered.
+// The result of a call on a test's value.
 type Answer = Result<u64, CallFault>;
 
-/// A lock over a new counter.
+/// Makes a lock around a new counter.
 pub(crate) fn start(
     alloc: Global,
     bound: u64,
@@ -29,7 +29,7 @@ pub(crate) fn start(
     Shared::new(alloc, Counter::new(), bound).map_err(|_| AllocError)
 }
 
-/// The count at the close, if the lock isn't busy.
+/// Closes the lock and returns the count, or `None` if the lock is busy.
 pub(crate) fn close(shared: Shared<Counter>, port: Port<Counter>) -> Option<u64>
     requires { port.lock ≡ shared }
 {
@@ -135,7 +135,7 @@ fn ask_moody<W: Wait>(rt: &W, alloc: Global, port: &mut Port<Moody>) -> [Answer;
     ]
 }
 
-// The answers and the count at the close of a moody counter.
+// Returns the results of the calls on a moody counter, and its count when the lock is closed.
 fn call_moody<W: Wait>(rt: &W, alloc: Global) -> Result<([Answer; 4], Option<u64>), AllocError> {
     let (shared, mut port) = Shared::new(alloc, Moody::new(), 3).map_err(|_| AllocError)?;
     let answers = ask_moody(rt, alloc, &mut port);
@@ -161,7 +161,8 @@ fn leaves_the_value_for_want_of_memory(rt: HostRuntime) -> Result<(), Fail> {
     Ok(())
 }
 
-// Told of one port's call, another's next call stands behind it in one legal history.
+// Calls through one port, passes a note of it to the other, and calls through that: the second call
+// is after the first in one legal history.
 fn call_when_told<T: Turned, W: Wait>(
     rt: &W,
     alloc: Global,
@@ -206,7 +207,7 @@ fn tells_and_meets(rt: HostRuntime) -> Result<(), Fail> {
     Ok(())
 }
 
-// What a busy close gave back.
+// What a busy `close` returned.
 type Refusal = (Busy, Shared<Gated>, Port<Gated>);
 
 fn close_while_busy<R: Threads + Wait + Sync>(
@@ -243,7 +244,7 @@ fn close_while_busy<R: Threads + Wait + Sync>(
     (called, caller, refusal)
 }
 
-// A lock over a value whose turns wait at the gate.
+// Makes a lock around a value whose turns wait at the gate.
 fn start_gated(
     alloc: Global,
     gate: Arc<Gate, Global>,
@@ -253,7 +254,7 @@ fn start_gated(
     Shared::new(alloc, Gated::new(gate), 5).map_err(|_| AllocError)
 }
 
-// One call through the open gate, which is shut then.
+// Makes one call through the open gate, and then shuts the gate.
 fn call_through<W: Wait>(rt: &W, alloc: Global, port: &mut Port<Gated>, gate: &Gate) -> Answer
     ensures { port.new.lock ≡ port.old.lock }
 {
@@ -263,7 +264,8 @@ fn call_through<W: Wait>(rt: &W, alloc: Global, port: &mut Port<Gated>, gate: &G
     answer
 }
 
-// How many turns were drawn and served by a busy close, and the count at the close once the caller is joined.
+// Joins the caller and closes the lock. Returns the numbers of turns drawn and ended of the busy
+// `close`, and the count.
 fn close_again(refusal: Refusal, caller: Port<Gated>) -> Option<(u64, u64, u64)>
     requires { (refusal.2.lock ≡ refusal.1) × (caller.lock ≡ refusal.1) }
 {
@@ -282,7 +284,7 @@ fn close_again(refusal: Refusal, caller: Port<Gated>) -> Option<(u64, u64, u64)>
     }
 }
 
-// The same where the caller's turn is held up at the gate, and served then.
+// Closes the lock while the caller's turn waits at the gate, and again after that turn has ended.
 fn close_twice<R: Threads + Wait + Sync>(
     rt: &R,
     alloc: Global,
@@ -306,7 +308,7 @@ fn close_twice<R: Threads + Wait + Sync>(
     }
 }
 
-// The same through a port that is split off that of the caller.
+// Splits a port off from the caller's, and closes the lock twice through it.
 fn close_beside<R: Threads + Wait + Sync>(
     rt: &R,
     alloc: Global,
@@ -326,7 +328,8 @@ fn close_beside<R: Threads + Wait + Sync>(
     }
 }
 
-// The same where the caller's first call is held up.
+// Closes the lock while the caller's first turn waits at the gate, and again after that turn has
+// ended.
 fn hold_up_first<R: Threads + Wait + Sync>(
     rt: &R,
     alloc: Global,
@@ -345,7 +348,7 @@ fn is_busy_while_the_first_turn_is_held(rt: HostRuntime) -> Result<(), Fail> {
     Ok(())
 }
 
-// The same where a call was made before, and its answer.
+// Makes a first call, and then closes the lock twice. Returns the result of that call, too.
 fn hold_up<R: Threads + Wait + Sync>(
     rt: &R,
     alloc: Global,
@@ -373,7 +376,7 @@ fn open_late<R: Clock>(rt: &R, gate: &Gate) {
     gate.open();
 }
 
-// A call that waits while another one holds the turn for 20 ms, and how long it waited.
+// Makes a call while another one holds the turn for 20 ms, and returns how long it waited.
 fn call_behind<R: Threads + Wait + Sync + Clock>(
     rt: &R,
     alloc: Global,
@@ -417,7 +420,7 @@ fn waits_no_longer_than_a_turn_is_held(rt: HostRuntime) -> Result<(), Fail> {
     Ok(())
 }
 
-// Calls so often, and keeps the replies.
+// Makes `times` calls, and returns the replies.
 fn bump<W: Wait>(
     rt: &W,
     alloc: Global,
@@ -436,7 +439,7 @@ fn bump<W: Wait>(
     (port, replies)
 }
 
-// The same through two ports at once. The replies of both are put together.
+// Makes `times` calls through each of two ports at once, and returns the replies of both.
 fn bump_both<R: Threads + Wait + Sync>(
     rt: &R,
     alloc: Global,
@@ -487,7 +490,7 @@ fn bump_all<R: Threads + Wait + Sync>(
     (one, replies)
 }
 
-// Four ports of one lock, each of which was told by the one before.
+// Four ports of one lock, each of which has read a note of the one before.
 type Ring = (Port<Counter>, Port<Counter>, Port<Counter>, Port<Counter>);
 
 fn make_ring(port: Port<Counter>) -> Result<Ring, AllocError>
@@ -504,7 +507,7 @@ fn make_ring(port: Port<Counter>) -> Result<Ring, AllocError>
     Ok((one, two, three, four))
 }
 
-// True where the replies are 1 to `count`, each once.
+// Whether the replies are 1 to `count`, each once.
 fn are_one_to(alloc: Global, mut replies: Vec<u64>, count: u64) -> Result<bool, AllocError> {
     let sorted = replies.sort();
     let mut want = 1;

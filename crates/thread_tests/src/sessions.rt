@@ -1,4 +1,5 @@
-//! What no clause of `session_threads` says: that sessions run side by side, and who is served.
+//! What no contract of `session_threads` states: that sessions run in parallel, and which clients
+//! are served.
 mod guests;
 
 use crate::locks::{close, start};
@@ -9,7 +10,8 @@ use std::sync::{Arc, Wait};
 use std::test::Fail;
 use std::thread::Threads;
 
-/// What a test looks at: what was accepted, how many guests waited with success, and the count that the calls of the sessions left.
+/// The result of a test: what `serve_connections` returned, how many guests waited with success,
+/// and the number of calls that the sessions made.
 type Evening = (Accepted, u64, Option<u64>);
 
 fn told(served: u64, turned_away: u64, has_failed: bool, has_starved: bool) -> Accepted {
@@ -33,8 +35,7 @@ fn serve<R: Threads + Wait + Copy + Send + 'static>(
     Ok((accepted?, count))
 }
 
-/// An evening in a hall at whose door this number of guests come, after connections that are
-/// closed.
+/// Serves this number of guests, after connections that are closed.
 fn spend<R: Threads + Wait + Copy + Send + 'static>(
     rt: &R,
     alloc: Global,
@@ -50,8 +51,8 @@ fn spend<R: Threads + Wait + Copy + Send + 'static>(
     Ok((accepted, hall.content(), count))
 }
 
-/// An evening of this number of guests, who wait for one another, after connections that are
-/// closed, with this limit.
+/// Serves this number of guests, who wait for one another, after connections that are closed. The
+/// server accepts `limit` connections, or any number if it is 0.
 fn evening<R: Threads + Wait + Copy + Send + 'static>(
     rt: &R,
     alloc: Global,
@@ -79,7 +80,7 @@ fn turns_the_ninth_away(rt: HostRuntime) -> Result<(), Fail> {
     Ok(())
 }
 
-/// An evening of guests who come one after the other.
+/// Serves guests who come one after the other.
 fn long_evening<R: Threads + Wait + Copy + Send + 'static>(
     rt: &R,
     alloc: Global,
@@ -102,7 +103,8 @@ fn gives_the_place_of_an_ended_session_to_the_next(rt: HostRuntime) -> Result<()
     Ok(())
 }
 
-/// An evening of guests, the last of whom comes after the first has left; all but the first wait for the last.
+/// Serves guests of whom the last comes after the first has left; all but the first wait for the
+/// last.
 fn relay_evening<R: Threads + Wait + Copy + Send + 'static>(
     rt: &R,
     alloc: Global,
@@ -125,8 +127,8 @@ fn waits_for_no_session_but_those_that_ended(rt: HostRuntime) -> Result<(), Fail
     Ok(())
 }
 
-// Every place is taken when the first guest leaves, and those at the other places wait for the
-// ninth: an end that is noted at another place is waited for in vain.
+// When the first guest leaves, every place is taken, and the guests in the other places wait for
+// the ninth. So if the end were noted for another place, the server would wait for it forever.
 #[test]
 fn a_ninth_takes_the_place_of_the_one_that_left(rt: HostRuntime) -> Result<(), Fail> {
     let spent = relay_evening(&rt, rt.alloc(), 9)?;
@@ -152,7 +154,7 @@ fn counts_what_was_closed_out_of_memory(rt: HostRuntime) -> Result<(), Fail> {
     Ok(())
 }
 
-// A stream that can't be set up is no want of memory.
+// A stream that can't be set up doesn't count as out of memory.
 #[test]
 fn counts_those_whose_stream_cannot_be_set_up(rt: HostRuntime) -> Result<(), Fail> {
     let closed = Closed {

@@ -12,7 +12,7 @@ use std::test::Fail;
 use std::thread::Threads;
 use turn_lock::Port;
 
-/// It calls so often.
+/// A worker that makes this number of calls.
 #[derive(Drop)]
 struct Bumper {
     times: u8,
@@ -48,10 +48,10 @@ fn bump<W: Wait>(
     (port, Ok(()))
 }
 
-/// How a worker ended, if its work was begun.
+/// How a worker ended, if it was started.
 type Work = Option<Result<(), CallFault>>;
 
-// What two workers came to, who work at once, or nothing where a thread is not had.
+// Returns the results of two workers that work at once, or `None` if a thread could not be started.
 fn work_together<R: Threads + Wait + Copy + Send + 'static>(
     rt: &R,
     alloc: Global,

@@ -1,4 +1,4 @@
-//! Values for the tests.
+//! Values for the tests of locks.
 ghost use Rattle.std.specs.Prelude.{◌≡◌, ◌≢◌, ℕ, ◌+◌, ◌%◌, ◌^◌, IfOk, IfErr};
 ghost use Rattle.turn_lock.specs.Trials.{next, Counts, count_after};
 
@@ -8,10 +8,10 @@ use std::sync::atomic::{AtomicBool, Ordering};
 use std::thread;
 use turn_lock::Turned;
 
-/// How often a wait asks its flag.
+/// The number of times that a wait reads its flag.
 const ASKED: u64 = 1_000_000;
 
-/// Holds a turn up.
+/// Makes turns wait until it is opened.
 #[derive(Drop)]
 pub(super) struct Gate {
     begun: AtomicBool,
@@ -36,7 +36,7 @@ impl Gate {
         }
     }
 
-    /// Holds up the next turn, after those that went through.
+    /// Makes the next turn wait; earlier ones have passed.
     pub(super) fn shut(&self) {
         self.begun.store(false, Ordering::SeqCst);
         self.open.store(false, Ordering::SeqCst);
@@ -47,12 +47,12 @@ impl Gate {
         wait_for(&self.open);
     }
 
-    /// True once a turn has begun.
+    /// Waits until a turn has begun, and returns whether one has.
     pub(super) fn has_begun(&self) -> bool {
         wait_for(&self.begun)
     }
 
-    /// Lets the turn go on.
+    /// Lets the waiting turn continue.
     pub(super) fn open(&self) {
         self.open.store(true, Ordering::SeqCst);
     }
@@ -62,7 +62,7 @@ impl Gate {
 #[derive(Clone, Copy)]
 pub(crate) struct Bump;
 
-/// It counts its turns, and answers the count.
+/// A counter of its turns, which replies with the count.
 #[derive(Drop)]
 pub(crate) struct Counter {
     pub(crate) count: u64,
@@ -138,14 +138,14 @@ impl Turned for Gated {
     ghost is_legal = { λ _ _ s. s.0 };
 }
 
-/// What the moody counter is asked.
+/// An event of the moody counter.
 #[derive(Clone, Copy)]
 pub(super) enum Wish {
     Bump,
     Refuse,
 }
 
-/// A counter that refuses when it is told to.
+/// A counter that returns `AllocError` for the event `Refuse`.
 #[derive(Drop)]
 pub(super) struct Moody {
     pub(super) count: u64,

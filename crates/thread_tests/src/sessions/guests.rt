@@ -7,13 +7,13 @@ use std::sync::{Arc, Wait};
 use std::thread;
 use turn_lock::Port;
 
-/// How often a wait asks.
+/// The number of times that a wait reads its condition.
 const ASKED: u64 = 1_000_000;
 
-/// The number of yields in which the thread of a guest who has left ends.
+/// The number of yields after which the thread of a guest who has left has ended.
 const AFTER: u64 = 2_000;
 
-/// Where guests see one another.
+/// What guests know of one another.
 #[derive(Drop)]
 pub(super) struct Hall {
     wanted: u64,
@@ -23,7 +23,7 @@ pub(super) struct Hall {
 }
 
 impl Hall {
-    /// A hall whose guests wait until so many have arrived, or one was closed.
+    /// Makes a hall whose guests wait until `wanted` of them have arrived, or one was closed.
     pub(super) fn new(wanted: u64) -> Hall {
         Hall {
             wanted,
@@ -33,7 +33,7 @@ impl Hall {
         }
     }
 
-    /// How many guests waited with success.
+    /// Returns the number of guests who waited with success.
     pub(super) fn content(&self) -> u64 {
         self.content.load(Ordering::SeqCst)
     }
@@ -53,7 +53,7 @@ impl Hall {
         false
     }
 
-    // Waits until this number of guests have left, and then for the ends of their threads.
+    // Waits until this number of guests have left and their threads have ended.
     fn wait_until_left(&self, guests: u64) {
         for _ in 0..ASKED {
             if self.content() >= guests {
@@ -66,7 +66,7 @@ impl Hall {
         }
     }
 
-    // Waits until this number of guests have arrived, whoever was closed.
+    // Waits until this number of guests have arrived, whether or not one was closed.
     fn wait_for_all(&self, guests: u64) -> bool {
         for _ in 0..ASKED {
             if self.arrived.load(Ordering::SeqCst) >= guests {
@@ -99,20 +99,21 @@ pub(super) struct Guest {
 /// What a guest waits for.
 #[derive(Clone, Copy)]
 enum Patience {
-    /// Until the guests that the hall wants have arrived, or one was closed.
+    /// Until the number of guests that the hall wants have arrived, or one was closed.
     UntilClosed,
     /// Until this number of guests have arrived.
     ForAll(u64),
 }
 
-/// When a listener gives its guests.
+/// When a listener's guests arrive.
 #[derive(Clone, Copy)]
 enum Pace {
     /// All at once, but the last after all others have arrived.
     Together,
     /// Each after the one before has left.
     OneByOne,
-    /// The last comes after the first has left; the first waits for all but the last, and the others for all.
+    /// The last comes after the first has left; the first waits for all but the last, and the
+    /// others for all.
     AfterTheFirst,
 }
 
@@ -149,13 +150,14 @@ pub(super) struct Closed {
     pub(super) setup_failed: u64,
 }
 
-/// No connection is closed.
+/// The numbers if no connection is closed.
 pub(super) const NONE_CLOSED: Closed = Closed {
     out_of_memory: 0,
     setup_failed: 0,
 };
 
-/// A listener that gives some guests, the last once all others have arrived, and then fails.
+/// A listener that accepts some guests, the last of them once all others have arrived, and then
+/// fails.
 #[derive(Drop)]
 pub(super) struct Door {
     hall: Arc<Hall, Global>,
@@ -167,7 +169,7 @@ pub(super) struct Door {
 }
 
 impl Door {
-    /// A listener of this number of guests, which closes these connections first.
+    /// Makes a listener of this number of guests, which first closes these connections.
     pub(super) fn new(hall: Arc<Hall, Global>, guests: u64, closed: Closed) -> Door {
         Door {
             hall,
@@ -179,21 +181,22 @@ impl Door {
         }
     }
 
-    /// A listener of this number of guests, each of whom comes after the one before has left.
+    /// Makes a listener of this number of guests, each of whom comes after the one before has left.
     pub(super) fn one_by_one(hall: Arc<Hall, Global>, guests: u64) -> Door {
         let mut door = Door::new(hall, guests, NONE_CLOSED);
         door.pace = Pace::OneByOne;
         door
     }
 
-    /// A listener of this number of guests. The last comes after the first has left, and all but the first wait for it.
+    /// Makes a listener of this number of guests. The last comes after the first has left, and all
+    /// but the first wait for it.
     pub(super) fn after_the_first(hall: Arc<Hall, Global>, guests: u64) -> Door {
         let mut door = Door::new(hall, guests, NONE_CLOSED);
         door.pace = Pace::AfterTheFirst;
         door
     }
 
-    // Waits until the next guest is to come.
+    // Waits until it is time for the next guest.
     fn pause(&self) {
         match self.pace {
             Pace::Together if self.guests == 0 => {
@@ -205,7 +208,7 @@ impl Door {
         }
     }
 
-    // What the next guest waits for.
+    // Returns what the next guest waits for.
     fn patience(&self) -> Patience {
         match self.pace {
             Pace::AfterTheFirst if self.given == 0 => Patience::ForAll(self.all.saturating_sub(1)),
