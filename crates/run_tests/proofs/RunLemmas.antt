@@ -1,4 +1,4 @@
--- A run whose sources are lists, by what a run of any sources is.
+-- A run whose sources are lists is a run, with the declared items of the lists.
 use Rattle.std.proofs.Common.{ℕ, ◌+◌, List, Some, subst, arith, IfOk, Result, Ok, Err}
 use Rattle.kept_meter.specs.Calls.{IsLegal}
 use Rattle.meter_run.specs.Runs.{Given, IsRun}
@@ -8,7 +8,7 @@ use Rattle.relay_recorder.specs.Recording.{Recording}
 use Rattle.run_tests.specs.ListedRuns.{Lists, IsListedRun}
 use Rattle.session_serving.specs.declared.fault.ServeFault.{ServeFault}
 
--- the same, as `IsRun` takes it
+-- the lists, as `IsRun` takes them
 abbrev given_by : Lists → Given
 given_by lists = record {
   blocks = Some lists.blocks;
@@ -41,7 +41,7 @@ if_traced : {E : Type 0} (recorder : Recording) (lists : Lists) (served : Served
 if_traced recorder lists served (Ok text) run = listed recorder lists served text run
 if_traced recorder lists served (Err fault) run = tt
 
--- a run that nothing stopped
+-- a run that was not stopped early
 pub listed_if : {E : Type 0} (recorder : Recording) (lists : Lists)
     (served : Result Served ServeFault) (trace : Result (List ℕ) E)
     → IfOk trace (IsRun recorder (given_by lists) served)

@@ -1,7 +1,7 @@
 -- A run whose sources are lists.
---     Lists           what the sources list, and the password of the management client
+--     Lists           the items of the sources, and the password of the management client
 --     AreListedCalls  the calls of such a run
---     IsListedRun     the run, to the text of its trace
+--     IsListedRun     the run, with the text of its trace
 use Rattle.std.specs.Prelude.{◌≡◌, ℕ, ◌+◌, ◌<◌, List, [], ◌∷◌, map, replicate}
 use Rattle.kept_meter.specs.Calls.{Calls, IsLegal, Stands}
 use Rattle.kept_meter.specs.KeptRecorder.{KeptRecorder}
@@ -14,7 +14,7 @@ use Rattle.relay_core.specs.Opening.{opening_of}
 use Rattle.relay_events.specs.declared.event.Event.TheVariants as event
 use Rattle.relay_recorder.specs.Recording.{Recording}
 
--- what the sources list, and the password of the management client
+-- The items of the sources, and the password of the management client.
 pub record Lists : Type 0 where
   pub blocks : List Samples
   pub moments : List ℕ
@@ -31,8 +31,8 @@ pub record AreListedCalls (lists : Lists) (clients : ℕ) (calls : Calls) : Type
   pub sessions : (client : ℕ) → client < clients
       → AreAsked lists.password (events_in ((3 + client) ∷ []) calls)
 
--- There is one list of calls, answered by the written rules from where the recorder began. The
--- meter at the end stands for it, and the text is the trace of that meter.
+-- There is one list of calls whose replies are those of the written rules, starting from the
+-- recorder's state. The meter at the end results from it, and the text is the trace of that meter.
 pub record IsListedRun (recorder : Recording) (lists : Lists) (clients : ℕ) (text : List ℕ)
     : Type 0 where
   pub calls : Calls

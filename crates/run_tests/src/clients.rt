@@ -10,7 +10,7 @@ use std::io::{Cursor, Write};
 use std::sync::Arc;
 use std::sync::atomic::{AtomicU64, Ordering};
 
-/// What clients were sent, and how their sessions ended.
+/// The bytes that clients were sent, and how their sessions ended, as counts.
 #[derive(Drop)]
 pub(crate) struct Line {
     right: AtomicU64,
@@ -27,8 +27,8 @@ impl Line {
         }
     }
 
-    /// Returns the number of bytes that were sent as expected, that of all others, and that of
-    /// sessions whose input ended between two frames.
+    /// Returns the number of bytes that were sent as expected, the number of all other bytes sent,
+    /// and the number of sessions whose input ended between two frames.
     pub(crate) fn counts(&self) -> (u64, u64, u64) {
         (
             self.right.load(Ordering::SeqCst),
@@ -38,7 +38,7 @@ impl Line {
     }
 }
 
-/// What a client is sent: each byte is compared with the one expected in its place.
+/// A client's output stream, which compares each byte with the expected one.
 #[derive(Drop)]
 pub(crate) struct Answered {
     line: Arc<Line, Global>,
@@ -66,7 +66,7 @@ impl Write for Answered {
     }
 }
 
-/// Counts the sessions that were closed between two frames.
+/// Counts the sessions whose input ended between two frames.
 impl Observer for Answered {
     fn ended(&self, end: &Result<SessionEnd, ServeFault>) {
         if *end == Ok(SessionEnd::Closed) {
@@ -75,10 +75,10 @@ impl Observer for Answered {
     }
 }
 
-/// A client: what it sends, and what it is to be sent.
+/// A client: what it sends, and what it is expected to receive.
 pub(crate) type Client = (Cursor<Vec<u8>>, Answered);
 
-/// Returns a client that sends the first text, and expects the second one.
+/// Returns a client that sends the first text and expects the second one.
 pub(crate) fn client(
     line: &Arc<Line, Global>,
     asked: Vec<u8>,
@@ -92,7 +92,7 @@ pub(crate) fn client(
     Ok((Cursor::new(asked), answered))
 }
 
-/// Accepts the clients of a list, in order, and then fails.
+/// A listener that accepts the clients of a list, in order, and then fails.
 #[derive(Drop)]
 pub(crate) struct Door {
     clients: VecDeque<Client>,

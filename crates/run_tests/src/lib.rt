@@ -1,5 +1,5 @@
-//! Tests of whole runs: a meter whose sources are lists, with clients in memory, and what its
-//! sampler does.
+//! Tests of whole runs: a meter whose sources are lists, with clients in memory, and the thresholds
+//! that its sampler scans blocks with.
 //!
 //! Tests are in a crate of their own because a check of tests proves their whole crate again.
 #![tactic(auto)]

@@ -22,10 +22,10 @@ use std::thread::Threads;
 /// Sources that are lists.
 type Lists = Sources<ListedBlocks, ListedMoments, ListedPresses>;
 
-/// Runs a meter until `limit` clients came or the listener failed. If a trace is written and
-/// the listener did not fail, there is one list of calls, which the text tells: the blocks, the
-/// moments and the presses of the lists, each by a port of its own, and for each client served
-/// what a session asks.
+/// Runs a meter until `limit` clients have come or the listener has failed. If a trace is written
+/// and the listener did not fail, there is one list of calls, which the text records: the blocks,
+/// the moments and the presses of the lists, each by a port of its own, and for each client served
+/// the events that its session asks.
 fn run_lists<R: Threads + Wait + Copy + Send + 'static>(
     rt: &R,
     alloc: Global,
@@ -53,7 +53,7 @@ fn run_lists<R: Threads + Wait + Copy + Send + 'static>(
     run_meter(rt, alloc, recorder, door, lists, password, u64::from(limit))
 }
 
-/// A recorder of a new meter RELAY1, to which no event has come.
+/// Returns a recorder of a new meter RELAY1 that has taken no event.
 pub(crate) fn new_recorder(rt: &impl Abort, alloc: Global) -> Result<Recorder, AllocError>
     ensures { IfOk result (λ recorder. recorder.events ≡ []) }
 {
@@ -109,7 +109,7 @@ fn run<R: Threads + Wait + Abort + Copy + Send + 'static>(
     }
 }
 
-/// No blocks, no moments and no presses.
+/// Returns lists without blocks, moments and presses.
 fn no_lists(alloc: Global) -> Lists {
     Sources {
         blocks: ListedBlocks {
@@ -132,7 +132,7 @@ fn add_block(lists: &mut Lists, block: Block) -> Result<(), AllocError> {
     }
 }
 
-/// Three blocks, one of them of pairs and one empty; two moments; two presses.
+/// Appends three blocks, one of pairs and one empty, two moments and two presses.
 fn fill(alloc: Global, lists: &mut Lists) -> Result<(), Fail> {
     add_block(lists, Block::from_slice(alloc, &[10, 20])?)?;
     add_block(lists, Block::from_pairs(alloc, &[30], &[40])?)?;
@@ -175,7 +175,7 @@ static STATE_READ: Texts = &[
     "0001000100100006C401C1001601",
 ];
 
-/// The bytes of texts in hexadecimal.
+/// Returns the bytes of texts in hexadecimal.
 fn bytes_of(alloc: Global, texts: Texts) -> Result<Vec<u8>, Fail> {
     let mut bytes = Vec::new(alloc);
     for text in texts {
@@ -198,7 +198,7 @@ fn add_client(
     Ok(())
 }
 
-/// A listener of the management client, and then of the public one.
+/// Returns a listener that accepts the management client and then the public one.
 fn door_of_two(alloc: Global, line: &Arc<Line, Global>) -> Result<Door, Fail> {
     let mut clients = VecDeque::new(alloc);
     add_client(alloc, &mut clients, line, WRITES_MODE, MODE_WRITTEN)?;
@@ -206,7 +206,8 @@ fn door_of_two(alloc: Global, line: &Arc<Line, Global>) -> Result<Door, Fail> {
     Ok(Door::new(clients))
 }
 
-/// What the trace has of the run: the head of the events, and what each port did.
+/// The lines of the trace that come from the run: the head of the events, and the events of each
+/// port.
 static ALL_LINES: [Lines; 6] = [
     &["events 10"],
     &[
@@ -221,7 +222,7 @@ static ALL_LINES: [Lines; 6] = [
     &["get 16 70 000060030AFF 3 0"],
 ];
 
-/// Serves two clients, while all that the lists give is handed in.
+/// Serves two clients while the workers pass on all items of the lists.
 fn run_two<R: Threads + Wait + Abort + Copy + Send + 'static>(
     rt: &R,
     alloc: Global,
@@ -253,7 +254,7 @@ fn lists_are_handed_in_whole(rt: HostRuntime) -> Result<(), Fail> {
     assert!(rt; served == Ok(all));
     assert!(rt; is_traced);
     assert!(rt; (door.accepted, door.has_failed) == (2, false));
-    // Both answers to an AARQ have 51 bytes, those to the requests 12 and 14.
+    // Both answers to an AARQ have 51 bytes; the answers to the requests have 12 and 14.
     assert!(rt; line.counts() == (51 + 12 + 51 + 14, 0, 2));
     Ok(())
 }

@@ -1,4 +1,4 @@
-//! The thresholds that the sampler's worker scans blocks with. A scan is no part of a block's
+//! The thresholds that the sampler's worker scans blocks with. A scan is not part of a block's
 //! value, so no contract sees it.
 ghost use Rattle.std.specs.Prelude.{◌≡◌, [], IfOk};
 
@@ -43,7 +43,7 @@ const THIRD: Thresholds = Thresholds {
 /// The number of blocks: those of the first two reads of the thresholds, and two of the third.
 const BLOCKS: u16 = 130;
 
-/// What is written ahead of a block, which is numbered from 1.
+/// Returns the thresholds that are written before a block. Blocks are numbered from 1.
 fn written_before(block: u16) -> Option<Thresholds> {
     match block {
         1 => Some(FIRST),
@@ -53,7 +53,7 @@ fn written_before(block: u16) -> Option<Thresholds> {
     }
 }
 
-/// What a block is scanned with: the thresholds in force before block 1, 65 or 129.
+/// Returns the thresholds that a block is scanned with: those in force before block 1, 65 or 129.
 fn expected(block: u16) -> Thresholds {
     match block {
         1..=64 => FIRST,
@@ -62,7 +62,7 @@ fn expected(block: u16) -> Thresholds {
     }
 }
 
-/// threshold_normal of a limiter.
+/// Returns the reference to threshold_normal of a limiter.
 fn normal(side: u8) -> AttrRef {
     AttrRef {
         class: ClassId(71),
@@ -71,7 +71,7 @@ fn normal(side: u8) -> AttrRef {
     }
 }
 
-/// A source that writes both thresholds ahead of some of its blocks, through a port of its own.
+/// A source that writes both thresholds before some of its blocks, through a port of its own.
 #[derive(Drop)]
 struct Writing<'a, W: Wait> {
     rt: &'a W,
@@ -112,7 +112,7 @@ impl<'a, W: Wait> BlockSource for Writing<'a, W> {
     }
 }
 
-/// What a block is scanned with, if it has a scan of both sides.
+/// Returns the thresholds that a block was scanned with, if it was scanned with both.
 fn scanned(block: &Block) -> Option<Thresholds> {
     let scans = block.scanned()?;
     Some(Thresholds {
@@ -121,7 +121,7 @@ fn scanned(block: &Block) -> Option<Thresholds> {
     })
 }
 
-/// What a walk along the kept events has found.
+/// The findings of a walk through the kept events.
 #[derive(Clone, Copy, Debug, PartialEq, Eq)]
 struct Found {
     in_force: Thresholds,
@@ -180,7 +180,7 @@ impl Found {
     }
 }
 
-/// Walks along the events that a recorder has kept.
+/// Walks through the events that a recorder has kept.
 fn found_in(recorder: &Recorder) -> Found {
     let mut found = NOTHING;
     for i in 0..256 {
@@ -189,7 +189,7 @@ fn found_in(recorder: &Recorder) -> Found {
     found
 }
 
-/// What the meter behind a lock has kept, or `None` if the lock is busy.
+/// Returns the findings for the meter in a lock, or `None` if the lock is busy.
 fn found_behind(shared: Shared<Kept>, port: Port<Kept>) -> Option<Found>
     requires { port.lock ≡ shared }
 {
@@ -207,7 +207,7 @@ fn found_behind(shared: Shared<Kept>, port: Port<Kept>) -> Option<Found>
     }
 }
 
-/// A lock over a value, for 1,000 calls, and its first port.
+/// Makes a lock around a value, for 1,000 calls, and its first port.
 fn lock_over<T: Turned>(alloc: Global, value: T) -> Result<(Shared<T>, Port<T>), AllocError>
     requires { T.stands value [] }
     ensures { IfOk result (λ r. r.1.lock ≡ r.0) }
@@ -221,7 +221,7 @@ fn lock_over<T: Turned>(alloc: Global, value: T) -> Result<(Shared<T>, Port<T>),
     }
 }
 
-/// Lets the worker hand in all blocks.
+/// Runs the worker until all blocks are passed on.
 fn sample<W: Wait>(
     rt: &W,
     alloc: Global,
@@ -249,18 +249,19 @@ fn sample<W: Wait>(
     }
 }
 
-/// The same over a new meter. `None`: out of memory.
+/// Runs the worker with a new meter. `None` if out of memory.
 fn sample_new<R: Wait + Abort>(rt: &R, alloc: Global) -> Option<Found> {
     let recorder = new_recorder(rt, alloc).ok()?;
     let (shared, port) = lock_over(alloc, Kept::new(recorder)).ok()?;
     sample(rt, alloc, shared, port)
 }
 
-/// A read of the thresholds was refused memory, and each block is scanned with those read last.
+/// A read of the thresholds ran out of memory, and each block is scanned with the thresholds read
+/// last.
 #[derive(Debug, Drop)]
 struct RefusedAndStood;
 
-// `tests/refused_memory.py` runs it once for each of its allocations, which is refused then.
+// `tests/refused_memory.py` runs it once for each of its allocations, and refuses that allocation.
 #[test]
 fn blocks_are_scanned_with_the_thresholds_read_last(rt: HostRuntime) -> Result<(), Fail> {
     let found = sample_new(&rt, rt.alloc()).ok_or(AllocError)?;

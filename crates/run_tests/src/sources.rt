@@ -1,11 +1,11 @@
-//! Sources that list what they give.
+//! Sources that declare the items they have yet to return.
 ghost use Rattle.std.specs.Prelude.{Some};
 
 use lane_sampler::Block;
 use meter_server::{BlockSource, ButtonSource, MomentSource};
 use std::collections::VecDeque;
 
-/// Gives the blocks of a list.
+/// A source of the blocks of a list.
 #[derive(Drop)]
 pub(crate) struct ListedBlocks {
     pub(crate) left: VecDeque<Block>,
@@ -20,7 +20,7 @@ impl BlockSource for ListedBlocks {
     }
 }
 
-/// Gives the moments of a list.
+/// A source of the moments of a list.
 #[derive(Drop)]
 pub(crate) struct ListedMoments {
     pub(crate) left: VecDeque<u32>,
@@ -35,7 +35,7 @@ impl MomentSource for ListedMoments {
     }
 }
 
-/// Gives a number of presses.
+/// A source of a number of presses.
 #[derive(Drop)]
 pub(crate) struct ListedPresses {
     pub(crate) left: u32,

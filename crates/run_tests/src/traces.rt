@@ -37,7 +37,7 @@ static OPENING: Lines = &[
     "schedule 3 0 5 0100",
 ];
 
-/// Takes a line off the first list whose next line it is. Returns whether there is one.
+/// Takes a line from the first list whose next line it is. Returns whether there is one.
 fn takes(lists: &[Lines; 6], taken: &mut [usize; 6], line: &str) -> bool {
     for i in 0..6 {
         if let Some(next) = lists[i].get(taken[i]) {
