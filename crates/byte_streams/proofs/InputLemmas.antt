@@ -1,4 +1,4 @@
--- Bytes that were not read to their end.
+-- Input that was not read to its end.
 use Rattle.std.proofs.Common.{◌≡◌, ℕ, Option, List, ◌++◌, Result, Ok, Err, IfErr, IsErrAnd, sym, subst}
 use Rattle.std.specs.Io.KnownBytes.{Consumes}
 use Rattle.std.proofs.KnownBytes.{Consumes-trans}
@@ -6,7 +6,7 @@ use Rattle.byte_streams.specs.Input.{StopsReading}
 use Rattle.byte_streams.specs.declared.fault.InputFault.{InputFault}
 use Rattle.byte_streams.specs.declared.fault.InputFault.TheVariants as fault
 
--- memory ran out behind a piece
+-- out of memory after a piece was read
 pub unread_memory : {X : Type 0} (limit : ℕ) (left left1 left' : Option (List ℕ)) (failed failed' : ℕ) (bytes piece : List ℕ) (result : Result X InputFault)
     → Consumes left left1 bytes → Consumes left1 left' piece → IsErrAnd result (λ f. f ≡ fault.Memory)
     → IfErr result (λ f. StopsReading limit left failed f left' failed')

@@ -1,4 +1,4 @@
--- A line that is read piece by piece.
+-- Lines that are read piece by piece.
 use Rattle.std.proofs.Common.{◌≡◌, ◌≢◌, ℕ, ◌+◌, ◌-◌, ◌<◌, ◌≤◌, Bool, true, false, ◌==◌, cond, List, [], ◌∷◌, ◌++◌, All, Option, Some, None, IfSome, length, take, get_or, sym, ap, subst, ◌∙◌, arith, append_assoc, append-nil, take_all, length-append}
 use Rattle.std.proofs.lemmas.List.{take_more}
 use Rattle.std.proofs.lemmas.List.Elements.{All-append}
@@ -10,7 +10,7 @@ use Rattle.std.specs.Io.BufRead.{take_through}
 use Rattle.std.specs.Io.KnownBytes.{Consumes}
 use Rattle.byte_streams.specs.Lines.{AddsPiece, ReadsLine}
 
--- bytes that were read, and in which no byte 0A is
+-- Bytes that were read, none of which is 0A.
 pub record ReadsPart (left : Option (List ℕ)) (line : List ℕ) (left' : Option (List ℕ)) (line' : List ℕ) : Type 0 where
   pub bytes : List ℕ
   pub added : line' ≡ line ++ bytes
@@ -20,11 +20,11 @@ pub record ReadsPart (left : Option (List ℕ)) (line : List ℕ) (left' : Optio
 pub no_part : (left : Option (List ℕ)) (line : List ℕ) → ReadsPart left line left line
 no_part left line = record { bytes = []; added = sym (append-nil line); read = Consumes-nil left; inside = λ k d below. absurd (omega (arith, below)) }
 
--- a test has one answer
+-- a Boolean is not both true and false
 pub one_answer : (b : Bool) → b ≡ true → b ≡ false → ⊥
 one_answer b is not_so = let never = sym is ∙ not_so in absurd cc
 
--- ---- one piece more
+-- ---- one more piece
 
 added_on : (line one two bytes piece : List ℕ) → one ≡ line ++ bytes → two ≡ one ++ piece → two ≡ line ++ (bytes ++ piece)
 added_on line one two bytes piece first then = then ∙ ap (λ (xs : List ℕ). xs ++ piece) first ∙ append_assoc line bytes piece
@@ -57,7 +57,7 @@ one_at_least : (byte : ℕ) (bytes : List ℕ) (b : Bool) → 0 < length (cond b
 one_at_least byte bytes true = omega arith
 one_at_least byte bytes false = omega arith
 
--- bytes of which only the last can be 0A are part of the line with which they begin
+-- if only the last of these bytes can be 0A, they are no longer than the line that begins with them
 line_long : (bytes rest : List ℕ) → StopsAt bytes 10 → length bytes ≤ length (take_through 10 (bytes ++ rest))
 line_long [] rest stops = omega arith
 line_long (x ∷ xs) rest stops =

@@ -1,4 +1,4 @@
--- What a contract sees of a stream of std whose failures are counted.
+-- The view that contracts have of a std stream whose failures are counted.
 use Rattle.std.specs.Prelude.{◌≡◌, ℕ, Bool, false, if◌then◌else◌}
 use Rattle.byte_streams.specs.declared.counted.Counted.{Counted}
 
@@ -6,18 +6,18 @@ use Rattle.byte_streams.specs.declared.counted.Counted.{Counted}
 abbrev pub stream_of : {T : Type 0} → Counted T → T
 stream_of c = c.stream
 
--- how many reads have succeeded
+-- the number of successful reads
 abbrev pub reads_of : {T : Type 0} → Counted T → ℕ
 reads_of c = c.reads
 
--- it has failed
+-- whether a read or a write has failed
 abbrev pub has_failed : {T : Type 0} → Counted T → Bool
 has_failed c = c.has_failed
 
--- how often it failed: it is used up at the first time
+-- the number of failures, 0 or 1: after the first the stream can't be used
 abbrev pub failures_of : {T : Type 0} → Counted T → ℕ
 failures_of c = if c.has_failed then 1 else 0
 
--- it has not failed
+-- no read or write has failed
 abbrev pub IsWhole : {T : Type 0} → Counted T → Type 0
 IsWhole c = c.has_failed ≡ false

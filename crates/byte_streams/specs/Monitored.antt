@@ -1,4 +1,4 @@
--- What a contract sees of a stream of std of which a failed read is recorded.
+-- The view that contracts have of a std stream that records a failed read.
 use Rattle.std.specs.Prelude.{Bool}
 use Rattle.byte_streams.specs.declared.monitored.Monitored.{Monitored}
 
@@ -6,6 +6,6 @@ use Rattle.byte_streams.specs.declared.monitored.Monitored.{Monitored}
 abbrev pub stream_of : {T : Type 0} → Monitored T → T
 stream_of m = m.stream
 
--- a read has failed
+-- whether a read has failed
 abbrev pub has_failed : {T : Type 0} → Monitored T → Bool
 has_failed m = m.has_failed

@@ -8,17 +8,18 @@ use crate::streams::{Reader, Writer};
 use std::io;
 use std::io::{ErrorKind, Read, Write};
 
-/// How often a read that a signal interrupts is tried.
+/// The number of tries of a read that a signal interrupts.
 const MOST_TRIES: u32 = 1_000;
 
-// Whether a read that failed like this is tried again: if a signal interrupted it.
+// Whether a read that failed with this error is retried: only if a signal interrupted it.
 fn is_tried_again(kind: ErrorKind) -> bool
     ensures { IsTrue result ↔ (kind ≡ ErrorKind.Interrupted) }
 {
     kind == ErrorKind::Interrupted
 }
 
-/// A stream of std as a [`Reader`] or a [`Writer`]. It is used up at its first failure, and a read past the 18,446,744,073,709,551,615th fails.
+/// A std stream as a [`Reader`] or a [`Writer`]. It can't be used after its first failure. Read
+/// number 18,446,744,073,709,551,616 fails.
 #[derive(Debug, Drop)]
 pub struct Counted<T> {
     stream: T,
@@ -27,7 +28,7 @@ pub struct Counted<T> {
 }
 
 impl<T> Counted<T> {
-    /// A stream that has not failed yet.
+    /// Wraps a stream; no read or write has failed yet.
     pub fn new(stream: T) -> Counted<T>
         ensures stream { stream_of result ≡ stream }
         ensures whole { IsWhole result }
@@ -40,7 +41,7 @@ impl<T> Counted<T> {
         }
     }
 
-    /// The stream itself.
+    /// Returns the wrapped stream.
     pub fn into_inner(self) -> T
         ensures { result ≡ stream_of self }
     {
@@ -48,7 +49,7 @@ impl<T> Counted<T> {
         stream
     }
 
-    /// How many reads have succeeded.
+    /// Returns the number of successful reads.
     pub fn reads(&self) -> u64
         ensures { result ≡ reads_of self.now }
     {
@@ -63,7 +64,7 @@ impl<T> Counted<T> {
     }
 }
 
-/// Reads from a stream. A read that a signal interrupts is tried again, up to 1,000 times.
+/// Reads from a stream. A read that a signal interrupts is retried, up to 1,000 tries in all.
 pub(crate) fn read_stream<T: Read>(stream: &mut T, buffer: &mut [u8]) -> io::Result<usize>
     ensures bound { ReadsAtMost result buffer.new }
     ensures bytes { ReadConsumes (T.remaining stream.old) (T.remaining stream.new) result buffer.new }

@@ -4,12 +4,12 @@ ghost use Rattle.byte_streams.specs.declared.fault.InputFault.TheVariants as inp
 use std::alloc::AllocError;
 use thiserror::Error;
 
-/// A stream failed: it gave no bytes, or took not all of them.
+/// A stream failed: a read failed, or a write did not write all its bytes.
 #[derive(Clone, Copy, Debug, PartialEq, Eq, Error)]
 #[error("the stream failed")]
 pub struct StreamFault;
 
-/// Why bytes were not read to their end.
+/// Why an input or a line was not read.
 #[derive(Clone, Copy, Debug, PartialEq, Eq, Error)]
 pub enum InputFault {
     /// There are more bytes than the limit.
@@ -18,7 +18,7 @@ pub enum InputFault {
     /// A read failed.
     #[error("a read failed")]
     Read = 2,
-    /// Memory ran out.
+    /// Out of memory.
     #[error("no memory")]
     Memory = 3,
 }

@@ -6,11 +6,12 @@ use crate::fault::InputFault;
 use crate::streams::Reader;
 use std::alloc::Global;
 
-/// A read asks for at most so many bytes.
+/// The largest number of bytes that one read asks for.
 const MAX_PIECE: usize = 16_384;
 
-/// Reads all bytes up to the end, `limit` at most. Errors: `TooLong` as soon as more than these were read, `Read` where a read fails, `Memory`; some bytes were read
-/// then, and are lost.
+/// Reads all bytes up to the end, at most `limit`. Errors: `TooLong` as soon as more than `limit`
+/// bytes were read, `Read` if a read fails, `Memory`. After an error some bytes were read and are
+/// lost.
 pub fn read_to_end_within<R: Reader>(
     alloc: Global,
     reader: &mut R,

@@ -1,8 +1,10 @@
 //! Readers and writers of bytes that count their failures.
 //!
-//! A contract sees which bytes a [`Reader`] has left and which a [`Writer`] took, where those are known, and how often either failed: so a caller that answers a
-//! failure of its stream can say that there was one. [`Counted`] makes either of what std reads and writes. [`read_to_end_within`] reads all bytes of a reader,
-//! and [`read_line_within`] a line through a buffer around a [`Monitored`] stream of std.
+//! Contracts see the bytes that a [`Reader`] has left and those that a [`Writer`] has written, if
+//! they are known, and how often either failed. So a caller that reports a failure of its stream
+//! can prove that there was one. [`Counted`] makes a reader or a writer of a std stream.
+//! [`read_to_end_within`] reads all bytes of a reader, and [`read_line_within`] reads a line
+//! through a buffer around a [`Monitored`] std stream.
 #![tactic(auto)]
 
 mod counted;

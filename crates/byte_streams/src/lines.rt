@@ -5,7 +5,7 @@ use crate::fault::InputFault;
 use crate::monitored::Monitored;
 use std::io::{BufRead, BufReader, Read};
 
-/// The number of bytes up to the first byte 0A and with it, or of all if there is none.
+/// Returns the number of bytes up to and including the first 0A, or of all bytes if there is none.
 fn line_len(bytes: &[u8]) -> usize
     ensures bound { result ≤ length bytes.now }
     ensures some { 0 < length bytes.now → 0 < result }
@@ -19,7 +19,8 @@ fn line_len(bytes: &[u8]) -> usize
     bytes.len()
 }
 
-/// Appends what the reader has in its buffer, up to the first byte 0A and with it. Returns whether the line ends there, or the input.
+/// Appends the buffered bytes of the reader, up to and including the first 0A. Returns whether the
+/// line or the input ends there.
 fn add_piece<B: BufRead>(input: &mut B, line: &mut Vec<u8>) -> Result<bool, InputFault>
     ensures { IfOk result (λ is_done. AddsPiece (B.remaining input.old) line.old.items is_done (B.remaining input.new) line.new.items) }
 {
@@ -34,7 +35,8 @@ fn add_piece<B: BufRead>(input: &mut B, line: &mut Vec<u8>) -> Result<bool, Inpu
     Ok(is_done)
 }
 
-/// Why a piece was not appended: a failed read only if the stream has noted one.
+/// Returns the fault of a piece that was not appended: `Read` only if the stream has recorded a
+/// failed read.
 fn piece_fault(fault: InputFault, has_failed: bool) -> InputFault
     ensures cause { result ≡ InputFault.Read → has_failed ≡ true }
     ensures short { result ≢ InputFault.TooLong }
@@ -45,11 +47,12 @@ fn piece_fault(fault: InputFault, has_failed: bool) -> InputFault
     }
 }
 
-/// Appends the next line of an input to `line`: the bytes up to the first byte 0A and with it, or all that are left if there is none. Returns the number of these
-/// bytes, which is 0 at the end of the input.
+/// Appends the next line of an input to `line`: the bytes up to and including the first 0A, or all
+/// remaining bytes if there is none. Returns the number of these bytes, which is 0 at the end of
+/// the input.
 ///
-/// Errors: `TooLong` if `line` would then have more than `limit` bytes, `Read` if a read fails, `Memory`. After an error some bytes of the line are read, and `line` may
-/// have some of them.
+/// Errors: `TooLong` if `line` would then have more than `limit` bytes, `Read` if a read fails,
+/// `Memory`. After an error some bytes of the line were read, and `line` may have some of them.
 pub fn read_line_within<T: Read>(
     input: &mut BufReader<Monitored<T>>,
     line: &mut Vec<u8>,

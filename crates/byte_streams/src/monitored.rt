@@ -7,7 +7,8 @@ use crate::counted::read_stream;
 use std::io;
 use std::io::Read;
 
-/// A stream of std that records whether a read of it has failed. A buffer can be put around it, as std's `BufReader`: a contract still sees that the stream has failed.
+/// A std stream that records whether a read of it has failed. It can be wrapped in a buffer, such
+/// as std's `BufReader`, and contracts still see that it has failed.
 #[derive(Debug, Drop)]
 pub struct Monitored<T> {
     stream: T,
@@ -15,7 +16,7 @@ pub struct Monitored<T> {
 }
 
 impl<T> Monitored<T> {
-    /// A stream of which no read has failed yet.
+    /// Wraps a stream; no read has failed yet.
     pub fn new(stream: T) -> Monitored<T>
         ensures stream { stream_of result ≡ stream }
         ensures whole { has_failed result ≡ false }

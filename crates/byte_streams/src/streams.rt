@@ -4,21 +4,22 @@ ghost use Rattle.std.specs.Io.KnownBytes.{ReadConsumes, Appends};
 
 use crate::fault::StreamFault;
 
-/// What gives bytes.
+/// A source of bytes.
 pub trait Reader {
-    // The bytes that reads will give from here on, where they are known.
+    // The bytes that further reads will return, if they are known.
     ghost remaining: { Self → Option (List ℕ) } = { λ _. None };
 
-    // How many reads have succeeded.
+    // The number of successful reads.
     ghost reads: { Self → ℕ };
 
-    // How many reads have failed.
+    // The number of failed reads.
     ghost failures: { Self → ℕ };
 
-    // Whether it can be read. A reader may be used up at its first failure.
+    // Whether it can be read. After its first failure a reader may be unusable.
     ghost can_read: { Self → Type 0 } = { λ _. ⊤ };
 
-    /// Reads into the buffer, and gives the number of bytes read: 0 at the end of the bytes, or where the buffer has no room.
+    /// Reads into the buffer and returns the number of bytes read: 0 at the end of the bytes, or if
+    /// the buffer is empty.
     fn read(&mut self, buffer: &mut [u8]) -> Result<usize, StreamFault>
         requires { can_read self.now }
         ensures bound { ReadsAtMost result buffer.new }
@@ -30,18 +31,18 @@ pub trait Reader {
         ensures cause { OnErr result (failures self.old < failures self.new) };
 }
 
-/// What takes bytes.
+/// A destination of bytes.
 pub trait Writer {
-    // The bytes that it took so far, where they are known.
+    // The bytes written so far, if they are known.
     ghost contents: { Self → Option (List ℕ) } = { λ _. None };
 
-    // How many writes have failed.
+    // The number of failed writes.
     ghost failures: { Self → ℕ };
 
-    // Whether it can be written. A writer may be used up at its first failure.
+    // Whether it can be written. After its first failure a writer may be unusable.
     ghost can_write: { Self → Type 0 } = { λ _. ⊤ };
 
-    /// Writes all the bytes. Where it fails, it may have taken some of them.
+    /// Writes all the bytes. If it fails, some of them may have been written.
     fn write_all(&mut self, bytes: &[u8]) -> Result<(), StreamFault>
         requires { can_write self.now }
         ensures bytes { OnOk result (Appends (contents self.old) (contents self.new) bytes.now) }

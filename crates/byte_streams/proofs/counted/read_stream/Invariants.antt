@@ -1,4 +1,4 @@
--- A read that was interrupted took nothing.
+-- An interrupted read has read no bytes.
 use Rattle.std.proofs.Common.{◌≡◌, length}
 use Rattle.std.specs.Io.KnownBytes.{Keeps}
 use Rattle.byte_streams.proofs.counted.read_stream.Given as goal

@@ -1,4 +1,4 @@
--- The bytes are what was read, and each read gave a byte at least.
+-- The bytes are those that were read, and each read returned at least one byte.
 use Rattle.std.proofs.Common.{◌≡◌, ◌≤◌, length}
 use Rattle.std.specs.Io.KnownBytes.{Consumes}
 use Rattle.byte_streams.proofs.input.read_to_end_within.Given as goal

@@ -1,4 +1,4 @@
--- No byte 0A so far.
+-- No byte so far is 0A.
 use Rattle.std.proofs.Common.{◌≢◌, All, take}
 use Rattle.byte_streams.proofs.lines.line_len.Given as goal
 

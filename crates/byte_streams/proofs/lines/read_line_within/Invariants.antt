@@ -1,4 +1,4 @@
--- A part of the line was read, of a byte at least for each piece.
+-- A part of the line was read, with at least one byte for each piece.
 use Rattle.std.proofs.Common.{◌≡◌, ◌<◌, ◌≤◌, length}
 use Rattle.byte_streams.proofs.LineLemmas.{ReadsPart}
 use Rattle.byte_streams.specs.Lines.{left_in}
