@@ -72,7 +72,7 @@ static REQUESTS: [Asked; 6] = [
         ],
     ),
     (
-        "reads are refused in their order",
+        "reads are refused in this meter's order",
         &[
             ("C001C10046000060030BFF0200", "C401C10104"),
             ("C001C10047000060030AFF0200", "C401C10109"),
@@ -102,7 +102,7 @@ static REQUESTS: [Asked; 6] = [
         ],
     ),
     (
-        "what is no request has an exception",
+        "a payload that is not a request has an exception",
         &[
             ("", "D80202"),
             ("CA", "D80202"),

@@ -355,13 +355,13 @@ static SESSIONS: [Session; 14] = [
         SessionEnd::BadVersion,
     ),
     (
-        "a header that tells 1,025 bytes ends it",
+        "a header that announces 1,025 bytes ends the session",
         "12345678",
         ("0001001000010401", ""),
         SessionEnd::TooLong,
     ),
     (
-        "a header that tells 65,535 bytes ends it",
+        "a header that announces 65,535 bytes ends the session",
         "12345678",
         ("000100100001FFFF", ""),
         SessionEnd::TooLong,
@@ -376,7 +376,7 @@ static SESSIONS: [Session; 14] = [
         SessionEnd::BadVersion,
     ),
     (
-        "an opening is refused by its port",
+        "an AARQ is refused because of its port",
         "12345678",
         (
             "000100010001001F601DA109060760857405080101BE10040E01000000065F1F0400007E1F04B0",
@@ -385,7 +385,7 @@ static SESSIONS: [Session; 14] = [
         SessionEnd::Closed,
     ),
     (
-        "an opening is refused by its version",
+        "an AARQ is refused because of its version",
         "12345678",
         (
             "000100100001001F601DA109060760857405080101BE10040E01000000055F1F0400007E1F04B0",
@@ -394,7 +394,7 @@ static SESSIONS: [Session; 14] = [
         SessionEnd::Closed,
     ),
     (
-        "an opening is refused by its PDU size",
+        "an AARQ is refused because of its PDU size",
         "12345678",
         (
             "000100100001001F601DA109060760857405080101BE10040E01000000065F1F0400007E1F003F",
@@ -415,7 +415,7 @@ static SESSIONS: [Session; 14] = [
         SessionEnd::Closed,
     ),
     (
-        "no byte at all has an exception",
+        "an empty payload has an exception",
         "12345678",
         ("0001001000010000", "0001000100100003D80202"),
         SessionEnd::Closed,
@@ -533,7 +533,7 @@ static TALKS: [(&str, Talk); 8] = [
         },
     ),
     (
-        "an action comes in blocks",
+        "an ACTION arrives in blocks",
         Talk {
             opening: MANAGEMENT,
             port: 1,
@@ -561,7 +561,7 @@ static TALKS: [(&str, Talk); 8] = [
         },
     ),
     (
-        "the management client reads no list",
+        "a GET with an empty list has an exception",
         Talk {
             opening: MANAGEMENT,
             port: 1,
@@ -569,7 +569,7 @@ static TALKS: [(&str, Talk); 8] = [
         },
     ),
     (
-        "a long answer goes in blocks",
+        "a long answer is sent in blocks",
         Talk {
             opening: SMALL,
             port: 16,
