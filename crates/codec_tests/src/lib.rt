@@ -15,6 +15,8 @@ mod axdr;
 #[cfg(test)]
 mod blocks;
 #[cfg(test)]
+mod conformance;
+#[cfg(test)]
 mod counted;
 #[cfg(test)]
 mod faults;

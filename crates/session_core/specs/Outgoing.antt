@@ -128,7 +128,7 @@ has_room link normal = nat_le (length (response_text normal)) link.limit
 
 -- bytes may go to the client in blocks: this was negotiated, and there are numbers for all blocks
 abbrev pub can_go_in_blocks : Link → List ℕ → Bool
-can_go_in_blocks link raw = bit_and link.conformance get_in_blocks == get_in_blocks && nat_le (length raw) (max_blocks * (link.limit - block_header))
+can_go_in_blocks link raw = bit_and link.conformance.0 get_in_blocks == get_in_blocks && nat_le (length raw) (max_blocks * (link.limit - block_header))
 
 -- the answer with values: as it is where it has room, else its first block, else other-reason
 abbrev pub long_response : Link → LongAnswer → Response

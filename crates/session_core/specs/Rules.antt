@@ -58,7 +58,7 @@ is_heard link f = is_call f.payload && link.source == f.src
 
 -- what it asks for
 abbrev pub call_in : Link → Frame → Call
-call_in link f = call_of link.conformance f.payload
+call_in link f = call_of link.conformance.0 f.payload
 
 -- its role in the transfers
 abbrev pub role_in : Link → Frame → Role

@@ -31,7 +31,7 @@ action_tag = 0xC3
 
 -- a form: the tag of its service, the number of its choice, and the services that have to be negotiated
 abbrev form : ℕ → ℕ → ℕ → RequestForm
-form tag number needs = record { tag = tag; number = number; needs = needs }
+form tag number needs = record { tag = tag; number = number; needs = record { 0 = needs } }
 
 -- normal, next and with-list of a GET; normal, with-first-datablock and with-datablock of a SET; normal, with-first-pblock and with-pblock of an ACTION
 abbrev pub request_forms : List RequestForm
