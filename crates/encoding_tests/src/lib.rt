@@ -8,3 +8,5 @@
 mod acse;
 #[cfg(test)]
 mod axdr;
+#[cfg(test)]
+mod conformance;

@@ -1,6 +1,7 @@
 -- A GET of one attribute, from its frame to the frame of its answer.
-use Rattle.std.proofs.Common.{◌≡◌, ◌<◌, ◌==◌, ℕ, true, false, if◌then◌else◌, Option, Some, None, Ok, List, [], ◌∷◌, get_or, ◌≤◌, length, take, drop, bit_and, refl, sym, ap, subst, arith}
+use Rattle.std.proofs.Common.{◌≡◌, ◌<◌, ◌==◌, ℕ, Bool, true, false, if◌then◌else◌, Option, Some, None, Ok, List, [], ◌∷◌, get_or, ◌≤◌, length, take, drop, bit_and, refl, sym, ap, subst, arith}
 use Rattle.std.specs.Int.{w16, from_be_bytes}
+use Rattle.byteorder.specs.Endian.{big_number}
 use Rattle.std.proofs.lemmas.Bool.{eq-eqb}
 use Rattle.std.proofs.lemmas.Slice.Eq.{text_from_reads}
 use Rattle.cosem_names.specs.declared.name.AttrRef.{AttrRef}
@@ -35,7 +36,7 @@ use Rattle.xdlms_blocks.specs.Transfer.{Sending}
 -- ---- its payload
 
 -- a payload of thirteen bytes that is a GET of one attribute
-single_of : (conformance id high low a b c d e f number : ℕ) → bit_and conformance 0x10 ≡ 0x10
+single_of : (conformance id high low a b c d e f number : ℕ) → (bit_and conformance 0x10 == 0x10) ≡ true
     → IsSingleGet conformance (0xC0 ∷ 0x01 ∷ id ∷ high ∷ low ∷ a ∷ b ∷ c ∷ d ∷ e ∷ f ∷ number ∷ 0x00 ∷ []) (record { 0 = id })
     (record { class = record { 0 = from_be_bytes w16 (high ∷ low ∷ []) }; name = record { 0 = a ∷ b ∷ c ∷ d ∷ e ∷ f ∷ [] }; number = number })
 unfolding call_of is_negotiated request_form request_of request_at get_request_at target_at attribute_at selection_at
@@ -44,11 +45,11 @@ single_of conformance id high low a b c d e f number negotiated =
     record {
       opens = refl;
       calls = refl;
-      call = ap (λ (bits : ℕ). if bits == 0x10 then call_by (request_of payload) else Refused Unknown) negotiated;
+      call = ap (λ (has_get : Bool). if has_get then call_by (request_of payload) else Refused Unknown) negotiated;
     }
 
 pub reads_single : (conformance : ℕ) (s : List ℕ) (class : ℕ) → 13 ≤ length s → length s < 14 → get_or s 0 0 ≡ 0xC0 → get_or s 1 0 ≡ 0x01 → get_or s 12 0 ≡ 0x00
-    → bit_and conformance 0x10 ≡ 0x10 → class ≡ from_be_bytes w16 (get_or s 3 0 ∷ get_or s 4 0 ∷ [])
+    → (bit_and conformance 0x10 == 0x10) ≡ true → class ≡ big_number 2 (get_or s 3 0 ∷ get_or s 4 0 ∷ [])
     → IsSingleGet conformance s (record { 0 = get_or s 2 0 })
     (record { class = record { 0 = class }; name = record { 0 = get_or s 5 0 ∷ get_or s 6 0 ∷ get_or s 7 0 ∷ get_or s 8 0 ∷ get_or s 9 0 ∷ get_or s 10 0 ∷ [] }; number = get_or s 11 0 })
 reads_single conformance s class least most tag form selection negotiated is_class =
@@ -57,13 +58,14 @@ reads_single conformance s class least most tag form selection negotiated is_cla
     let spelled : s ≡ read =
     text_from_reads s read (omega (arith, least, most))
     (tag, (form, (refl, (refl, (refl, (refl, (refl, (refl, (refl, (refl, (refl, (refl, (selection, tt))))))))))))) in
-    rw (spelled, is_class) (single_of conformance _ _ _ _ _ _ _ _ _ _ negotiated)
+    let class_is : class ≡ from_be_bytes w16 (get_or s 3 0 ∷ get_or s 4 0 ∷ []) = omega (arith, is_class) in
+    rw (spelled, class_is) (single_of conformance _ _ _ _ _ _ _ _ _ _ negotiated)
 
 -- ---- its frame
 
 -- the client of the association asks for an attribute
 pub hears_single : (s : State) (src : ℕ) (payload : List ℕ) (link : Link) (id : InvokeId) (attr : AttrRef) → s.link ≡ Some link → link.source ≡ src
-    → IsSingleGet link.conformance payload id attr
+    → IsSingleGet link.conformance.0 payload id attr
     → HearsGet s (heard_frame src payload) (record { link = link; form = form.Get id }) attr (record { link = s.link; incoming = None; outgoing = None })
 unfolding turn_of link_after incoming_after outgoing_after
 hears_single s src payload link id attr linked same get =

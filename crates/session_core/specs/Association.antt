@@ -20,7 +20,7 @@ limit_of proposed = if proposed == 0 then greatest_pdu else max least_pdu (min p
 
 -- the association of a client that is accepted, with its wrapper port
 abbrev pub link_by : ℕ → Verdict → Option Link
-link_by source (Accepted level bits limit) = Some (record { source = source; level = level; conformance = bits; limit = limit_of limit })
+link_by source (Accepted level bits limit) = Some (record { source = source; level = level; conformance = record { 0 = bits }; limit = limit_of limit })
 link_by source (Rejected diagnostic) = None
 link_by source (InitiateError error) = None
 

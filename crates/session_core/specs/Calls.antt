@@ -37,7 +37,7 @@ request_form tag number = find (λ form. form.tag == tag && form.number == numbe
 -- whether all conformance bits that a form needs were negotiated (IEC 62056-5-3, conformance block)
 abbrev pub has_bits : ℕ → Option RequestForm → Bool
 has_bits conformance None = false
-has_bits conformance (Some form) = bit_and conformance form.needs == form.needs
+has_bits conformance (Some form) = bit_and conformance form.needs.0 == form.needs.0
 
 -- whether the form is known and all conformance bits it needs were negotiated
 unfoldable pub is_negotiated : ℕ → ℕ → ℕ → Bool

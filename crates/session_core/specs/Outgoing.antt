@@ -129,7 +129,7 @@ has_room link normal = nat_le (length (response_text normal)) link.limit
 -- whether bytes can be sent to the client in blocks: block transfer was negotiated, and the block
 -- numbers suffice
 abbrev pub can_go_in_blocks : Link → List ℕ → Bool
-can_go_in_blocks link raw = bit_and link.conformance get_in_blocks == get_in_blocks && nat_le (length raw) (max_blocks * (link.limit - block_header))
+can_go_in_blocks link raw = bit_and link.conformance.0 get_in_blocks == get_in_blocks && nat_le (length raw) (max_blocks * (link.limit - block_header))
 
 -- the answer with values: whole if it fits, else its first block, else other-reason
 abbrev pub long_response : Link → LongAnswer → Response

@@ -62,7 +62,7 @@ is_heard link f = is_call f.payload && link.source == f.src
 
 -- the request in a frame of the client
 abbrev pub call_in : Link → Frame → Call
-call_in link f = call_of link.conformance f.payload
+call_in link f = call_of link.conformance.0 f.payload
 
 -- the role of that request in the transfers
 abbrev pub role_in : Link → Frame → Role

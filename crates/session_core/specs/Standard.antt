@@ -34,7 +34,7 @@ action_tag = 0xC3
 -- a form: the tag of its service, the number of its choice, and the conformance bits that must be
 -- negotiated
 abbrev form : ℕ → ℕ → ℕ → RequestForm
-form tag number needs = record { tag = tag; number = number; needs = needs }
+form tag number needs = record { tag = tag; number = number; needs = record { 0 = needs } }
 
 -- GET: normal, next and with-list; SET: normal, with-first-datablock and with-datablock; ACTION:
 -- normal, with-first-pblock and with-pblock

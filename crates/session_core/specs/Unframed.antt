@@ -18,7 +18,7 @@ use Rattle.xdlms_apdu.specs.declared.response.Exception.TheVariants.{Unknown}
 -- the association assumed for such a request: management, all services that the meter offers, and
 -- PDUs of 1,024 bytes
 abbrev pub unframed_link : Link
-unframed_link = record { source = management_client; level = Management; conformance = offered; limit = limit_of greatest_pdu }
+unframed_link = record { source = management_client; level = Management; conformance = record { 0 = offered }; limit = limit_of greatest_pdu }
 
 -- whether a payload is a service's tag alone, or a form of a service that needs no session
 abbrev pub is_unframed : List ℕ → Bool

@@ -1,9 +1,10 @@
 ghost use Rattle.std.specs.Prelude.{◌≡◌, IfOk};
 ghost use Rattle.session_core.specs.Calls.{tag_is, is_call, call_of, request_call};
 
-use crate::conformance::{ACTION_REQUEST, GET_REQUEST, SET_REQUEST, is_negotiated};
-use acse_ber::is_release;
+use crate::conformance::is_negotiated;
+use acse_ber::{Conformance, is_release};
 use std::alloc::{AllocError, Global};
+use xdlms_apdu::tag::{ACTION_REQUEST, GET_REQUEST, SET_REQUEST};
 use xdlms_apdu::{ApduFault, Exception, Request, read_request};
 
 /// The tag of an AARQ, which requests an association.
@@ -45,8 +46,12 @@ pub(crate) fn is_call(payload: &[u8]) -> bool
 /// Reads the request in a payload, given the negotiated conformance bits. Its form is judged before
 /// its body.
 #[tactic(auto, unfolding(crate::specs::Calls::call_of))]
-pub(crate) fn read_call(alloc: Global, conformance: u32, payload: &[u8]) -> Result<Call, AllocError>
-    ensures { IfOk result (λ call. call ≡ call_of conformance payload.now) }
+pub(crate) fn read_call(
+    alloc: Global,
+    conformance: Conformance,
+    payload: &[u8],
+) -> Result<Call, AllocError>
+    ensures { IfOk result (λ call. call ≡ call_of conformance.0 payload.now) }
 {
     if !has_tag(RLRQ, payload) {
         return read_service(alloc, conformance, payload);
@@ -59,8 +64,8 @@ pub(crate) fn read_call(alloc: Global, conformance: u32, payload: &[u8]) -> Resu
 }
 
 // Reads the request in a service's payload.
-fn read_service(alloc: Global, conformance: u32, payload: &[u8]) -> Result<Call, AllocError>
-    ensures { IfOk result (λ call. call ≡ request_call conformance payload.now) }
+fn read_service(alloc: Global, conformance: Conformance, payload: &[u8]) -> Result<Call, AllocError>
+    ensures { IfOk result (λ call. call ≡ request_call conformance.0 payload.now) }
 {
     let [tag, form, ..] = payload else {
         return Ok(Call::Refused(Exception::Unreadable));

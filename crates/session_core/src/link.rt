@@ -2,7 +2,8 @@ ghost use Rattle.std.specs.Prelude.{◌≡◌};
 ghost use Rattle.session_core.specs.Association.{aare_by, link_by};
 
 use crate::limit::{Limit, MAX_PDU};
-use acse_ber::{Aare, Info, Verdict};
+use acse_ber::{Aare, Conformance, Info, Verdict};
+use bitflags::Flags;
 use cosem_names::Level;
 
 /// An open association: what the client and the server agreed on.
@@ -13,7 +14,7 @@ pub(crate) struct Link {
     /// The client's access rights.
     pub(crate) level: Level,
     /// The negotiated conformance block.
-    pub(crate) conformance: u32,
+    pub(crate) conformance: Conformance,
     /// The longest PDU that is sent to the client.
     pub(crate) limit: Limit,
 }
@@ -26,7 +27,7 @@ pub(crate) fn opened(source: u16, verdict: Verdict) -> Option<Link>
         Verdict::Accepted { level, bits, limit } => Some(Link {
             source,
             level,
-            conformance: bits,
+            conformance: Conformance::from_bits_retain(bits),
             limit: Limit::of(limit),
         }),
         Verdict::Rejected(_) | Verdict::InitiateError(_) => None,

@@ -9,10 +9,11 @@ ghost use Rattle.xdlms_blocks.specs.Sending.{next_piece, after_next};
 
 use crate::answer::Way;
 use crate::asked::{Asked, ReplyForm};
-use crate::conformance::GET_IN_BLOCKS;
 use crate::due::Due;
 use crate::link::Link;
 use crate::outgoing::{Outgoing, block_given};
+use acse_ber::Conformance;
+use bitflags::Flags;
 use cosem_axdr::{Data, Octets};
 use cosem_names::{GetResult, ResultCode};
 use relay_events::Reply;
@@ -292,7 +293,8 @@ fn answer_in_blocks(
 fn can_go_in_blocks(link: Link, raw: &[u8]) -> bool
     ensures { result ≡ can_go_in_blocks link raw.now }
 {
-    link.conformance & GET_IN_BLOCKS == GET_IN_BLOCKS
+    link.conformance
+        .contains(Conformance::BLOCK_TRANSFER_WITH_GET_OR_READ)
         && GetBlocks::has_numbers_for(raw, link.limit.raw())
 }
 

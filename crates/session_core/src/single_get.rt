@@ -2,12 +2,14 @@
 ghost use Rattle.std.specs.Prelude.{IfSome};
 ghost use Rattle.session_core.specs.Calls.{IsSingleGet};
 
-use crate::conformance::{GET, GET_REQUEST};
+use acse_ber::Conformance;
+use bitflags::Flags;
+use byteorder::{BigEndian, ByteOrder};
 use cosem_names::{AttrRef, ClassId, Obis};
 use xdlms_apdu::InvokeId;
+use xdlms_apdu::form::NORMAL;
+use xdlms_apdu::tag::GET_REQUEST;
 
-/// The form of a Get-Request-Normal.
-const NORMAL: u8 = 1;
 /// The byte of an access selection that is not there.
 const ABSENT: u8 = 0;
 
@@ -21,8 +23,8 @@ pub(crate) struct SingleGet {
 /// The single GET that a payload is, where GET was negotiated. It reads what `read_call` reads, with no memory and no large value on the way; all other payloads
 /// are left to that one.
 #[inline(always)]
-pub(crate) fn read_single_get(conformance: u32, payload: &[u8]) -> Option<SingleGet>
-    ensures { IfSome result (λ get. IsSingleGet conformance payload.now get.id get.attr) }
+pub(crate) fn read_single_get(conformance: Conformance, payload: &[u8]) -> Option<SingleGet>
+    ensures { IfSome result (λ get. IsSingleGet conformance.0 payload.now get.id get.attr) }
 {
     let [
         tag,
@@ -45,13 +47,13 @@ pub(crate) fn read_single_get(conformance: u32, payload: &[u8]) -> Option<Single
     if *tag != GET_REQUEST || *form != NORMAL || *selection != ABSENT {
         return None;
     }
-    if conformance & GET != GET {
+    if !conformance.contains(Conformance::GET) {
         return None;
     }
     Some(SingleGet {
         id: InvokeId(*id),
         attr: AttrRef {
-            class: ClassId(u16::from_be_bytes([*class_high, *class_low])),
+            class: ClassId(BigEndian::read_u16(&[*class_high, *class_low])),
             name: Obis([*a, *b, *c, *d, *e, *f]),
             number: *number,
         },

@@ -124,8 +124,8 @@ impl State {
         link: Link,
         payload: &[u8],
     ) -> Result<Step, AllocError>
-        ensures outcome { IfOk result (λ step. step_outcome step ≡ resolved self.old.outgoing (call_turn link self.old.incoming (call_of link.conformance payload.now))) }
-        ensures after { OnOk result (self.new ≡ state_by_call link (call_of link.conformance payload.now) self.old) }
+        ensures outcome { IfOk result (λ step. step_outcome step ≡ resolved self.old.outgoing (call_turn link self.old.incoming (call_of link.conformance.0 payload.now))) }
+        ensures after { OnOk result (self.new ≡ state_by_call link (call_of link.conformance.0 payload.now) self.old) }
         ensures err { OnErr result (self.new ≡ self.old) }
     {
         match read_call(alloc, link.conformance, payload)? {

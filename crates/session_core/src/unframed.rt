@@ -10,7 +10,6 @@ ghost use Rattle.session_core.specs.declared.answer.Answer.TheVariants.{Service}
 
 use crate::answer::Way;
 use crate::asked::Asked;
-use crate::conformance::{ACTION_REQUEST, GET_REQUEST, SET_REQUEST};
 use crate::due::Due;
 use crate::joined::Joined;
 use crate::limit::{Limit, MAX_PDU};
@@ -24,6 +23,7 @@ use cosem_names::Level;
 use relay_events::{Event, Reply};
 use std::alloc::{AllocError, Global};
 use xdlms_apdu::Exception;
+use xdlms_apdu::tag::{ACTION_REQUEST, GET_REQUEST, SET_REQUEST};
 
 /// The wrapper port of the management client.
 const MANAGEMENT_PORT: u16 = 1;
@@ -63,7 +63,7 @@ pub fn ask_unframed(alloc: Global, payload: &[u8]) -> Result<Unframed, AllocErro
 
 // Handles a request that no other precedes.
 fn call_alone(alloc: Global, link: Link, payload: &[u8]) -> Result<Step, AllocError>
-    ensures { IfOk result (λ step. step_outcome step ≡ resolved None (call_turn link None (call_of link.conformance payload.now))) }
+    ensures { IfOk result (λ step. step_outcome step ≡ resolved None (call_turn link None (call_of link.conformance.0 payload.now))) }
 {
     let mut state = State::new();
     let step = state.call(alloc, link, payload);
