@@ -134,7 +134,7 @@ from_count laid = laid.events_row ∷ (laid.events ++ [])
 abbrev pub behind_first : {text : List ℕ} → IsLaidOut text → List Row
 behind_first laid = laid.opening ++ from_count laid
 
--- before the first read all lines are ahead
+-- before the first read all lines are still to be read
 pub ahead_new : (text rest now : List ℕ) (left : Option (List ℕ)) (laid : IsLaidOut text) → now ≡ [] → left ≡ Some (text ++ rest)
     → Ahead text rest (laid.first ∷ behind_first laid) now left
 ahead_new text rest now left laid none is =

@@ -1,4 +1,4 @@
--- The results of the steps inside of `next`.
+-- The results of the steps of `next`.
 use Rattle.std.proofs.Common.{[], Option, Some, None, Result, Ok, Err, IsErrAnd}
 use Rattle.relay_recorder.specs.Recording.{Recording}
 use Rattle.supply_meter.specs.Dialogues.{Dialogue}
