@@ -30,6 +30,6 @@ pub struct Fired {
 pub enum Tick {
     /// The number of schedules that were due.
     Ran(u8),
-    /// The moment is earlier than the last one, which is given; nothing changed.
+    /// The moment is earlier than the last one, which this variant holds. Nothing changed.
     Stale(u32),
 }

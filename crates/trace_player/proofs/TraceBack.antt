@@ -27,7 +27,7 @@ use Rattle.trace_text.specs.Lines.{rows_of, rows_text, unended_of}
 
 -- ---- events
 
--- no line is taken
+-- no line is read
 nothing : (place : Place) → Took [] place place
 nothing place = record { lines = refl; number = omega arith; unended = refl }
 

@@ -1,4 +1,4 @@
--- The lines of a text, taken one after the other.
+-- The lines of a text, read one after the other.
 use Rattle.std.proofs.Common.{◌≡◌, ℕ, suc, ◌+◌, ◌<◌, ◌≤◌, ◌^◌, List, [], ◌∷◌, ◌++◌, length, Result, Ok, Err, refl, sym, ap, ◌∙◌, arith, length-append, inl, inr}
 use Rattle.std.specs.Prelude.{IfOk}
 use Rattle.byte_reading.proofs.OutcomeLemmas.{ok_is}

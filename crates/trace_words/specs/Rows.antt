@@ -1,4 +1,4 @@
--- The words of a line, taken one after the other.
+-- The words of a line, read one after the other.
 --     Read             the result of a reader of X: the value and the words after it, or a fault
 --     Reads            what code that reads words returns, compared with a definition
 --     wanted, ended    a value that must be present; a value after which no word is left
