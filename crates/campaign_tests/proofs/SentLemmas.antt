@@ -1,4 +1,4 @@
--- What a conversation sends: no more than its three texts, in their order.
+-- What an exchange sends: no more than its three texts, in their order.
 use Rattle.std.proofs.Common.{◌≡◌, ℕ, Bool, true, false, List, [], ◌∷◌, ◌++◌, Option, Some, map, refl, sym, ap, subst, ◌∙◌, append-nil, append_assoc}
 use Rattle.std.specs.Prelude.{IfOk, Result, Ok, Err, is_some, if◌then◌else◌}
 use Rattle.std.specs.List.{concat}
@@ -16,7 +16,7 @@ use Rattle.head_end.specs.Wires.{due_text, IsDueNext, GoesOn, HasConversed}
 abbrev all_texts : Verb → List ℕ → List ℕ
 all_texts verb password = aarq_frame password ++ (request_frame verb ++ release_frame)
 
--- the texts to be sent, by what was accepted and served
+-- the texts that are sent, by whether the association was accepted and the request served
 abbrev due_by : Verb → List ℕ → (accepted served : Bool) → List (List ℕ)
 due_by verb password accepted served =
     aarq_frame password ∷ (if accepted then request_frame verb ∷
@@ -104,7 +104,7 @@ module _ (verb : Verb) (password : List ℕ) where
       (all_texts verb password)
       due (due_front verb password (heard_in log)))
 
-  -- nothing comes after
+  -- nothing follows
   at_end : (log : List Happening) (one : Happening) (later : List Happening) → later ≡ []
       → IsInOrder (log ++ one ∷ []) → IsInOrder (log ++ one ∷ later)
   at_end log one later none front =
@@ -142,7 +142,7 @@ module _ (verb : Verb) (password : List ℕ) where
       subst IsInOrder (sym same)
       (goes_in_order (is_some outcome) [] conversed.log conversed.conversation (nothing_sent [] refl))
 
-  -- of a new client over a new connection
+  -- a new client over a new connection sends in order
   pub sent_in_order : {E : Type 0} (client : Client) (before after : List Happening)
       (result : Result Outcome E) → Stands verb password [] 0 false client → before ≡ []
       → Speaks client (Some before) result (Some after)

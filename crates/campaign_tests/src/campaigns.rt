@@ -18,7 +18,7 @@ use std::thread::Threads;
 
 const REPORT: &[u8] = b"m1 done 0\nm2 rejected 13\nm3 unknown\nm4 refused 2\nm5 unknown\n";
 
-/// Puts jobs at the four meters, and one where there is none, behind others.
+/// Appends jobs for the four meters, and one for an address without a meter.
 pub(crate) fn add_five(alloc: Global, jobs: &mut Listed<Job>) -> Result<(), AllocError> {
     for name in [b"m1", b"m2", b"m3", b"m4", b"m5"] {
         add_job(alloc, jobs, name)?;
@@ -26,7 +26,7 @@ pub(crate) fn add_five(alloc: Global, jobs: &mut Listed<Job>) -> Result<(), Allo
     Ok(())
 }
 
-/// Whether this is the report of these lines.
+/// Returns whether this is the report of these lines.
 fn reported(alloc: Global, lines: &Listed<Line>, text: &[u8]) -> Result<bool, AllocError> {
     let told = report(alloc, lines)?;
     let same = told.as_slice() == text;
@@ -34,7 +34,7 @@ fn reported(alloc: Global, lines: &Listed<Line>, text: &[u8]) -> Result<bool, Al
     Ok(same)
 }
 
-/// The lines of jobs at meters, on places that are made for them.
+/// Returns the lines of jobs at meters, on places that are made for them.
 pub(crate) fn lines_at<R: Threads + Sync, C: Connector>(
     rt: &R,
     alloc: Global,
@@ -54,7 +54,7 @@ pub(crate) fn lines_at<R: Threads + Sync, C: Connector>(
     lines
 }
 
-/// The lines of the jobs.
+/// Returns the lines of the jobs.
 fn lines_of<R: Threads + Sync>(
     rt: &R,
     alloc: Global,
@@ -72,7 +72,7 @@ fn lines_of<R: Threads + Sync>(
     lines
 }
 
-/// Whether this is the report of the jobs.
+/// Returns whether this is the report of the jobs.
 fn is_told<R: Threads + Sync>(
     rt: &R,
     alloc: Global,
@@ -90,7 +90,8 @@ fn is_told<R: Threads + Sync>(
     same
 }
 
-/// Whether this is the report of the jobs, however many workers there are and whatever the cut.
+/// Returns whether this is the report of the jobs, for several numbers of workers and lengths of
+/// pieces.
 fn are_told<R: Threads + Sync>(
     rt: &R,
     alloc: Global,
@@ -104,7 +105,7 @@ fn are_told<R: Threads + Sync>(
     )
 }
 
-/// Whether it is that of the five jobs.
+/// Returns whether the report of the five jobs is the expected one.
 fn five_are_told<R: Threads + Sync>(rt: &R, alloc: Global) -> Result<bool, AllocError> {
     let mut jobs = Listed::new(alloc);
     let added = add_five(alloc, &mut jobs);
@@ -114,7 +115,7 @@ fn five_are_told<R: Threads + Sync>(rt: &R, alloc: Global) -> Result<bool, Alloc
     told
 }
 
-/// Whether no job has an empty report.
+/// Returns whether the report of no jobs is empty.
 fn none_is_told<R: Threads + Sync>(rt: &R, alloc: Global) -> Result<bool, AllocError> {
     let none = Listed::new(alloc);
     let told = is_told(rt, alloc, &none, 4, 1_024, b"");
@@ -129,7 +130,7 @@ fn rows_stand_in_the_order_of_the_jobs(rt: HostRuntime) {
     assert!(rt; matches!(none_is_told(&rt, alloc), Ok(true)));
 }
 
-/// The row of a job, with the password 12345678.
+/// Returns the row of a job, with the password 12345678.
 fn row_with<C: Connector>(alloc: Global, job: &Job, meters: &C) -> Result<Row, AllocError> {
     let password = password(alloc)?;
     let mut attempt = Attempt::new(meters);
@@ -139,7 +140,7 @@ fn row_with<C: Connector>(alloc: Global, job: &Job, meters: &C) -> Result<Row, A
     Ok(row)
 }
 
-/// The row of a disconnect job at one of the four meters.
+/// Returns the row of a disconnect job at one of the four meters.
 fn row_of(alloc: Global, name: &[u8]) -> Result<Row, AllocError> {
     let job = job(alloc, name, name)?;
     let row = row_with(alloc, &job, &Meters { piece: 9 });
@@ -168,7 +169,7 @@ fn each_job_has_its_row(rt: HostRuntime) {
     assert!(rt; matches!(are_rows(rt.alloc(), ROWS), Ok(true)));
 }
 
-/// The row of a job at a meter that tells these bytes.
+/// Returns the row of a job at a meter that lists these bytes.
 fn row_everywhere(alloc: Global, bytes: &'static [u8]) -> Result<Row, AllocError>
     requires { length bytes.now ≤ 1024 }
 {
@@ -188,13 +189,13 @@ fn a_meter_that_tells_is_asked(rt: HostRuntime) -> Result<(), Fail> {
     Ok(())
 }
 
-/// Adds a digit of its own for each job, and more for a row that is not the job's.
+/// A watcher that adds a digit for each job, and more for a row that is not the job's.
 #[derive(Drop)]
 struct Tally {
     told: AtomicU64,
 }
 
-/// The digit of each job, in hexadecimal.
+/// Returns the digit of a job, in hexadecimal.
 fn digit_of(name: &[u8]) -> u64 {
     if name == b"m1".as_slice() {
         0x1
@@ -209,7 +210,7 @@ fn digit_of(name: &[u8]) -> u64 {
     }
 }
 
-/// The row of each job: that of its meter, and unknown where there is none.
+/// Returns the row of a job: that of its meter, or unknown if there is no meter.
 fn row_named(name: &[u8]) -> Row {
     for (other, outcome) in ROWS {
         if name == *other {
@@ -229,7 +230,7 @@ impl Watcher for Tally {
     }
 }
 
-/// The lines of jobs at meters, with a watcher.
+/// Returns the lines of jobs at meters, with a watcher.
 fn watched_at<R: Threads + Sync, C: Connector, W: Watcher>(
     rt: &R,
     alloc: Global,
@@ -246,7 +247,7 @@ fn watched_at<R: Threads + Sync, C: Connector, W: Watcher>(
     lines
 }
 
-/// The lines of the jobs, of which a tally is told.
+/// Returns the lines of the jobs, with a tally as the watcher.
 fn watched_lines<R: Threads + Sync>(
     rt: &R,
     alloc: Global,
@@ -260,7 +261,7 @@ fn watched_lines<R: Threads + Sync>(
     lines
 }
 
-/// How many lines the five jobs have, of which a tally is told.
+/// Returns the number of lines of the five jobs, with a tally as the watcher.
 fn watched_count<R: Threads + Sync>(
     rt: &R,
     alloc: Global,

@@ -1,4 +1,4 @@
-//! One client's side of a connection, step by step.
+//! The client's side of one connection, step by step.
 use crate::meters::{OPENED, job_of, password};
 use client_core::{Client, Job, Outcome, Verb};
 use std::alloc::{AllocError, Global};
@@ -32,51 +32,51 @@ const RELEASE: [u8; 13] = [
     0x00, 0x01, 0x00, 0x01, 0x00, 0x01, 0x00, 0x05, 0x62, 0x03, 0x80, 0x01, 0x00,
 ];
 
-/// The AARE that accepts, with the services 001E19.
+/// The AARE that accepts, with the conformance block 001E19.
 const ACCEPTING: [u8; 43] = [
     0x61, 0x29, 0xA1, 0x09, 0x06, 0x07, 0x60, 0x85, 0x74, 0x05, 0x08, 0x01, 0x01, 0xA2, 0x03, 0x02,
     0x01, 0x00, 0xA3, 0x05, 0xA1, 0x03, 0x02, 0x01, 0x00, 0xBE, 0x10, 0x04, 0x0E, 0x08, 0x00, 0x06,
     0x5F, 0x1F, 0x04, 0x00, 0x00, 0x1E, 0x19, 0x04, 0x00, 0x00, 0x07,
 ];
 
-/// The AARE of diagnostic 13.
+/// The AARE with diagnostic 13.
 const REFUSING: [u8; 25] = [
     0x61, 0x17, 0xA1, 0x09, 0x06, 0x07, 0x60, 0x85, 0x74, 0x05, 0x08, 0x01, 0x01, 0xA2, 0x03, 0x02,
     0x01, 0x01, 0xA3, 0x05, 0xA1, 0x03, 0x02, 0x01, 0x0D,
 ];
 
-/// The AARE that accepts, with the services 001E01, which lack the get service.
+/// The AARE that accepts, with the conformance block 001E01, which lacks the GET service.
 const WITHOUT_GET: [u8; 43] = [
     0x61, 0x29, 0xA1, 0x09, 0x06, 0x07, 0x60, 0x85, 0x74, 0x05, 0x08, 0x01, 0x01, 0xA2, 0x03, 0x02,
     0x01, 0x00, 0xA3, 0x05, 0xA1, 0x03, 0x02, 0x01, 0x00, 0xBE, 0x10, 0x04, 0x0E, 0x08, 0x00, 0x06,
     0x5F, 0x1F, 0x04, 0x00, 0x00, 0x1E, 0x01, 0x04, 0x00, 0x00, 0x07,
 ];
 
-/// The answer to an action: 0.
+/// The response to an ACTION: 0, success.
 const DONE: [u8; 5] = [0xC7, 0x01, 0xC1, 0x00, 0x00];
 
-/// The answer to a read of the state: 2.
+/// The response to a GET of the state: 2.
 const STATE_2: [u8; 6] = [0xC4, 0x01, 0xC1, 0x00, 0x16, 0x02];
 
-/// The answer to an action: 2, without the byte for what is returned. In its frame.
+/// The response to an ACTION: 2, without the byte for return parameters, in its frame.
 const REFUSED: [u8; 12] = [
     0x00, 0x01, 0x00, 0x01, 0x00, 0x01, 0x00, 0x04, 0xC7, 0x01, 0xC1, 0x02,
 ];
 
-/// What a client is given, or how it is to stand.
+/// What happens to a client, or what must hold of it.
 #[derive(Clone, Copy)]
 enum Step {
-    /// A payload comes from one port to port 1.
+    /// A payload arrives from one port to port 1.
     Comes(u16, &'static [u8]),
-    /// Bytes come at once.
+    /// Bytes arrive together.
     Bytes(&'static [u8]),
-    /// Bytes come one by one, and before each of them there is no outcome.
+    /// Bytes arrive one by one, and there is no outcome before each of them.
     EachByte(&'static [u8]),
     /// The connection is over.
     Ends,
-    /// These bytes, and no others, are given next.
+    /// The client sends exactly these bytes next.
     Gives(&'static [u8]),
-    /// No bytes are given.
+    /// The client sends nothing.
     GivesNone,
     /// The outcome is this one, or there is none.
     Tells(Option<Outcome>),
@@ -89,7 +89,7 @@ fn client_for(alloc: Global, job: &Job) -> Result<Client, AllocError> {
     client
 }
 
-/// A client of a verb and the password 12345678.
+/// Returns a client of a verb, with the password 12345678.
 fn client_of(alloc: Global, verb: Verb) -> Result<Client, AllocError> {
     let job = job_of(alloc, b"m1", b"127.0.0.1:4059", verb)?;
     let client = client_for(alloc, &job);
@@ -97,7 +97,7 @@ fn client_of(alloc: Global, verb: Verb) -> Result<Client, AllocError> {
     client
 }
 
-/// Feeds bytes, again where memory runs out.
+/// Passes bytes to a client, a second time if out of memory.
 fn feed_again(alloc: Global, client: &mut Client, bytes: &[u8]) -> Result<(), AllocError> {
     if client.feed(alloc, bytes).is_err() {
         client.feed(alloc, bytes)
@@ -106,7 +106,7 @@ fn feed_again(alloc: Global, client: &mut Client, bytes: &[u8]) -> Result<(), Al
     }
 }
 
-/// Feeds a payload from one port to port 1.
+/// Passes a payload from one port to port 1.
 fn feed(alloc: Global, client: &mut Client, from: u16, payload: &[u8]) -> Result<(), AllocError> {
     let Ok(text) = frame(alloc, from, 1, payload) else {
         return Err(AllocError);
@@ -116,7 +116,7 @@ fn feed(alloc: Global, client: &mut Client, from: u16, payload: &[u8]) -> Result
     fed
 }
 
-/// Feeds bytes one by one, and tells whether there is no outcome before each of them.
+/// Passes bytes one by one, and returns whether there is no outcome before each of them.
 fn feed_each(alloc: Global, client: &mut Client, bytes: &[u8]) -> Result<bool, AllocError> {
     for byte in bytes {
         if client.outcome().is_some() {
@@ -127,7 +127,7 @@ fn feed_each(alloc: Global, client: &mut Client, bytes: &[u8]) -> Result<bool, A
     Ok(true)
 }
 
-/// Whether these bytes, and no others, are given next.
+/// Returns whether exactly these bytes are sent next.
 fn gives(client: &mut Client, bytes: &[u8]) -> bool {
     match client.to_send() {
         Some(text) => {
@@ -139,7 +139,7 @@ fn gives(client: &mut Client, bytes: &[u8]) -> bool {
     }
 }
 
-/// Whether no bytes are given.
+/// Returns whether nothing is sent.
 fn gives_none(client: &mut Client) -> bool {
     match client.to_send() {
         Some(text) => {
@@ -150,7 +150,7 @@ fn gives_none(client: &mut Client) -> bool {
     }
 }
 
-/// Gives a client what a step gives, and tells whether it stands so.
+/// Applies a step to a client, and returns whether what must hold does.
 fn takes(alloc: Global, client: &mut Client, step: Step) -> Result<bool, AllocError> {
     match step {
         Step::Comes(from, payload) => feed(alloc, client, from, payload)?,
@@ -164,7 +164,7 @@ fn takes(alloc: Global, client: &mut Client, step: Step) -> Result<bool, AllocEr
     Ok(true)
 }
 
-/// Whether a client takes all the steps.
+/// Returns whether all the steps hold of a client.
 fn takes_all(alloc: Global, client: &mut Client, steps: &[Step]) -> Result<bool, AllocError> {
     for step in steps {
         if !takes(alloc, client, *step)? {
@@ -174,7 +174,7 @@ fn takes_all(alloc: Global, client: &mut Client, steps: &[Step]) -> Result<bool,
     Ok(true)
 }
 
-/// Whether a new client of a verb takes all the steps.
+/// Returns whether all the steps hold of a new client of a verb.
 fn goes(alloc: Global, verb: Verb, steps: &[Step]) -> Result<bool, AllocError> {
     let mut client = client_of(alloc, verb)?;
     let taken = takes_all(alloc, &mut client, steps);
@@ -202,7 +202,7 @@ fn each_text_is_given_once(rt: HostRuntime) {
     assert!(rt; matches!(goes(rt.alloc(), Verb::Disconnect, EACH_TEXT), Ok(true)));
 }
 
-/// A verb, its request, an answer, and what the answer means.
+/// A verb, its request, a response, and what the response means.
 type Asked = (Verb, &'static [u8], &'static [u8], Outcome);
 
 const EACH_VERB: &[Asked] = &[
@@ -229,7 +229,7 @@ const EACH_VERB: &[Asked] = &[
     (Verb::Disconnect, &DISCONNECT, &STATE_2, Outcome::Unknown),
 ];
 
-/// Whether this is the request of a verb, and this outcome what an answer means.
+/// Returns whether this is the request of a verb, and this outcome the meaning of a response.
 fn is_asked(alloc: Global, asked: &Asked) -> Result<bool, AllocError> {
     let (verb, request, answer, outcome) = *asked;
     let steps = [
@@ -310,7 +310,8 @@ fn a_wrong_header_ends_all(rt: HostRuntime) {
     assert!(rt; matches!(goes(rt.alloc(), Verb::Disconnect, WRONG_HEADER), Ok(true)));
 }
 
-/// Whether Debug writes of a client its verb and whether its connection has ended, and nothing of its texts: one has a password.
+/// Returns whether `Debug` shows only the verb of a client and whether its connection has ended,
+/// and none of its texts: one contains a password.
 fn is_shown_by_its_verb(alloc: Global, client: &Client) -> Result<bool, AllocError> {
     let text = format!(in alloc; "{client:?}")?;
     let is_same = text.as_str() == "Client { verb: Disconnect, is_ended: false, .. }";

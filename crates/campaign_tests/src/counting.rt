@@ -1,5 +1,5 @@
-//! Meters that count their connections, and compare each byte that is written with what is to be
-//! sent.
+//! Meters that count their connections, and compare each byte that is written with the expected
+//! one.
 ghost use Rattle.std.specs.Prelude.{◌≤◌};
 
 use crate::campaigns::{add_five, lines_at};
@@ -15,16 +15,16 @@ use std::sync::atomic::{AtomicU64, Ordering};
 use std::test::Fail;
 use std::thread::Threads;
 
-/// A count that several threads add to.
+/// A counter that several threads add to.
 type Count = Arc<AtomicU64, Global>;
 
-/// Adds to a count.
+/// Adds to a counter.
 fn add(count: &Count, more: u64) {
     count.fetch_add(more, Ordering::SeqCst);
 }
 
-/// A connection that gives the bytes of its meter, and compares what is written with what is to be
-/// sent.
+/// A connection that returns the bytes of its meter, and compares what is written with what is
+/// expected.
 #[derive(Drop)]
 struct Compared {
     bytes: &'static [u8],
@@ -51,8 +51,8 @@ impl Connection for Compared {
     }
 }
 
-/// The meters m1 to m4, all their connects, and the right and wrong bytes that were written to
-/// them.
+/// The meters m1 to m4, the number of all their connects, and the numbers of right and wrong bytes
+/// that were written to them.
 #[derive(Drop)]
 struct Counting {
     connects: Count,
@@ -82,7 +82,7 @@ impl Counting {
         })
     }
 
-    /// Whether the counts are these, and no byte is wrong.
+    /// Returns whether the counts are these, and no byte is wrong.
     fn has_counted(&self, connects: u64, bytes: u64) -> bool {
         self.connects.load(Ordering::SeqCst) == connects
             && self.right.load(Ordering::SeqCst) == bytes
@@ -100,7 +100,7 @@ impl Connector for Counting {
     }
 }
 
-/// The lines of the five jobs at these meters.
+/// Returns the lines of the five jobs at these meters.
 fn lines_of<R: Threads + Sync>(
     rt: &R,
     alloc: Global,
@@ -119,8 +119,8 @@ fn lines_of<R: Threads + Sync>(
     lines
 }
 
-/// Whether each of the five jobs connects once. The AARQ has 64 bytes, the request 23 and the
-/// release 13: m1 and m4 get all three, m2 the AARQ, m3 the AARQ and the request.
+/// Returns whether each of the five jobs connects once. The AARQ has 64 bytes, the request 23 and
+/// the release 13: m1 and m4 receive all three, m2 the AARQ, m3 the AARQ and the request.
 fn connects_once<R: Threads + Sync>(rt: &R, alloc: Global, workers: u8) -> Result<bool, AllocError>
     requires some { 1 ≤ workers }
     requires few { workers ≤ 16 }

@@ -1,15 +1,15 @@
-//! Lists of jobs, read.
+//! Lists of jobs that are read.
 use client_core::{Job, Verb};
 use head_end::{JobsFault, read_jobs};
 use std::alloc::{AllocError, Global};
 use std::test::Fail;
 
-/// Whether a job has this name, this address and this verb.
+/// Returns whether a job has this name, this address and this verb.
 fn is_job(job: &Job, name: &[u8], address: &[u8], verb: Verb) -> bool {
     job.id.as_slice() == name && job.address.as_slice() == address && job.verb == verb
 }
 
-/// Whether these are the two jobs of the text.
+/// Returns whether these are the two jobs of the text.
 fn are_both(jobs: &[Job]) -> bool {
     match jobs {
         [first, second] => {
@@ -20,7 +20,7 @@ fn are_both(jobs: &[Job]) -> bool {
     }
 }
 
-/// Whether a text is read as the two jobs.
+/// Returns whether a text is read as the two jobs.
 fn reads_both(alloc: Global, text: &[u8]) -> bool {
     match read_jobs(alloc, text) {
         Ok(jobs) => {
@@ -32,7 +32,7 @@ fn reads_both(alloc: Global, text: &[u8]) -> bool {
     }
 }
 
-/// How many jobs a text has.
+/// Returns the number of jobs of a text.
 fn count_of(alloc: Global, text: &[u8]) -> Option<usize> {
     match read_jobs(alloc, text) {
         Ok(jobs) => {
@@ -51,7 +51,7 @@ fn jobs_are_read(rt: HostRuntime) {
     assert!(rt; count_of(rt.alloc(), b"") == Some(0));
 }
 
-/// Why a text is no list of jobs.
+/// Returns why a text is not a list of jobs.
 fn fault_of(alloc: Global, text: &[u8]) -> Option<JobsFault> {
     match read_jobs(alloc, text) {
         Ok(jobs) => {
@@ -71,7 +71,7 @@ const WRONG: &[(&[u8], u32)] = &[
     (b"\nm1 a state\nm2 b stat\nm3 c stat\n", 3),
 ];
 
-/// Whether each text is refused at its line.
+/// Returns whether each text is refused at its line.
 fn are_wrong(alloc: Global, texts: &[(&[u8], u32)]) -> bool {
     for (text, line) in texts {
         if fault_of(alloc, text) != Some(JobsFault::Line(u64::from(*line))) {
@@ -86,7 +86,8 @@ fn the_first_wrong_line_is_told(rt: HostRuntime) {
     assert!(rt; are_wrong(rt.alloc(), WRONG));
 }
 
-/// A thousand jobs, one more, and a wrong line behind them.
+/// Appends a thousand jobs, one more, and a wrong line after them, and returns whether each step
+/// has the expected result.
 fn adds_up_to_the_limit(alloc: Global, text: &mut Vec<u8>) -> Result<bool, AllocError> {
     for _ in 0..1_000 {
         text.extend_from_slice(b"m a state\n")?;
@@ -103,7 +104,7 @@ fn adds_up_to_the_limit(alloc: Global, text: &mut Vec<u8>) -> Result<bool, Alloc
     )
 }
 
-/// Whether a thousand jobs are read, and no more.
+/// Returns whether a thousand jobs are read, and no more.
 fn a_thousand_are_read(alloc: Global) -> Result<bool, AllocError> {
     let mut text = Vec::new(alloc);
     let read = adds_up_to_the_limit(alloc, &mut text);
@@ -111,7 +112,7 @@ fn a_thousand_are_read(alloc: Global) -> Result<bool, AllocError> {
     read
 }
 
-/// How many jobs 1,048,577 empty lines have.
+/// Returns the number of jobs of 1,048,577 empty lines.
 fn count_of_a_long_text(alloc: Global) -> Result<Option<usize>, AllocError> {
     let long = vec![in alloc; b'\n'; 1_048_577]?;
     let count = count_of(alloc, long.as_slice());

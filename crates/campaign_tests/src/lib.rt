@@ -1,6 +1,7 @@
-//! Tests of `client_core` and `head_end`: one client's side of a connection, jobs, and campaigns over scripted connections and over loopback.
+//! Tests of `client_core` and `head_end`: the client's side of a connection, jobs, and campaigns
+//! over scripted connections and over loopback.
 //!
-//! They stand apart from what they test, since a check of tests proves anew all that stands in their crate.
+//! The tests have a crate of their own, because checking tests proves their whole crate again.
 #![tactic(auto)]
 
 #[cfg(test)]

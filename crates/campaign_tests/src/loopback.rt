@@ -9,7 +9,7 @@ use std::test::Fail;
 use std::time::Duration;
 use std::{io, thread};
 
-/// Gives both answers at once, and takes what comes until the end.
+/// Sends both responses at once, and returns what it receives until the end.
 fn answer(alloc: Global, listener: &TcpListener) -> io::Result<Vec<u8>> {
     let (mut stream, _) = listener.accept()?;
     stream.write_all(&DONE)?;
@@ -18,7 +18,7 @@ fn answer(alloc: Global, listener: &TcpListener) -> io::Result<Vec<u8>> {
     Ok(heard)
 }
 
-/// A connector with one limit for a connect and for a whole connection.
+/// Returns a connector with one limit for a connect and for a whole connection.
 fn within<R>(rt: R, millis: u64) -> TcpConnector<R> {
     let limit = Duration::from_millis(millis);
     let limits = Limits {
@@ -37,7 +37,7 @@ fn row_of<C: Connector>(alloc: Global, connector: &C, job: &Job) -> Result<Row, 
     Ok(row)
 }
 
-/// The row of a job at an address.
+/// Returns the row of a job at an address.
 fn row_at<C: Connector>(alloc: Global, connector: &C, address: &[u8]) -> Result<Row, AllocError> {
     let job = job(alloc, b"m1", address)?;
     let row = row_of(alloc, connector, &job);
@@ -45,7 +45,7 @@ fn row_at<C: Connector>(alloc: Global, connector: &C, address: &[u8]) -> Result<
     row
 }
 
-/// The row of a job at a port of this machine.
+/// Returns the row of a job at a port of this machine.
 fn row_at_port<C: Connector>(alloc: Global, connector: &C, port: u16) -> Result<Row, AllocError> {
     let address = format!(in alloc; "127.0.0.1:{port}")?;
     let row = row_at(alloc, connector, address.as_bytes());
@@ -67,7 +67,7 @@ fn each_text_goes_out_once(rt: HostRuntime) -> Result<(), Fail> {
     Ok(())
 }
 
-/// Whether the row of a job at a port is unknown.
+/// Returns whether the row of a job at a port is unknown.
 fn is_unknown<C: Connector>(alloc: Global, connector: &C, port: u16) -> Result<bool, AllocError> {
     Ok(row_at_port(alloc, connector, port)? == Row::Came(Outcome::Unknown))
 }

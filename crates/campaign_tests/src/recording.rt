@@ -1,4 +1,4 @@
-//! A connection that keeps its log.
+//! A connection that records its log.
 ghost use Rattle.std.specs.Prelude.{◌≡◌, ◌==◌, ◌++◌, ◌∷◌, [], length, map, Some, if◌then◌else◌};
 ghost use Rattle.std.specs.Prelude.{IfOk, IsTrue};
 ghost use Rattle.acse_ber.specs.Password.{IsPassword};
@@ -16,14 +16,14 @@ use std::alloc::{AllocError, Global};
 use std::process::Abort;
 use std::test::Fail;
 
-/// A read or a write: one that heard nothing is a read without bytes.
+/// A read or a write. A read that received nothing has no bytes.
 #[derive(Drop)]
 struct Entry {
     is_read: bool,
     bytes: Octets,
 }
 
-/// Gives its bytes at once and then ends, and keeps what was read and written.
+/// Returns its bytes at once and then ends, and records what is read and written.
 #[derive(Drop)]
 struct Recording<'a, R: Abort> {
     rt: &'a R,
@@ -33,7 +33,7 @@ struct Recording<'a, R: Abort> {
 }
 
 impl<'a, R: Abort> Recording<'a, R> {
-    /// Keeps one read or write more.
+    /// Records one more read or write.
     fn keep(&mut self, is_read: bool, bytes: &[u8])
         ensures entries { self.new.entries.items ≡ self.old.entries.items ++ (record
             { is_read = is_read; bytes = bytes.now }) ∷ [] }
@@ -64,7 +64,7 @@ impl<'a, R: Abort> Connection for Recording<'a, R> {
     }
 }
 
-/// Meters that give the same bytes, at each address.
+/// Meters that send the same bytes, at each address.
 #[derive(Drop)]
 struct Recorder<'a, R: Abort> {
     rt: &'a R,
@@ -85,10 +85,10 @@ impl<'a, R: Abort + Sync> Connector for Recorder<'a, R> {
     }
 }
 
-/// Has a new client's conversation over an unused connection, and returns its outcome. Whatever
-/// the meter answers, no more is sent than the AARQ, the request and the release, in this order
-/// and each at most once. If there is an outcome, each read and each write was in its turn, and
-/// the outcome is that of the bytes heard.
+/// Runs the exchange of a new client over an unused connection, and returns its outcome. Whatever
+/// the meter answers, no more is sent than the AARQ, the request and the release, in this order and
+/// each at most once. If there is an outcome, each read and each write was in its turn, and the
+/// outcome is that of the bytes received.
 #[tactic(auto, using(crate::proofs::SentLemmas::in_order))]
 fn talk<R: Abort>(
     alloc: Global,
@@ -112,7 +112,8 @@ fn talk<R: Abort>(
     converse(alloc, &mut client, connection)
 }
 
-/// Whether a job is done. Then its attempt is closed, after a conversation with that outcome.
+/// Returns whether a job is done. If it is, its attempt is closed, after an exchange with that
+/// outcome.
 fn is_done<C: Connector>(
     alloc: Global,
     job: &Job,
@@ -130,7 +131,7 @@ fn is_done<C: Connector>(
     )
 }
 
-/// Whether a disconnect job is done at meters that give these bytes.
+/// Returns whether a disconnect job is done at meters that send these bytes.
 fn is_done_at<R: Abort + Sync>(
     rt: &R,
     alloc: Global,
@@ -156,7 +157,7 @@ fn a_connection_that_keeps_its_log_is_closed(rt: HostRuntime) -> Result<(), Fail
     Ok(())
 }
 
-/// A new connection that gives these bytes.
+/// Returns a new connection that returns these bytes.
 fn new_recording<'a, R: Abort>(rt: &'a R, alloc: Global, bytes: &'static [u8]) -> Recording<'a, R>
     ensures { result.entries.items ≡ [] }
 {
@@ -168,8 +169,8 @@ fn new_recording<'a, R: Abort>(rt: &'a R, alloc: Global, bytes: &'static [u8]) -
     }
 }
 
-/// The outcome of a disconnect job at a meter that gives these bytes, and whether these were sent,
-/// in this number of writes.
+/// Returns the outcome of a disconnect job at a meter that sends these bytes, and whether these
+/// bytes were sent to it, in this number of writes.
 fn sends<R: Abort>(
     rt: &R,
     alloc: Global,

@@ -1,4 +1,4 @@
-//! Connections that give the bytes of a script.
+//! Connections that return the bytes of a script.
 ghost use Rattle.std.specs.Prelude.{◌≤◌, length, Some};
 ghost use Rattle.head_end.specs.Connections.{Told, ended};
 
@@ -7,7 +7,7 @@ use byte_streams::StreamFault;
 use cosem_axdr::Octets;
 use head_end::{ConnectFault, Connection, Connector};
 
-/// Gives its bytes in pieces, and then ends. What is written goes nowhere.
+/// Returns its bytes in pieces, and then ends. What is written is dropped.
 #[derive(Drop)]
 pub(crate) struct Script {
     bytes: &'static [u8],
@@ -27,7 +27,7 @@ impl Connection for Script {
     }
 }
 
-/// Four meters, m1 to m4, whose bytes come in pieces.
+/// Four meters, m1 to m4, whose bytes arrive in pieces.
 #[derive(Drop)]
 pub(crate) struct Meters {
     pub(crate) piece: usize,
@@ -59,7 +59,7 @@ pub(crate) fn bytes_of(address: &[u8]) -> Option<&'static [u8]> {
     }
 }
 
-/// Tells its bytes, gives them at once, and then ends.
+/// A connection that lists its bytes to contracts, returns them at once, and then ends.
 #[derive(Drop)]
 pub(crate) struct Telling {
     bytes: &'static [u8],
@@ -83,7 +83,7 @@ impl Connection for Telling {
     }
 }
 
-/// A meter at each address, which gives the same bytes.
+/// A meter at each address, which sends the same bytes.
 #[derive(Drop)]
 pub(crate) struct Everywhere {
     bytes: &'static [u8],
@@ -91,7 +91,7 @@ pub(crate) struct Everywhere {
 }
 
 impl Everywhere {
-    /// Meters that give these bytes, 1,024 at most.
+    /// Returns meters that send these bytes, at most 1,024.
     pub(crate) fn new(bytes: &'static [u8]) -> Everywhere
         requires { length bytes.now ≤ 1024 }
     {

@@ -1,4 +1,4 @@
-//! Two meters, each of which answers only once the other's request was written.
+//! Two meters, each of which responds only once the other has received its request.
 use crate::campaigns::lines_at;
 use crate::meters::{OPENED, add_job, password};
 use byte_streams::StreamFault;
@@ -12,14 +12,15 @@ use std::sync::atomic::{AtomicBool, Ordering};
 use std::thread;
 use std::thread::Threads;
 
-/// The answer to the request: done.
+/// The response to the request: success.
 static ANSWER: [u8; 13] = [
     0x00, 0x01, 0x00, 0x01, 0x00, 0x01, 0x00, 0x05, 0xC7, 0x01, 0xC1, 0x00, 0x00,
 ];
-/// The number of times that the other's flag is asked.
+/// The number of times that the other's flag is read.
 const MAX_LOOKS: u32 = 1_000_000;
 
-/// A meter's end of a connection: it opens the association at once, and answers the request once the other's was written.
+/// A meter's end of a connection: it accepts the association at once, and responds to the request
+/// once the other meter has received its own.
 #[derive(Drop)]
 struct Waiting {
     asked: Arc<AtomicBool, Global>,
@@ -29,7 +30,7 @@ struct Waiting {
 }
 
 impl Waiting {
-    /// Whether the other's request was written while this one was willing to wait.
+    /// Returns whether the other meter has received its request before this one gave up waiting.
     fn waits(&self) -> bool {
         for _ in 0..MAX_LOOKS {
             if self.other.load(Ordering::SeqCst) {
@@ -103,7 +104,7 @@ impl Connector for Two {
     }
 }
 
-/// The lines of the jobs at both, which two workers do.
+/// Returns the lines of the jobs at both meters, run by two workers.
 fn lines_of<R: Threads + Sync>(
     rt: &R,
     alloc: Global,
@@ -117,7 +118,7 @@ fn lines_of<R: Threads + Sync>(
     lines
 }
 
-/// Whether two jobs were done.
+/// Returns whether two jobs were done.
 fn two_are_done(lines: &[Line]) -> bool {
     for line in lines {
         if line.row != Row::Came(Outcome::Done(0)) {
@@ -132,7 +133,7 @@ fn add_two(alloc: Global, jobs: &mut Listed<Job>) -> Result<(), AllocError> {
     add_job(alloc, jobs, b"m2")
 }
 
-/// Whether a job at each of both is done.
+/// Returns whether a job at each meter is done.
 fn both_are_done<R: Threads + Sync>(rt: &R, alloc: Global) -> Result<bool, AllocError> {
     let mut jobs = Listed::new(alloc);
     let added = add_two(alloc, &mut jobs);

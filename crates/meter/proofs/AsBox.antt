@@ -1,4 +1,4 @@
--- A slot that holds a meter, and the parts of its box, own what the box owns.
+-- A slot that holds a meter owns what the box of these parts owns.
 use mir.Syntax.{impl, tnil, dnil}
 use mathlib.Core.Path.{refl}
 use mathlib.Core.List.{List, [], ◌∷◌}
@@ -30,7 +30,7 @@ FromParts = plain (λ _. Parts.the_row Held.the_row Heap.the_row ghosts)
 abbrev pub FromSlot : Slot 0
 FromSlot = plain (λ _. Own.the_row)
 
--- a struct of two fields, by value
+-- a struct with two fields, by value
 abbrev pub both : Val → Val → Val
 both v w = vstruct (vcons v (vcons w vnil))
 

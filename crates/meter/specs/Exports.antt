@@ -1,7 +1,7 @@
--- What the exports do to the meter of a handle, and what they tell.
---     OnOpen        a call on a meter that is open, or that tells that it is not
+-- What the exported functions do to the meter of a handle, and what they return.
+--     OnOpen        a call on an open meter, or the result `NotOpen`
 --     OpensTo       a meter is opened
---     FedTo, ..     the calls of a meter, with the numbers that C is told
+--     FedTo, ..     the calls of a meter, with the numbers that C receives
 use Rattle.std.specs.Prelude.{◌≡◌, ◌⊎◌, ◌≤◌, ◌<◌, ◌++◌, ℕ, Bool, Option, Some, None, List, [], ◌∷◌, length, drop, Result, Ok, Err}
 use Rattle.cosem_names.specs.ResultCode as result_code
 use Rattle.cosem_names.specs.declared.result_code.ResultCode.{ResultCode}
@@ -27,7 +27,8 @@ use Rattle.supply_meter.specs.declared.given.Tick.{Tick}
 use Rattle.trace_words.specs.declared.fault.TraceFault.{TraceFault}
 use Rattle.trace_player.specs.Traces.{trace_of}
 
--- a call on the meter of a handle: where it is not open that is told, and what `shut` says
+-- a call on the meter of a handle; if the handle is not open, the result is `NotOpen`, and `shut`
+-- holds
 abbrev pub OnOpen : (shut : Type 0) (does : Metering → ℕ → Metering → Type 0) → Option Metering → ℕ → Option Metering → Type 0
 OnOpen shut does None code new = (code ≡ code_of outcome.NotOpen) × (new ≡ None) × shut
 OnOpen shut does (Some m) code None = ⊥
@@ -35,7 +36,7 @@ OnOpen shut does (Some m) code (Some m') = does m code m'
 
 -- ---- opening
 
--- the lengths of the arguments lie in their ranges
+-- the lengths of the arguments are in their ranges
 pub record AreFit (name password : List ℕ) (kept : ℕ) : Type 0 where
   pub name_some : 1 ≤ length name
   pub name_few : length name ≤ 16
@@ -44,7 +45,7 @@ pub record AreFit (name password : List ℕ) (kept : ℕ) : Type 0 where
   pub kept_some : 1 ≤ kept
   pub kept_few : kept ≤ 1024
 
--- how a meter is opened
+-- the outcomes of opening a meter
 abbrev pub OpensTo : List ℕ → List ℕ → ℕ → Option Metering → Outcome → Option Metering → Type 0
 OpensTo name password kept None outcome.Done (Some m) = AreFit name password kept × IsNew name password kept m
 OpensTo name password kept None outcome.WrongArgument None = ¬ (AreFit name password kept)
@@ -53,18 +54,18 @@ OpensTo name password kept None _ new = ⊥
 OpensTo name password kept (Some m) outcome.IsOpen new = new ≡ Some m
 OpensTo name password kept (Some m) _ new = ⊥
 
--- by the number that is told
+-- opening a meter, with the number that C receives
 pub record OpenedTo (name password : List ℕ) (kept : ℕ) (old : Option Metering) (code : ℕ) (new : Option Metering) : Type 0 where
   pub outcome : Outcome
   pub does : OpensTo name password kept old outcome new
   pub told : code ≡ code_of outcome
 
--- a text that no trace has
+-- a text that is not a trace
 pub record IsNoTrace (text : List ℕ) : Type 0 where
   pub fault : TraceFault
   pub told : trace_of text ≡ Err fault
 
--- how a meter goes on from the text of a trace
+-- the outcomes of opening a meter that continues from a trace
 abbrev pub ResumesTo : List ℕ → List ℕ → ℕ → Option Metering → Outcome → Option Metering → Type 0
 ResumesTo text password kept None outcome.Done (Some m) = Resumes text password kept m
 ResumesTo text password kept None outcome.WrongArgument None = (¬ (AreFit (0 ∷ []) password kept)) ⊎ IsNoTrace text
@@ -80,7 +81,7 @@ pub record ResumedTo (text password : List ℕ) (kept : ℕ) (old : Option Meter
 
 -- ---- sessions
 
--- a call that gives nothing
+-- a call without a value
 pub record DoneTo (does : Result Unit MeterFault → Type 0) (code : ℕ) : Type 0 where
   pub result : Result Unit MeterFault
   pub done : does result
@@ -98,7 +99,7 @@ FinishedAt session m code m' = DoneTo (λ (r : Result Unit MeterFault). Finishes
 abbrev pub ClosedAt : ℕ → Metering → ℕ → Metering → Type 0
 ClosedAt session m code m' = DoneTo (λ (r : Result Unit MeterFault). ClosesBy m session r m') code
 
--- what `next` tells: the outcome and a length
+-- the outcome of `next`
 abbrev pub tells_next : Result Given MeterFault → Outcome
 tells_next (Ok g) = of_given g
 tells_next (Err f) = of_fault f
@@ -122,7 +123,7 @@ pub record PressedTo (number : ℕ) (m : Metering) (code : ℕ) (m' : Metering) 
   pub told : code ≡ code_of outcome.Done
   pub numbered : number ≡ result_code.code_of result
 
--- samples
+-- the firings after an error
 abbrev pub none_fired : Fired
 none_fired = record { over = 0; under = 0; export_over = 0; export_under = 0 }
 
@@ -134,7 +135,7 @@ abbrev pub fired_of : Result Fired MeterFault → Fired
 fired_of (Ok fired) = fired
 fired_of (Err f) = none_fired
 
--- as C sees them
+-- the firings that C receives
 abbrev pub firings_of : Fired → Firings
 firings_of fired = record { over = fired.over; under = fired.under; export_over = fired.export_over; export_under = fired.export_under }
 
@@ -151,9 +152,9 @@ pub record TickedTo (moment ran : ℕ) (m : Metering) (code : ℕ) (m' : Meterin
   pub told : code ≡ code_of (of_tick tick)
   pub counted : ran ≡ ran_of tick
 
--- ---- what stands
+-- ---- the state of the meter
 
--- a call that only looks
+-- a call that changes nothing
 pub record LooksTo (code : ℕ) (m m' : Metering) (tells : World → Type 0) : Type 0 where
   pub same : m' ≡ m
   pub told : code ≡ code_of outcome.Done
@@ -168,7 +169,7 @@ ModeTo mode m code m' = LooksTo code m m' (λ (w : World). mode ≡ mode_number 
 abbrev pub SupplyTo : Bool → Metering → ℕ → Metering → Type 0
 SupplyTo is_on m code m' = LooksTo code m m' (λ (w : World). is_on ≡ is_state w.control.state Connected)
 
--- the last moment, or that none came
+-- the outcome of reading the last moment: done, or that there was none
 abbrev pub tells_moment : Option ℕ → Outcome
 tells_moment None = outcome.NoMoment
 tells_moment (Some moment) = outcome.Done
@@ -184,19 +185,19 @@ pub record MomentTo (moment : ℕ) (m : Metering) (code : ℕ) (m' : Metering) :
 
 -- ---- the trace
 
--- the text was written into the buffer, or its length told
+-- the text was copied to the buffer, or only its length returned
 abbrev pub WritesText : List ℕ → List ℕ → List ℕ → ℕ → Outcome → Type 0
 WritesText text buffer buffer' count outcome.Done = (buffer' ≡ text ++ drop count buffer) × (count ≡ length text)
 WritesText text buffer buffer' count outcome.NoRoom = (buffer' ≡ buffer) × (count ≡ length text) × (length buffer < count)
 WritesText text buffer buffer' count _ = ⊥
 
--- the same by the result of writing the text down
+-- the text was copied, only its length returned, or out of memory
 abbrev pub WritesBy : {E : Type 0} → Result (List ℕ) E → List ℕ → List ℕ → ℕ → Outcome → Type 0
 WritesBy (Ok text) buffer buffer' count outcome = WritesText text buffer buffer' count outcome
 WritesBy (Err error) buffer buffer' count outcome.NoMemory = (buffer' ≡ buffer) × (count ≡ 0)
 WritesBy (Err error) buffer buffer' count _ = ⊥
 
--- a trace was told
+-- a trace was returned
 pub record TellsTrace (r : Recording) (buffer buffer' : List ℕ) (count : ℕ) (outcome : Outcome) : Type 0 where
   pub text : List ℕ
   pub tells : TellsRun r text

@@ -1,4 +1,4 @@
--- Whether a slot is held.
+-- Whether a slot holds a meter.
 use Rattle.std.specs.Prelude.{Bool, true, false, Option, Some, None}
 use Rattle.std.specs.Prelude.{Option}
 

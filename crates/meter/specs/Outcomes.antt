@@ -1,6 +1,6 @@
 -- The numbers of `include/meter.h`.
---     code_of                                 the result of a call
---     of_fault, of_done, of_given, of_tick    the outcome that a fault or an answer of the meter is to C
+--     code_of                                 the number of the result of a call
+--     of_fault, of_done, of_given, of_tick    the outcome of a fault, or of a result of the meter
 use Rattle.std.specs.Prelude.{ℕ, Result, Ok, Err}
 use Rattle.meter.specs.declared.outcome.Outcome.{Outcome}
 use Rattle.meter.specs.declared.outcome.Outcome.TheVariants as outcome
@@ -39,19 +39,19 @@ of_fault fault.TooManySamples = outcome.WrongArgument
 of_fault fault.Uneven = outcome.WrongArgument
 of_fault fault.Memory = outcome.NoMemory
 
--- the outcome of a call that gives nothing
+-- the outcome of a call without a value
 abbrev pub of_done : Result Unit MeterFault → Outcome
 of_done (Ok done) = outcome.Done
 of_done (Err f) = of_fault f
 
--- the outcome of an end
+-- the outcome of the end of a session
 abbrev pub of_end : SessionEnd → Outcome
 of_end ending.Closed = outcome.Closed
 of_end ending.Cut = outcome.Cut
 of_end ending.BadVersion = outcome.BadVersion
 of_end ending.TooLong = outcome.TooLong
 
--- the outcome of what a session gives, and the length that it tells
+-- the outcome of what a session gave
 abbrev pub of_given : Given → Outcome
 of_given (given.Frame count) = outcome.Done
 of_given (given.NoRoom count) = outcome.NoRoom
@@ -64,7 +64,7 @@ length_of (given.NoRoom count) = count
 length_of given.Wait = 0
 length_of (given.End end) = 0
 
--- the outcome of a moment, and how many schedules were due
+-- the outcome of a moment
 abbrev pub of_tick : Tick → Outcome
 of_tick (tick.Ran count) = outcome.Done
 of_tick (tick.Stale last) = outcome.Stale

@@ -1,4 +1,4 @@
-//! The meter's own events: presses, samples and moments.
+//! The events of the meter itself: presses, samples and moments.
 ghost use Rattle.std.specs.Prelude.{◌≡◌};
 ghost use Rattle.lane_sampler.specs.Samples.{values_alone, pairs_of};
 ghost use Rattle.meter.specs.Exports.{OnOpen, PressedTo, SampledTo, TickedTo, none_fired, tells_samples, fired_of, firings_of};
@@ -9,7 +9,7 @@ use crate::outcome::Outcome;
 use std::alloc::Global;
 use supply_meter::{Fired, MeterFault, Tick};
 
-/// How often each side of each limiter has fired: `struct meter_fired` of `meter.h`.
+/// How many times each side of each limiter has fired: `struct meter_fired` of `meter.h`.
 #[repr(C)]
 #[derive(Clone, Copy, Debug, PartialEq, Eq)]
 pub struct Firings {
@@ -19,7 +19,7 @@ pub struct Firings {
     pub export_under: u16,
 }
 
-/// Takes a press of the meter's button.
+/// Applies a press of the meter's button. `code` is its result. Error: `NotOpen`, and `code` is 0.
 #[unsafe(no_mangle)]
 pub extern "C" fn meter_press(alloc: Global, meter: &mut Meter, code: &mut u8) -> u32
     ensures { OnOpen (code.new ≡ 0) (PressedTo code.new) meter.old.slot.held result meter.new.slot.held }
@@ -33,7 +33,7 @@ pub extern "C" fn meter_press(alloc: Global, meter: &mut Meter, code: &mut u8) -
     Outcome::Done.code()
 }
 
-/// Takes samples of the imported power, in watts.
+/// Applies samples of the imported power, in watts.
 #[unsafe(no_mangle)]
 pub extern "C" fn meter_samples(
     alloc: Global,
@@ -53,7 +53,7 @@ pub extern "C" fn meter_samples(
     sampled_outcome(sampled).code()
 }
 
-/// Takes samples of the imported and of the exported power, in watts.
+/// Applies pairs of samples of the imported and of the exported power, in watts.
 #[unsafe(no_mangle)]
 pub extern "C" fn meter_sample_pairs(
     alloc: Global,
@@ -74,7 +74,8 @@ pub extern "C" fn meter_sample_pairs(
     sampled_outcome(sampled).code()
 }
 
-/// Takes a moment of the meter's clock, in seconds since 2000-01-01 00:00:00.
+/// Applies a moment of the meter's clock, in seconds since 2000-01-01 00:00:00. `ran` is the number
+/// of schedules that were due.
 #[unsafe(no_mangle)]
 pub extern "C" fn meter_moment(alloc: Global, meter: &mut Meter, moment: u32, ran: &mut u8) -> u32
     ensures { OnOpen (ran.new ≡ 0) (TickedTo moment ran.new) meter.old.slot.held result meter.new.slot.held }
@@ -100,7 +101,7 @@ fn no_firings() -> Firings
     }
 }
 
-// What samples bring, to C.
+// Returns the firings of a block of samples as C sees them, all 0 after an error.
 fn told_firings(sampled: Result<Fired, MeterFault>) -> Firings
     ensures { result ≡ firings_of (fired_of sampled) }
 {
@@ -124,7 +125,7 @@ fn sampled_outcome(sampled: Result<Fired, MeterFault>) -> Outcome
     }
 }
 
-// What a moment brings, to C.
+// Returns the outcome of a moment.
 fn tick_outcome(tick: Tick) -> Outcome
     ensures { result ≡ of_tick tick }
 {

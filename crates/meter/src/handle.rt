@@ -8,20 +8,20 @@ use std::mem::replace;
 use std::ptr::null_mut;
 use supply_meter::SupplyMeter;
 
-/// A meter as C keeps it: `struct meter` of `meter.h`. One of zeros is not open.
+/// The handle of a meter: `struct meter` of `meter.h`. A handle of zeros is closed.
 #[repr(C)]
 #[derive(Drop)]
 pub struct Meter {
     pub slot: Slot,
     is_open: bool,
-    /// There is a meter where it is open.
+    /// The handle holds a meter exactly if it is open.
     pub ghost agrees: { is_held slot.held ≡ is_open },
 }
 
 impl Meter {
     ghost use Rattle.std.specs.Prelude.{◌≡◌, Some, None, IfSome};
 
-    /// One that is not open.
+    /// Returns a closed handle.
     pub fn closed(alloc: Global) -> Meter
         ensures { result.slot.held ≡ None }
     {
@@ -32,7 +32,7 @@ impl Meter {
         }
     }
 
-    /// Takes the meter out, if it is open. It is closed then.
+    /// Takes the meter out if the handle is open, which closes it.
     pub(crate) fn take(&mut self, alloc: Global) -> Option<Box<SupplyMeter, Global>>
         ensures taken { IfSome result (λ b. self.old.slot.held ≡ Some b.value) }
         ensures none { result ≡ None → self.old.slot.held ≡ None }
@@ -45,7 +45,7 @@ impl Meter {
         Some(slot.into_parts().into_box())
     }
 
-    /// Puts a meter in. It is open then.
+    /// Puts a meter into the handle, which opens it.
     pub(crate) fn put(&mut self, held: Box<SupplyMeter, Global>)
         ensures { self.new.slot.held ≡ Some held.value }
     {
@@ -56,7 +56,7 @@ impl Meter {
     }
 }
 
-// No memory of ours.
+// Returns the null pointer of a closed handle.
 fn nowhere() -> *mut u8 {
     null_mut()
 }

@@ -1,6 +1,7 @@
-//! The proved meter for C: what `include/meter.h` declares.
+//! The proved meter as a C library: the functions that `include/meter.h` declares.
 //!
-//! C keeps a handle and gives its address to each call; the meter itself lies in one box. `specs/Exports.antt` says what each call does and tells.
+//! The C program owns a handle and passes its address to each call; the meter itself is in one box
+//! on the heap. `specs/Exports.antt` defines what each call does and returns.
 #![tactic(auto)]
 
 mod events;

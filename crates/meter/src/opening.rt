@@ -1,4 +1,4 @@
-//! A meter is opened and closed.
+//! Opens and closes a meter.
 ghost use Rattle.std.specs.Prelude.{◌≡◌, None, IfOk, IsTrue, ◌↔◌};
 ghost use Rattle.meter.specs.Exports.{AreFit, OpensTo, OpenedTo};
 ghost use Rattle.supply_meter.specs.Calls.{IsNew};
@@ -45,7 +45,7 @@ fn open(alloc: Global, meter: &mut Meter, name: &[u8], password: &[u8], kept_eve
     }
 }
 
-/// Whether the lengths of the arguments lie in their ranges.
+/// Returns whether the lengths of the arguments are in their ranges.
 pub(crate) fn are_fit(name: &[u8], password: &[u8], kept_events: u16) -> bool
     ensures { IsTrue result ↔ AreFit name.now password.now kept_events }
 {
@@ -57,7 +57,7 @@ pub(crate) fn are_fit(name: &[u8], password: &[u8], kept_events: u16) -> bool
         && kept_events <= 1024
 }
 
-// A new meter in a box.
+// Returns a new meter in a box.
 fn new_meter(
     alloc: Global,
     name: &[u8],
@@ -79,7 +79,7 @@ fn new_meter(
     }
 }
 
-/// Closes a meter, and gives all its memory back.
+/// Closes a meter, and frees all its memory.
 #[unsafe(no_mangle)]
 pub extern "C" fn meter_close(alloc: Global, meter: &mut Meter)
     ensures { meter.new.slot.held ≡ None }

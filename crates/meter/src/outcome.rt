@@ -4,43 +4,43 @@ ghost use Rattle.meter.specs.Outcomes.{code_of, of_fault};
 use session_core::SessionEnd;
 use supply_meter::{Given, MeterFault};
 
-/// What a call tells C.
+/// The result of a call for C.
 #[derive(Clone, Copy, Debug, PartialEq, Eq)]
 pub enum Outcome {
-    /// It was done.
+    /// The call succeeded.
     Done,
-    /// Nothing is due before more bytes come.
+    /// There is nothing to send until more bytes arrive.
     Wait,
     /// The session is over: its input ended between two frames.
     Closed,
     /// The session is over: its input ended within a frame.
     Cut,
-    /// The session is over: a header of another version came.
+    /// The session is over: a header with another version arrived.
     BadVersion,
-    /// The session is over: a header that tells too long a payload came.
+    /// The session is over: a header with too long a payload length arrived.
     TooLong,
-    /// A moment lies before the last one.
+    /// The moment is earlier than the last one.
     Stale,
-    /// No moment came yet.
+    /// There has been no moment yet.
     NoMoment,
-    /// The heap gave no memory.
+    /// Out of memory.
     NoMemory,
     /// The meter is not open.
     NotOpen,
-    /// The meter is open already.
+    /// The meter is already open.
     IsOpen,
-    /// No session of this number is open.
+    /// No session with this number is open.
     NoSession,
-    /// A session of this number is open already.
+    /// A session with this number is already open.
     SessionTaken,
-    /// A length or a number lies outside its range.
+    /// A length or a number is outside its range, or a text is not a trace.
     WrongArgument,
     /// The caller's buffer is too short.
     NoRoom,
 }
 
 impl Outcome {
-    /// Its number in `meter.h`.
+    /// Returns the number of the outcome in `meter.h`.
     pub(crate) fn code(self) -> u32
         ensures { result ≡ code_of self }
     {
@@ -63,7 +63,7 @@ impl Outcome {
         }
     }
 
-    /// What a fault is to C.
+    /// Returns the outcome of a fault.
     pub(crate) fn of_fault(fault: MeterFault) -> Outcome
         ensures { result ≡ of_fault fault }
     {

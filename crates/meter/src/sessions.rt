@@ -10,7 +10,7 @@ use session_core::SessionEnd;
 use std::alloc::Global;
 use supply_meter::{Given, MeterFault};
 
-/// Opens a session of a number of 0 to 7.
+/// Opens a session with a number of 0 to 7.
 #[unsafe(no_mangle)]
 pub extern "C" fn meter_open_session(alloc: Global, meter: &mut Meter, session: u8) -> u32
     ensures { OnOpen Unit (OpenedAt session) meter.old.slot.held result meter.new.slot.held }
@@ -23,7 +23,7 @@ pub extern "C" fn meter_open_session(alloc: Global, meter: &mut Meter, session: 
     done_code(done)
 }
 
-/// Takes in the next bytes of a session.
+/// Passes the next bytes to a session.
 #[unsafe(no_mangle)]
 pub extern "C" fn meter_feed(alloc: Global, meter: &mut Meter, session: u8, bytes: &[u8]) -> u32
     ensures { OnOpen Unit (FedAt session bytes.now) meter.old.slot.held result meter.new.slot.held }
@@ -36,7 +36,7 @@ pub extern "C" fn meter_feed(alloc: Global, meter: &mut Meter, session: u8, byte
     done_code(done)
 }
 
-/// The input of a session has ended.
+/// Ends the input of a session.
 #[unsafe(no_mangle)]
 pub extern "C" fn meter_finish(alloc: Global, meter: &mut Meter, session: u8) -> u32
     ensures { OnOpen Unit (FinishedAt session) meter.old.slot.held result meter.new.slot.held }
@@ -49,7 +49,8 @@ pub extern "C" fn meter_finish(alloc: Global, meter: &mut Meter, session: u8) ->
     done_code(done)
 }
 
-/// Does what a session asks of the meter, up to the next frame that is due, and puts this into the buffer.
+/// Applies the requests of a session to the meter, up to the next frame, and copies the frame to
+/// the buffer.
 #[unsafe(no_mangle)]
 pub extern "C" fn meter_next(
     alloc: Global,
@@ -70,7 +71,7 @@ pub extern "C" fn meter_next(
     given_outcome(given).code()
 }
 
-/// Lets a session go.
+/// Closes a session.
 #[unsafe(no_mangle)]
 pub extern "C" fn meter_close_session(alloc: Global, meter: &mut Meter, session: u8) -> u32
     ensures { OnOpen Unit (ClosedAt session) meter.old.slot.held result meter.new.slot.held }
@@ -83,7 +84,7 @@ pub extern "C" fn meter_close_session(alloc: Global, meter: &mut Meter, session:
     done_code(done)
 }
 
-// The number of a call that gives nothing.
+// Returns the number of the outcome of a call without a value.
 fn done_code(done: Result<(), MeterFault>) -> u32
     ensures { result ≡ code_of (of_done done) }
 {
@@ -93,7 +94,7 @@ fn done_code(done: Result<(), MeterFault>) -> u32
     }
 }
 
-// What a session gives, to C.
+// Returns the outcome of what a session gave.
 fn given_outcome(given: Result<Given, MeterFault>) -> Outcome
     ensures { result ≡ tells_next given }
 {
@@ -106,7 +107,7 @@ fn given_outcome(given: Result<Given, MeterFault>) -> Outcome
     }
 }
 
-// The length that is told with it.
+// Returns the length that goes with that outcome: of the frame, if there is one, else 0.
 fn given_length(given: Result<Given, MeterFault>) -> usize
     ensures { result ≡ next_length given }
 {

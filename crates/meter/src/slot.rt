@@ -7,13 +7,13 @@ use std::alloc::Global;
 use std::marker::Model;
 use supply_meter::SupplyMeter;
 
-/// A meter in a box, as C keeps it: a pointer. It owns the box, or nothing.
+/// The pointer to the box of a meter, for C. It owns the box, or nothing.
 #[repr(C)]
 #[derive(Drop)]
 pub struct Slot {
     at: *mut u8,
     alloc: Global,
-    /// The meter, if there is one.
+    /// Ghost value: the meter, if there is one.
     pub ghost held: { Option Metering } by { kept_coded },
 }
 
@@ -22,14 +22,14 @@ impl Model for Slot {
 }
 
 impl Slot {
-    /// No meter, wherever the pointer points.
+    /// Returns a slot without a meter, whatever the pointer is.
     pub(crate) fn of_null(at: *mut u8, alloc: Global) -> Slot
         ensures { result.held ≡ None }
     {
         Slot { at, alloc }
     }
 
-    /// The meter of these parts of a box.
+    /// Returns a slot with the meter of these parts of a box.
     pub(crate) fn of_parts(parts: Parts<SupplyMeter, Global>) -> Slot
         ensures { result.held ≡ Some parts.value }
     {
@@ -40,7 +40,7 @@ impl Slot {
         }
     }
 
-    /// The parts of the box, where there is a meter.
+    /// Returns the parts of the box of the meter, which the slot must hold.
     pub(crate) fn into_parts(self) -> Parts<SupplyMeter, Global>
         requires { (m : Metering) × (self.held ≡ Some m) }
         ensures { self.held ≡ Some result.value }

@@ -1,4 +1,4 @@
-//! How the meter stands.
+//! Reads the state of the meter.
 ghost use Rattle.std.specs.Prelude.{◌≡◌, false};
 ghost use Rattle.meter.specs.Exports.{OnOpen, StateTo, ModeTo, SupplyTo, MomentTo, tells_moment, moment_of};
 
@@ -6,7 +6,7 @@ use crate::handle::Meter;
 use crate::outcome::Outcome;
 use std::alloc::Global;
 
-/// The state of the supply switch.
+/// Reads the control state (class 70, attribute 3).
 #[unsafe(no_mangle)]
 pub extern "C" fn meter_control_state(alloc: Global, meter: &mut Meter, state: &mut u8) -> u32
     ensures { OnOpen (state.new ≡ 0) (StateTo state.new) meter.old.slot.held result meter.new.slot.held }
@@ -20,7 +20,7 @@ pub extern "C" fn meter_control_state(alloc: Global, meter: &mut Meter, state: &
     Outcome::Done.code()
 }
 
-/// The mode of the supply switch.
+/// Reads the control mode (class 70, attribute 4).
 #[unsafe(no_mangle)]
 pub extern "C" fn meter_control_mode(alloc: Global, meter: &mut Meter, mode: &mut u8) -> u32
     ensures { OnOpen (mode.new ≡ 0) (ModeTo mode.new) meter.old.slot.held result meter.new.slot.held }
@@ -34,7 +34,7 @@ pub extern "C" fn meter_control_mode(alloc: Global, meter: &mut Meter, mode: &mu
     Outcome::Done.code()
 }
 
-/// Whether the supply is on.
+/// Reads whether the supply is on.
 #[unsafe(no_mangle)]
 pub extern "C" fn meter_supply(alloc: Global, meter: &mut Meter, is_on: &mut bool) -> u32
     ensures { OnOpen (is_on.new ≡ false) (SupplyTo is_on.new) meter.old.slot.held result meter.new.slot.held }
@@ -48,7 +48,7 @@ pub extern "C" fn meter_supply(alloc: Global, meter: &mut Meter, is_on: &mut boo
     Outcome::Done.code()
 }
 
-/// The last moment of the clock.
+/// Reads the last moment of the clock.
 #[unsafe(no_mangle)]
 pub extern "C" fn meter_last_moment(alloc: Global, meter: &mut Meter, moment: &mut u32) -> u32
     ensures { OnOpen (moment.new ≡ 0) (MomentTo moment.new) meter.old.slot.held result meter.new.slot.held }
@@ -63,7 +63,7 @@ pub extern "C" fn meter_last_moment(alloc: Global, meter: &mut Meter, moment: &m
     moment_outcome(last).code()
 }
 
-// What the last moment is to C.
+// Returns the last moment, or 0 if there was none.
 fn moment_or_zero(last: Option<u32>) -> u32
     ensures { result ≡ moment_of last }
 {

@@ -9,7 +9,7 @@ use cosem_axdr::Octets;
 use std::alloc::{AllocError, Global};
 use supply_meter::{SupplyMeter, TraceFault};
 
-/// Opens a meter that goes on where the one stopped whose trace this is.
+/// Opens a meter that continues from the end of a trace.
 #[unsafe(no_mangle)]
 pub extern "C" fn meter_resume(
     alloc: Global,
@@ -23,7 +23,7 @@ pub extern "C" fn meter_resume(
     resume(alloc, meter, trace, password, kept_events).code()
 }
 
-// The same, unless the handle holds a meter.
+// Opens a meter that continues from the end of a trace, unless the handle holds one.
 fn resume(
     alloc: Global,
     meter: &mut Meter,
@@ -61,7 +61,7 @@ fn resume(
     }
 }
 
-/// Writes the trace of the meter as text.
+/// Writes the meter's trace as text.
 #[unsafe(no_mangle)]
 pub extern "C" fn meter_export(
     alloc: Global,
@@ -80,7 +80,8 @@ pub extern "C" fn meter_export(
     write_text(exported, text, length).code()
 }
 
-// Puts a text into the buffer, if it has room.
+// Copies a text to the buffer if it fits. `length` is the length of the text if it was copied or
+// does not fit, else 0.
 fn write_text(exported: Result<Octets, AllocError>, text: &mut [u8], length: &mut usize) -> Outcome
     requires { length.old ≡ 0 }
     ensures { WritesBy exported text.old text.new length.new result }

@@ -1,4 +1,4 @@
--- Events that are handed on line by line.
+-- Events that are passed on line by line.
 use Rattle.std.proofs.Common.{◌≡◌, ℕ, ◌+◌, true, List, [], ◌∷◌, ◌++◌, Option, Some, refl, sym, ap, subst, ◌∙◌, arith, inl, inr, append_assoc, append-nil}
 use Rattle.relay_events.specs.declared.event.Event.{Event}
 use Rattle.meter_console.specs.Console.{Brings, IsOwnLine}
@@ -13,11 +13,11 @@ pub one_taken : (line : List ℕ) (event : Event) (listed taken : Option (List E
 one_taken line event listed taken brings gains before e =
     (event ∷ [], inl (event, [], brings, refl, (refl, refl)), subst (λ (o : Option (List Event)). Gains o event taken) e gains)
 
--- a line that brings none leaves the sink as it was
+-- a line without an event leaves the sink unchanged
 pub none_taken : (line : List ℕ) (taken : Option (List Event)) → ((event : Event) → ¬ (Brings line event)) → TakesFrom line 0 taken taken
 none_taken line taken none before e = ([], inr (inl (none, (refl, refl))), e ∙ ap Some (sym (append-nil before)))
 
--- so does a line that is lost
+-- a line that is lost leaves the sink unchanged
 pub lost_taken : (line : List ℕ) (taken : Option (List Event)) → IsOwnLine line → TakesFrom line 1 taken taken
 lost_taken line taken own before e = ([], inr (inr (0, own, refl, (refl, refl))), e ∙ ap Some (sym (append-nil before)))
 
@@ -41,7 +41,7 @@ line_skipped input left before taken s e = record {
   taken_is = e ∙ ap Some (sym (append-nil before));
 }
 
--- what lines bring, and then others
+-- the events of lines followed by those of others
 brought_append : (xs ys : List (List ℕ)) (es fs : List Event) (m n : ℕ) → Brought xs es m → Brought ys fs n → Brought (xs ++ ys) (es ++ fs) (m + n)
 brought_append [] ys es fs m n (none, zero) later =
     let all : n ≡ m + n = omega arith in
@@ -64,7 +64,7 @@ hands_none known listed input before e f = record {
   taken_is = f ∙ ap Some (sym (append-nil before));
 }
 
--- some lines, and then others
+-- some lines followed by others
 pub hands_on : {known left left' : Option (List ℕ)} {listed taken taken' : Option (List Event)} {m n k : ℕ}
     → Hands known listed m left taken → Hands left taken n left' taken' → m + n ≡ k → Hands known listed k left' taken'
 hands_on {left' = left'} {taken' = taken'} {m = m} {n = n} a b sum input before e f =
@@ -80,7 +80,7 @@ hands_on {left' = left'} {taken' = taken'} {m = m} {n = n} a b sum input before 
       taken_is = i.taken_is ∙ ap Some (append_assoc before h.events i.events);
     }
 
--- the console ended where no further line was
+-- the console ended because there was no further line
 pub ends_all : {known left : Option (List ℕ)} {listed taken taken' : Option (List Event)} {lost : ℕ} (end : ConsoleEnd)
     → Hands known listed lost left taken → ((bytes : List ℕ) → left ≡ Some bytes → lines_in bytes ≡ []) → taken' ≡ taken → lost_lines end ≡ lost
     → Ends known listed end taken'

@@ -10,7 +10,7 @@ use Rattle.trace_text.proofs.LinesLemmas.{lines_of-line}
 use Rattle.trace_text.proofs.WordsLemmas.{HasNo}
 use Rattle.meter_console.specs.Lines.{TakesLine, SkipsLine}
 
--- bytes without the byte 0A were read, which `line` has, or which are too many
+-- bytes without the byte 0A were read, which are in `line` unless they are too many
 pub record Partial (known left : Option (List ℕ)) (line : List ℕ) (is_long : Bool) : Type 0 where
   pub bytes : List ℕ
   pub read : Consumes known left bytes
@@ -32,7 +32,7 @@ starts known line e = record {
   long = λ is. absurd (cc is);
 }
 
--- one byte more has no 0A
+-- bytes without 0A, followed by a byte other than 0A, have no 0A
 none_more : (bytes : List ℕ) (byte : ℕ) → HasNo 10 bytes → byte ≢ 10 → HasNo 10 (bytes ++ byte ∷ [])
 none_more bytes byte none ne =
     All-append (λ b. is_byte 10 b ≡ false) bytes (byte ∷ []) none (All-cons (λ b. is_byte 10 b ≡ false) byte [] (ne_eqb byte 10 ne) (All-nil (λ b. is_byte 10 b ≡ false)))
@@ -58,7 +58,7 @@ pub keeps : {known left left' : Option (List ℕ)} {line line' : List ℕ} {is_l
 keeps {known = known} {left = left} {left' = left'} {line = line} {line' = line'} {is_long = is_long} {byte = byte} p c ne room e same =
     subst (λ (b : Bool). Partial known left' line' b) (sym same) (subst (λ (l : List ℕ). Partial known left' l is_long) (sym e) (more known left left' line is_long byte p c ne room))
 
--- a byte was read for which there is no room
+-- a byte was read that does not fit into the buffer
 skip : (known left left' : Option (List ℕ)) (line : List ℕ) (is_long : Bool) (byte : ℕ)
     → Partial known left line is_long → Consumes left left' (byte ∷ []) → byte ≢ 10 → 8192 ≤ length line + 1
     → Partial known left' line true
@@ -82,7 +82,7 @@ pub skips : {known left left' : Option (List ℕ)} {line line' : List ℕ} {is_l
 skips {known = known} {left = left} {left' = left'} {line = line} {line' = line'} {is_long = is_long} {byte = byte} p c ne none e same =
     subst (λ (b : Bool). Partial known left' line' b) (sym same) (subst (λ (l : List ℕ). Partial known left' l true) (sym e) (skip known left left' line is_long byte p c ne none))
 
--- what was known begins with what was read
+-- the bytes that were read are the first of the known bytes
 record Begins (input bytes : List ℕ) (left : Option (List ℕ)) : Type 0 where
   rest : List ℕ
   left_is : left ≡ Some rest
@@ -95,7 +95,7 @@ begins (Some xs) (Some ys) input bytes e c =
     let same : xs ≡ input = cc in
     record { rest = ys; left_is = refl; input_is = sym same ∙ c }
 
--- the byte 0A was read behind bytes that have none
+-- the byte 0A was read after bytes without one
 ends : (known left left' : Option (List ℕ)) (line : List ℕ) (is_long : Bool) (p : Partial known left line is_long) → Consumes left left' (10 ∷ [])
     → (input : List ℕ) → known ≡ Some input → (rest : List ℕ) × (left' ≡ Some rest) × (lines_of input ≡ p.bytes ∷ lines_of rest)
 ends known left left' line is_long p c input e =
@@ -123,7 +123,7 @@ no_lines : (bytes : List ℕ) → HasNo 10 bytes → lines_of bytes ≡ []
 unfolding lines_of
 no_lines bytes none = ap all_but_last (slice_split_none (is_byte 10) bytes none)
 
--- the input has ended with no line
+-- the input has ended without a line
 pub ended : {known left : Option (List ℕ)} {line : List ℕ} {is_long : Bool} → Partial known left line is_long → IsAtEnd left
     → (input : List ℕ) → known ≡ Some input → lines_of input ≡ []
 ended {known = known} {left = left} p at_end input e =

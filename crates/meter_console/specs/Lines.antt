@@ -1,12 +1,12 @@
 -- The lines of the console.
---     max_line       the greatest number of bytes of a line, with the byte 0A that ends it
+--     max_line       the maximum number of bytes of a line, with the byte 0A that ends it
 --     lines_in       the lines of an input that are read
 --     TakesLine      a line was read
 --     SkipsLine      a line was skipped
 use Rattle.std.specs.Prelude.{◌≡◌, ◌<◌, ◌≤◌, ℕ, ◌+◌, List, ◌∷◌, length, filter, nat_le, Option, Some}
 use Rattle.trace_text.specs.Lines.{lines_of}
 
--- the greatest number of bytes of a line, with the byte 0A that ends it
+-- the maximum number of bytes of a line, with the byte 0A that ends it
 abbrev pub max_line : ℕ
 max_line = 8192
 
@@ -14,7 +14,8 @@ max_line = 8192
 abbrev pub IsShort : List ℕ → Type 0
 IsShort line = length line + 1 ≤ max_line
 
--- the lines of an input that are read: each that has at most 8,192 bytes with the byte 0A that ends it
+-- the lines of an input that are read: each that has at most 8,192 bytes with the byte 0A that ends
+-- it
 unfoldable pub lines_in : List ℕ → List (List ℕ)
 lines_in input = filter (λ line. nat_le (length line + 1) max_line) (lines_of input)
 

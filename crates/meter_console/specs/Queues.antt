@@ -1,23 +1,24 @@
 -- The queues of the meter's workers.
---     Gains       a value was put at the end of a queue
+--     Gains       a value was appended to a queue
 --     Queues      the three queues
---     Sorts       an event was put into the queue of its kind
+--     Sorts       an event was appended to the queue of its kind
 use Rattle.std.specs.Prelude.{◌≡◌, List, [], ◌∷◌, ◌++◌, Option, IfSome, Some, ℕ}
 use Rattle.lane_sampler.specs.Samples.{Samples}
 use Rattle.relay_events.specs.declared.event.Event.{Event}
 use Rattle.relay_events.specs.declared.event.Event.TheVariants as event
 
--- a value was put at the end of a queue, if what it was given is known
+-- a value was appended to a queue, if the values of the queue are known
 abbrev pub Gains : {T : Type 0} → Option (List T) → T → Option (List T) → Type 0
 Gains old value new = IfSome old (λ values. new ≡ Some (values ++ value ∷ []))
 
--- what the queues of the three workers were given, where it is known
+-- the values that were appended to the queues of the three workers, as far as they are known
 pub record Queues : Type 0 where
   pub blocks : Option (List Samples)
   pub moments : Option (List ℕ)
   pub presses : Option (List (Unit {0}))
 
--- an event of the meter's own was put into the queue of its kind; what a client asks for goes into none
+-- an event of the meter itself was appended to the queue of its kind; an event that a client
+-- requests to none
 abbrev pub Sorts : Event → Queues → Queues → Type 0
 Sorts (event.Samples block) old new = Gains old.blocks block new.blocks × (new ≡ record old { blocks = new.blocks })
 Sorts (event.Moment now) old new = Gains old.moments now new.moments × (new ≡ record old { moments = new.moments })

@@ -10,10 +10,10 @@ use relay_events::Event;
 use std::alloc::{AllocError, Global};
 use std::sync::Wait;
 
-/// The number of events that may wait for each worker.
+/// The maximum number of events that wait for each worker.
 const MAX_WAITING: usize = 64;
 
-/// Blocks of samples that the console gives.
+/// Blocks of samples from the console.
 #[derive(Drop)]
 pub struct ConsoleBlocks<R> {
     rt: R,
@@ -26,7 +26,7 @@ impl<R: Wait + Drop + Send> BlockSource for ConsoleBlocks<R> {
     }
 }
 
-/// Moments of the clock that the console gives.
+/// Moments of the clock from the console.
 #[derive(Drop)]
 pub struct ConsoleMoments<R> {
     rt: R,
@@ -39,7 +39,7 @@ impl<R: Wait + Drop + Send> MomentSource for ConsoleMoments<R> {
     }
 }
 
-/// Presses that the console gives.
+/// Presses of the button from the console.
 #[derive(Drop)]
 pub struct ConsolePresses<R> {
     rt: R,
@@ -52,7 +52,7 @@ impl<R: Wait + Drop + Send> ButtonSource for ConsolePresses<R> {
     }
 }
 
-/// What the workers wait for. Each source ends once the console's channels are dropped.
+/// The sources that the workers read. Each ends once the console's channels are dropped.
 #[derive(Drop)]
 pub struct Sources<R> {
     pub blocks: ConsoleBlocks<R>,
@@ -60,12 +60,12 @@ pub struct Sources<R> {
     pub presses: ConsolePresses<R>,
 }
 
-/// Where values of one kind wait for their worker.
+/// A queue of values of one kind for their worker.
 trait Queue<T> {
     /// Ghost value: the values given so far, if the queue lists them. The default claims nothing.
     ghost given: { Self → Option (List T) } = { λ _. None };
 
-    /// Appends a value; it may block while the queue is full.
+    /// Appends a value. Blocks while the queue is full.
     fn put(&mut self, value: T)
         ensures { Gains (given self.old) value (given self.new) };
 }
@@ -78,7 +78,7 @@ pub(crate) struct Sending<R, T> {
 }
 
 impl<R: Wait, T: Drop> Queue<T> for Sending<R, T> {
-    // (what a worker that has ended would get is dropped)
+    // (if the worker has ended, the value is dropped)
     fn put(&mut self, value: T) {
         let _ = self.sender.send(&self.rt, value);
     }
@@ -93,7 +93,7 @@ pub(crate) struct Channels<B, M, P> {
 }
 
 impl<B: Queue<Block>, M: Queue<u32>, P: Queue<()>> Channels<B, M, P> {
-    /// Puts an event into the queue of its worker. What a client asks for goes into none.
+    /// Appends an event to the queue of its worker. Events that only a client requests are ignored.
     fn sort(&mut self, event: Event)
         ensures { Sorts event (record { blocks = B.given self.old.blocks; moments = M.given self.old.moments; presses = P.given self.old.presses })
             (record { blocks = B.given self.new.blocks; moments = M.given self.new.moments; presses = P.given self.new.presses }) }
@@ -114,10 +114,10 @@ impl<B: Queue<Block>, M: Queue<u32>, P: Queue<()>> EventSink for Channels<B, M, 
     }
 }
 
-/// The channels of a console whose threads wait by `R`.
+/// The channels of a console whose threads block by `R`.
 pub(crate) type WorkerChannels<R> = Channels<Sending<R, Block>, Sending<R, u32>, Sending<R, ()>>;
 
-/// Opens a channel for each worker. All memory that they take is allocated here.
+/// Opens a channel for each worker, and allocates all the memory of the channels.
 pub(crate) fn open_channels<R: Wait + Copy>(
     rt: &R,
     alloc: Global,

@@ -6,7 +6,7 @@ use std::alloc::{AllocError, Global};
 use std::io::BufRead;
 use std::sync::Wait;
 
-/// What the console's thread needs beside its input.
+/// What the console's thread needs apart from its input.
 #[derive(Drop)]
 pub struct Console<R> {
     buffer: LineBuffer,
@@ -14,16 +14,16 @@ pub struct Console<R> {
 }
 
 impl<R: Wait + Copy + Drop> Console<R> {
-    /// A console, and the sources that it feeds. All their memory is allocated here, but for the
-    /// events.
+    /// Returns a console, and the sources that it feeds. Allocates all their memory, except that of
+    /// the events.
     pub fn new(rt: &R, alloc: Global) -> Result<(Console<R>, Sources<R>), AllocError> {
         let buffer = LineBuffer::new(alloc)?;
         let (channels, sources) = open_channels(rt, alloc)?;
         Ok((Console { buffer, channels }, sources))
     }
 
-    /// Hands the events of an input's lines to the workers, as [`run_console`] does. The sources end
-    /// with it.
+    /// Passes the events of an input's lines to the workers, as [`run_console`] does. The sources
+    /// end when it returns.
     pub(crate) fn run<B: BufRead, E: Eprint>(
         self,
         alloc: Global,

@@ -1,7 +1,8 @@
-//! The console of a meter that serves: the lines of an input, each of whose events goes to the meter's own worker.
+//! The console of a served meter: it reads the lines of an input, and passes the event of each line
+//! to the worker of its kind.
 //!
-//! [`run_console`] reads the lines and hands their events to an [`EventSink`]; [`start`] runs it in a thread of its own, over the channels of
-//! a [`Console`].
+//! [`run_console`] reads the lines and passes their events to an [`EventSink`]; [`start`] runs it
+//! in a thread of its own, over the channels of a [`Console`].
 #![tactic(auto)]
 
 mod channels;

@@ -1,4 +1,4 @@
-//! What a line of the console brings.
+//! The event of a line of the console.
 ghost use Rattle.std.specs.Prelude.{◌≡◌, ◌↔◌, IfOk, IfSome, IfNone, OnErr, IsTrue};
 ghost use Rattle.relay_events.specs.declared.event.Event.{Event};
 ghost use Rattle.meter_console.specs.Console.{IsOwnWord, IsOwnLine, Brings};
@@ -9,7 +9,7 @@ use trace_lines::read_event;
 use trace_text::Words;
 use trace_words::{RowFault, Version};
 
-/// Whether a word is the first of an event of the meter's own.
+/// Returns whether a word is the first word of an event of the meter itself.
 fn is_own_word(word: &[u8]) -> bool
     ensures { IsTrue result ↔ IsOwnWord word.now }
 {
@@ -19,7 +19,7 @@ fn is_own_word(word: &[u8]) -> bool
         || word == b"moment".as_slice()
 }
 
-/// Whether a line begins with such a word.
+/// Returns whether a line begins with such a word.
 fn is_own_line(line: &[u8]) -> bool
     ensures { IsTrue result ↔ IsOwnLine line.now }
 {
@@ -29,8 +29,9 @@ fn is_own_line(line: &[u8]) -> bool
     }
 }
 
-/// The event of a line, which is passed without the byte 0A that ends it: a press, samples, pairs or a moment, written as in a trace of version 2. Any other line
-/// brings none, and for one that does not begin as one of these nothing is allocated.
+/// Returns the event of a line, which is passed without the byte 0A that ends it: a press, samples,
+/// pairs or a moment, written as in a trace of version 2. Any other line has no event; if it does
+/// not begin as one of these, nothing is allocated. Errors: out of memory.
 pub fn console_event(alloc: Global, line: &[u8]) -> Result<Option<Event>, AllocError>
     ensures some { IfOk result (λ brought. IfSome brought (λ event. Brings line.now event)) }
     ensures none { IfOk result (λ brought. IfNone brought ((event : Event) → ¬ (Brings line.now event))) }

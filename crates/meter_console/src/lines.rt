@@ -1,4 +1,4 @@
-//! The lines of an input.
+//! Reads the lines of an input.
 ghost use Rattle.std.specs.Prelude.{◌≡◌, ◌≤◌, ◌∷◌, ℕ, List, [], Some, IfOk, IfSome, IfNone, vec_capacity};
 ghost use Rattle.std.specs.Io.KnownBytes.{Consumes, IsAtEnd};
 ghost use Rattle.meter_console.specs.Lines.{TakesLine, SkipsLine};
@@ -8,20 +8,20 @@ use std::alloc::{AllocError, Global};
 use std::io;
 use std::io::{BufRead, ErrorKind};
 
-/// The greatest number of bytes of a line, with the byte 0A that ends it. Each line that brings an
+/// The maximum number of bytes of a line, with the byte 0A that ends it. Each line that has an
 /// event is shorter.
 const MAX_LINE: usize = 8_192;
 
 /// The byte that ends a line.
 const LINE_END: u8 = b'\n';
 
-/// The greatest number of bytes of a line without the byte that ends it.
+/// The maximum number of bytes of a line without the byte that ends it.
 const MAX_KEPT: usize = MAX_LINE - 1;
 
-/// How often a read that a signal interrupts is tried.
+/// The maximum number of attempts of a read that signals interrupt.
 const MAX_TRIES: u32 = 1_000;
 
-/// A buffer for one line, with the capacity of the longest.
+/// A buffer for one line, with the capacity of the longest line.
 #[derive(Drop)]
 pub struct LineBuffer {
     pub(crate) bytes: Vec<u8>,
@@ -36,7 +36,7 @@ impl LineBuffer {
     }
 }
 
-/// What was read.
+/// The result of reading a line.
 #[derive(Clone, Copy, Debug, PartialEq, Eq, Drop)]
 pub(crate) enum NextLine {
     /// A line, without the byte 0A that ended it.
@@ -69,8 +69,8 @@ fn next_byte<B: BufRead>(input: &mut B) -> io::Result<Option<u8>>
     Err(io::Error::from(ErrorKind::Interrupted))
 }
 
-/// Reads the next line, which has at most 8,192 bytes with the byte 0A that ends it; a longer one is
-/// skipped to its end. What follows the last byte 0A of the input is no line.
+/// Reads the next line, of at most 8,192 bytes with the byte 0A that ends it. A longer line is
+/// skipped to its end. What follows the last byte 0A of the input is not a line.
 #[tactic(auto, using(crate::proofs::LineLemmas::starts))]
 pub(crate) fn next_line<B: BufRead>(input: &mut B, line: &mut Vec<u8>) -> NextLine
     requires room { 8192 ≤ vec_capacity line.old }

@@ -7,13 +7,13 @@ use std::sync::Wait;
 use std::thread;
 use std::thread::{JoinHandle, Threads};
 
-/// Who is called once the console has ended.
+/// Is notified once the console has ended.
 pub trait Ended {
-    /// The console has ended: no further line is read.
+    /// Is called when the console has ended: no further line is read.
     fn console_ended(&self, end: ConsoleEnd);
 }
 
-/// What the console's thread reads, where it hands the events, and who is called at its end.
+/// What the console's thread reads, where it passes the events, and whom it notifies at its end.
 #[derive(Drop)]
 pub struct Reading<R, B, E, N> {
     pub input: B,
@@ -23,7 +23,7 @@ pub struct Reading<R, B, E, N> {
     pub ended: N,
 }
 
-/// Hands on the events of the input's lines, and then calls `ended`.
+/// Passes on the events of the input's lines, and then calls `ended`.
 fn read<R: Wait + Copy + Drop, B: BufRead + Drop, E: Eprint + Drop, N: Ended + Drop>(
     alloc: Global,
     reading: Reading<R, B, E, N>,
@@ -39,8 +39,8 @@ fn read<R: Wait + Copy + Drop, B: BufRead + Drop, E: Eprint + Drop, N: Ended + D
     end
 }
 
-/// Starts the console's thread, whose result is how the console ended. `None` if the thread could not
-/// be started; what it was to read is dropped.
+/// Starts the console's thread, whose result is how the console ended. Returns `None` if the thread
+/// could not be started; `reading` is dropped then.
 pub fn start<
     R: Threads + Wait + Copy + Drop + Send + 'static,
     B: BufRead + Drop + Send + 'static,

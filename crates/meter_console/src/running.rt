@@ -17,14 +17,14 @@ pub struct ConsoleEnd {
 }
 
 impl ConsoleEnd {
-    /// Whether a read failed, so that lines may be left unread.
+    /// Returns whether a read failed, so that lines may be left unread.
     pub fn has_failed(&self) -> bool
         ensures { result ≡ has_failed self.now }
     {
         self.has_failed
     }
 
-    /// The number of lines that were lost because memory ran out.
+    /// Returns the number of lines that were lost because the program ran out of memory.
     pub fn lost(&self) -> u64
         ensures { result ≡ lost_lines self.now }
     {
@@ -32,12 +32,12 @@ impl ConsoleEnd {
     }
 }
 
-/// What became of one line.
+/// The result of one line.
 #[derive(Clone, Copy, Debug, PartialEq, Eq, Drop)]
 enum Step {
-    /// Its event was handed on, or it brings none.
+    /// Its event was passed on, or it has none.
     Passed,
-    /// It was lost: memory ran out.
+    /// The line was lost: out of memory.
     Lost,
     /// There was no further line.
     End,
@@ -45,7 +45,7 @@ enum Step {
     Failed,
 }
 
-/// Hands on the event of a line, if it brings one. Error: memory ran out, and the line is lost.
+/// Passes on the event of a line, if it has one. Errors: out of memory, and the line is lost.
 fn hand_line<S: EventSink>(alloc: Global, line: &[u8], sink: &mut S) -> Result<(), AllocError>
     ensures ok { OnOk result (TakesFrom line.now 0 (S.taken sink.old) (S.taken sink.new)) }
     ensures err { OnErr result (TakesFrom line.now 1 (S.taken sink.old) (S.taken sink.new)) }
@@ -60,7 +60,7 @@ fn hand_line<S: EventSink>(alloc: Global, line: &[u8], sink: &mut S) -> Result<(
     }
 }
 
-/// Reads a line and hands on its event.
+/// Reads a line and passes on its event.
 fn pass_line<B: BufRead, S: EventSink>(
     alloc: Global,
     input: &mut B,
@@ -96,14 +96,14 @@ fn report_failure<E: Eprint>(errors: &E) {
     let _ = eprintln!(errors; "console: reading failed, no further line is read");
 }
 
-/// Hands the events of an input's lines to a sink, up to the end of the input or to a read that
+/// Passes the events of an input's lines to a sink, up to the end of the input or to a read that
 /// fails.
 ///
-/// A line has at most 8,192 bytes with the byte 0A that ends it; a longer one is skipped, and so is one
-/// that brings no event. What follows the last byte 0A is no line. A line whose event can't be
-/// allocated is lost. Each lost line is reported on `errors` by its number, counted from 1, and so is
-/// the failed read. A read that a signal interrupts is retried. The console ends as if a read had
-/// failed after 18,446,744,073,709,551,614 lines.
+/// A line has at most 8,192 bytes with the byte 0A that ends it; a longer one is skipped, and so is
+/// one that has no event. What follows the last byte 0A is not a line. A line whose event cannot be
+/// allocated is lost. Each lost line is reported on `errors` with its number, counted from 1, and
+/// so is a failed read. A read that a signal interrupts is retried. After
+/// 18,446,744,073,709,551,614 lines the console ends as if a read had failed.
 pub fn run_console<B: BufRead, S: EventSink, E: Eprint>(
     alloc: Global,
     input: &mut B,

@@ -1,4 +1,4 @@
--- What serving did, and what is behind the lock, are a run.
+-- What serving did, and the meter in the lock, are a run.
 use Rattle.std.proofs.Common.{◌≡◌, ℕ, List, [], ◌∷◌, ◌++◌, map, Some, refl, sym, ap, subst, ◌∙◌, arith, inl, inr, IfOk, Result, Ok, Err}
 use Rattle.kept_meter.specs.Calls.{IsLegal, Stands}
 use Rattle.kept_meter.specs.KeptRecorder.{KeptRecorder}
@@ -29,7 +29,7 @@ ended_map (Err fault.Exhausted) A B f a = tt
 ended_map (Err fault.Read) A B f a = tt
 ended_map (Err fault.Write) A B f a = tt
 
--- the calls of a port that was joined in are the same in the whole history
+-- the calls of a port that was joined are the same in the whole history
 same_events : (q : MeterPort) (kept : KeptRecorder) (y : Yields (λ (x : KeptRecorder). x.origin) Stands IsLegal q.known kept) (number : List ℕ)
     → IsAmong number q.known.joined → events_in number y.whole ≡ events_by number q
 same_events q kept y number joined = ap (map (λ (call : Entry Event Reply). call.event)) (y.own number (inr joined))
@@ -38,7 +38,7 @@ acted_whole : (q : MeterPort) (kept : KeptRecorder) (y : Yields (λ (x : KeptRec
     → Acted q number Whole → Whole (events_in number y.whole)
 acted_whole q kept y number Whole acted = subst Whole (sym (same_events q kept y number acted.joined)) acted.whole
 
--- the port that a lock's first port is since
+-- what the first port of a lock has become
 abbrev first_port : TableId → ℕ → Opening → MeterPort
 first_port lock bound o = record { lock = lock; bound = bound; known = opened o }
 
@@ -85,7 +85,7 @@ run_of recorder given served text p q o first is serves traces =
     let whole : p ≡ first_port p.lock p.bound o = ap (λ (k : Known Event Reply Opening). let port : MeterPort = record { lock = p.lock; bound = p.bound; known = k } in port) first in
     run_at recorder given served text p.lock p.bound q o is (subst (λ (port : MeterPort). ServesAll given port q served) whole serves) traces
 
--- so the text of a trace is that of a run
+-- the text of a trace is that of a run
 pub run_if : {E : Type 0} (recorder : Recording) (given : Given) (served : Result Served ServeFault) (result : Result (List ℕ) E) (p q : MeterPort)
     → p.known ≡ opened (opening_of recorder.core) → ServesAll given p q served → IfOk result (Traces q.known)
     → IfOk result (IsRun recorder given served)

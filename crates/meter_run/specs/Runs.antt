@@ -1,9 +1,10 @@
--- One run of a meter: its recorder is put behind a lock, clients are served and sources handed in, and its trace is written.
+-- One run of a meter: its recorder is put into a lock, clients are served, sources are passed on,
+-- and its trace is written.
 --     Given       what the meter's own sources give, and the password of the management client
---     AreOfRun    the calls of a run: who made which
+--     AreOfRun    the calls of a run: which port made which
 --     IsRun       a run, from its recorder to the text of its trace
 --     ServesAll   what serving did to the port of the lock
---     Traces      the text of what is behind the lock
+--     Traces      the text of the trace of the meter in the lock
 use Rattle.std.specs.Prelude.{◌≡◌, ℕ, ◌+◌, ◌<◌, ◌≤◌, List, [], ◌∷◌, map, Option, IfOk, Result}
 use Rattle.kept_meter.specs.Calls.{Calls, IsLegal, Stands}
 use Rattle.kept_meter.specs.KeptRecorder.{KeptRecorder}
@@ -36,10 +37,11 @@ pub record Given : Type 0 where
 abbrev pub events_in : List ℕ → Calls → List Event
 events_in number calls = map (λ (call : Entry Event Reply). call.event) (calls_by number calls)
 
--- The calls of a run, in the order in which the meter took them. Their replies are those of the meter that the opening
--- writes down. If no worker stopped early, the first port's calls are the blocks of the sampler with its reads, the
--- second's the moments of the clock, the third's the presses of the button, all of them. Each further port's are what one
--- session asks for its bytes. The port that split these off made no call.
+-- The calls of a run, in the order in which the meter applied them. Their replies are those of the
+-- meter of the opening. If no worker stopped early, the first port's calls are the blocks of the
+-- sampler with its reads, the second port's the moments of the clock, the third port's the presses
+-- of the button, all of them. The calls of each further port are what one session requests for its
+-- bytes. The port from which these were split off made no call.
 pub record AreOfRun (origin : Opening) (given : Given) (served : Result Served ServeFault) (calls : Calls) : Type 0 where
   pub lawful : IsLegal origin calls
   pub blocks : OnEnded served (AllBlocks given.blocks (events_in (0 ∷ []) calls))
@@ -50,8 +52,8 @@ pub record AreOfRun (origin : Opening) (given : Given) (served : Result Served S
   pub counted : IfOk served (IsServed 3 ports)
   pub own : calls_by [] calls ≡ []
 
--- A run of the meter of this recorder: its calls, the recorder that stands for them at its end, and the text of that
--- recorder's trace, which plays to the replies that were given
+-- A run of the meter with this recorder: its calls, the recorder that represents them at its end,
+-- and the text of that recorder's trace, which plays to the replies that were given
 pub record IsRun (recorder : Recording) (given : Given) (served : Result Served ServeFault) (text : List ℕ) : Type 0 where
   pub kept : KeptRecorder
   pub begun : kept.origin ≡ opening_of recorder.core
@@ -60,7 +62,7 @@ pub record IsRun (recorder : Recording) (given : Given) (served : Result Served 
   pub stands : Stands kept calls
   pub traced : TellsRun kept.recorder text
 
--- the port p is q since: clients were served and sources handed in
+-- port p became port q: clients were served and sources passed on
 pub record ServesAll (given : Given) (p q : MeterPort) (served : Result Served ServeFault) : Type 0 where
   pub goes : GoesOn p q
   pub joined : AreJoined p.known.splits q
@@ -70,7 +72,7 @@ pub record ServesAll (given : Given) (p q : MeterPort) (served : Result Served S
   pub moments : OnEnded served (Acted q (child p.known.number (p.known.splits + 1)) (AllMoments given.moments))
   pub presses : OnEnded served (Acted q (child p.known.number (p.known.splits + 2)) (AllPresses given.presses))
 
--- the text is that of the trace of what is behind the lock, by what a port of it knows
+-- the text is that of the trace of the meter in the lock, by what a port of the lock knows
 pub record Traces (k : Known Event Reply Opening) (text : List ℕ) : Type 0 where
   pub kept : KeptRecorder
   pub yields : Yields (λ (x : KeptRecorder). x.origin) Stands IsLegal k kept

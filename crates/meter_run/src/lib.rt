@@ -1,6 +1,7 @@
-//! One run of a meter that is served: from its recorder to the text of its trace.
+//! One run of a served meter: from its recorder to the text of its trace.
 //!
-//! `meter_server serve` is this call: what it listens at, what its console gives and what it prints are the arguments and the result.
+//! `meter_server serve` is this call. Its arguments are the listener and the sources of the
+//! console; its result is what the server prints.
 #![tactic(auto)]
 
 mod running;

@@ -20,10 +20,11 @@ use std::sync::Wait;
 use std::thread::Threads;
 use turn_lock::{Port, Shared};
 
-/// The calls that one run may make: 2^62, the most that a lock is made for.
+/// The maximum number of calls in one run: 2^62, the largest bound of a lock.
 const MAX_CALLS: u64 = 4_611_686_018_427_387_904;
 
-/// The meter's own sources: blocks of power samples, moments of the clock, presses of the button.
+/// The sources of the meter's own events: blocks of power samples, moments of the clock, presses of
+/// the button.
 #[derive(Drop)]
 pub struct Sources<B, M, U> {
     pub blocks: B,
@@ -34,13 +35,13 @@ pub struct Sources<B, M, U> {
 /// How a run ended.
 #[derive(Drop)]
 pub struct MeterRun {
-    /// What became of the connections, or why the server stopped.
+    /// The number of connections that were served and turned away, or why the server stopped.
     pub served: Result<Served, ServeFault>,
     /// The text of the trace. Errors: `Turns` if a call was still in its turn; `Memory`.
     pub trace: Result<Octets, Fault>,
 }
 
-// A lock for 2^62 calls over a recorder, and its first port.
+// Returns a lock for 2^62 calls over a recorder, and its first port.
 fn lock(alloc: Global, recorder: Recorder) -> Result<(Shared<Kept>, Port<Kept>), AllocError>
     requires { recorder.events ≡ [] }
     ensures lock { IfOk result (λ r. r.1.lock ≡ r.0) }
@@ -56,7 +57,7 @@ fn lock(alloc: Global, recorder: Recorder) -> Result<(Shared<Kept>, Port<Kept>),
     }
 }
 
-// Serves clients and hands in what the sources give. The port comes back.
+// Serves clients and passes what the sources give to the meter. The port is returned.
 fn serve<
     L: Listener,
     B: BlockSource + Send + 'static,
@@ -94,7 +95,8 @@ fn serve<
     }
 }
 
-// The text of the trace of the meter behind a lock, which ends here.
+// Closes a lock, and returns the text of the trace of its meter. Errors: `Turns` if a call was
+// still in its turn; `Memory`.
 fn trace_text(alloc: Global, shared: Shared<Kept>, port: Port<Kept>) -> Result<Octets, Fault>
     requires { port.lock ≡ shared }
     ensures traces { IfOk result (Traces port.known) }
@@ -116,15 +118,17 @@ fn trace_text(alloc: Global, shared: Shared<Kept>, port: Port<Kept>) -> Result<O
     }
 }
 
-/// Runs a meter: puts its recorder, to which no event has come, behind a lock for 2^62 calls, serves the clients of the listener and
-/// hands in what the sources give, as [`serve_all`] does, and then writes the text of the meter's trace. The management client has this
-/// password, 1 to 32 bytes; `limit` connections are served or turned away, 0 is no limit.
+/// Runs a meter: puts its recorder, which has no event yet, into a lock for 2^62 calls, serves the
+/// clients of the listener, passes what the sources give to the meter as [`serve_all`] does, and
+/// then writes the text of the meter's trace. `password`, 1 to 32 bytes, is that of the management
+/// client; `limit` connections are served or turned away, and 0 means no limit.
 ///
-/// Both results are independent: the trace is written whatever ended the serving. If there is no memory for the lock, both are
-/// `Memory`, and no connection was accepted.
+/// The two results are independent: the trace is written whatever ended the serving. If out of
+/// memory for the lock, both are `Memory`, and no connection was accepted.
 ///
-/// If the serving ended without a fault, the listener accepted as many clients as are counted, unless the count reached
-/// `u64::MAX`. The fault `Listen` means that the listener failed; the serving never ends with `Read` or `Write`.
+/// If the serving ended without a fault, the listener accepted as many clients as are counted,
+/// unless the count reached `u64::MAX`. The fault `Listen` means that the listener failed; the
+/// serving never ends with `Read` or `Write`.
 pub fn run_meter<
     L: Listener,
     B: BlockSource + Send + 'static,

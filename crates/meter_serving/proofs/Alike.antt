@@ -1,4 +1,4 @@
--- A meter that goes on from a trace answers as the one that wrote it down.
+-- A meter that resumes from a trace answers as the meter that wrote it.
 use Rattle.std.proofs.Common.{◌≡◌, ℕ, List, [], ◌∷◌, ◌-◌, length, refl, ap, sym, ◌∙◌, subst}
 use Rattle.std.proofs.lemmas.List.{take-append-drop}
 use Rattle.circular_buffer.specs.Buffer.{keep_last}
@@ -34,20 +34,21 @@ record AgreeInRange (v w : World) : Type 0 where
   range : IsWorld v
   agree : Agree v w
 
--- and so do those after the same events
+-- worlds that agree also agree after the same events
 worlds_after : (events : List Event) (v w : World) → AreEvents events → AgreeInRange v w → AgreeInRange (world_after events v) (world_after events w)
 worlds_after [] v w small alike = alike
 worlds_after (event ∷ events) v w small alike =
     let go = event_alike event v w small.0 alike.range alike.agree in
     worlds_after events (at_event event v).world (at_event event w).world small.1 (record { range = go.range; agree = go.world })
 
--- the events before the last ones, and then these, are all events
+-- the events before the last n, followed by these, are all events
 split_world : (n : ℕ) (events : List Event) (w : World) → world_after (keep_last n events) (world_after (all_but_last n events) w) ≡ world_after events w
 split_world n events w =
     sym (world_after-append (all_but_last n events) (keep_last n events) w)
     ∙ ap (λ (es : List Event). world_after es w) (take-append-drop (length events - n) events)
 
--- the world after a trace's run agrees with the one after every history that its recorder stands for
+-- the world after a trace's run agrees with the one after every history that its recorder
+-- represents
 trace_agrees : (r : Recording) (trace : Trace) (history : List Told) (origin : World) → IsFitOpening trace.opening → IsWorld (opened trace.opening)
     → AreEvents trace.events → IsTraceOf r trace → StandsForHistory r history origin
     → AgreeInRange (world_of trace) (world_after (events_of history) origin)

@@ -1,4 +1,4 @@
--- The first line of a text, as a reader of an input takes it.
+-- The first line of a text, as it is read from an input.
 use Rattle.std.proofs.Common.{◌≡◌, ℕ, zero, suc, ◌+◌, ◌<◌, ◌≤◌, Bool, true, false, ◌==◌, if◌then◌else◌, cond, List, [], ◌∷◌, ◌++◌, length, length-append, map, drop, get_or, Option, Some, None, refl, sym, ap, ◌∙◌, subst, arith}
 use Rattle.std.proofs.lemmas.Bool.{eqb-true}
 use Rattle.std.proofs.lemmas.List.{append_assoc, drop_all, drop_more}
@@ -28,7 +28,7 @@ record Cut (text part : List ℕ) (others : List (List ℕ)) : Type 0 where
   taken : (rest : List ℕ) → take_through 10 (text ++ rest) ≡ take_through 10 text
   dropped : (rest : List ℕ) → drop_through 10 (text ++ rest) ≡ drop_through 10 text ++ rest
 
--- the same of a text by whether its first byte is 0A
+-- a text that is cut at its first byte 0A, by whether its first byte is 0A
 record CutBy (x : ℕ) (xs : List ℕ) (b : Bool) (part : List ℕ) (others : List (List ℕ)) : Type 0 where
   front : (if b then x ∷ [] else x ∷ take_through 10 xs) ≡ part ++ 10 ∷ []
   others_are : parts_at 10 (if b then xs else drop_through 10 xs) ≡ others
@@ -37,7 +37,7 @@ record CutBy (x : ℕ) (xs : List ℕ) (b : Bool) (part : List ℕ) (others : Li
   taken : (rest : List ℕ) → (if b then x ∷ [] else x ∷ take_through 10 (xs ++ rest)) ≡ (if b then x ∷ [] else x ∷ take_through 10 xs)
   dropped : (rest : List ℕ) → (if b then xs ++ rest else drop_through 10 (xs ++ rest)) ≡ (if b then xs else drop_through 10 xs) ++ rest
 
--- the part that a byte was put in front of
+-- the part to which a byte was prepended
 record Onto (x : ℕ) (all : List (List ℕ)) (part next : List ℕ) (parts : List (List ℕ)) : Type 0 where
   short : List ℕ
   all_is : all ≡ short ∷ next ∷ parts
@@ -51,7 +51,7 @@ onto x (short ∷ others) part next parts e = record {
   part_is = heads (x ∷ short) part others (next ∷ parts) e;
 }
 
--- the parts of a text in front of which this byte is put
+-- the parts of a text to which this byte is prepended
 parts_by : (x : ℕ) (xs : List ℕ) (b : Bool) → (x == 10) ≡ b → parts_at 10 (x ∷ xs) ≡ cond b ([] ∷ parts_at 10 xs) (onto_first x (parts_at 10 xs))
 parts_by x xs b is = ap (λ (c : Bool). cond c ([] ∷ parts_at 10 xs) (onto_first x (parts_at 10 xs))) is
 
@@ -84,7 +84,7 @@ cut (x ∷ xs) part next parts e =
     let by = cut_by x xs (x == 10) part next parts refl e (λ short is. cut xs short next parts is) in
     record { front = by.front; others_are = by.others_are; alone = by.alone; whole = by.whole; taken = by.taken; dropped = by.dropped }
 
--- the part that a first line is
+-- the first line is the first part
 record TwoParts (all : List (List ℕ)) (row : Row) (rows : List Row) : Type 0 where
   part : List ℕ
   next : List ℕ
@@ -127,12 +127,12 @@ first_line text row rows e =
       dropped = at.dropped;
     }
 
--- what was read behind a text that was there
+-- the text that was read after the text that was there
 added : (old more : List ℕ) → drop (length old) (old ++ more) ≡ more
 added [] more = refl
 added (x ∷ xs) more = added xs more
 
--- a read of one line goes on by it
+-- a read of one line passes it
 pub line_read : (text rest : List ℕ) (row : Row) (rows : List Row) (old new : List ℕ) (left left' : Option (List ℕ)) → Ahead text rest (row ∷ rows) old left
     → IfSome left (λ bytes. new ≡ old ++ take_through 10 bytes) → DropsThrough left left' 10
     → Ahead text rest rows new left' × IsLine (drop (length old) new) row
@@ -187,12 +187,12 @@ line_fits text rest row rows old left limit ahead over within =
 
 -- ---- several lines
 
--- the lines that are left where some were read
+-- the line after the first i lines
 next_row : (i : ℕ) (front rows : List Row) → i < length front → (row : Row) × (drop i front ++ rows ≡ row ∷ (drop (i + 1) front ++ rows))
 next_row i [] rows lt = absurd (omega arith)
 next_row i (row ∷ front) rows lt = (get_or (row ∷ front) i row, ap (λ (all : List Row). all ++ rows) (drop_more (row ∷ front) i row lt))
 
--- one line more of several
+-- one more of several lines
 pub lines_on : (text rest : List ℕ) (front rows : List Row) (i : ℕ) (old new : List ℕ) (left left' : Option (List ℕ)) → i < length front
     → Ahead text rest (drop i front ++ rows) old left
     → ((row : Row) (others : List Row) → Ahead text rest (row ∷ others) old left → Ahead text rest others new left' × IsLine (drop (length old) new) row)
@@ -208,7 +208,7 @@ lines_left text rest front rows i old left lt ahead never =
     let next = next_row i front rows lt in
     never next.0 (drop (i + 1) front ++ rows) (subst (λ (all : List Row). Ahead text rest all old left) next.1 ahead)
 
--- behind all of them
+-- after all of the lines
 pub lines_over : (text rest : List ℕ) (front rows : List Row) (i : ℕ) (now : List ℕ) (left : Option (List ℕ)) → length front ≤ i
     → Ahead text rest (drop i front ++ rows) now left → Ahead text rest rows now left
 lines_over text rest front rows i now left le ahead =

@@ -6,7 +6,7 @@ use Rattle.std.proofs.KnownBytes.{Consumes-trans}
 use Rattle.byte_streams.specs.Lines.{ReadsLine}
 use Rattle.meter_serving.specs.Heads.{Grows}
 
--- one read after another
+-- one read followed by another
 pub grows_on : (a b c : List ℕ) (l m n : Option (List ℕ)) → Grows a l b m → Grows b m c n → Grows a l c n
 grows_on a b c l m n first then = record {
   bytes = first.bytes ++ then.bytes;

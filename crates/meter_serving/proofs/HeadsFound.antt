@@ -46,7 +46,7 @@ same_word (x ∷ xs) (y ∷ ys) e =
     let both = and_parts (nat_eq x y) (pointwise nat_eq xs ys) e in
     ap (λ (n : ℕ). n ∷ xs) (eqb-true x y both.0) ∙ ap (λ (zs : List ℕ). y ∷ zs) (same_word xs ys both.1)
 
--- ---- what the line of the version tells
+-- ---- what the line of the version determines
 
 behind_found : (label : Word) (row : Row) (x : Unit {0} × Row) → behind label row ≡ Ok x → row ≡ label ∷ x.1
 unfolding behind
@@ -68,11 +68,11 @@ two_words label row version e =
     let last = last_found first.0.1 version first.2 in
     (last.0, behind_found label row first.0 first.1 ∙ ap (λ (words : Row). label ∷ words) last.1, last.2)
 
--- the test of a word's digits is std's, and so is their value
+-- the test of a word's digits is that of std, and so is their value
 digits_model : IsNumeralModel (λ word. list_all is_ascii_digit word ≡ true) (digits_value 10)
 digits_model = numerals_by_value _ (search rules)
 
--- what makes a word a number
+-- the conditions under which a word is a number
 record IsDecimal (word : List ℕ) : Type 0 where
   some : 0 < length word
   digits : list_all is_ascii_digit word ≡ true
@@ -87,7 +87,7 @@ decimal_parts word e =
 below : (m limit : ℕ) → nat_le m limit ≡ true → limit < 2 ^ 64 → m < 2 ^ 64
 below m limit le small = grind (arith, nat_tests)
 
--- a number is written in one way
+-- a number is written by one word only
 number_word : (limit n : ℕ) (word : Word) → limit < 2 ^ 64 → number_of limit word ≡ Some n → word ≡ decimal n
 unfolding number_of
 number_word limit n word small e =
@@ -127,14 +127,14 @@ version_line bytes row version line told =
 
 -- ---- from the first line to the last
 
--- the lines from that of the number of events on, and those behind the first
+-- the lines from that of the number of events on, and those after the first
 abbrev pub from_count : {text : List ℕ} → IsLaidOut text → List Row
 from_count laid = laid.events_row ∷ (laid.events ++ [])
 
 abbrev pub behind_first : {text : List ℕ} → IsLaidOut text → List Row
 behind_first laid = laid.opening ++ from_count laid
 
--- before the first read all lines are ahead
+-- before the first read all lines are still to be read
 pub ahead_new : (text rest now : List ℕ) (left : Option (List ℕ)) (laid : IsLaidOut text) → now ≡ [] → left ≡ Some (text ++ rest)
     → Ahead text rest (laid.first ∷ behind_first laid) now left
 ahead_new text rest now left laid none is =
@@ -152,17 +152,17 @@ line_cut bytes old new start row same long line =
     let cut : drop start bytes ≡ drop (length old) new = ap (λ (bs : List ℕ). drop start bs) same ∙ ap (λ (n : ℕ). drop n new) long in
     subst (λ (bs : List ℕ). IsLine bs row) (sym (whole ∙ cut)) line
 
--- the fault of a call that is passed on
+-- the fault of a call that is returned
 pub same_fault : {X : Type 0} (result : Result X Fault) (fault given : Fault) → IsErrAnd result (λ f. f ≡ fault) → result ≡ Err given → fault ≡ given
 same_fault (Ok x) fault given is e = absurd is
 same_fault (Err f) fault given is e = let same : f ≡ given = cc in sym is ∙ same
 
--- why a head is not read, where the fault of a call is passed on
+-- why no trace is read if the fault of a call is returned
 pub fault_on : {X : Type 0} (result : Result X Fault) (fault : Fault) (failed : Bool) → IsErrAnd result (λ f. f ≡ fault) → IsHeadFault failed fault → IfErr result (IsHeadFault failed)
 fault_on (Ok x) fault failed is cause = absurd is
 fault_on (Err f) fault failed is cause = subst (IsHeadFault failed) (sym is) cause
 
--- behind the last line the text is whole
+-- after the last line the whole text has been read
 pub ahead_end : (text rest so_far : List ℕ) (left : Option (List ℕ)) → Ahead text rest [] so_far left → so_far ≡ text
 ahead_end text rest so_far left ahead =
     let none : [] ++ [] ≡ ahead.still =
@@ -178,13 +178,13 @@ small_text text trace e = ⊎_elim
     (λ (short : (nat_lt most_bytes (length text) ≡ false) × (trace_from (place_of text) ≡ Ok trace)). let fits = short.0 in grind (arith, nat_tests))
     (chosen (nat_lt most_bytes (length text)) (Err TooLong) (trace_from (place_of text)) (Ok trace) e)
 
--- an input that no trace's lines stand at the head of has no head
+-- an input that does not begin with the lines of a trace has no trace at its head
 pub no_head : (left : Option (List ℕ)) → ((text rest : List ℕ) → left ≡ Some (text ++ rest) → length text ≤ most_bytes → IsLaidOut text → ⊥) → IfSome left (λ bytes. ¬ (HasHead bytes))
 no_head None never = tt
 no_head (Some bytes) never = λ head.
     never head.text head.rest (ap (λ (b : List ℕ). Some b) head.cut) (small_text head.text head.trace head.told) (laid_out head.text head.trace head.told)
 
--- nor has one whose lines there are no trace
+-- nor has an input whose first lines are not a trace
 pub wrong_head : (left : Option (List ℕ)) (read : List ℕ) (fault : TraceFault) → ((text rest : List ℕ) → left ≡ Some (text ++ rest) → IsLaidOut text → read ≡ text)
     → Fails Memory fault (trace_of read) → (fault ≡ Memory → ⊥) → IfSome left (λ bytes. ¬ (HasHead bytes))
 wrong_head None read fault is fails other = tt
@@ -194,7 +194,7 @@ wrong_head (Some bytes) read fault is (inr e) other = λ head.
     let told : trace_of read ≡ Ok head.trace = ap trace_of same ∙ head.told in
     absurd cc
 
--- where there is no trace it wasn't memory that ran out
+-- the fault `Input` does not mean out of memory
 pub not_memory : {X : Type 0} (fault : TraceFault) (told : Fault) → told ≡ head_fault fault → failed X told ≡ failed X Input → fault ≡ Memory → ⊥
 not_memory fault told is e memory =
     let input : told ≡ Input = cc in

@@ -1,4 +1,5 @@
--- The lines that a trace takes: those of its opening, that of the number of its events, and theirs.
+-- The lines of a trace: those of its opening, that of the number of its events, and one for each
+-- event.
 use Rattle.std.proofs.Common.{◌≡◌, ℕ, zero, suc, ◌+◌, List, [], ◌∷◌, ◌++◌, length, Ok, refl, sym, ap, ◌∙◌, arith}
 use Rattle.byte_reading.specs.Outcome.{◌>>=◌}
 use Rattle.byte_reading.proofs.OutcomeLemmas.{bind_ok, ok_is, refused_ok}
@@ -60,7 +61,7 @@ events_takes version (suc count) place = counted (takes_then 1 count _ _ _ (take
     counted_none : {X : Type 0} {r : ReadLines X} {p : Place} → Takes (count + 0) p r → Takes count p r
     counted_none takes x q e = let t = takes x q e in record { rows = t.rows; long = omega (arith, t.long); took = t.took }
 
--- nothing is left behind the last line
+-- nothing is left after the last line
 nothing_is_left : {X : Type 0} (number : ℕ) (rows : List Row) (unended : List ℕ) (x y : X) → nothing_left number rows unended x ≡ Ok y → (rows ≡ []) × (unended ≡ [])
 nothing_is_left number [] [] x y e = (refl, refl)
 nothing_is_left number [] (byte ∷ bytes) x y e = absurd cc
@@ -95,7 +96,7 @@ trace_laid text trace e =
       all = events.long;
     }
 
--- the text of a trace has a trace's lines
+-- the text of a trace has as many lines as a trace has
 pub laid_out : (text : List ℕ) (trace : Trace) → trace_of text ≡ Ok trace → IsLaidOut text
 unfolding trace_of
 laid_out text trace e = trace_laid text trace (refused_ok _ _ (trace_from (place_of text)) trace e).1

@@ -1,4 +1,4 @@
--- The durations in a table's steps are numbers of 32 bits.
+-- The durations in the steps of a script table are numbers of 32 bits.
 use Rattle.std.proofs.Common.{List}
 use Rattle.relay_core.proofs.OpeningLemmas.{table_in_range}
 use Rattle.script_steps.specs.Ranges.{AreScriptsInRange}

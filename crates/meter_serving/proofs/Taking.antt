@@ -1,4 +1,4 @@
--- A core that takes events one after the other.
+-- A core that applies events one after the other.
 use Rattle.std.proofs.Common.{◌≡◌, ℕ, ◌+◌, ◌<◌, List, [], ◌∷◌, ◌++◌, length, take, get_or, ap, sym, ◌∙◌, subst}
 use Rattle.std.proofs.lemmas.List.{take_more}
 use Rattle.relay_core.proofs.RunLemmas.{world_after-append}
@@ -9,11 +9,11 @@ use Rattle.relay_core.specs.World.{World}
 use Rattle.relay_events.specs.declared.event.Event.{Event}
 use Rattle.relay_core.specs.declared.relay.RelayCore.{RelayCore}
 
--- the core took these events
+-- the core applied these events
 abbrev pub Took : RelayCore → RelayCore → List Event → Type 0
 Took old new events = (w : World) → StandsFor old w → StandsFor new (world_after events w)
 
--- and one more
+-- the core applied one more event
 pub took_more : (old now next : RelayCore) (events : List Event) (i : ℕ) (event : Event) → i < length events → event ≡ get_or events i event
     → Took old now (take i events) → ((w : World) → StandsFor now w → StandsFor next (at_event event w).world) → Took old next (take (i + 1) events)
 took_more old now next events i event below is took goes = λ w stands.

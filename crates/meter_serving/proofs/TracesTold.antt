@@ -1,4 +1,4 @@
--- The text of a recorder's trace tells its run.
+-- The text of a recorder's trace represents its run.
 use Rattle.std.proofs.Common.{◌≡◌, ◌≤◌, List, ℕ, All, length, Result, Ok, Err, IfOk, ap, sym, subst, arith}
 use Rattle.meter_serving.specs.Ending.{TellsRun}
 use Rattle.relay_core.specs.Opening.{IsFitOpening, opened, opening_of}
@@ -11,7 +11,7 @@ use Rattle.trace_player.specs.Exported.{PrintsTheEnd}
 use Rattle.trace_player.specs.Traces.{most_bytes, trace_of, trace_text}
 use Rattle.trace_player.specs.Written.{FitsText}
 
--- what an export tells of its trace
+-- the facts about an exported trace
 pub record IsExport (r : Recording) (trace : Trace) : Type 0 where
   pub opening : trace.opening ≡ opening_of r.opening
   pub events : trace.events ≡ r.events

@@ -1,4 +1,4 @@
--- How a meter ends: the turn that keeps it from ending, and what it writes down.
+-- How a meter ends: the turn that prevents it, and the text that is written.
 use Rattle.std.specs.Prelude.{◌≡◌, ◌<◌, ◌≤◌, ℕ, List, length, Ok}
 use Rattle.std.specs.List.{All}
 use Rattle.meter_serving.specs.Resuming.{IsTraceOf}
@@ -11,13 +11,15 @@ use Rattle.trace_lines.specs.Traced.{FitsLine}
 use Rattle.trace_player.specs.Traces.{trace_of, trace_text}
 use Rattle.turn_lock.specs.declared.known.Known.{Known}
 
--- a turn was out: the port read how many had ended, one at least for each call that it had seen before, and then that more were drawn
+-- a turn had not ended: the port read how many had ended, at least one for each call that it had
+-- seen before, and afterwards that more had been drawn
 pub record IsStillOut {E R O : Type 0} (before after : Known E R O) : Type 0 where
   pub ended : length before.seen ≤ after.served
   pub drawn : after.served < after.drawn
 
--- A text is that of the recorder's trace. This runs again as it ran and prints the lines of the kept events, and it is read
--- again from the text if each of these events fits its line
+-- A text is that of the recorder's trace. Replayed, this trace runs as the meter did and prints the
+-- lines of the kept events, and it is read back from the text if each of these events fits its
+-- line.
 pub record TellsRun (r : Recording) (text : List ℕ) : Type 0 where
   pub trace : Trace
   pub written : text ≡ trace_text trace

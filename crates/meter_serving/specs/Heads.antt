@@ -1,11 +1,11 @@
 -- The trace at the head of an input.
---     TakesHead     it was read, and no more
---     HasHead       there is one
---     IsHeadFault   why it is not read
+--     TakesHead     the trace was read, and no more
+--     HasHead       the input begins with a trace
+--     IsHeadFault   why no trace was read
 --     Grows         a text grew by the bytes that were read
 --     IsLine        bytes that are one line
 --     IsLaidOut     the lines of a trace
---     Ahead         how many of a trace's lines are still to be read
+--     Ahead         the lines of a trace that are still to be read
 use Rattle.std.specs.Prelude.{◌≡◌, ℕ, suc, Bool, true, codes, List, [], ◌∷◌, Option, Some, Ok, ◌++◌, length, ⊤}
 use Rattle.std.specs.Io.KnownBytes.{Consumes}
 use Rattle.program_fault.specs.declared.Fault.{Fault}
@@ -23,7 +23,7 @@ use Rattle.trace_player.specs.Traces.{trace_of}
 use Rattle.trace_text.specs.Lines.{rows_of, unended_of}
 use Rattle.trace_text.specs.Words.{words_of}
 
--- of the bytes that were left, those of a whole trace were read, and no more
+-- of the input, the bytes of a whole trace were read, and no more
 pub record TakesHead (left : Option (List ℕ)) (trace : Trace) (left' : Option (List ℕ)) : Type 0 where
   pub text : List ℕ
   pub read : Consumes left left' text
@@ -38,7 +38,7 @@ pub record HasHead (bytes : List ℕ) : Type 0 where
   pub trace : Trace
   pub told : trace_of text ≡ Ok trace
 
--- a head is not read: there is none, a read of the stream has failed, or memory ran out
+-- why a trace is not read: there is none, a read of the stream failed, or out of memory
 abbrev pub IsHeadFault : Bool → Fault → Type 0
 IsHeadFault failed program.Input = ⊤
 IsHeadFault failed program.Read = failed ≡ true
@@ -47,7 +47,7 @@ IsHeadFault failed program.Listen = ⊥
 IsHeadFault failed program.Memory = ⊤
 IsHeadFault failed program.Turns = ⊥
 
--- the fault of a text that is not read as a trace
+-- the fault of a text that is not a trace
 abbrev pub head_fault : TraceFault → Fault
 head_fault (trace_fault.Line number) = program.Input
 head_fault trace_fault.TooLong = program.Input
@@ -66,17 +66,18 @@ pub record IsLine (bytes : List ℕ) (row : Row) : Type 0 where
   pub words : words_of line ≡ row
   pub alone : rows_of bytes ≡ row ∷ []
 
--- how many lines stand before the number of events
+-- the number of lines before the number of events
 abbrev pub lines_before : Version → ℕ
 lines_before One = 20
 lines_before Two = 30
 
--- the first of them
+-- the first line of a text of this version
 abbrev pub first_line : Version → List ℕ
 first_line One = codes "RELAYTRACE 1" ++ 10 ∷ []
 first_line Two = codes "RELAYTRACE 2" ++ 10 ∷ []
 
--- the lines of a text are those of a trace by their number: some before the number of events, and one for each event
+-- the lines of a text have the number that a trace has: those before the number of events, that
+-- one, and one for each event
 pub record IsLaidOut (text : List ℕ) : Type 0 where
   pub version : Version
   pub count : ℕ
@@ -91,7 +92,8 @@ pub record IsLaidOut (text : List ℕ) : Type 0 where
   pub counted : events_from events_row ≡ Ok count
   pub all : length events ≡ count
 
--- behind what was read of a text these lines of it are still to be read, and then the rest of the input
+-- after what was read of a text, these lines of it are still to be read, followed by the rest of
+-- the input
 pub record Ahead (text rest : List ℕ) (rows : List Row) (so_far : List ℕ) (left : Option (List ℕ)) : Type 0 where
   pub still : List ℕ
   pub whole : text ≡ so_far ++ still

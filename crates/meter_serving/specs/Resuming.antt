@@ -1,4 +1,4 @@
--- A meter that goes on from the trace of an earlier run.
+-- A meter that resumes from the trace of an earlier run.
 use Rattle.std.specs.Prelude.{◌≡◌, List}
 use Rattle.relay_core.specs.Opening.{opened, opening_of}
 use Rattle.relay_core.specs.Runs.{world_after}
@@ -13,17 +13,19 @@ use Rattle.relay_recorder.specs.declared.trace.Trace.{Trace}
 abbrev pub world_of : Trace → World
 world_of trace = world_after trace.events (opened trace.opening)
 
--- the trace is the one that this recorder writes down
+-- the trace is the one that this recorder exports
 pub record IsTraceOf (r : Recording) (trace : Trace) : Type 0 where
   pub opening : trace.opening ≡ opening_of r.opening
   pub events : trace.events ≡ r.events
 
--- whatever comes next, a meter that stands for this world answers as one whose history this is would have answered
+-- whatever comes next, a meter that represents this world answers as one with this history would
+-- have answered
 abbrev pub AnswersAlike : World → List Told → World → Type 0
 AnswersAlike world history origin = (further : List Event) → AreEvents further
     → replies_from world further ≡ replies_from (world_after (events_of history) origin) further
 
--- a meter that stands for this world goes on where the one stopped that wrote the trace down
+-- a meter that represents this world continues from the end of the run of the meter that wrote the
+-- trace
 abbrev pub GoesOn : Trace → World → Type 0
 GoesOn trace world = (r : Recording) → IsTraceOf r trace
     → (history : List Told) (origin : World) → StandsForHistory r history origin → AnswersAlike world history origin

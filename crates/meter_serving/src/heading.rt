@@ -1,4 +1,4 @@
-//! The trace of an earlier run, at the head of an input.
+//! Reads the trace of an earlier run from the head of an input.
 ghost use Rattle.std.specs.Prelude.{◌≡◌, ◌≤◌, ◌++◌, ◌∷◌, [], ℕ, Bool, List, length, drop, Some, Ok, IfOk, IfErr, OnOk, IfSome, IsErrOf};
 ghost use Rattle.byte_streams.specs.Lines.{has_failed_in, left_in};
 ghost use Rattle.meter_serving.specs.Heads.{Grows, TakesHead, HasHead, IsHeadFault, head_fault, IsLine, IsLaidOut, Ahead, first_line, lines_before};
@@ -15,13 +15,14 @@ use trace_lines::read_event_count;
 use trace_player::{MAX_BYTES, Trace, read_trace};
 use trace_words::{TraceFault, TraceLines};
 
-/// How many lines stand before the number of events, in version 1 of the text.
+/// The number of lines before the number of events, in version 1 of the format.
 const LINES_OF_VERSION_1: u32 = 20;
 
-/// The same, in version 2.
+/// The number of lines before the number of events, in version 2 of the format.
 const LINES_OF_VERSION_2: u32 = 30;
 
-/// Reads one more line of a text of at most 33,554,432 bytes. Errors: `Input` at the end of the input and past that limit, `Read`, `Memory`.
+/// Reads one more line of a text of at most 33,554,432 bytes. Errors: `Input` at the end of the
+/// input and above that limit, `Read`, `Memory`.
 fn add_line<I: Read>(input: &mut BufReader<Monitored<I>>, text: &mut Vec<u8>) -> Result<(), Fault>
     ensures grows { OnOk result (Grows text.old.items (left_in I.remaining input.old) text.new.items (left_in I.remaining input.new)) }
     ensures ahead { (whole rest : List ℕ) (row : Row) (rows : List Row) → Ahead whole rest (row ∷ rows) text.old.items (left_in I.remaining input.old)
@@ -59,7 +60,8 @@ fn add_lines<I: Read>(
     Ok(())
 }
 
-/// How many lines stand before the number of events, by the first line. Errors: `Input` of a first line that no trace has.
+/// Returns the number of lines before the number of events, which the first line determines.
+/// Errors: `Input` for any line that is not the first of a trace.
 fn opening_lines(first: &[u8]) -> Result<u32, Fault>
     ensures some { IfOk result (λ count. 1 ≤ count) }
     ensures told { (version : Version) → first.now ≡ first_line version → result ≡ Ok (lines_before version) }
@@ -74,7 +76,7 @@ fn opening_lines(first: &[u8]) -> Result<u32, Fault>
     }
 }
 
-/// The number of events by the line that has it. Errors: `Input` of any other line, `Memory`.
+/// Returns the number of events that a line states. Errors: `Input` for any other line, `Memory`.
 #[tactic(auto, unfolding(trace_words::specs::Places::line_as))]
 fn event_count(line: &[u8]) -> Result<u32, Fault>
     ensures told { (row : Row) (count : ℕ) → IsLine line.now row → events_from row ≡ Ok count → IfOk result (λ events. events ≡ count) }
@@ -90,7 +92,7 @@ fn event_count(line: &[u8]) -> Result<u32, Fault>
     }
 }
 
-/// Reads the text of the trace at the head of an input.
+/// Reads the text of the trace at the head of an input, up to the line of its last event.
 #[tactic(auto, using(crate::proofs::Heads::grows_on, crate::proofs::Heads::grows_none))]
 fn head_text<I: Read>(alloc: Global, input: &mut BufReader<Monitored<I>>) -> Result<Vec<u8>, Fault>
     ensures grows { IfOk result (λ text. Grows [] (left_in I.remaining input.old) text.items (left_in I.remaining input.new)) }
@@ -110,7 +112,7 @@ fn head_text<I: Read>(alloc: Global, input: &mut BufReader<Monitored<I>>) -> Res
     Ok(text)
 }
 
-/// Why a head is not read whose text is not read as a trace.
+/// Returns the fault of a head whose text is not a trace.
 fn head_fault(fault: TraceFault) -> Fault
     ensures told { result ≡ head_fault fault }
     ensures err { (failed : Bool) → IsHeadFault failed result }
@@ -121,9 +123,11 @@ fn head_fault(fault: TraceFault) -> Fault
     }
 }
 
-/// Reads the trace at the head of an input, up to the line of its last event. What follows it is still to be read.
+/// Reads the trace at the head of an input, up to the line of its last event. What follows it is
+/// still to be read.
 ///
-/// Errors: `Input` if the input does not begin with a trace of at most 33,554,432 bytes, `Read` if a read fails, `Memory`. After an error a part of the input is read.
+/// Errors: `Input` if the input does not begin with a trace of at most 33,554,432 bytes, `Read` if
+/// a read fails, `Memory`. After an error a part of the input has been read.
 pub fn read_head<I: Read>(
     alloc: Global,
     input: &mut BufReader<Monitored<I>>,

@@ -1,4 +1,5 @@
-//! What a meter that serves does beside its sockets and its console: it goes on from the trace of an earlier run, and writes down its own when it ends.
+//! The start and the end of a served meter: it resumes from the trace of an earlier run, and writes
+//! its own trace when it ends.
 #![tactic(auto)]
 
 mod ending;

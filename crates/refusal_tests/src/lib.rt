@@ -1,7 +1,9 @@
-//! Calls that are run once for each allocation that they make, which is refused then: tests for `tests/refused_memory.py`.
+//! Tests for `tests/refused_memory.py`, which runs each once for every allocation that it makes and
+//! refuses that one.
 //!
-//! With ample memory each succeeds. Where its call was refused memory, a test looks at what stands, goes on as if nothing had been, and fails with
-//! `RefusedAndStood`; where memory was refused beside its call it fails with `AllocError`.
+//! With enough memory each test succeeds. If the tested call runs out of memory, the test checks
+//! the state, continues as if nothing had happened, and fails with `RefusedAndStood`. If an
+//! allocation outside the tested call is refused, it fails with `AllocError`.
 #![tactic(auto)]
 
 #[cfg(test)]
@@ -17,7 +19,7 @@ mod sessions;
 #[cfg(test)]
 mod traces;
 
-/// A call was refused memory, and all stood afterwards as it must.
+/// The tested call ran out of memory, and the state afterwards was the required one.
 #[cfg(test)]
 #[derive(Debug, Drop)]
 pub(crate) struct RefusedAndStood;

@@ -1,8 +1,8 @@
-//! What is written, kept without memory.
+//! An output that is stored without allocating.
 use std::io;
 use std::io::{ErrorKind, Write};
 
-/// How many bytes are kept. The longest output of these tests has 727.
+/// The maximum number of bytes that are stored. The longest output of these tests has 727.
 const MOST: usize = 1_024;
 
 /// The bytes that were written.

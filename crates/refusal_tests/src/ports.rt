@@ -1,4 +1,5 @@
-//! A call that is refused memory is no call: it stands in no history, and the same call is answered afterwards.
+//! A call that runs out of memory is not a call: it is in no history, and the same call succeeds
+//! afterwards.
 ghost use Rattle.std.specs.Prelude.{◌≡◌, ◌<◌, ◌≤◌, [], IfOk};
 
 use crate::RefusedAndStood;
@@ -16,7 +17,7 @@ use turn_lock::{Port, Shared, Turned};
 /// The public client's GET of the device name.
 const READ_NAME: &[u8] = b"get 16 1 00002A0000FF 2 0";
 
-/// A lock over a new meter, which takes two calls, and its first port.
+/// Returns a lock for two calls over a new meter, and its first port.
 pub(crate) fn new_lock(
     rt: &impl Abort,
     alloc: Global,
@@ -27,7 +28,7 @@ pub(crate) fn new_lock(
     lock_over(alloc, Kept::new(recorder))
 }
 
-/// A lock over a value, which takes two calls, and its first port.
+/// Returns a lock for two calls over a value, and its first port.
 fn lock_over<T: Turned>(alloc: Global, value: T) -> Result<(Shared<T>, Port<T>), AllocError>
     requires { T.stands value [] }
     ensures { IfOk result (λ r. r.1.lock ≡ r.0) }
@@ -41,7 +42,7 @@ fn lock_over<T: Turned>(alloc: Global, value: T) -> Result<(Shared<T>, Port<T>),
     }
 }
 
-/// Whether a reply tells the device name.
+/// Returns whether a reply is the device name.
 fn is_name(reply: &Reply) -> bool {
     match reply {
         Reply::Value(Data::OctetString(name)) => name.as_slice() == b"RELAY1".as_slice(),
@@ -49,7 +50,8 @@ fn is_name(reply: &Reply) -> bool {
     }
 }
 
-/// Asks for the name, and says whether the reply tells it. The outer error is of memory that was refused beside the call.
+/// Reads the device name, and returns whether the reply is the name. The outer error means that an
+/// allocation outside the call was refused.
 fn ask<W: Wait>(
     rt: &W,
     alloc: Global,
@@ -68,7 +70,8 @@ fn ask<W: Wait>(
     }
 }
 
-/// How many events a meter has kept whose lock is closed, or None where it is busy.
+/// Closes a lock and returns the number of events that its meter kept, or `None` if the lock is
+/// busy.
 pub(crate) fn kept(shared: Shared<Kept>, port: Port<Kept>) -> Option<u16>
     requires { port.lock ≡ shared }
 {
@@ -97,7 +100,7 @@ fn call_reads_the_name(rt: HostRuntime) -> Result<(), Fail> {
     if (first, second, calls) == (Ok(true), Ok(true), Some(2)) {
         return Ok(());
     }
-    // (memory is refused but once)
+    // (memory is refused only once)
     let is_first = first == Err(CallFault::Memory) && second == Ok(true);
     let is_second = second == Err(CallFault::Memory) && first == Ok(true);
     assert!(rt; (is_first || is_second) && calls == Some(1));

@@ -1,4 +1,4 @@
-//! A recorder that is refused memory is as it was.
+//! A recorder that runs out of memory is unchanged.
 ghost use Rattle.std.specs.Prelude.{◌≡◌, ◌≤◌, [], IfOk};
 
 use crate::RefusedAndStood;
@@ -12,16 +12,16 @@ use trace_lines::read_event;
 use trace_player::write_trace;
 use trace_words::Version;
 
-/// Script 3 is written: mode 0, and then the supply is cut.
+/// Script 3 is written: mode 0, followed by a disconnection.
 const WRITE_TABLE: &[u8] =
     b"set 1 9 00000A006AFF 2 0 010102021200030102020516011200460906000060030AFF0F041600020516021200460906000060030AFF0F010F00";
 
-/// The event of a line of a trace.
+/// Returns the event of a line of a trace.
 pub(crate) fn event_of(alloc: Global, line: &[u8]) -> Result<Event, AllocError> {
     read_event(alloc, Version::Two, line).map_err(|_| AllocError)
 }
 
-/// The code of a reply, or 255 where it has none.
+/// Returns the code of a reply, or 255 if it has none.
 fn code(reply: &Reply) -> u8 {
     match reply {
         Reply::Code(code) => code.code(),
@@ -29,7 +29,7 @@ fn code(reply: &Reply) -> u8 {
     }
 }
 
-/// The recorder of a new meter, which keeps so many events.
+/// Returns the recorder of a new meter, which keeps the given number of events.
 pub(crate) fn new_recorder(
     rt: &impl Abort,
     alloc: Global,
@@ -45,7 +45,7 @@ pub(crate) fn new_recorder(
     recorder
 }
 
-/// The text of a recorder's trace.
+/// Returns the text of a recorder's trace.
 fn exported(alloc: Global, recorder: &Recorder) -> Result<Octets, AllocError> {
     let trace = recorder.export(alloc)?;
     let text = write_trace(alloc, &trace);
@@ -53,7 +53,7 @@ fn exported(alloc: Global, recorder: &Recorder) -> Result<Octets, AllocError> {
     text
 }
 
-/// Whether that is this one.
+/// Returns whether a recorder's trace is this text.
 fn is_exported(alloc: Global, recorder: &Recorder, text: &[u8]) -> Result<bool, AllocError> {
     let now = exported(alloc, recorder)?;
     let same = now.as_slice() == text;
@@ -61,7 +61,8 @@ fn is_exported(alloc: Global, recorder: &Recorder, text: &[u8]) -> Result<bool, 
     Ok(same)
 }
 
-/// Has the table written, and tells the code of the reply, or None where the recorder was refused memory. The error is of memory that was refused beside it.
+/// Writes the script table, and returns the code of the reply, or `None` if the recorder ran out of
+/// memory. The error means that an allocation outside the recorder was refused.
 fn write_table(alloc: Global, recorder: &mut Recorder) -> Result<Option<u8>, AllocError> {
     let event = event_of(alloc, WRITE_TABLE)?;
     match recorder.apply(alloc, event) {
@@ -74,7 +75,8 @@ fn write_table(alloc: Global, recorder: &mut Recorder) -> Result<Option<u8>, All
     }
 }
 
-/// Has the table written, and where memory was refused looks whether the recorder's trace is this one as before, and has it written again.
+/// Writes the script table. If out of memory, checks that the recorder's trace is the one before,
+/// and writes the table again.
 fn take_table(
     rt: &impl Abort,
     alloc: Global,
@@ -90,7 +92,7 @@ fn take_table(
     Err(RefusedAndStood)?
 }
 
-/// The same of a recorder as it is.
+/// Exports the recorder's trace, and then writes the script table as [`take_table`] does.
 fn look_and_take(rt: &impl Abort, alloc: Global, recorder: &mut Recorder) -> Result<(), Fail> {
     let before = exported(alloc, recorder)?;
     let taken = take_table(rt, alloc, recorder, before.as_slice());

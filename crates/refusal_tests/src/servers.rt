@@ -1,4 +1,5 @@
-//! A server that is refused memory accepts no client, or serves one of them as with ample memory.
+//! A server that runs out of memory accepts no client, or serves one of them as it does with enough
+//! memory.
 ghost use Rattle.std.specs.Prelude.{◌≡◌};
 ghost use Rattle.acse_ber.specs.Password.{IsPassword};
 
@@ -34,7 +35,7 @@ static ANSWER: [u8; 51] = [
     0x00, 0x00, 0x07,
 ];
 
-/// What two clients saw. None of them waits for the other.
+/// What two clients received. Neither waits for the other.
 #[derive(Drop)]
 struct Clients {
     accepted: AtomicUsize,
@@ -51,8 +52,8 @@ impl Clients {
         }
     }
 
-    /// The number of clients that were accepted, and of those that were sent the whole answer. None
-    /// if one was sent anything else.
+    /// Returns the number of clients that were accepted, and of those that received the whole
+    /// response. Returns `None` if one received anything else.
     fn counts(&self) -> Option<(usize, usize)> {
         if self.went_wrong.load(Ordering::SeqCst) {
             return None;
@@ -64,7 +65,7 @@ impl Clients {
     }
 }
 
-/// What a client is sent.
+/// The response that a client expects.
 #[derive(Drop)]
 struct Answered {
     clients: Arc<Clients, Global>,
@@ -109,7 +110,7 @@ impl Listener for Door {
     }
 }
 
-/// A meter that measures nothing, has no clock, and whose button is not pressed.
+/// A meter without samples and clock, whose button is not pressed.
 #[derive(Drop)]
 struct Still;
 
@@ -148,7 +149,7 @@ fn serve<R: Threads + Wait + Copy + Send + 'static>(
     }
 }
 
-/// How serving two clients of a new meter ended, and how many events the meter then had kept.
+/// The result of serving two clients of a new meter, and the number of events that the meter kept.
 type Evening = (Result<Served, ServeFault>, Option<u16>);
 
 fn serve_new<R: Threads + Wait + Abort + Copy + Send + 'static>(
@@ -164,7 +165,7 @@ fn serve_new<R: Threads + Wait + Abort + Copy + Send + 'static>(
     Ok((served, kept(shared, port)))
 }
 
-/// How serving these clients ended.
+/// Serves these clients, and returns the result.
 fn open<R: Threads + Wait + Abort + Copy + Send + 'static>(
     rt: &R,
     alloc: Global,
@@ -181,8 +182,8 @@ fn open<R: Threads + Wait + Abort + Copy + Send + 'static>(
     evening
 }
 
-/// Whether no client was accepted and the fault is of memory, or one was served as with ample
-/// memory.
+/// Returns whether no client was accepted and the fault is out of memory, or one was served as with
+/// enough memory.
 fn stood(served: &Result<Served, ServeFault>, counts: Option<(usize, usize)>) -> bool {
     match counts {
         None => false,

@@ -1,4 +1,5 @@
-//! A session that is refused memory has written the first of its answers, and the meter goes on.
+//! A session that runs out of memory has written the first of its responses, and the meter
+//! continues.
 ghost use Rattle.acse_ber.specs.Password.{IsPassword};
 
 use crate::RefusedAndStood;
@@ -12,16 +13,17 @@ use std::alloc::{AllocError, Global};
 use std::process::Abort;
 use std::test::Fail;
 
-/// The public client's AARQ, and its GETs of the state of the switch and of the object list.
+/// The public client's AARQ, and its GETs of control_state and of the object list.
 const ASKED: &str =
     "000100100001001F601DA109060760857405080101BE10040E01000000065F1F0400007E1F04B0000100100001000DC001C10046000060030AFF0300000100100001000DC001C1000F0000280000FF0200";
 
-/// How many bytes the answers have: an AARE of 51, a state of 14, and the list of 650 in a frame of 12 more.
+/// The number of bytes of the responses: an AARE of 51, a state of 14, and the list of 650 in a
+/// frame with 12 more.
 const ANSWERED: usize = 727;
 
 type Ended = Result<SessionEnd, ServeFault>;
 
-/// A session with a meter that writes on a page.
+/// Serves a session with a meter, and writes to a page.
 fn serve(
     alloc: Global,
     core: &mut RelayCore,
@@ -36,7 +38,8 @@ fn serve(
     serve_session(alloc, &mut reader, &mut writer, core, password)
 }
 
-/// Whether one session was refused memory, and the other was not and wrote all answers, of which the one's were the first.
+/// Returns whether one session ran out of memory, and the other wrote all responses, which begin
+/// with those of the first session.
 fn is_refused(ended: Ended, page: &Page, other_ended: Ended, other: &Page) -> bool {
     ended == Err(ServeFault::Memory)
         && other_ended == Ok(SessionEnd::Closed)
@@ -44,7 +47,7 @@ fn is_refused(ended: Ended, page: &Page, other_ended: Ended, other: &Page) -> bo
         && other.text().starts_with(page.text())
 }
 
-/// Two sessions with one meter, which is only read: memory is refused to one of them, or to none.
+/// Serves two sessions with one meter, which is only read: one of them runs out of memory, or none.
 fn serve_twice(
     rt: &impl Abort,
     alloc: Global,
@@ -77,7 +80,7 @@ fn new_core(rt: &impl Abort, alloc: Global) -> Result<RelayCore, AllocError> {
     core
 }
 
-/// The same two sessions with a new meter.
+/// Serves these two sessions with a new meter.
 fn serve_new(rt: &impl Abort, alloc: Global, input: &[u8], password: &Octets) -> Result<(), Fail>
     requires { IsPassword password.now }
 {

@@ -1,4 +1,4 @@
-//! A player that is refused memory has written nothing.
+//! A player that runs out of memory has written nothing.
 use crate::RefusedAndStood;
 use crate::page::Page;
 use byte_streams::Counted;
@@ -6,7 +6,8 @@ use std::alloc::Global;
 use std::test::Fail;
 use trace_player::{PlayFault, play};
 
-/// A meter of version 1: a switch that is cut and reconnected remotely, the button pressed between, a read, samples and moments.
+/// A trace of version 1: a switch that is disconnected and reconnected remotely, with a press of
+/// the button in between, a read, samples and moments.
 const TRACE: &[u8] = b"RELAYTRACE 1
 device 52454C415931
 state 1
@@ -39,7 +40,7 @@ moment 5
 moment 4
 ";
 
-/// What it prints.
+/// The text that it prints.
 const OUTPUT: &[u8] = b"1: code 0; state 1; supply on
 2: code 0; state 0; supply off
 3: code 2; state 0; supply off
@@ -51,7 +52,7 @@ const OUTPUT: &[u8] = b"1: code 0; state 1; supply on
 9: stale 5; state 1; supply on
 ";
 
-/// Plays the trace, and writes on a page.
+/// Plays the trace, and writes to a page.
 fn played(alloc: Global, page: &mut Page) -> Result<u64, PlayFault> {
     let mut reader = Counted::new(TRACE);
     let mut writer = Counted::new(page);

@@ -1,4 +1,4 @@
--- The fault of a call that is passed on.
+-- The fault of a call that is returned.
 use Rattle.std.proofs.Common.{◌≡◌, ap, Result, Err, IsErrOf}
 
 -- a fault is the same in a result of another value

@@ -1,4 +1,4 @@
--- What a meter begins with, and why it can't begin.
+-- What a meter starts with, and why it cannot start.
 --     Resumes        the recorder of a meter that resumes from a trace
 --     IsPlanFault    why there is no plan
 use Rattle.std.specs.Prelude.{◌≡◌, ◌⊎◌, ◌<◌, ℕ, Bool, true, false, List, length, Option, IfSome, ⊤}
@@ -11,23 +11,24 @@ use Rattle.relay_recorder.specs.Recording.{Recording}
 use Rattle.relay_recorder.specs.declared.trace.Trace.{Trace}
 use Rattle.server_options.specs.declared.options.Bounds.{Bounds}
 
--- The recorder of a meter that resumes from the trace with which its input begins: the input has left what follows the trace,
--- the recorder's core stands for the world after the trace's run, and whatever comes next it answers as the meter that wrote it
+-- The recorder of a meter that resumes from the trace at the head of its input: what follows the
+-- trace is left of the input, the recorder's core represents the world after the trace's run, and
+-- whatever comes next it answers as the meter that wrote it
 pub record Resumes (left left' : Option (List ℕ)) (recorder : Recording) : Type 0 where
   pub trace : Trace
   pub takes : TakesHead left trace left'
   pub stands : StandsFor recorder.core (world_of trace)
   pub goes_on : GoesOn trace (world_of trace)
 
--- no trace is at the head of the input
+-- the input does not begin with a trace
 abbrev pub HasNoTrace : Option (List ℕ) → Type 0
 HasNoTrace left = IfSome left (λ bytes. ¬ (HasHead bytes))
 
--- a number of events that no trace may hold
+-- a number of kept events other than 1 to 1,024
 abbrev pub IsWrongDepth : ℕ → Type 0
 IsWrongDepth depth = (depth ≡ 0) ⊎ (1024 < depth)
 
--- why the recorder of a meter is not made, where a read of its input has failed or not
+-- why there is no recorder, by whether a read of the input failed
 abbrev pub IsRecorderFault : Bounds → Option (List ℕ) → Bool → Fault → Type 0
 IsRecorderFault bounds left failed fault.Input = IsWrongDepth bounds.depth ⊎ ((bounds.resumes ≡ true) × HasNoTrace left)
 IsRecorderFault bounds left failed fault.Read = (bounds.resumes ≡ true) × (failed ≡ true)
@@ -36,7 +37,7 @@ IsRecorderFault bounds left failed fault.Write = ⊥
 IsRecorderFault bounds left failed fault.Listen = ⊥
 IsRecorderFault bounds left failed fault.Turns = ⊥
 
--- why there is no plan: a password or a device name of a wrong length, or no recorder
+-- why there is no plan: the password or the device name has a wrong length, or there is no recorder
 abbrev pub IsPlanFault : List ℕ → List ℕ → Bounds → Option (List ℕ) → Fault → Type 0
 IsPlanFault password device bounds left fault.Input =
     ((length password ≡ 0) ⊎ (32 < length password)) ⊎ ((length device ≡ 0) ⊎ (16 < length device)) ⊎ IsRecorderFault bounds left false fault.Input

@@ -1,4 +1,5 @@
-//! What the command `serve` begins with, once its options are judged: the meter, new or gone on from a trace, and the lines of its console.
+//! Plans the command `serve` from its options: the recorder of the meter, new or resumed from a
+//! trace, and the lines of its console.
 #![tactic(auto)]
 
 mod plan;

@@ -19,7 +19,8 @@ use server_options::{Bounds, ServeOptions, octets_of};
 use std::alloc::Global;
 use std::io::{BufReader, Read};
 
-/// The recorder of a meter that resumes from the trace at the head of an input. What follows the trace is still to be read.
+/// Returns the recorder of a meter that resumes from the trace at the head of an input. What
+/// follows the trace is still to be read. Errors: `Input` if there is no trace, `Read`, `Memory`.
 fn recorder_of_head<I: Read>(
     alloc: Global,
     input: &mut BufReader<Monitored<I>>,
@@ -44,7 +45,7 @@ fn recorder_of_head<I: Read>(
     }
 }
 
-/// The recorder of a new meter of this name.
+/// Returns the recorder of a new meter with this name.
 fn new_recorder(alloc: Global, device: &Octets, depth: u16) -> Result<Recorder, Fault>
     requires device { IsDeviceName device.now }
     requires depth { (1 ≤ depth) × (depth ≤ 1024) }
@@ -59,7 +60,8 @@ fn new_recorder(alloc: Global, device: &Octets, depth: u16) -> Result<Recorder, 
     }
 }
 
-/// The recorder that the meter begins with: a new meter's, or that of one that resumes from the trace at the head of an input.
+/// Returns the recorder that the meter starts with: that of a new meter, or of one that resumes
+/// from the trace at the head of an input.
 fn first_recorder<I: Read>(
     alloc: Global,
     device: &Octets,
@@ -85,26 +87,26 @@ fn first_recorder<I: Read>(
     }
 }
 
-/// What is to be served: the meter, and the lines of its console.
+/// What to serve: the meter, and the lines of its console.
 #[derive(Drop)]
 pub struct Plan<I> {
-    /// How far it goes.
+    /// The limits of the run.
     pub bounds: Bounds,
     /// The password of the management client.
     pub password: Octets,
-    /// The recorder that the meter begins with; no event has come to it.
+    /// The recorder that the meter starts with, which has no event yet.
     pub recorder: Recorder,
-    /// The lines of the console: all of the input, or what follows the trace that was read.
+    /// The lines of the console: the whole input, or what follows the trace that was read.
     pub input: BufReader<Monitored<I>>,
     ghost sized: { IsPassword password },
     ghost unused: { length recorder.events ≡ 0 },
 }
 
-/// Judges the options, and reads the trace to resume from if they ask for it.
+/// Validates the options, and reads the trace to resume from if the options request it.
 ///
-/// Errors, in this order: `Input` of a password that does not have 1 to 32 bytes, of a device name that does not have 1 to 16, of a
-/// depth that is not 1 to 1,024, and of an input that does not begin with a trace of at most 33,554,432 bytes; `Read`; `Memory` in
-/// between.
+/// Errors, in this order: `Input` if the password does not have 1 to 32 bytes, the device name does
+/// not have 1 to 16, the depth is not 1 to 1,024, or the input does not begin with a trace of at
+/// most 33,554,432 bytes; `Read`. `Memory` can come at any point.
 #[tactic(auto, using(crate::proofs::Unused::uncounted))]
 pub fn planned<I: Read + Drop>(
     alloc: Global,

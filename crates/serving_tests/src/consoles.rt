@@ -1,4 +1,4 @@
-//! What no clause says: that there is an answer where there is memory.
+//! What no contract states: with enough memory there is a result.
 ghost use Rattle.std.specs.Prelude.{◌≡◌, [], Some};
 ghost use Rattle.meter_console.specs.Ends.{EndsSo};
 ghost use Rattle.relay_core.specs.Opening.{IsFitOpening};
@@ -19,7 +19,7 @@ use std::io::{BufReader, ErrorKind, Read};
 use std::sync::Wait;
 use std::test::Fail;
 
-// A switch that is cut remotely, samples and a moment; and a line that stands behind them.
+// A remote disconnection, samples and a moment; and one more line after them.
 const TRACE: &[u8] = b"RELAYTRACE 1
 device 52454C415931
 state 1
@@ -48,7 +48,7 @@ moment 5
 moment 4
 ";
 
-/// The letter of an event.
+/// Returns the letter of an event.
 fn letter(event: &Event) -> char {
     match event {
         Event::Button => 'b',
@@ -58,7 +58,7 @@ fn letter(event: &Event) -> char {
     }
 }
 
-/// The letter of the event that a line brings, or a blank.
+/// Returns the letter of the event of a line, or a blank if it has none.
 fn brought(alloc: Global, line: &[u8]) -> Result<char, AllocError> {
     match console_event(alloc, line)? {
         Some(event) => {
@@ -70,7 +70,7 @@ fn brought(alloc: Global, line: &[u8]) -> Result<char, AllocError> {
     }
 }
 
-/// A line, and the letter of the event that it brings.
+/// A line, and the letter of its event.
 const LINES: [(&[u8], char); 7] = [
     (b"button", 'b'),
     (b"moment 5", 'm'),
@@ -102,7 +102,7 @@ impl<R: Wait> EventSink for Listing<R> {
     ghost taken = { λ listing. Some listing.events.items };
 
     fn take(&mut self, event: Event) {
-        // (out of memory: the test does not go on)
+        // (out of memory: the test ends)
         if self.events.push(event).is_err() {
             for _ in self.rt.forever() {}
         }
@@ -119,7 +119,7 @@ impl<R> Listing<R> {
         }
     }
 
-    /// Whether the events have these letters.
+    /// Returns whether the events have these letters.
     fn has(&self, letters: &str) -> bool {
         let mut wanted = letters.chars();
         for event in &self.events {
@@ -131,7 +131,7 @@ impl<R> Listing<R> {
     }
 }
 
-/// Hands the events of a text to a sink that lists them: each of them, in order, if none is lost.
+/// Passes the events of a text to a sink that lists them: each event, in order, if none is lost.
 fn handed<R: Wait + Eprint + Copy>(
     alloc: Global,
     text: &[u8],
@@ -145,7 +145,7 @@ fn handed<R: Wait + Eprint + Copy>(
     run_console(alloc, &mut input, buffer, sink, &errors)
 }
 
-/// A text, and the letters of the events that are handed on.
+/// A text, and the letters of the events that are passed on.
 const TEXTS: [(&[u8], &str); 5] = [
     (b"button\nsamples 1 2\nmoment 5\npairs 1 2\n", "bsms"),
     (b"get 16 70 000060030AFF 3 0\nbuton\n\nbutton\n", "b"),
@@ -165,7 +165,8 @@ fn a_console_hands_on_the_events_of_its_lines(rt: HostRuntime) -> Result<(), Fai
     Ok(())
 }
 
-/// Whether a line of this many bytes before its end is skipped whole, and the line after it is read.
+/// Returns whether a line with this many bytes before its end is skipped as a whole, and the line
+/// after it is read.
 fn is_skipped<R: Wait + Eprint + Copy + Drop>(
     rt: R,
     alloc: Global,
@@ -181,14 +182,15 @@ fn is_skipped<R: Wait + Eprint + Copy + Drop>(
 
 #[test]
 fn a_long_line_is_skipped_whole(rt: HostRuntime) -> Result<(), Fail> {
-    // (with `button` and its end: 8,191, 8,192 and 8,193 bytes; and one whose 8,193rd byte begins the word)
+    // (with `button` and its end: 8,191, 8,192 and 8,193 bytes; and one whose 8,193rd byte begins
+    // the word)
     for count in [8_184, 8_185, 8_186, 8_192, 100_000] {
         assert!(rt; is_skipped(rt, rt.alloc(), count)?, "{count}");
     }
     Ok(())
 }
 
-/// Gives bytes, and then fails; each other read is interrupted by a signal.
+/// Returns bytes, and then fails; every second read is interrupted by a signal.
 #[derive(Drop)]
 struct Failing {
     rest: &'static [u8],
@@ -231,7 +233,7 @@ impl Ended for Silent {
     fn console_ended(&self, _end: ConsoleEnd) {}
 }
 
-/// Whether each source gives what the three lines have, and ends.
+/// Returns whether each source gives what the three lines contain, and ends.
 fn are_right<R: Wait + Drop + Send>(sources: Sources<R>) -> bool {
     let Sources {
         mut blocks,
@@ -266,14 +268,15 @@ fn each_worker_gets_its_own_events(rt: HostRuntime) -> Result<(), Fail> {
     Ok(())
 }
 
-/// What a meter has kept, and the moment that it has for an earlier one's answer.
+/// The number of events that a meter keeps, and the last moment that its reply to an earlier one
+/// gives.
 #[derive(Clone, Copy, Drop)]
 struct Seen {
     kept: u16,
     last: u32,
 }
 
-/// The moment that a reply has for an earlier one's answer, or 0.
+/// Returns the last moment that a reply to an earlier one gives, or 0 for any other reply.
 fn last(reply: &Reply) -> u32 {
     match reply {
         Reply::Stale { last } => *last,
@@ -281,7 +284,7 @@ fn last(reply: &Reply) -> u32 {
     }
 }
 
-/// Tells a meter of the moment 4.
+/// Applies the moment 4 to a meter.
 fn told_of_4(alloc: Global, recorder: &mut Recorder) -> Result<Seen, AllocError> {
     let kept = recorder.count();
     let reply = recorder.apply(alloc, Event::Moment(4))?;
@@ -290,7 +293,7 @@ fn told_of_4(alloc: Global, recorder: &mut Recorder) -> Result<Seen, AllocError>
     Ok(Seen { kept, last })
 }
 
-/// The same of a meter that goes on from a trace.
+/// Applies the moment 4 to a meter that resumes from a trace.
 fn resumed_from(alloc: Global, trace: &Trace) -> Result<Seen, AllocError>
     requires { IsFitOpening trace.now.opening }
 {
@@ -300,15 +303,15 @@ fn resumed_from(alloc: Global, trace: &Trace) -> Result<Seen, AllocError>
     seen
 }
 
-/// An input in memory, as the console's.
+/// An input in memory, of the type of the console's.
 type Input<'a> = BufReader<Monitored<&'a [u8]>>;
 
-/// The input of these bytes.
+/// Returns the input of these bytes.
 fn input_of(alloc: Global, bytes: &[u8]) -> io::Result<Input<'_>> {
     BufReader::new(alloc, Monitored::new(bytes))
 }
 
-/// The same of the trace at the head of an input.
+/// Applies the moment 4 to a meter that resumes from the trace at the head of an input.
 fn resumed(alloc: Global, input: &mut Input) -> Result<Seen, Fault> {
     let trace = read_head(alloc, input)?;
     let seen = resumed_from(alloc, &trace);

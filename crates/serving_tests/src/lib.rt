@@ -1,6 +1,7 @@
-//! Tests of `meter_server`, `meter_console` and `meter_serving`: ports of one meter, all threads over it, and what a meter that serves does beside its sockets.
+//! Tests of `meter_server`, `meter_console` and `meter_serving`: ports of one meter, all threads
+//! that use it, its console, and its start and end.
 //!
-//! They stand apart from what they test, since a check of tests proves anew all that stands in their crate.
+//! The tests have a crate of their own, because checking tests proves their whole crate again.
 #![tactic(auto)]
 
 #[cfg(test)]

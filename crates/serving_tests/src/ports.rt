@@ -1,4 +1,4 @@
-//! What no clause says: that sessions through several ports reach one meter.
+//! What no contract states: sessions through several ports reach one meter.
 ghost use Rattle.std.specs.Prelude.{◌≡◌, ◌<◌, ◌≤◌, [], IfOk};
 ghost use Rattle.acse_ber.specs.Password.{IsPassword};
 
@@ -15,13 +15,13 @@ use std::sync::Wait;
 use std::test::Fail;
 use turn_lock::Turned;
 
-/// Writes mode 2 of the switch, and the answer.
+/// A SET of control_mode to 2, and its response.
 pub(crate) const WRITE_MODE: (&str, &str) = ("C101C10046000060030AFF04001602", "C501C100");
 
-/// Reads the mode of the switch, and the answer.
+/// A GET of control_mode, and its response.
 const READ_MODE: (&str, &str) = ("C001C10046000060030AFF0400", "C401C1001602");
 
-/// A lock over a value, and its first port.
+/// Returns a lock over a value, and its first port.
 fn lock_over<T: Turned>(
     alloc: Global,
     value: T,
@@ -40,7 +40,7 @@ fn lock_over<T: Turned>(
     }
 }
 
-/// A lock over a new meter, which keeps 256 events, and its first port.
+/// Returns a lock over a new meter, which keeps 256 events, and its first port.
 pub(crate) fn new_lock(
     rt: &impl Abort,
     alloc: Global,
@@ -59,7 +59,8 @@ pub(crate) fn new_lock(
     }
 }
 
-/// How many events a meter has kept whose lock is closed, or None where it is busy.
+/// Closes a lock and returns the number of events that its meter kept, or `None` if the lock is
+/// busy.
 fn kept(shared: Shared<Kept>, port: Port<Kept>) -> Option<u16>
     requires { port.lock ≡ shared }
 {
@@ -77,7 +78,8 @@ fn kept(shared: Shared<Kept>, port: Port<Kept>) -> Option<u16>
     }
 }
 
-/// Whether a session of the management client through a port, on the first text, gives the second and this end.
+/// Returns whether a session of the management client through a port answers the first text with
+/// the second, and ends so.
 fn gives<W: Wait>(
     rt: &W,
     alloc: Global,
@@ -99,7 +101,8 @@ fn gives<W: Wait>(
     (port, is_so)
 }
 
-/// The same of a session that `serve_session` serves over a port as a meter.
+/// Returns whether a session that `serve_session` serves over a port as a meter answers the first
+/// text with the second, and ends so.
 fn gives_over_meter<W: Wait>(
     rt: &W,
     alloc: Global,
@@ -124,7 +127,8 @@ fn gives_over_meter<W: Wait>(
     (port, is_so)
 }
 
-/// What came of two sessions, each through a port of its own, and how many events their meter then had kept.
+/// Returns the results of two sessions, each through its own port, and the number of events that
+/// their meter kept.
 fn serve_two<R: Wait + Abort>(
     rt: &R,
     alloc: Global,
@@ -153,7 +157,8 @@ fn serve_two<R: Wait + Abort>(
     }
 }
 
-/// The same of a write of the mode, and a read of it by another client.
+/// Returns the results of two sessions, a write of the mode and a read of it by another client, and
+/// the number of events that their meter kept.
 fn write_and_read<R: Wait + Abort>(
     rt: &R,
     alloc: Global,
@@ -181,7 +186,8 @@ fn two_sessions_reach_one_meter(rt: HostRuntime) -> Result<(), Fail> {
     Ok(())
 }
 
-/// Whether a session through the one turn of a meter stops after this answer, and how many events the meter then had kept.
+/// Returns whether a session with a meter that takes one call stops after this answer, and the
+/// number of events that the meter kept.
 fn serve_one_turn<R: Wait + Abort>(
     rt: &R,
     alloc: Global,
@@ -196,7 +202,8 @@ fn serve_one_turn<R: Wait + Abort>(
     Ok((has_stopped, kept(shared, port)))
 }
 
-/// The same of a write of the mode and a read of it, where the write's answer is the last.
+/// Returns whether a session that writes the mode and then reads it stops after the answer to the
+/// write, and the number of events that the meter kept.
 fn write_alone<R: Wait + Abort>(
     rt: &R,
     alloc: Global,

@@ -1,4 +1,5 @@
-//! What no clause says: that sessions run side by side, who is served, and that all of the meter's actors reach one meter.
+//! What no contract states: sessions run in parallel, which clients are served, and that all of the
+//! meter's sources reach one meter.
 ghost use Rattle.std.specs.Prelude.{◌≡◌, IfOk};
 ghost use Rattle.acse_ber.specs.Password.{IsPassword};
 
@@ -27,10 +28,11 @@ use std::test::Fail;
 use std::thread::Threads;
 use turn_lock::{Port, Shared};
 
-/// The public client's GET of the state of the switch, and the answer.
+/// The public client's GET of control_state, and its response.
 const READ_STATE: (&str, &str) = ("C001C10046000060030AFF0300", "C401C1001601");
 
-/// How many bytes the answers to the openings have, and with them that to a GET of the state.
+/// The number of bytes of the response to an association, and of that together with the response to
+/// a GET of the state.
 const OPENED: u64 = 51;
 
 const READ_ONCE: u64 = 65;
@@ -49,7 +51,7 @@ const NOTHING: Given = Given {
     press: None,
 };
 
-/// How many events of each kind a meter has kept.
+/// The number of events of each kind that a meter keeps.
 #[derive(Clone, Copy, Debug, PartialEq, Eq)]
 struct Kinds {
     writes: u16,
@@ -69,7 +71,7 @@ const NO_KINDS: Kinds = Kinds {
     others: 0,
 };
 
-/// The place of an event's kind among them.
+/// Returns the index of an event's kind.
 fn place(event: &Event) -> u8 {
     match event {
         Event::Set { .. } => 0,
@@ -81,7 +83,7 @@ fn place(event: &Event) -> u8 {
     }
 }
 
-/// A count, with one more where it is so.
+/// Returns the count, plus one if `is_so`.
 fn one_more_if(is_so: bool, count: u16) -> u16 {
     if is_so {
         count.saturating_add(1)
@@ -90,7 +92,7 @@ fn one_more_if(is_so: bool, count: u16) -> u16 {
     }
 }
 
-/// The kinds with an event more.
+/// Returns the counts with one more event.
 fn with_event(kinds: Kinds, event: &Event) -> Kinds {
     let place = place(event);
     Kinds {
@@ -103,7 +105,7 @@ fn with_event(kinds: Kinds, event: &Event) -> Kinds {
     }
 }
 
-/// The kinds with the event of this index more, if there is one.
+/// Returns the counts with the event of this index, if there is one.
 fn with_kept(kinds: Kinds, recorder: &Recorder, i: u16) -> Kinds {
     if i < recorder.count() {
         with_event(kinds, recorder.event(i))
@@ -120,7 +122,7 @@ fn kinds_of(recorder: &Recorder) -> Kinds {
     kinds
 }
 
-/// What came of serving, and what the meter then had kept, or None where it is busy.
+/// The result of serving, and what the meter kept, or `None` if its lock is busy.
 type Evening = (Result<Served, ServeFault>, Option<Kinds>);
 
 fn kept(shared: Shared<Kept>, port: Port<Kept>) -> Option<Kinds>
@@ -173,7 +175,7 @@ fn serve_by<L: Listener, R: Threads + Wait + Copy + Send + 'static>(
     }
 }
 
-/// Serves these callers over a new meter, whose management client has this password.
+/// Serves these clients with a new meter, whose management client has this password.
 fn serve_new<L: Listener, R: Threads + Wait + Abort + Copy + Send + 'static>(
     rt: &R,
     alloc: Global,
@@ -196,7 +198,7 @@ fn serve_new<L: Listener, R: Threads + Wait + Abort + Copy + Send + 'static>(
     }
 }
 
-/// The same where the password is 12345678.
+/// Serves these clients with a new meter, whose management client has the password 12345678.
 fn serve<L: Listener, R: Threads + Wait + Abort + Copy + Send + 'static>(
     rt: &R,
     alloc: Global,
@@ -225,7 +227,7 @@ fn told(served: u64, turned_away: u64) -> Result<Served, ServeFault> {
     })
 }
 
-/// A client of these texts. It waits for nothing.
+/// Returns a client that sends and expects these texts, and does not wait.
 fn client(line: &Arc<Line, Global>, texts: Texts) -> Result<Caller, AllocError> {
     match (Arc::try_clone(line), Arc::try_clone(line)) {
         (Ok(line), Ok(other)) => {
@@ -248,13 +250,14 @@ fn client(line: &Arc<Line, Global>, texts: Texts) -> Result<Caller, AllocError> 
     }
 }
 
-/// A client that opens a session and asks for the state so often. It waits for nothing.
+/// Returns a client that associates and reads the state `reads` times, and does not wait.
 fn caller(alloc: Global, line: &Arc<Line, Global>, reads: usize) -> Result<Caller, Fail> {
     let texts = talk(alloc, PUBLIC, 16, &[READ_STATE, READ_STATE][..reads.min(2)])?;
     Ok(client(line, texts)?)
 }
 
-/// The same. At a place of what it sends it waits until another line was sent so many bytes or is closed.
+/// Returns a client that associates and reads the state. At this place of what it sends it waits
+/// until another line has received `other_sent` bytes or is closed.
 fn waiting_caller(
     alloc: Global,
     line: &Arc<Line, Global>,
@@ -277,7 +280,7 @@ fn waiting_caller(
     }
 }
 
-/// A listener of no client yet.
+/// Returns a listener without clients.
 fn new_door(alloc: Global, line: &Arc<Line, Global>) -> Result<Door, AllocError> {
     let line = Arc::try_clone(line)?;
     Ok(Door {
@@ -288,7 +291,7 @@ fn new_door(alloc: Global, line: &Arc<Line, Global>) -> Result<Door, AllocError>
     })
 }
 
-/// Puts a client, if there is one, behind a listener's others.
+/// Adds a client, if there is one, to a listener.
 fn add(door: &mut Door, caller: Result<Caller, Fail>) -> Result<(), Fail> {
     match door.callers.push(caller?) {
         Ok(()) => Ok(()),
@@ -299,7 +302,7 @@ fn add(door: &mut Door, caller: Result<Caller, Fail>) -> Result<(), Fail> {
     }
 }
 
-/// What came of serving a listener's clients, once they stand there.
+/// Returns the result of serving a listener's clients, once they have been added.
 fn serve_door<R: Threads + Wait + Abort + Copy + Send + 'static>(
     rt: &R,
     alloc: Global,
@@ -318,7 +321,8 @@ fn serve_door<R: Threads + Wait + Abort + Copy + Send + 'static>(
     Ok(evening?)
 }
 
-/// Two clients: one asks again once the other was answered, and the other asks once the one was answered.
+/// Adds two clients: one sends its request once the other was answered, and the other once the one
+/// was answered.
 fn add_two_that_wait(
     alloc: Global,
     door: &mut Door,
@@ -355,7 +359,8 @@ fn serves_two_sessions_side_by_side(rt: HostRuntime) -> Result<(), Fail> {
     Ok(())
 }
 
-/// Eight clients that end once a ninth was turned away, who comes once they were answered and is to be sent nothing.
+/// Adds eight clients that end once a ninth was turned away. The ninth connects once they were
+/// answered, and must receive nothing.
 fn add_nine(
     alloc: Global,
     door: &mut Door,
@@ -398,7 +403,7 @@ fn turns_the_ninth_away(rt: HostRuntime) -> Result<(), Fail> {
     Ok(())
 }
 
-/// Serves one client, where the listener then may fail.
+/// Serves one client, after which the listener may fail.
 fn serve_one<R: Threads + Wait + Abort + Copy + Send + 'static>(
     rt: &R,
     alloc: Global,
@@ -420,7 +425,7 @@ fn serve_one<R: Threads + Wait + Abort + Copy + Send + 'static>(
     }
 }
 
-/// Serves a client that only opens a session, behind whom the listener fails.
+/// Serves a client that only associates, after which the listener fails.
 fn serve_opening<R: Threads + Wait + Abort + Copy + Send + 'static>(
     rt: &R,
     alloc: Global,
@@ -430,7 +435,7 @@ fn serve_opening<R: Threads + Wait + Abort + Copy + Send + 'static>(
     serve_one(rt, alloc, line, only, NOTHING, 2)
 }
 
-/// Serves a client that only opens a session, before whom one comes whose stream can't be set up.
+/// Serves a client that only associates, after one whose stream cannot be set up.
 fn serve_without_stream<R: Threads + Wait + Abort + Copy + Send + 'static>(
     rt: &R,
     alloc: Global,
@@ -468,13 +473,13 @@ fn ends_where_the_listener_fails(rt: HostRuntime) -> Result<(), Fail> {
     Ok(())
 }
 
-/// The management client, who writes mode 2.
+/// Returns the management client, which writes mode 2.
 fn writing_caller(alloc: Global, line: &Arc<Line, Global>) -> Result<Caller, Fail> {
     let texts = talk(alloc, MANAGEMENT, 1, &[WRITE_MODE])?;
     Ok(client(line, texts)?)
 }
 
-/// Serves it, with a block, a moment and a press of the button.
+/// Serves the management client, with a block, a moment and a press of the button.
 fn serve_all_actors<R: Threads + Wait + Abort + Copy + Send + 'static>(
     rt: &R,
     alloc: Global,
@@ -526,7 +531,7 @@ fn send(client: &mut TcpStream, text: &[u8]) -> Result<(), Fail> {
     Ok(())
 }
 
-/// Whether a client receives this text up to the end.
+/// Returns whether a client receives exactly this text.
 fn receives(alloc: Global, client: &mut TcpStream, text: &[u8]) -> Result<bool, Fail> {
     let mut received = Vec::new(alloc);
     let read = client.read_to_end(&mut received);
@@ -536,7 +541,8 @@ fn receives(alloc: Global, client: &mut TcpStream, text: &[u8]) -> Result<bool, 
     Ok(is_so)
 }
 
-/// What came of serving a client that sends what is asked, and whether it receives what is answered.
+/// Returns the result of serving a client that sends the requests, and whether it receives the
+/// responses.
 fn serve_client<R: Threads + Wait + Abort + Copy + Send + 'static>(
     rt: &R,
     alloc: Global,
@@ -550,7 +556,8 @@ fn serve_client<R: Threads + Wait + Abort + Copy + Send + 'static>(
     Ok((served, is_answered))
 }
 
-/// The same of the public client's read of the state.
+/// Returns the result of serving the public client's read of the state, and whether it receives the
+/// response.
 fn serve_reading<R: Threads + Wait + Abort + Copy + Send + 'static>(
     rt: &R,
     alloc: Global,

@@ -1,20 +1,20 @@
-//! The texts of talks over one connection.
+//! The texts of exchanges over one connection.
 use std::alloc::Global;
 use std::test::Fail;
 
-/// The request of a public client at port 16 for an association, and its answer.
+/// The AARQ of a public client at port 16, and its AARE.
 pub(crate) const PUBLIC: (&str, &str) = (
     "000100100001001F601DA109060760857405080101BE10040E01000000065F1F0400007E1F04B0",
     "000100010010002B6129A109060760857405080101A203020100A305A103020100BE10040E0800065F1F0400001E1904000007",
 );
 
-/// The request of the management client at port 1, with the password 12345678, and its answer.
+/// The AARQ of the management client at port 1, with the password 12345678, and its AARE.
 pub(crate) const MANAGEMENT: (&str, &str) = (
     "00010001000100386036A1090607608574050801018A0207808B0760857405080201AC0A80083132333435363738BE10040E01000000065F1F0400001C190400",
     "000100010001002B6129A109060760857405080101A203020100A305A103020100BE10040E0800065F1F0400001C1904000007",
 );
 
-/// Puts the bytes of a text in hexadecimal behind others.
+/// Appends the bytes of a text in hexadecimal.
 fn push_hex(alloc: Global, bytes: &mut Vec<u8>, text: &str) -> Result<(), Fail> {
     let decoded = hex::decode(alloc, text)?;
     let pushed = bytes.extend_from_slice(decoded.as_slice());
@@ -22,7 +22,7 @@ fn push_hex(alloc: Global, bytes: &mut Vec<u8>, text: &str) -> Result<(), Fail> 
     Ok(pushed?)
 }
 
-/// Puts a frame from one port to another at the end of a text.
+/// Appends a frame from one port to another.
 fn push_payload(text: &mut Vec<u8>, ports: (u8, u8), payload: &[u8]) -> Result<(), Fail> {
     let size = u16::try_from(payload.len())?;
     text.extend_from_slice(&[0, 1, 0, ports.0, 0, ports.1])?;
@@ -31,7 +31,7 @@ fn push_payload(text: &mut Vec<u8>, ports: (u8, u8), payload: &[u8]) -> Result<(
     Ok(())
 }
 
-/// The same of a payload in hexadecimal.
+/// Appends a frame from one port to another, whose payload is in hexadecimal.
 fn push_frame(
     alloc: Global,
     text: &mut Vec<u8>,
@@ -44,7 +44,7 @@ fn push_frame(
     pushed
 }
 
-/// The texts of both sides of a talk.
+/// The texts of both sides of an exchange.
 #[derive(Drop)]
 pub(crate) struct Texts {
     pub(crate) asked: Vec<u8>,
@@ -52,7 +52,7 @@ pub(crate) struct Texts {
 }
 
 impl Texts {
-    /// An opening and its answer, and then frames.
+    /// Appends an association and its response, followed by frames.
     fn fill(
         &mut self,
         alloc: Global,
@@ -70,7 +70,8 @@ impl Texts {
     }
 }
 
-/// The texts of a talk: an opening and its answer, and then the payloads of requests from a port and of their answers.
+/// Returns the texts of an exchange: an association and its response, followed by the payloads of
+/// requests from a port and of their responses.
 pub(crate) fn talk(
     alloc: Global,
     opening: (&str, &str),

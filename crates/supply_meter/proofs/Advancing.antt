@@ -1,4 +1,4 @@
--- A session and its meter, some steps on.
+-- A session and its meter after some steps.
 use Rattle.std.proofs.Common.{◌≡◌, ℕ, List, [], ◌∷◌, ◌++◌, ◌+◌, ◌<◌, arith, refl, sym, ◌∙◌, ap, subst, append_assoc, append-nil}
 use Rattle.std.specs.Prelude.{map}
 use Rattle.relay_events.specs.declared.event.Event.{Event}
@@ -17,7 +17,7 @@ map_both : {A B : Type 0} (f : A → B) (xs ys : List A) → map f (xs ++ ys) �
 map_both f [] ys = refl
 map_both f (x ∷ xs) ys = ap (λ (zs : List _). f x ∷ zs) (map_both f xs ys)
 
--- the same is still to come, and the meter took nothing
+-- the session will still do the same, and the meter applied nothing
 pub advances_same : (old new : Dialogue) (r : Recording) → SameAhead old new → Advances old r [] new r
 advances_same old new r same = record {
   told = [];
@@ -31,7 +31,7 @@ advances_same old new r same = record {
 pub advances_none : (d : Dialogue) (r : Recording) → Advances d r [] d r
 advances_none d r = advances_same d d r (record { asks = λ more. refl; sends = λ more replies. refl; ends = λ more. refl })
 
--- some steps, and then others
+-- some steps, followed by others
 pub advances_on : (old d new : Dialogue) (r r' r'' : Recording) (given : List (List ℕ)) → Advances old r [] d r' → Advances d r' given new r'' → Advances old r given new r''
 advances_on old d new r r' r'' given first then_ = record {
   told = first.told ++ then_.told;
@@ -52,7 +52,7 @@ advances_on old d new r r' r'' given first then_ = record {
   ends = λ more. first.ends more ∙ then_.ends more;
 }
 
--- the meter took the event that was asked
+-- the meter applied the event that was requested
 pub advances_asked : (s : Session) (event : Event) (reply : Reply) (r r' : Recording)
     → Continues r r' event reply → r'.capacity ≡ r.capacity
     → Advances (record { session = s; under_way = Asked event }) r [] (record { session = s; under_way = Answered reply }) r'
@@ -65,12 +65,12 @@ advances_asked s event reply r r' continues capacity = record {
   ends = λ more. refl;
 }
 
--- where memory ran out all is as it was
+-- out of memory nothing has changed
 pub advances_kept : (old new : Dialogue) (r r' : Recording) → new ≡ old → r' ≡ r → Advances old r [] new r'
 advances_kept old new r r' e e' =
     subst (λ (n : Dialogue). Advances old r [] n r') (sym e) (subst (λ (q : Recording). Advances old r [] old q) (sym e') (advances_none old r))
 
--- the meter took the event that was under way, and its reply is under way now
+-- the meter applied the pending event, and its reply is pending now
 pub applied : (old : Dialogue) (s : Session) (u u' : UnderWay) (event : Event) (reply : Reply) (r r' : Recording)
     → record { session = s; under_way = u } ≡ old → u ≡ Asked event → u' ≡ Answered reply
     → Continues r r' event reply → r'.capacity ≡ r.capacity
@@ -81,6 +81,6 @@ applied old s u u' event reply r r' is asked answered continues capacity =
     (subst (λ (v : UnderWay). Advances (record { session = s; under_way = Asked event }) r [] (record { session = s; under_way = v }) r' × (weight (record { session = s; under_way = v }) < load s + load s + 1)) (sym answered)
     (advances_asked s event reply r r' continues capacity, omega arith)))
 
--- a frame is due
+-- a frame is pending
 pub due_by : (old : Dialogue) (s : Session) (u : UnderWay) (frame : List ℕ) → record { session = s; under_way = u } ≡ old → u ≡ Due frame → IsDue old
 due_by old s u frame is due = record { frame = frame; is = ap (λ (d : Dialogue). d.under_way) (sym is) ∙ due }

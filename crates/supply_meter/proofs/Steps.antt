@@ -1,4 +1,4 @@
--- The results of the steps inside of `next`.
+-- The results of the steps of `next`.
 use Rattle.std.proofs.Common.{[], Option, Some, None, Result, Ok, Err, IsErrAnd}
 use Rattle.relay_recorder.specs.Recording.{Recording}
 use Rattle.supply_meter.specs.Dialogues.{Dialogue}
@@ -8,7 +8,7 @@ use Rattle.supply_meter.specs.declared.connection.Rest.{Rest}
 use Rattle.supply_meter.proofs.Advancing.{advances_same}
 
 module _ {E : Type 0} where
-  -- the session was asked
+  -- the session was asked for its next event, frame or end
   pub asks_works : (old new : Dialogue) (r : Recording) (result : Result (Option Rest) E) → AsksBy old result new → WorksBy old r result new r
   asks_works old new r (Ok None) asks = (advances_same old new r asks.0, asks.1)
   asks_works old new r (Ok (Some rest)) asks = (advances_same old new r asks.0, asks.1)

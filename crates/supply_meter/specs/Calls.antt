@@ -1,6 +1,6 @@
 -- What the calls of a meter do.
---     IsNew, Resumes                  a new meter, and one that goes on from a trace
---     OpensBy, ClosesBy               a session is opened, or let go
+--     IsNew, Resumes                  a new meter, and one that continues from a trace
+--     OpensBy, ClosesBy               a session is opened, or closed
 --     FeedsBy, FinishesBy, NextBy     what a session of the meter does
 --     SamplesBy, TakesMoment          samples and moments
 use Rattle.std.specs.Prelude.{◌≡◌, ◌≢◌, ◌≤◌, ◌<◌, ℕ, None, List, [], length, Result, Ok, Err, IfSome}
@@ -31,7 +31,7 @@ pub record IsNew (device password : List ℕ) (kept : ℕ) (m : Metering) : Type
   pub guarded : m.password ≡ password
   pub sessions : (number : ℕ) → dialogue_at m number ≡ None
 
--- a meter that goes on from the trace that this text tells of
+-- a meter that continues from the trace of this text
 pub record Resumes (text password : List ℕ) (kept : ℕ) (m : Metering) : Type 0 where
   pub trace : Trace
   pub told : trace_of text ≡ Ok trace
@@ -44,7 +44,8 @@ pub record Resumes (text password : List ℕ) (kept : ℕ) (m : Metering) : Type
 
 -- ---- sessions
 
--- a session was opened, which owes all that one with the meter's password does
+-- a session was opened: it will do what a session with the meter's password does, whatever its
+-- input
 pub record Opens (old : Metering) (number : ℕ) (new : Metering) : Type 0 where
   pub within : number < most_sessions
   pub free : dialogue_at old number ≡ None
@@ -61,7 +62,7 @@ OpensBy old number (Err Memory) new = (number < most_sessions) × (dialogue_at o
 OpensBy old number (Err TooManySamples) new = ⊥
 OpensBy old number (Err Uneven) new = ⊥
 
--- a call was refused: there is no such session, or memory ran out
+-- a call was refused: no such session is open, or out of memory
 abbrev pub RefusedBy : Metering → ℕ → MeterFault → Metering → Type 0
 RefusedBy old number NoSession new = (dialogue_at old number ≡ None) × (new ≡ old)
 RefusedBy old number Memory new = (dialogue_at old number ≢ None) × (new ≡ old)
@@ -69,7 +70,7 @@ RefusedBy old number SessionTaken new = ⊥
 RefusedBy old number TooManySamples new = ⊥
 RefusedBy old number Uneven new = ⊥
 
--- bytes came for a session
+-- a session received bytes
 pub record FeedsAt (old : Metering) (number : ℕ) (bytes : List ℕ) (new : Metering) : Type 0 where
   pub session : AtSession old number new (λ (d d' : Dialogue). Feeds d bytes d')
   pub recorder : new.recorder ≡ old.recorder
@@ -87,12 +88,12 @@ abbrev pub FinishesBy : Metering → ℕ → Result Unit MeterFault → Metering
 FinishesBy old number (Ok done) new = FinishesAt old number new
 FinishesBy old number (Err fault) new = (fault ≡ NoSession) × (dialogue_at old number ≡ None) × (new ≡ old)
 
--- a session gave a frame, or what it waits for
+-- a session returned a frame, or what it waits for
 abbrev pub GivesAt : Metering → ℕ → List ℕ → Given → Metering → List ℕ → Type 0
 GivesAt old number buffer given new buffer' =
     AtSession old number new (λ (d d' : Dialogue). Gives d old.recorder buffer given d' new.recorder buffer')
 
--- memory ran out: no frame was given, and whatever was done counts
+-- out of memory: no frame was returned, and whatever was done stays done
 pub record StopsAt (old : Metering) (number : ℕ) (buffer : List ℕ) (new : Metering) (buffer' : List ℕ) : Type 0 where
   pub session : AtSession old number new (λ (d d' : Dialogue). Advances d old.recorder [] d' new.recorder)
   pub unwritten : buffer' ≡ buffer
@@ -105,7 +106,7 @@ NextBy old number buffer (Err SessionTaken) new buffer' = ⊥
 NextBy old number buffer (Err TooManySamples) new buffer' = ⊥
 NextBy old number buffer (Err Uneven) new buffer' = ⊥
 
--- a session was let go
+-- a session was closed
 pub record Closes (old : Metering) (number : ℕ) (new : Metering) : Type 0 where
   pub was_open : dialogue_at old number ≢ None
   pub free : dialogue_at new number ≡ None
@@ -118,13 +119,13 @@ ClosesBy old number (Err fault) new = (fault ≡ NoSession) × (dialogue_at old 
 
 -- ---- events of the meter's own
 
--- what the reply to a block of samples tells
+-- the reply to a block of samples, as the number of firings
 abbrev pub IsFired : Reply → Fired → Type 0
 IsFired (Sampled over under) fired = fired ≡ record { over = over; under = under; export_over = 0; export_under = 0 }
 IsFired (SampledBoth over under export_over export_under) fired = fired ≡ record { over = over; under = under; export_over = export_over; export_under = export_under }
 IsFired _ fired = ⊥
 
--- a block of samples was taken
+-- a block of samples was applied
 pub record TakesSamples (old : Metering) (samples : Samples) (fired : Fired) (new : Metering) : Type 0 where
   pub reply : Reply
   pub takes : Takes old (event.Samples samples) reply new
@@ -139,13 +140,13 @@ SamplesBy old samples (Err Memory) new = new ≡ old
 SamplesBy old samples (Err NoSession) new = ⊥
 SamplesBy old samples (Err SessionTaken) new = ⊥
 
--- what the reply to a moment tells
+-- the reply to a moment, as a result
 abbrev pub IsTick : Reply → Tick → Type 0
 IsTick (Ran count) t = t ≡ tick.Ran count
 IsTick (Stale last) t = t ≡ tick.Stale last
 IsTick _ t = ⊥
 
--- a moment was taken
+-- a moment was applied
 pub record TakesMoment (old : Metering) (moment : ℕ) (t : Tick) (new : Metering) : Type 0 where
   pub reply : Reply
   pub takes : Takes old (event.Moment moment) reply new

@@ -1,8 +1,8 @@
 -- One meter with its sessions.
---     Metering        a recorder, the password of the management client, and a place for each session
---     dialogue_at     the session of a number
---     AtSession       a call that touches one session
---     Takes           an event that the meter took
+--     Metering        a recorder, the management client's password, and a place for each session
+--     dialogue_at     the session with a number
+--     AtSession       a call that changes one session
+--     Takes           an event that the meter applied
 use Rattle.std.specs.Prelude.{◌≡◌, ◌≢◌, ℕ, Option, Some, None, List, length, slice_index_or}
 use Rattle.acse_ber.specs.Password.{IsPassword}
 use Rattle.relay_events.specs.declared.event.Event.{Event}
@@ -17,25 +17,25 @@ pub record Metering : Type 0 where
   pub password : List ℕ
   pub places : List (Option Dialogue)
 
--- so many sessions are open at most
+-- the maximum number of open sessions
 abbrev pub most_sessions : ℕ
 most_sessions = 8
 
--- what is so of every meter
+-- the invariant of every meter
 pub record IsMetering (m : Metering) : Type 0 where
   pub named : IsPassword m.password
   pub places : length m.places ≡ most_sessions
 
--- the session of a number, if one is open
+-- the session with a number, if one is open
 abbrev pub dialogue_at : Metering → ℕ → Option Dialogue
 dialogue_at m number = slice_index_or m.places number None
 
--- the other sessions, and the password, are as they were
+-- the other sessions, and the password, are unchanged
 pub record OthersStay (old : Metering) (number : ℕ) (new : Metering) : Type 0 where
   pub others : (other : ℕ) → other ≢ number → dialogue_at new other ≡ dialogue_at old other
   pub password : new.password ≡ old.password
 
--- a call that touches the session of a number alone, and does this to it
+-- a call that changes only the session with a number, and does this to it
 pub record AtSession (old : Metering) (number : ℕ) (new : Metering) (Does : Dialogue → Dialogue → Type 0) : Type 0 where
   pub before : Dialogue
   pub after : Dialogue
@@ -44,7 +44,7 @@ pub record AtSession (old : Metering) (number : ℕ) (new : Metering) (Does : Di
   pub does : Does before after
   pub stay : OthersStay old number new
 
--- the meter took an event, and answered it; the sessions are as they were
+-- the meter applied an event, and this is its reply; the sessions are unchanged
 pub record Takes (old : Metering) (event : Event) (reply : Reply) (new : Metering) : Type 0 where
   pub continues : Continues old.recorder new.recorder event reply
   pub capacity : new.recorder.capacity ≡ old.recorder.capacity

@@ -1,11 +1,11 @@
--- What the calls of a session do to what is still to come of it.
---     Owes         all that a session of this password does, whatever its input is
---     Feeds        bytes came
+-- How the calls of a session change what the session will still do.
+--     Owes         all that a session with this password does, whatever its input is
+--     Feeds        bytes arrived
 --     Finishes     the input ended
---     Advances     the meter took events, and frames were given
---     IsIdle       nothing is due without more input
---     IsOver       nothing comes any more
---     Gives        what `next` did
+--     Advances     the meter applied events, and frames were returned
+--     IsIdle       nothing must be sent until more input arrives
+--     IsOver       the session is over
+--     Gives        what `next` did and returned
 use Rattle.std.specs.Prelude.{◌≡◌, ◌<◌, ◌++◌, ℕ, List, [], ◌∷◌, length, drop, Result, Ok, Err}
 use Rattle.relay_core.specs.World.{World}
 use Rattle.relay_events.specs.declared.reply.Reply.{Reply}
@@ -18,26 +18,27 @@ use Rattle.supply_meter.specs.declared.given.Given.{Given}
 use Rattle.supply_meter.specs.declared.given.Given.TheVariants.{Frame, NoRoom, Wait, End}
 use Rattle.supply_meter.specs.declared.under_way.UnderWay.TheVariants.{Due}
 
--- whatever its input is
+-- what a session with this password does, whatever its input is, is still to be done
 pub record Owes (password : List ℕ) (d : Dialogue) : Type 0 where
   pub asks : (input : List ℕ) → asks_ahead d input ≡ Asks password input
   pub sends : (input : List ℕ) (replies : List Reply) → sends_ahead d input replies ≡ Answers password input replies
   pub ends : (input : List ℕ) → ends_ahead d input ≡ end_of input
 
--- bytes came: they are the first of those to come
+-- bytes arrived: they are the first of the remaining input
 pub record Feeds (old : Dialogue) (bytes : List ℕ) (new : Dialogue) : Type 0 where
   pub asks : (more : List ℕ) → asks_ahead new more ≡ asks_ahead old (bytes ++ more)
   pub sends : (more : List ℕ) (replies : List Reply) → sends_ahead new more replies ≡ sends_ahead old (bytes ++ more) replies
   pub ends : (more : List ℕ) → ends_ahead new more ≡ ends_ahead old (bytes ++ more)
 
--- the input ended: no more bytes are to come
+-- the input ended: no bytes remain
 pub record Finishes (old new : Dialogue) : Type 0 where
   pub asks : (more : List ℕ) → asks_ahead new more ≡ asks_ahead old []
   pub sends : (more : List ℕ) (replies : List Reply) → sends_ahead new more replies ≡ sends_ahead old [] replies
   pub ends : (more : List ℕ) → ends_ahead new more ≡ ends_ahead old []
 
--- the meter took events, in order the first of those to be taken, each once and with the reply that its history tells; and these frames were given, the first of those
--- to be sent for these replies. All else is still to come.
+-- the meter applied events: the first of the remaining ones, in order, each once and with the reply
+-- that its history determines. These frames were returned: the first of those that remain for these
+-- replies. Everything else still remains to be done.
 pub record Advances (old : Dialogue) (r : Recording) (given : List (List ℕ)) (new : Dialogue) (r' : Recording) : Type 0 where
   pub told : List Told
   pub histories : (history : List Told) (origin : World) → StandsForHistory r history origin → StandsForHistory r' (history ++ told) origin
@@ -46,39 +47,39 @@ pub record Advances (old : Dialogue) (r : Recording) (given : List (List ℕ)) (
   pub sends : (more : List ℕ) (later : List Reply) → sends_ahead old more (replies_of told ++ later) ≡ given ++ sends_ahead new more later
   pub ends : (more : List ℕ) → ends_ahead old more ≡ ends_ahead new more
 
--- nothing is due without more input
+-- nothing must be sent until more input arrives
 pub record IsIdle (d : Dialogue) : Type 0 where
   pub asks : asks_ahead d [] ≡ []
   pub sends : (replies : List Reply) → sends_ahead d [] replies ≡ []
 
--- nothing comes any more
+-- the session is over, and does nothing more
 pub record IsOver (end : SessionEnd) (d : Dialogue) : Type 0 where
   pub asks : (more : List ℕ) → asks_ahead d more ≡ []
   pub sends : (more : List ℕ) (replies : List Reply) → sends_ahead d more replies ≡ []
   pub ends : (more : List ℕ) → ends_ahead d more ≡ end
 
--- a frame was given: it lies at the head of the buffer, and the rest of the buffer is as it was
+-- a frame was returned: it is at the start of the buffer, and the rest of the buffer is unchanged
 pub record GivesFrame (old : Dialogue) (r : Recording) (buffer : List ℕ) (count : ℕ) (new : Dialogue) (r' : Recording) (buffer' : List ℕ) : Type 0 where
   pub frame : List ℕ
   pub advances : Advances old r (frame ∷ []) new r'
   pub counted : count ≡ length frame
   pub written : buffer' ≡ frame ++ drop count buffer
 
--- a frame is due, and longer than the buffer
+-- a frame must be sent, and is longer than the buffer
 pub record KeepsFrame (count : ℕ) (buffer : List ℕ) (d : Dialogue) : Type 0 where
   pub frame : List ℕ
   pub due : d.under_way ≡ Due frame
   pub counted : count ≡ length frame
   pub longer : length buffer < count
 
--- what `next` gave
+-- what `next` returned
 abbrev pub Gives : Dialogue → Recording → List ℕ → Given → Dialogue → Recording → List ℕ → Type 0
 Gives old r buffer (Frame count) new r' buffer' = GivesFrame old r buffer count new r' buffer'
 Gives old r buffer (NoRoom count) new r' buffer' = Advances old r [] new r' × KeepsFrame count buffer new × (buffer' ≡ buffer)
 Gives old r buffer Wait new r' buffer' = Advances old r [] new r' × IsIdle new × (buffer' ≡ buffer)
 Gives old r buffer (End end) new r' buffer' = Advances old r [] new r' × IsOver end new × (buffer' ≡ buffer)
 
--- the same by the result: where memory ran out no frame was given, and whatever was done counts
+-- the result of `next`: out of memory no frame was returned, and whatever was done stays done
 abbrev pub GivesBy : {E : Type 0} → Dialogue → Recording → List ℕ → Result Given E → Dialogue → Recording → List ℕ → Type 0
 GivesBy old r buffer (Ok given) new r' buffer' = Gives old r buffer given new r' buffer'
 GivesBy old r buffer (Err error) new r' buffer' = Advances old r [] new r' × (buffer' ≡ buffer)

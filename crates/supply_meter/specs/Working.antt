@@ -1,8 +1,8 @@
--- The steps inside of `next`.
---     SameAhead                      what is still to come is as it was
---     IsAsked, IsAnswered, IsDue     an event, a reply or a frame is under way
---     weight                         how much work is left in what is kept
---     Leaves                         what stands where nothing more is done
+-- The steps of `next`.
+--     SameAhead                      what the session will still do is unchanged
+--     IsAsked, IsAnswered, IsDue     an event, a reply or a frame is pending
+--     weight                         the amount of work that is left
+--     Leaves                         the state in which no step is left
 use Rattle.std.specs.Prelude.{◌≡◌, ◌+◌, ◌<◌, ◌++◌, ℕ, List, [], length, drop, Option, Some, None, Result, Ok, Err}
 use Rattle.relay_events.specs.declared.event.Event.{Event}
 use Rattle.relay_events.specs.declared.reply.Reply.{Reply}
@@ -17,28 +17,28 @@ use Rattle.supply_meter.specs.declared.given.Given.TheVariants as given
 use Rattle.supply_meter.specs.declared.under_way.UnderWay.{UnderWay}
 use Rattle.supply_meter.specs.declared.under_way.UnderWay.TheVariants.{Nothing, Asked, Answered, Due}
 
--- the same is still to come
+-- the session will still do the same
 pub record SameAhead (old new : Dialogue) : Type 0 where
   pub asks : (more : List ℕ) → asks_ahead old more ≡ asks_ahead new more
   pub sends : (more : List ℕ) (replies : List Reply) → sends_ahead old more replies ≡ sends_ahead new more replies
   pub ends : (more : List ℕ) → ends_ahead old more ≡ ends_ahead new more
 
--- an event is under way
+-- an event is pending
 pub record IsAsked (d : Dialogue) : Type 0 where
   pub event : Event
   pub is : d.under_way ≡ Asked event
 
--- a reply is under way
+-- a reply is pending
 pub record IsAnswered (d : Dialogue) : Type 0 where
   pub reply : Reply
   pub is : d.under_way ≡ Answered reply
 
--- a frame is due
+-- a frame is pending
 pub record IsDue (d : Dialogue) : Type 0 where
   pub frame : List ℕ
   pub is : d.under_way ≡ Due frame
 
--- an event is one step from its reply
+-- 1 if an event is pending, which is one step from its reply, otherwise 0
 abbrev pub steps_in : UnderWay → ℕ
 steps_in Nothing = 0
 steps_in (Asked event) = 1
@@ -48,24 +48,24 @@ steps_in (Due frame) = 0
 abbrev pub weight : Dialogue → ℕ
 weight d = load d.session + load d.session + steps_in d.under_way
 
--- what stands where nothing more is done
+-- the state in which no step is left
 abbrev pub Leaves : Rest → Dialogue → Type 0
 Leaves rest.Due d = IsDue d
 Leaves rest.Wait d = IsIdle d
 Leaves (rest.End end) d = IsOver end d
 
--- the session was asked what is next
+-- the session was asked for its next event, frame or end
 abbrev pub AsksBy : {E : Type 0} → Dialogue → Result (Option Rest) E → Dialogue → Type 0
 AsksBy old (Ok None) new = SameAhead old new × (weight new < weight old)
 AsksBy old (Ok (Some rest)) new = SameAhead old new × Leaves rest new
 AsksBy old (Err error) new = SameAhead old new
 
--- the meter took the event, or memory ran out
+-- the meter applied the event, or out of memory
 abbrev pub AppliesBy : {E : Type 0} → Dialogue → Recording → Result Unit E → Dialogue → Recording → Type 0
 AppliesBy old r (Ok done) new r' = Advances old r [] new r' × (weight new < weight old)
 AppliesBy old r (Err error) new r' = (new ≡ old) × (r' ≡ r)
 
--- the session was given the reply
+-- the session received the reply
 abbrev pub AnswersBy : {E : Type 0} → Dialogue → Result Unit E → Dialogue → Type 0
 AnswersBy old (Ok done) new = SameAhead old new × (weight new < weight old)
 AnswersBy old (Err error) new = new ≡ old
@@ -81,7 +81,7 @@ abbrev pub RestsBy : {E : Type 0} → Dialogue → Recording → Result Rest E �
 RestsBy old r (Ok rest) new r' = Advances old r [] new r' × Leaves rest new
 RestsBy old r (Err error) new r' = Advances old r [] new r'
 
--- the frame that was due lies in the buffer, and is due no longer
+-- the pending frame was copied to the buffer, and is not pending any more
 pub record TakesFrame (old : Dialogue) (buffer : List ℕ) (count : ℕ) (new : Dialogue) (buffer' : List ℕ) : Type 0 where
   pub frame : List ℕ
   pub due : old.under_way ≡ Due frame
@@ -89,7 +89,7 @@ pub record TakesFrame (old : Dialogue) (buffer : List ℕ) (count : ℕ) (new : 
   pub counted : count ≡ length frame
   pub written : buffer' ≡ frame ++ drop count buffer
 
--- the frame was given, or kept
+-- the frame was copied, or stays pending
 abbrev pub GivesDue : Dialogue → List ℕ → Given → Dialogue → List ℕ → Type 0
 GivesDue old buffer (given.Frame count) new buffer' = TakesFrame old buffer count new buffer'
 GivesDue old buffer (given.NoRoom count) new buffer' = (new ≡ old) × KeepsFrame count buffer new × (buffer' ≡ buffer)

@@ -11,25 +11,25 @@ use std::alloc::{AllocError, Global};
 use std::marker::Model;
 use std::mem::replace;
 
-/// What a session wants of its caller, the meter having taken what it asks.
+/// What a session needs from its caller once the meter has applied its requests.
 #[derive(Clone, Copy)]
 pub(crate) enum Rest {
-    /// A frame is due.
+    /// A frame must be sent.
     Due,
-    /// More input.
+    /// The session needs more input.
     Wait,
-    /// Nothing: the session is over.
+    /// The session is over and needs nothing.
     End(SessionEnd),
 }
 
-/// A session of a client, with what is under way between it and the meter.
+/// A session of a client, with its pending event, reply or frame.
 #[derive(Drop)]
 pub(crate) struct Connection {
     session: Session,
     under_way: UnderWay,
 }
 
-// Something else is under way.
+// Replaces what is pending.
 fn put(under_way: &mut UnderWay, next: UnderWay)
     ensures { under_way.new ≡ next }
 {
@@ -55,7 +55,8 @@ impl Connection {
     ghost use Rattle.supply_meter.specs.Progress.{Owes, Feeds, Finishes, GivesBy};
     ghost use Rattle.supply_meter.specs.Working.{AsksBy, WorksBy, RestsBy, AppliesBy, AnswersBy, IsAsked, IsAnswered, IsDue, GivesDue};
 
-    /// A session of which no byte has come. The management client has this password, 1 to 32 bytes.
+    /// Returns a new session that has received no byte. `password`, 1 to 32 bytes, is that of the
+    /// management client.
     pub(crate) fn new(alloc: Global, password: &Octets) -> Result<Connection, AllocError>
         requires { IsPassword password.now }
         ensures { IfOk result (Owes password.now) }
@@ -66,7 +67,8 @@ impl Connection {
         })
     }
 
-    /// Takes in the next bytes, in any cut. A session that is over, or whose input has ended, takes none.
+    /// Passes the next bytes to the session, split at any place. A session that is over, or whose
+    /// input has ended, ignores them.
     pub(crate) fn feed(&mut self, bytes: &[u8]) -> Result<(), AllocError>
         ensures ok { OnOk result (Feeds self.old bytes.now self.new) }
         ensures err { OnErr result (self.new ≡ self.old) }
@@ -74,14 +76,15 @@ impl Connection {
         self.session.feed(bytes)
     }
 
-    /// The input has ended.
+    /// Ends the input of the session.
     pub(crate) fn finish(&mut self)
         ensures { Finishes self.old self.new }
     {
         self.session.finish();
     }
 
-    /// Lets the meter take what the session asks, up to the next frame, and puts this into the buffer.
+    /// Applies the requests of the session to the meter, up to the next frame, and copies the frame
+    /// to the buffer.
     pub(crate) fn next(
         &mut self,
         alloc: Global,
@@ -97,7 +100,7 @@ impl Connection {
         }
     }
 
-    // Lets the meter take what the session asks, up to the next frame.
+    // Applies the requests of the session to the meter, up to the next frame.
     fn settle(&mut self, alloc: Global, recorder: &mut Recorder) -> Result<Rest, AllocError>
         ensures { RestsBy self.old recorder.old result self.new recorder.new }
     {
@@ -108,7 +111,7 @@ impl Connection {
         }
     }
 
-    // One step: from the session to the meter, from the meter to the session, or to a frame.
+    // Does one step: from the session to the meter, from the meter to the session, or to a frame.
     fn work(&mut self, alloc: Global, recorder: &mut Recorder) -> Result<Option<Rest>, AllocError>
         ensures { WorksBy self.old recorder.old result self.new recorder.new }
     {
@@ -126,7 +129,7 @@ impl Connection {
         }
     }
 
-    // Asks the session what is next.
+    // Asks the session for its next event, frame or end.
     fn ask(&mut self, alloc: Global) -> Result<Option<Rest>, AllocError>
         requires { self.now.under_way ≡ Nothing }
         ensures { AsksBy self.old result self.new }
@@ -145,7 +148,7 @@ impl Connection {
         }
     }
 
-    // Lets the meter take the event. Where memory runs out the event is kept.
+    // Applies the pending event to the meter. On an error the event stays pending.
     fn apply(&mut self, alloc: Global, recorder: &mut Recorder) -> Result<(), AllocError>
         requires { IsAsked self.now }
         ensures { AppliesBy self.old recorder.old result self.new recorder.new }
@@ -160,7 +163,7 @@ impl Connection {
         Ok(())
     }
 
-    // Gives the session the reply. Where memory runs out the reply is kept.
+    // Passes the pending reply to the session. On an error the reply stays pending.
     fn answer(&mut self, alloc: Global) -> Result<(), AllocError>
         requires { IsAnswered self.now }
         ensures { AnswersBy self.old result self.new }
@@ -177,7 +180,7 @@ impl Connection {
         }
     }
 
-    // Puts the frame that is due into the buffer, if it has room.
+    // Copies the pending frame to the buffer if it fits. Otherwise it stays pending.
     fn give(&mut self, buffer: &mut [u8]) -> Given
         requires { IsDue self.now }
         ensures { GivesDue self.old buffer.old result self.new buffer.new }

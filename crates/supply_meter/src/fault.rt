@@ -1,12 +1,12 @@
 use thiserror::Error;
 
-/// Why a call was not done.
+/// Why a call failed.
 #[derive(Clone, Copy, Debug, PartialEq, Eq, Error)]
 pub enum MeterFault {
-    /// No session of this number is open, or its number is above 7.
+    /// No session with this number is open, or the number is above 7.
     #[error("no session of this number is open")]
     NoSession,
-    /// A session of this number is open already.
+    /// A session with this number is already open.
     #[error("a session of this number is open")]
     SessionTaken,
     /// More than 256 samples.
@@ -15,7 +15,7 @@ pub enum MeterFault {
     /// Imported and exported power have different numbers of samples.
     #[error("imported and exported samples differ in number")]
     Uneven,
-    /// Memory ran out.
+    /// Out of memory.
     #[error("out of memory")]
     Memory,
 }

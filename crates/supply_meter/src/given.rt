@@ -1,20 +1,22 @@
-//! What the meter gives its caller.
+//! The results of a meter's calls.
 use session_core::SessionEnd;
 
-/// What a session gives.
+/// The result of [`SupplyMeter::next`](crate::SupplyMeter::next).
 #[derive(Clone, Copy, Debug, PartialEq, Eq)]
 pub enum Given {
-    /// A frame of so many bytes was put into the caller's buffer: it is to be sent to the client.
+    /// A frame of this many bytes was copied to the caller's buffer. The caller must send it to the
+    /// client.
     Frame(usize),
-    /// A frame of so many bytes is due, and the buffer is too short. It stays due.
+    /// A frame of this many bytes must be sent, but the buffer is too short. The frame stays
+    /// pending.
     NoRoom(usize),
-    /// Nothing is due before more bytes come.
+    /// There is nothing to send until more bytes arrive.
     Wait,
     /// The session is over.
     End(SessionEnd),
 }
 
-/// How often each side of each limiter has fired in a block of samples.
+/// How many times each side of each limiter has fired in a block of samples.
 #[derive(Clone, Copy, Debug, PartialEq, Eq)]
 pub struct Fired {
     pub over: u16,
@@ -23,11 +25,11 @@ pub struct Fired {
     pub export_under: u16,
 }
 
-/// What a moment of the clock brought.
+/// The result of a moment of the clock.
 #[derive(Clone, Copy, Debug, PartialEq, Eq)]
 pub enum Tick {
-    /// So many schedules were due.
+    /// The number of schedules that were due.
     Ran(u8),
-    /// The moment lies before this last one, and changed nothing.
+    /// The moment is earlier than the last one, which this variant holds. Nothing changed.
     Stale(u32),
 }

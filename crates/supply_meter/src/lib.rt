@@ -1,7 +1,8 @@
 //! One supply meter: its core with the last events, and up to eight sessions of clients.
 //!
-//! Its caller hands in the bytes of each session, presses, samples and moments, and takes the frames that are due. Where memory runs out nothing is lost: the same
-//! call can be made again.
+//! The caller passes in the bytes of each session, presses of the button, samples and moments, and
+//! takes the frames that must be sent. Running out of memory loses nothing: the same call can be
+//! repeated.
 #![tactic(auto)]
 
 mod connection;

@@ -26,10 +26,10 @@ use std::fmt::{self, Debug, Formatter};
 use std::marker::Model;
 use std::mem::replace;
 
-/// So many sessions are open at most; their numbers are those below.
+/// The maximum number of open sessions. Sessions have the numbers below it.
 pub const SESSIONS: usize = 8;
 
-/// A meter with its last events, and the sessions of its clients, each told by a number of 0 to 7.
+/// A meter with its last events, and the sessions of its clients, each with a number of 0 to 7.
 #[derive(Drop)]
 pub struct SupplyMeter {
     recorder: Recorder,
@@ -37,7 +37,7 @@ pub struct SupplyMeter {
     places: [Option<Connection>; SESSIONS],
 }
 
-// A session is in a place.
+// Puts a session into a place.
 fn put(place: &mut Option<Connection>, connection: Connection)
     ensures { place.new ≡ Some connection }
 {
@@ -59,7 +59,7 @@ impl Model for SupplyMeter {
     ghost invariant = { λ m. IsMetering (record { recorder = m.recorder; password = m.password; places = m.places }) };
 }
 
-// It tells nothing of the password, nor of the sessions, whose bytes may hold one.
+// Formats the meter without the password and without the sessions, whose bytes may contain one.
 impl Debug for SupplyMeter {
     fn fmt<W: fmt::Write>(&self, f: &mut Formatter<W>) -> fmt::Result {
         f.debug_struct("SupplyMeter")
@@ -69,8 +69,9 @@ impl Debug for SupplyMeter {
 }
 
 impl SupplyMeter {
-    /// A new meter of this device name, 1 to 16 bytes, that keeps at most `kept_events` events, 1 to 1,024. The management client has this password, 1 to 32
-    /// bytes. No session is open.
+    /// Returns a new meter without open sessions. `device` is its name, 1 to 16 bytes; the meter
+    /// keeps the last `kept_events` events, 1 to 1,024; `password`, 1 to 32 bytes, is that of the
+    /// management client.
     pub fn new(
         alloc: Global,
         device: &Octets,
@@ -87,7 +88,7 @@ impl SupplyMeter {
         Ok(SupplyMeter::of_recorder(recorder, password))
     }
 
-    // A meter without sessions.
+    // Returns a meter with this recorder and without open sessions.
     pub(crate) fn of_recorder(recorder: Recorder, password: Octets) -> SupplyMeter
         requires { IsPassword password }
         ensures recorder { result.recorder ≡ recorder }
@@ -101,14 +102,15 @@ impl SupplyMeter {
         }
     }
 
-    // The core with its last events.
+    // Returns the core with its last events.
     pub(crate) fn recorder(&self) -> &Recorder
         ensures { result.now ≡ self.now.recorder }
     {
         &self.recorder
     }
 
-    /// Opens a session of a number of 0 to 7. Errors, judged in this order: `NoSession` where the number is above 7, `SessionTaken`, `Memory`.
+    /// Opens a session with a number of 0 to 7. Errors, in this order: `NoSession` if the number is
+    /// above 7, `SessionTaken`, `Memory`.
     pub fn open_session(&mut self, alloc: Global, number: u8) -> Result<(), MeterFault>
         ensures { OpensBy self.old number result self.new }
     {
@@ -128,7 +130,8 @@ impl SupplyMeter {
         }
     }
 
-    /// Takes in the next bytes of a session, in any cut. A session that is over, or whose input has ended, takes none.
+    /// Passes the next bytes to a session, split at any place. A session that is over, or whose
+    /// input has ended, ignores them. Errors: `NoSession`, `Memory`.
     pub fn feed(&mut self, number: u8, bytes: &[u8]) -> Result<(), MeterFault>
         ensures { FeedsBy self.old number bytes.now result self.new }
     {
@@ -145,7 +148,7 @@ impl SupplyMeter {
         }
     }
 
-    /// The input of a session has ended.
+    /// Ends the input of a session. Errors: `NoSession`.
     pub fn finish(&mut self, number: u8) -> Result<(), MeterFault>
         ensures { FinishesBy self.old number result self.new }
     {
@@ -162,8 +165,9 @@ impl SupplyMeter {
         }
     }
 
-    /// Does what a session asks of the meter, up to the next frame that is due, and puts this into the buffer. A frame that is longer than the buffer stays due. Where
-    /// memory runs out, what was done counts, and the same call goes on from there.
+    /// Applies the requests of a session to the meter, up to the next frame, and copies the frame
+    /// to `buffer`. A frame that is longer than the buffer stays pending. Errors: `NoSession`;
+    /// `Memory`, after which what was done stays done, and the same call continues from there.
     pub fn next(
         &mut self,
         alloc: Global,
@@ -185,7 +189,7 @@ impl SupplyMeter {
         }
     }
 
-    /// Lets a session go, whatever stands in it.
+    /// Closes a session, in whatever state it is, and drops it. Errors: `NoSession`.
     pub fn close_session(&mut self, number: u8) -> Result<(), MeterFault>
         ensures { ClosesBy self.old number result self.new }
     {
@@ -201,7 +205,7 @@ impl SupplyMeter {
         }
     }
 
-    // Whether there is a place for a session of this number.
+    // Returns whether a session can have this number.
     #[tactic(auto, using(std::proofs::lemmas::List::get_or_past))]
     fn has_place(&self, number: u8) -> bool
         ensures within { IsTrue result → number < 8 }
@@ -211,7 +215,7 @@ impl SupplyMeter {
         usize::from(number) < SESSIONS
     }
 
-    /// Takes a press of the meter's button, and gives its result. It takes no memory.
+    /// Applies a press of the meter's button, and returns its result. It does not allocate.
     #[tactic(auto, unfolding(relay_core::specs::Machine::is_sure))]
     pub fn press(&mut self, alloc: Global) -> ResultCode
         ensures { Takes self.old Button (Code result) self.new }
@@ -222,7 +226,8 @@ impl SupplyMeter {
         }
     }
 
-    /// Takes at most 256 samples of the imported power, in watts. Errors: `TooManySamples`, else `Memory`.
+    /// Applies at most 256 samples of the imported power, in watts. Errors, in this order:
+    /// `TooManySamples`, `Memory`.
     pub fn samples(&mut self, alloc: Global, watts: &[u32]) -> Result<Fired, MeterFault>
         ensures { SamplesBy self.old (values_alone watts.now) result self.new }
     {
@@ -234,7 +239,8 @@ impl SupplyMeter {
         }
     }
 
-    /// Takes at most 256 pairs of samples of the imported and the exported power, in watts. Errors, judged in this order: `Uneven`, `TooManySamples`, `Memory`.
+    /// Applies at most 256 pairs of samples of the imported and the exported power, in watts.
+    /// Errors, in this order: `Uneven`, `TooManySamples`, `Memory`.
     pub fn sample_pairs(
         &mut self,
         alloc: Global,
@@ -251,7 +257,8 @@ impl SupplyMeter {
         }
     }
 
-    /// Takes a moment of the clock: seconds since 2000-01-01 00:00:00 of the meter's time. It takes no memory.
+    /// Applies a moment of the clock, in seconds since 2000-01-01 00:00:00 of the meter's time. It
+    /// does not allocate.
     #[tactic(auto, unfolding(relay_core::specs::Machine::is_sure))]
     pub fn moment(&mut self, alloc: Global, now: u32) -> Tick
         ensures { TakesMoment self.old now result self.new }
@@ -263,7 +270,7 @@ impl SupplyMeter {
         }
     }
 
-    // Takes a block of samples.
+    // Applies a block of samples.
     fn take_block(&mut self, alloc: Global, block: Block) -> Result<Fired, MeterFault>
         ensures { SamplesBy self.old block result self.new }
     {
@@ -292,7 +299,7 @@ impl SupplyMeter {
         }
     }
 
-    // Takes an event of the meter's own.
+    // Applies an event of the meter itself.
     fn take(&mut self, alloc: Global, event: Event) -> Result<Reply, AllocError>
         ensures takes { IfOk result (λ reply. Takes self.old event reply self.new) }
         ensures fits { IfOk result (Fits event) }
@@ -302,28 +309,29 @@ impl SupplyMeter {
         self.recorder.apply(alloc, event)
     }
 
-    /// The state of the supply switch.
+    /// Returns the control state (class 70, attribute 3).
     pub fn state(&self) -> ControlState
         ensures { (w : World) → StandsFor self.now.recorder.core w → result ≡ w.control.state }
     {
         self.recorder.core().state()
     }
 
-    /// The mode of the supply switch.
+    /// Returns the control mode (class 70, attribute 4).
     pub fn mode(&self) -> ControlMode
         ensures { (w : World) → StandsFor self.now.recorder.core w → result ≡ w.control.mode }
     {
         self.recorder.core().mode()
     }
 
-    /// Whether the supply is on: exactly in Connected.
+    /// Returns whether the supply is on, which it is exactly in Connected.
     pub fn output(&self) -> bool
         ensures { (w : World) → StandsFor self.now.recorder.core w → result ≡ is_state w.control.state Connected }
     {
         self.recorder.core().output()
     }
 
-    /// The last moment of the clock, in seconds since 2000-01-01 00:00:00 of the meter's time, or None before the first.
+    /// Returns the last moment of the clock, in seconds since 2000-01-01 00:00:00 of the meter's
+    /// time, or `None` before the first.
     pub fn last_moment(&self) -> Option<u32>
         ensures { (w : World) → StandsFor self.now.recorder.core w → result ≡ w.moment }
     {

@@ -14,7 +14,8 @@ use std::alloc::{AllocError, Global};
 use trace_player::{TraceFault, exported_run_is_played, read_trace, write_trace};
 
 impl SupplyMeter {
-    /// The text of the trace that tells what came to the meter. Played, it prints the lines of the events that are kept, with the replies that were given.
+    /// Returns the text of the trace of the kept events. Played, it prints the lines of these
+    /// events, with the replies that were given.
     pub fn export(&self, alloc: Global) -> Result<Octets, AllocError>
         ensures { IfOk result (TellsRun self.now.recorder) }
     {
@@ -25,8 +26,9 @@ impl SupplyMeter {
         text
     }
 
-    /// A meter that goes on where the one stopped whose trace this text is. It keeps at most `kept_events` events, 1 to 1,024, and the management client has this
-    /// password, 1 to 32 bytes. Errors: the fault of a text that is no trace, or `Memory`.
+    /// Returns a meter that continues from the end of the trace in `text`, without open sessions.
+    /// It keeps the last `kept_events` events, 1 to 1,024; `password`, 1 to 32 bytes, is that of
+    /// the management client. Errors: the fault of a text that is not a trace, or `Memory`.
     pub fn resume(
         alloc: Global,
         text: &[u8],

@@ -1,4 +1,4 @@
--- The event of a line that is written is read again.
+-- The event of a line that is written is read back.
 use Rattle.std.proofs.Common.{◌≡◌, ℕ, zero, suc, ◌*◌, ◌≤◌, true, false, nat_eq, ◌==◌, List, [], ◌∷◌, length, map, Option, Some, None, Ok, refl, ap, arith, decimal, codes, eq-eqb}
 use Rattle.std.specs.Cmp.Lexicographic.{pointwise, unequal}
 use Rattle.std.specs.Prelude.{IfSome}
@@ -130,7 +130,7 @@ seconds (import ∷ imports) (export ∷ exports) even = ap (λ (rest : List ℕ
 
 -- ---- events
 
--- the word of no parameter is that of no Data
+-- `-`, the word of no parameter, is not the word of a Data
 no_hyphen : (value : Data) → IsHeld value → pointwise nat_eq (data_word value) (codes "-") ≡ false
 no_hyphen value held =
     unequal nat_eq (data_word value) (codes "-") (λ e. let long : length (data_word value) ≡ 2 * length (text (tree_of value)) = length-encode_with upper_digits (text (tree_of value)) in absurd (omega (arith, e, long)))
@@ -183,7 +183,7 @@ event_again event traced =
     let rest = words_again event traced in
     rw (verb, rest) refl
 
--- ---- how many there are
+-- ---- the number of events
 
 pub events_again : (count : ℕ) → count ≤ 65536 → events_from (number_row (codes "events") count) ≡ Ok count
 events_again count le =

@@ -1,4 +1,4 @@
--- The words of an event's line are words that a line can hold, so that the line is read as them.
+-- The words of an event's line are words that a line can hold, so the line is read as these words.
 use Rattle.std.proofs.Common.{◌≡◌, ℕ, ◌≤◌, true, List, [], ◌∷◌, length, Option, Some, None, Ok, refl, ap, ◌∙◌, arith, decimal, codes}
 use Rattle.std.specs.Prelude.{IfSome}
 use Rattle.hex.specs.Hex.{encode_upper}

@@ -1,4 +1,4 @@
--- The event of a line is written as that line.
+-- The event that a line is read as is written back as that line.
 use Rattle.std.proofs.Common.{◌≡◌, ℕ, Bool, cond, nat_eq, ◌==◌, List, [], ◌∷◌, length, map, Option, Some, None, Result, Ok, refl, sym, ap, ◌∙◌, arith, inl, inr, decimal, codes, Err}
 use Rattle.std.proofs.lemmas.Bool.{eqb-true}
 use Rattle.std.specs.Cmp.Lexicographic.{pointwise}
@@ -61,7 +61,7 @@ name_back word name e =
 
 -- ---- the first word
 
--- a word is that of one kind, or of one that is tried later
+-- a word is that of this kind, or of one that is tried later
 kind_back : (kind : Verb) (word : Word) (later : Result Verb RowFault) (verb : Verb) → (later ≡ Ok verb → word ≡ verb_word verb)
     → cond (is_word_of kind word) (Ok kind) later ≡ Ok verb → word ≡ verb_word verb
 kind_back kind word later verb back e =
@@ -154,7 +154,7 @@ all_pairs (pair ∷ pairs) = ap (pair_words pair) (all_pairs pairs)
 
 -- ---- events
 
--- the words behind the first one, read as an event, are those of this line
+-- the words after the first one that are read as an event are those of its line
 abbrev IsLineBack : Verb → (Row → Result Event RowFault) → Type 0
 IsLineBack verb event_from = (words : Row) (event : Event) → event_from words ≡ Ok event → verb_word verb ∷ words ≡ event_row event
 
@@ -249,7 +249,7 @@ words_back One OfPairs = λ words event e. absurd cc
 words_back Two OfPairs = pairs_back
 words_back version OfMoment = moment_back
 
--- the line that an event was read from is the one that is written for it
+-- the words that an event was read from are those that are written for it
 pub event_back : (version : Version) (row : Row) (event : Event) → event_of version row ≡ Ok event → event_row event ≡ row
 unfolding event_of
 event_back version [] event e = absurd cc
@@ -257,15 +257,15 @@ event_back version (first ∷ words) event e =
     let verb = bind_ok (verb_in first) _ event e in
     sym (ap (λ (w : Word). w ∷ words) (verb_back first verb.0 verb.1) ∙ words_back version verb.0 words event verb.2)
 
--- the same of the line's bytes
+-- the bytes of the line that an event was read from are those that are written for it
 pub event_line_back : (version : Version) (line : List ℕ) (event : Event) → event_of version (words_of line) ≡ Ok event → line_of (event_row event) ≡ line
 event_line_back version line event e = ap line_of (event_back version (words_of line) event e) ∙ line_of-words_of line
 
--- ---- how many there are
+-- ---- the number of events
 
 pub events_back : IsRowBack ℕ events_from (λ count. number_row (codes "events") count)
 events_back row count e = labelled_back ℕ (codes "events") (number_in max_events) decimal (number_back max_events (omega arith)) row count e
 
--- the line of the count of events
+-- the line of the number of events
 pub event_count_back : (row : Row) (count : ℕ) → events_from row ≡ Ok count → number_row (codes "events") count ≡ row
 event_count_back row count e = sym (events_back row count e)

@@ -1,4 +1,4 @@
--- Items of a line, each behind a blank, as they are written one after the other.
+-- Items of a line, each after a blank, written one after the other.
 use Rattle.std.proofs.Common.{◌≡◌, ℕ, suc, ◌+◌, ◌<◌, ◌≤◌, List, [], ◌∷◌, ◌++◌, length, drop, get_or, sym, ap, ◌∙◌, append_assoc, append-nil, add-one, arith, drop-cons, decimal}
 use Rattle.trace_words.specs.Writing.{blanked}
 use Rattle.trace_lines.specs.Writing.{pairs_words, selection_words}
@@ -19,7 +19,7 @@ result_stands (result.Code code) words = blanked-append (result_words (result.Co
 pub record LeftPairs (xs ys : List ℕ) (i : ℕ) (out total : List ℕ) : Type 0 where
   pub all : out ++ blanked (pairs_words (drop i xs) (drop i ys)) ≡ total
 
--- a pair more is written
+-- one more pair is written
 pub pair_more : (xs ys : List ℕ) (i : ℕ) (out middle new total : List ℕ) → i < length xs → length xs ≡ length ys
     → middle ≡ out ++ 32 ∷ decimal (get_or xs i 0) → new ≡ middle ++ 32 ∷ decimal (get_or ys i 0) → LeftPairs xs ys i out total → LeftPairs xs ys (i + 1) new total
 unfolding pairs_words

@@ -1,4 +1,4 @@
--- A sample, as a loop reads it.
+-- A sample, as it is read by a loop.
 use Rattle.std.proofs.Common.{◌≡◌, ℕ, Result, Ok, Err, ap, inr}
 use Rattle.byte_reading.specs.Outcome.{◌>>=◌, Fails}
 use Rattle.byte_reading.proofs.OutcomeLemmas.{done}
@@ -12,6 +12,6 @@ use Rattle.trace_words.specs.declared.fault.RowFault.TheVariants.{Memory}
 pub value_is : (word : Word) (words : Row) (n : ℕ) → value_in word ≡ Ok n → value_from word words ≡ Ok (n, words)
 value_is word words n e = ap (λ (r : Result ℕ RowFault). r >>= λ (value : ℕ). done RowFault (value, words)) e
 
--- or it is none
+-- a word that is not a sample is refused
 pub value_fails : (word : Word) (words : Row) (fault : RowFault) → value_in word ≡ Err fault → Fails Memory fault (value_from word words)
 value_fails word words fault e = inr (ap (λ (r : Result ℕ RowFault). r >>= λ (value : ℕ). done RowFault (value, words)) e)

@@ -1,4 +1,4 @@
--- The line of an event is not long.
+-- Bounds on the length of the line of an event.
 use Rattle.std.proofs.Common.{◌≡◌, ℕ, suc, ◌+◌, ◌*◌, ◌<◌, ◌≤◌, List, [], ◌∷◌, codes, decimal, length, Option, Some, None, arith}
 use Rattle.hex.specs.Hex.{encode_upper}
 use Rattle.cosem_axdr.specs.declared.value.Data.{Data}

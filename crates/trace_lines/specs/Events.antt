@@ -1,6 +1,6 @@
--- How many events there are, and the event of a line.
---     events_from                  how many
---     get_from .. moment_from      the event that the words behind the first one give
+-- The number of events, and the event of a line.
+--     events_from                  the number of events
+--     get_from .. moment_from      the event that the words after the first one give
 --     event_of                     the event of a line of words
 use Rattle.std.specs.Prelude.{◌==◌, map, length, Result, Ok, Err, ℕ, codes}
 use Rattle.byte_reading.specs.Outcome.{◌>>=◌, ◌>>◌, guard}
@@ -19,11 +19,11 @@ use Rattle.trace_words.specs.declared.version.Version.{Version}
 use Rattle.trace_words.specs.declared.version.Version.TheVariants.{One, Two}
 use Rattle.trace_words.specs.Labels.{labelled}
 
--- the most events that a trace has
+-- the maximum number of events of a trace
 abbrev pub max_events : ℕ
 max_events = 65536
 
--- how many events there are
+-- the number of events
 abbrev pub events_from : Row → Result ℕ RowFault
 events_from row = labelled (codes "events") (number_in max_events) row
 
@@ -34,7 +34,7 @@ get_from words = do
   item ← selection_at level.1
   ended item.1 (Get level.0 item.0.attr item.0.selected)
 
--- level, how many there are, up to 102, and so many times class, name, number, selected
+-- level, the number of attributes (up to 102), and for each of them class, name, number, selected
 unfoldable pub get_list_from : Row → Result Event RowFault
 get_list_from words = do
   level ← next_as level_in words
@@ -65,19 +65,19 @@ samples_from words = do
   values ← all_at value_from 256 words
   Ok (Samples (values_alone values))
 
--- up to 256 times an import and an export value
+-- up to 256 pairs of an import and an export value
 unfoldable pub pairs_from : Row → Result Event RowFault
 pairs_from words = do
   pairs ← all_at pair_from 256 words
   Ok (Samples (pairs_of (map (λ pair. pair.0) pairs) (map (λ pair. pair.1) pairs)))
 
--- seconds
+-- seconds since 2000-01-01 00:00:00 of the meter's time
 unfoldable pub moment_from : Row → Result Event RowFault
 moment_from words = do
   now ← last_as (number_in 4294967295) words
   Ok (Moment now)
 
--- the event of this kind; there are no pairs in version 1
+-- the event of this kind; version 1 has no pairs
 unfoldable pub event_from : Version → Verb → Row → Result Event RowFault
 event_from version OfGet words = get_from words
 event_from version OfGetList words = get_list_from words

@@ -1,5 +1,5 @@
--- What single words of an event and a few words in a row stand for.
---     level_in, name_in, parameter_in                  a word
+-- The values of single words of an event, and of a few words in a row.
+--     level_in, name_in, parameter_in                  the value of a word
 --     attribute_from, method_at, selection_from        an attribute or method: class, name, number
 --     value_from, pair_from                            samples
 use Rattle.std.specs.Prelude.{ℕ, ◌==◌, nat_eq, codes, length, Option, Some, None, Result, Ok, Err, if◌then◌else◌}
@@ -17,7 +17,7 @@ use Rattle.trace_words.specs.declared.fault.RowFault.{RowFault}
 use Rattle.trace_words.specs.declared.fault.RowFault.TheVariants.{Wrong}
 use Rattle.trace_words.specs.Reading.{number_in, flag_in, bytes_in, data_in, next_as, value_in}
 
--- the client's port: 1 of the management client, 16 of the public one
+-- the access level of a client's port: 1 for the management client, 16 for the public one
 abbrev pub level_in : Word → Result Level RowFault
 level_in word = do
   number ← number_in 16 word
@@ -30,7 +30,7 @@ name_in word = do
   guard (length bytes == 6) Wrong
   Ok (record { 0 = bytes })
 
--- an attribute or method, its class in the word given: class, name, number
+-- an attribute: class (the word given), name, number
 abbrev pub attribute_from : Word → Row → Read AttrRef
 attribute_from word words = do
   class ← number_in 65535 word
@@ -38,7 +38,7 @@ attribute_from word words = do
   number ← next_as (number_in 255) name.1
   Ok (record { class = record { 0 = class }; name = name.0; number = number.0 }, number.1)
 
--- the same, of a method
+-- a method, its class in the next word: class, name, number
 abbrev pub method_at : Row → Read MethodRef
 method_at words = do
   class ← next_as (number_in 65535) words
@@ -46,14 +46,14 @@ method_at words = do
   number ← next_as (number_in 255) name.1
   Ok (record { class = record { 0 = class.0 }; name = name.0; number = number.0 }, number.1)
 
--- an attribute and whether a part of it is asked for
+-- an attribute, its class in the word given, and whether a part of it is requested
 unfoldable pub selection_from : Word → Row → Read AttributeSelection
 selection_from word words = do
   attr ← attribute_from word words
   selected ← next_as flag_in attr.1
   Ok (record { attr = attr.0; selected = selected.0 }, selected.1)
 
--- the same, from here
+-- an attribute, its class in the next word, and whether a part of it is requested
 abbrev pub selection_at : Row → Read AttributeSelection
 selection_at words = do
   word ← word_at words
@@ -65,7 +65,7 @@ parameter_in word = if pointwise nat_eq word (codes "-") then Ok None else do
   value ← data_in word
   Ok (Some value)
 
--- a sample
+-- a sample, in watts
 abbrev pub value_from : Word → Row → Read ℕ
 value_from word words = do
   value ← value_in word

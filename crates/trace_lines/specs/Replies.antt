@@ -10,12 +10,12 @@ use Rattle.relay_events.specs.declared.reply.Reply.TheVariants.{Value, Values, C
 use Rattle.trace_words.specs.Rows.{Row}
 use Rattle.trace_words.specs.Writing.{data_word, blanked, all_words}
 
--- what a read of one attribute of several gives, before other words
+-- the result of reading one attribute of a list, before other words
 abbrev pub result_words : GetResult → Row → Row
 result_words (result.Value value) words = codes "value" ∷ data_word value ∷ words
 result_words (result.Code code) words = codes "code" ∷ decimal (code_of code) ∷ words
 
--- a reply
+-- the words of a reply
 unfoldable pub reply_row : Reply → Row
 reply_row (Value value) = codes "value" ∷ data_word value ∷ []
 reply_row (Code code) = codes "code" ∷ decimal (code_of code) ∷ []
@@ -25,7 +25,7 @@ reply_row (SampledBoth over under export_over export_under) = codes "sampled" �
 reply_row (Ran due) = codes "ran" ∷ decimal due ∷ []
 reply_row (Stale last) = codes "stale" ∷ decimal last ∷ []
 
--- whether the supply is on
+-- `on` if the supply is on, else `off`
 abbrev pub supply_text : Bool → List ℕ
 supply_text true = codes "on"
 supply_text false = codes "off"

@@ -1,7 +1,8 @@
--- The events that a trace can hold: of the ranges of their types, and within the limits of a line.
+-- The events that a trace can hold: numbers in the ranges of their types, and within the limits of
+-- a line.
 --     IsNamed      a class of 16 bits, a name of six bytes, a number of 8 bits
---     IsTraced     an event whose line is read again
---     FitsLine     an event within the limits of a line, which then is one of these
+--     IsTraced     an event whose line is read back
+--     FitsLine     an event within the limits of a line, whose line is then read back
 use Rattle.std.specs.Prelude.{◌≡◌, ℕ, ◌≤◌, List, [], ◌∷◌, length, Option, Some, None, IfSome}
 use Rattle.hex.specs.Hex.{IsBytes}
 use Rattle.cosem_names.specs.declared.service.AttributeSelection.{AttributeSelection}
@@ -26,12 +27,12 @@ abbrev pub AreSamples : List ℕ → Type 0
 AreSamples [] = Unit {0}
 AreSamples (value ∷ values) = (value ≤ 4294967295) × AreSamples values
 
--- samples, as many of export as of import
+-- export samples of 32 bits, as many as there are import samples
 abbrev pub AreExports : List ℕ → Option (List ℕ) → Type 0
 AreExports imports None = Unit {0}
 AreExports imports (Some exports) = (length imports ≡ length exports) × AreSamples exports
 
--- an event whose line is read again
+-- an event whose line is read back
 abbrev pub IsTraced : Event → Type 0
 IsTraced (Get level attr selected) = IsNamed attr.class.0 attr.name.0 attr.number
 IsTraced (GetList level items) = (length items ≤ 102) × AreNamed items
@@ -41,7 +42,8 @@ IsTraced Button = Unit {0}
 IsTraced (Samples block) = (length block.import ≤ 256) × AreSamples block.import × AreExports block.import block.export
 IsTraced (Moment now) = now ≤ 4294967295
 
--- an event within the limits of a line: a list of at most 102 attributes, and a value or a parameter within the limits of a written Data
+-- an event within the limits of a line: a list has at most 102 attributes, and a value or a
+-- parameter is within the limits of a written Data
 abbrev pub FitsLine : Event → Type 0
 FitsLine (GetList level items) = length items ≤ 102
 FitsLine (Set level attr selected value) = IsHeld value

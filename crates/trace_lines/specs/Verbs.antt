@@ -22,7 +22,7 @@ verb_word OfMoment = codes "moment"
 abbrev pub is_word_of : Verb → Word → Bool
 is_word_of verb word = pointwise nat_eq word (verb_word verb)
 
--- the kind of event that a word is of
+-- the kind of event that a word names
 unfoldable pub verb_in : Word → Result Verb RowFault
 verb_in word =
     if is_word_of OfGet word then Ok OfGet else

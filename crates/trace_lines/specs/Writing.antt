@@ -29,7 +29,7 @@ attribute_words attr words = decimal attr.class.0 ∷ encode_upper attr.name.0 �
 abbrev pub method_words : MethodRef → Row → Row
 method_words method words = decimal method.class.0 ∷ encode_upper method.name.0 ∷ decimal method.number ∷ words
 
--- an attribute, and whether a part of it is asked for, before other words
+-- an attribute, and whether a part of it is requested, before other words
 abbrev pub selection_words : AttributeSelection → Row → Row
 selection_words item words = attribute_words item.attr (decimal (flag_number item.selected) ∷ words)
 
@@ -42,7 +42,7 @@ unfoldable pub pairs_words : List ℕ → List ℕ → Row
 pairs_words (import ∷ imports) (export ∷ exports) = decimal import ∷ decimal export ∷ pairs_words imports exports
 pairs_words _ _ = []
 
--- samples alone or in pairs
+-- the kind of a block of samples: import samples alone, or pairs
 abbrev pub samples_kind : Option (List ℕ) → Verb
 samples_kind None = OfSamples
 samples_kind (Some exports) = OfPairs
@@ -51,7 +51,7 @@ abbrev pub samples_words : List ℕ → Option (List ℕ) → Row
 samples_words imports None = all_words value_words imports
 samples_words imports (Some exports) = pairs_words imports exports
 
--- the kind of an event, which is its first word
+-- the kind of an event, which determines its first word
 abbrev pub kind_of : Event → Verb
 kind_of (Get level attr selected) = OfGet
 kind_of (GetList level items) = OfGetList
@@ -61,7 +61,7 @@ kind_of Button = OfButton
 kind_of (Samples block) = samples_kind block.export
 kind_of (Moment now) = OfMoment
 
--- the words behind it
+-- the words after the first one
 unfoldable pub event_words : Event → Row
 event_words (Get level attr selected) = decimal (level_number level) ∷ attribute_words attr (decimal (flag_number selected) ∷ [])
 event_words (GetList level items) = decimal (level_number level) ∷ decimal (length items) ∷ all_words selection_words items

@@ -10,10 +10,10 @@ use std::alloc::AllocError;
 use trace_text::Words;
 use trace_words::{RowFault, TraceFault, TraceLines, labelled, number_in, write_number_line};
 
-/// How many events a trace has at most.
+/// The maximum number of events of a trace.
 pub const MAX_EVENTS: u32 = 65_536;
 
-/// The line of the count of events.
+/// Reads the words of the line of the number of events.
 fn event_count(words: &mut Words) -> Result<u32, RowFault>
     ensures count { Gives Memory (λ count. count) result (events_from words.old) }
     ensures few { IfOk result (λ count. count ≤ 65536) }
@@ -21,7 +21,8 @@ fn event_count(words: &mut Words) -> Result<u32, RowFault>
     labelled(b"events", words, |word| number_in(word, MAX_EVENTS))
 }
 
-/// Reads the line that tells how many events there are, at most `MAX_EVENTS`. Errors: `Line` with its number where it is missing or another.
+/// Reads the line of the number of events, at most `MAX_EVENTS`. Errors: `Line` with the number of
+/// the line if it is missing or any other.
 pub fn read_event_count(lines: &mut TraceLines) -> Result<u32, TraceFault>
     ensures reads { ReadsLines (λ count. count) result lines.new (line_as events_from lines.old) }
     ensures few { IfOk result (λ count. count ≤ 65536) }
@@ -29,7 +30,8 @@ pub fn read_event_count(lines: &mut TraceLines) -> Result<u32, TraceFault>
     lines.read(event_count)
 }
 
-/// Writes the line of how many events there are behind what is there, with the byte 0A that ends it. Where memory runs out a part of it may be written.
+/// Appends the line of the number of events, with the byte 0A that ends it. On an error a part of
+/// it may have been appended.
 pub fn write_event_count(out: &mut Vec<u8>, count: u64) -> Result<(), AllocError>
     ensures { OnOk result (out.new.items ≡ out.old.items ++ rows_text (number_row (codes "events") count ∷ [])) }
 {

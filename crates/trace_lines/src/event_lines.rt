@@ -14,7 +14,7 @@ use std::alloc::{AllocError, Global};
 use trace_text::add_number;
 use trace_words::{add_data, add_flag};
 
-/// The kind of a block's line.
+/// Returns the kind of the line of a block of samples: `samples` or `pairs`.
 fn samples_kind(block: &Block) -> Verb
     ensures { result ≡ samples_kind block.now.export }
 {
@@ -24,7 +24,7 @@ fn samples_kind(block: &Block) -> Verb
     }
 }
 
-/// The kind of an event's line.
+/// Returns the kind of an event's line.
 fn kind_of(event: &Event) -> Verb
     ensures { result ≡ kind_of event.now }
 {
@@ -39,7 +39,7 @@ fn kind_of(event: &Event) -> Verb
     }
 }
 
-/// Adds the samples of a block.
+/// Appends the samples of a block.
 fn add_block(out: &mut Vec<u8>, block: &Block) -> Result<(), AllocError>
     ensures { OnOk result (out.new.items ≡ out.old.items ++ blanked (samples_words block.now.import block.now.export)) }
 {
@@ -49,7 +49,8 @@ fn add_block(out: &mut Vec<u8>, block: &Block) -> Result<(), AllocError>
     }
 }
 
-/// Adds the port of a client, the attribute that it names and whether a part of it is asked for.
+/// Appends the client's port, the attribute, and whether a part of it is requested (selective
+/// access).
 fn add_asked(
     alloc: Global,
     out: &mut Vec<u8>,
@@ -65,7 +66,7 @@ fn add_asked(
     add_flag(out, selected)
 }
 
-/// Adds the words behind the first one.
+/// Appends the words after the first one.
 #[tactic(auto, unfolding(crate::specs::Writing::event_words))]
 fn add_words(alloc: Global, out: &mut Vec<u8>, event: &Event) -> Result<(), AllocError>
     ensures { OnOk result (out.new.items ≡ out.old.items ++ blanked (event_words event.now)) }
@@ -105,7 +106,7 @@ fn add_words(alloc: Global, out: &mut Vec<u8>, event: &Event) -> Result<(), Allo
     }
 }
 
-/// Writes the line of an event behind what is there, without the byte 0A that ends it. Where memory runs out nothing is written.
+/// Appends the line of an event, without the byte 0A that ends it. On an error nothing is appended.
 #[tactic(auto, using(trace_words::proofs::Blanks::line_of_first))]
 pub fn write_event(alloc: Global, out: &mut Vec<u8>, event: &Event) -> Result<(), AllocError>
     ensures ok { OnOk result (out.new.items ≡ out.old.items ++ line_of (event_row event.now)) }

@@ -6,7 +6,8 @@ use relay_events::Event;
 use std::alloc::Global;
 use trace_words::{HeldLines, TraceFault, TraceLines, Version};
 
-/// Reads the next line as an event. Errors: `Line` with its number where it is missing or not written for an event in this version, and `Memory`.
+/// Reads the next line as an event. Errors: `Line` with the number of the line if it is missing or
+/// not the line of an event in this version; `Memory`.
 pub fn next_event(
     alloc: Global,
     version: Version,
@@ -17,7 +18,8 @@ pub fn next_event(
     lines.read(|words| event(alloc, version, words))
 }
 
-/// The same, of lines that hold their text.
+/// Reads the next line of a held text as an event. Errors: `Line` with the number of the line if it
+/// is missing or not the line of an event in this version; `Memory`.
 pub fn next_held_event(
     alloc: Global,
     version: Version,

@@ -1,4 +1,5 @@
-//! What holds of such lines as such: the function is a law, which its contract states and a call of it makes known.
+//! Laws of the lines of events. Each function is a law: its contract states it, and a call makes it
+//! known to the prover.
 ghost use Rattle.std.specs.Prelude.{◌≡◌, ℕ, ◌≤◌, suc, List, ◌∷◌, codes, IsTrue, Ok};
 ghost use Rattle.trace_text.specs.Lines.{is_row};
 ghost use Rattle.trace_text.specs.Words.{words_of, line_of};
@@ -12,7 +13,8 @@ ghost use Rattle.trace_lines.specs.Writing.{event_row};
 ghost use Rattle.trace_words.specs.declared.version.Version.{Version};
 ghost use Rattle.trace_words.specs.declared.version.Version.TheVariants.{Two};
 
-/// An event that is written is read again, from its words and from its line; and its words are a line's.
+/// An event that is written is read back, from its words and from its line. Its words are words
+/// that a line can hold.
 #[tactic(auto, using(crate::proofs::EventLaws::event_again, crate::proofs::EventRows::line_again, crate::proofs::EventRows::event_is_row))]
 pub fn written_event_is_read()
     ensures again { (event : Event) → IsTraced event → event_of Two (event_row event) ≡ Ok event }
@@ -20,20 +22,21 @@ pub fn written_event_is_read()
     ensures row { (event : Event) → IsTraced event → IsTrue (is_row (event_row event)) }
 {}
 
-/// An event that is read from a line, of either version, is written as that line: each event is read from one line alone, in one spelling.
+/// An event that is read from a line, of either version, is written as that line. So each event has
+/// one line only, in one spelling.
 #[tactic(auto, using(crate::proofs::EventsBack::event_back, crate::proofs::EventsBack::event_line_back))]
 pub fn read_event_is_written()
     ensures row { (version : Version) (row : Row) (event : Event) → event_of version row ≡ Ok event → event_row event ≡ row }
     ensures line { (version : Version) (line : List ℕ) (event : Event) → event_of version (words_of line) ≡ Ok event → line_of (event_row event) ≡ line }
 {}
 
-/// The line that a count of events is read from is the one that is written for it.
+/// The line that a number of events is read from is the line that is written for it.
 #[tactic(auto, using(crate::proofs::EventsBack::event_count_back))]
 pub fn read_event_count_is_written()
     ensures { (row : Row) (count : ℕ) → events_from row ≡ Ok count → number_row (codes "events") count ≡ row }
 {}
 
-/// How many events there are is read again from the line that is written, which is a line of words.
+/// A number of events is read back from the line that is written for it, which is a line of words.
 #[tactic(auto, using(crate::proofs::EventLaws::event_count_again, crate::proofs::EventRows::event_count_is_row))]
 pub fn written_event_count_is_read()
     ensures again { (count number : ℕ) (rows : List Row) (unended : List ℕ) → count ≤ 65536

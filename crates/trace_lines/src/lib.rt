@@ -1,11 +1,16 @@
-//! The lines of a trace behind its opening, as text: how many events there are, a line of words for each, and the line of a reply.
+//! Reads and writes the lines of a trace after its opening: the number of events, a line of words
+//! for each event, and the line of a reply.
 //!
-//! An event is a line of words with one blank between: `get`, `getlist`, `set`, `execute`, `button`, `samples`, `pairs` or `moment`, and then its values, numbers in
-//! decimal and bytes in hexadecimal capitals. A value of type Data stands as its written text. In version 1 of the text there are no `pairs`.
+//! The line of an event is a first word (`get`, `getlist`, `set`, `execute`, `button`, `samples`,
+//! `pairs` or `moment`) followed by the event's values, with one blank between words: numbers in
+//! decimal, bytes in hexadecimal capitals, a value of type Data as its A-XDR encoding in
+//! hexadecimal. Version 1 of the format has no `pairs`.
 //!
-//! `read_event_count` reads the count and `next_event` each event from the lines that are left of a trace (`trace_words::TraceLines`), `next_held_event` from lines that hold their text (`HeldLines`); `write_event_count` and
-//! `write_event` write these lines, in version 2, and `write_line` the line of a reply; `read_event` reads the line of an event by itself. What is written is read
-//! again if `fits_line` accepts the event.
+//! `read_event_count` reads the number of events, and `next_event` each event, from the lines of a
+//! trace (`trace_words::TraceLines`); `next_held_event` reads an event from lines that own their
+//! text (`HeldLines`), and `read_event` from a single line. `write_event_count` and `write_event`
+//! write these lines, in version 2; `write_line` writes the line of a reply. An event that is
+//! written is read back if `fits_line` accepts it.
 #![tactic(auto)]
 
 mod event_counts;

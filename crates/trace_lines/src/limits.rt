@@ -1,4 +1,5 @@
-//! Which events fit a line, and that each that does is read again. These functions only look at an event, and allocate nothing.
+//! Which events fit a line. Each event that does is read back. These functions only look at an
+//! event, and do not allocate.
 ghost use Rattle.std.specs.Prelude.{◌≡◌, ◌↔◌, ◌≤◌, IfSome, IsTrue, length};
 ghost use Rattle.trace_lines.specs.Traced.{AreExports, AreNamed, AreSamples, FitsLine, IsNamed, IsTraced};
 ghost use Rattle.trace_words.specs.Writing.{IsHeld};
@@ -9,8 +10,8 @@ use cosem_names::{AttrRef, AttributeSelection, MethodRef};
 use lane_sampler::Block;
 use relay_events::Event;
 
-/// Whether an event is within the limits of a line: a list of at most 102 attributes, and a value or a parameter that
-/// [`cosem_axdr::fits`] accepts. Every other event is.
+/// Returns whether an event is within the limits of a line: a list has at most 102 attributes, and
+/// [`cosem_axdr::fits`] accepts a value or a parameter. All other events are within the limits.
 pub fn fits_line(event: &Event) -> bool
     ensures { IsTrue result ↔ FitsLine event.now }
 {
@@ -37,7 +38,8 @@ fn is_parameter_held(parameter: &Option<Data>) -> bool
     }
 }
 
-/// The numbers of an event are of their types, so an event that fits its line is read again from it.
+/// Makes known that the numbers of an event are in the ranges of their types, so an event that fits
+/// a line is read back from it.
 pub fn event_is_traced(event: &Event)
     ensures { FitsLine event.now → IsTraced event.now }
 {
@@ -52,7 +54,7 @@ pub fn event_is_traced(event: &Event)
     }
 }
 
-// A read makes known that a referenced number is of its type.
+// Makes known, by a read, that a borrowed number is in the range of its type.
 fn look_at(_number: u32) {}
 
 fn is_named(_class: u16, _name: [u8; 6], _number: u8)

@@ -12,7 +12,7 @@ use std::alloc::{AllocError, Global};
 use trace_text::{add_number, add_word, write_number};
 use trace_words::add_data;
 
-/// Adds a word and a number.
+/// Appends a word and a number.
 fn add_named(out: &mut Vec<u8>, name: &[u8], number: u64) -> Result<(), AllocError>
     ensures { OnOk result (out.new.items ≡ out.old.items ++ blanked (name.now ∷ decimal number ∷ [])) }
 {
@@ -20,14 +20,14 @@ fn add_named(out: &mut Vec<u8>, name: &[u8], number: u64) -> Result<(), AllocErr
     add_number(out, number)
 }
 
-/// Adds the code of a result.
+/// Appends the code of a result.
 fn add_code(out: &mut Vec<u8>, code: ResultCode) -> Result<(), AllocError>
     ensures { OnOk result (out.new.items ≡ out.old.items ++ blanked (codes "code" ∷ decimal (code_of code) ∷ [])) }
 {
     add_named(out, b"code", u64::from(code.code()))
 }
 
-/// Adds the written text of a value.
+/// Appends the encoding of a value.
 fn add_value(alloc: Global, out: &mut Vec<u8>, value: &Data) -> Result<(), AllocError>
     ensures { OnOk result (out.new.items ≡ out.old.items ++ blanked (codes "value" ∷ data_word value.now ∷ [])) }
 {
@@ -35,7 +35,7 @@ fn add_value(alloc: Global, out: &mut Vec<u8>, value: &Data) -> Result<(), Alloc
     add_data(alloc, out, value)
 }
 
-/// Adds what a read of one attribute of several gives.
+/// Appends the result of reading one attribute of a list.
 fn add_result(alloc: Global, out: &mut Vec<u8>, item: &GetResult) -> Result<(), AllocError>
     ensures { OnOk result (out.new.items ≡ out.old.items ++ blanked (result_words item.now [])) }
 {
@@ -45,7 +45,7 @@ fn add_result(alloc: Global, out: &mut Vec<u8>, item: &GetResult) -> Result<(), 
     }
 }
 
-/// Adds what reads of several give.
+/// Appends the results of reading the attributes of a list.
 fn add_results(alloc: Global, out: &mut Vec<u8>, items: &[GetResult]) -> Result<(), AllocError>
     ensures { OnOk result (out.new.items ≡ out.old.items ++ blanked (all_words result_words items.now)) }
 {
@@ -55,7 +55,7 @@ fn add_results(alloc: Global, out: &mut Vec<u8>, items: &[GetResult]) -> Result<
     Ok(())
 }
 
-/// Adds how often each side of a limiter has fired.
+/// Appends how many times each side of the import limiter has fired.
 fn add_sampled(out: &mut Vec<u8>, over: u64, under: u64) -> Result<(), AllocError>
     ensures { OnOk result (out.new.items ≡ out.old.items ++ blanked (codes "sampled" ∷ decimal over ∷ decimal under ∷ [])) }
 {
@@ -63,7 +63,8 @@ fn add_sampled(out: &mut Vec<u8>, over: u64, under: u64) -> Result<(), AllocErro
     add_number(out, under)
 }
 
-/// Adds how often each side of the export limiter has fired, behind those of the import limiter.
+/// Appends how many times each side of the import limiter, and then of the export limiter, has
+/// fired.
 fn add_sampled_both(
     out: &mut Vec<u8>,
     over: u64,
@@ -78,7 +79,7 @@ fn add_sampled_both(
     add_number(out, export_under)
 }
 
-/// Adds a reply.
+/// Appends a reply.
 #[tactic(auto, unfolding(crate::specs::Replies::reply_row))]
 fn add_reply(alloc: Global, out: &mut Vec<u8>, reply: &Reply) -> Result<(), AllocError>
     ensures { OnOk result (out.new.items ≡ out.old.items ++ blanked (reply_row reply.now)) }
@@ -108,7 +109,7 @@ fn add_reply(alloc: Global, out: &mut Vec<u8>, reply: &Reply) -> Result<(), Allo
     }
 }
 
-/// The number of a state.
+/// Returns the number of a control state.
 fn state_number(state: ControlState) -> u64
     ensures { result ≡ state_number state }
 {
@@ -119,10 +120,11 @@ fn state_number(state: ControlState) -> u64
     }
 }
 
-/// Most lines have at most so many bytes: a longer one takes memory more than once.
+/// The initial capacity of a line, in bytes. It suffices for most lines; a longer line is
+/// reallocated.
 const USUAL_BYTES: usize = 64;
 
-/// The text of a line.
+/// Returns the text of the line of a reply.
 #[tactic(auto, unfolding(crate::specs::Replies::line_text))]
 fn line_text(alloc: Global, number: u64, line: &Line) -> Result<Vec<u8>, AllocError>
     ensures { IfOk result (λ text. text.items ≡ line_text number line.now) }
@@ -139,8 +141,8 @@ fn line_text(alloc: Global, number: u64, line: &Line) -> Result<Vec<u8>, AllocEr
     Ok(text)
 }
 
-/// Writes the line of a reply behind what is there, without the byte 0A that ends it: the number of the event, the reply, the state of the switch and whether the
-/// supply is on. Where memory runs out nothing is written.
+/// Appends the line of a reply, without the byte 0A that ends it: the number of the event, the
+/// reply, the control state and whether the supply is on. On an error nothing is appended.
 pub fn write_line(
     alloc: Global,
     out: &mut Vec<u8>,

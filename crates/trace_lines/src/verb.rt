@@ -25,7 +25,7 @@ pub(crate) enum Verb {
 }
 
 impl Verb {
-    /// The word.
+    /// Returns the word of this kind.
     pub(crate) fn word(self) -> &'static [u8]
         ensures { result.now ≡ verb_word self }
     {
@@ -42,14 +42,14 @@ impl Verb {
     }
 }
 
-/// Whether a word is that of this kind.
+/// Returns whether a word is that of this kind.
 fn is_word_of(kind: Verb, word: &[u8]) -> bool
     ensures { result ≡ is_word_of kind word.now }
 {
     word == kind.word()
 }
 
-/// What a word is as the first of an event's line.
+/// Returns the kind of event that a first word names. Errors: `Wrong` for any other word.
 #[tactic(auto, unfolding(crate::specs::Verbs::verb_in))]
 pub(crate) fn verb_of(word: &[u8]) -> Result<Verb, RowFault>
     ensures { result ≡ verb_in word.now }

@@ -8,7 +8,7 @@ use std::alloc::{AllocError, Global};
 use trace_text::{add_hex, add_number, add_word};
 use trace_words::{add_data, add_flag};
 
-/// Adds the port of a client.
+/// Appends the port of a client.
 pub(crate) fn add_level(out: &mut Vec<u8>, level: Level) -> Result<(), AllocError>
     ensures { OnOk result (out.new.items ≡ out.old.items ++ blanked (decimal (level_number level) ∷ [])) }
 {
@@ -21,7 +21,7 @@ pub(crate) fn add_level(out: &mut Vec<u8>, level: Level) -> Result<(), AllocErro
     )
 }
 
-/// Adds an attribute: class, name, number.
+/// Appends an attribute: class, name, number.
 pub(crate) fn add_attribute(
     alloc: Global,
     out: &mut Vec<u8>,
@@ -34,7 +34,7 @@ pub(crate) fn add_attribute(
     add_number(out, u64::from(attr.number))
 }
 
-/// Adds a method: class, name, number.
+/// Appends a method: class, name, number.
 pub(crate) fn add_method(
     alloc: Global,
     out: &mut Vec<u8>,
@@ -47,7 +47,7 @@ pub(crate) fn add_method(
     add_number(out, u64::from(method.number))
 }
 
-/// Adds an attribute, and whether a part of it is asked for.
+/// Appends an attribute, and whether a part of it is requested (selective access).
 fn add_selection(
     alloc: Global,
     out: &mut Vec<u8>,
@@ -59,7 +59,7 @@ fn add_selection(
     add_flag(out, item.selected)
 }
 
-/// Adds several of them.
+/// Appends several attributes, each with whether a part of it is requested.
 pub(crate) fn add_selections(
     alloc: Global,
     out: &mut Vec<u8>,
@@ -73,7 +73,7 @@ pub(crate) fn add_selections(
     Ok(())
 }
 
-/// Adds a parameter, or `-` for none.
+/// Appends a parameter, or `-` for none.
 pub(crate) fn add_parameter(
     alloc: Global,
     out: &mut Vec<u8>,
@@ -87,7 +87,7 @@ pub(crate) fn add_parameter(
     }
 }
 
-/// Adds samples.
+/// Appends samples.
 pub(crate) fn add_values(out: &mut Vec<u8>, values: &[u32]) -> Result<(), AllocError>
     ensures { OnOk result (out.new.items ≡ out.old.items ++ blanked (all_words value_words values.now)) }
 {
@@ -97,7 +97,7 @@ pub(crate) fn add_values(out: &mut Vec<u8>, values: &[u32]) -> Result<(), AllocE
     Ok(())
 }
 
-/// Adds samples in pairs.
+/// Appends pairs of samples.
 pub(crate) fn add_pairs(
     out: &mut Vec<u8>,
     imports: &[u32],

@@ -1,4 +1,4 @@
--- The lines that a limiter is read from are those that are written for it.
+-- The lines that a limiter is read from are the lines that are written for it.
 use Rattle.std.proofs.Common.{◌≡◌, refl, ℕ, [], ◌∷◌, Ok, subst, codes}
 use Rattle.limiter_core.specs.declared.settings.Settings.{Settings}
 use Rattle.byte_reading.proofs.OutcomeLemmas.{bind_ok}
@@ -14,7 +14,7 @@ use Rattle.trace_words.specs.Places.{Place, line_as}
 use Rattle.trace_words.specs.declared.version.Version.TheVariants.{Two}
 use Rattle.trace_words.proofs.PlacesBack.{carried, Took, then, line_back}
 
--- the lines of what is set
+-- the lines of the settings
 settings_back : (which : Which) (place : Place) (settings : Settings) (behind : Place) → settings_from which place ≡ Ok (settings, behind)
     → Took (settings_rows which settings) place behind
 unfolding settings_from
@@ -44,7 +44,7 @@ settings_back which place settings behind e =
     (then _ _ profile.0.1 groups.0.1 actions.0.1 (line_back _ (groups_from which) (groups_row which) (groups_back which) profile.0.1 groups.0.0 groups.0.1 groups.1)
     (line_back _ (actions_from which) (actions_row which) (actions_back which) groups.0.1 actions.0.0 actions.0.1 actions.1)))))))
 
--- the lines behind that of the last sample
+-- the lines after that of the last sample
 pub limiter_back : (which : Which) (last : ℕ) (place : Place) (o : LimiterOpening) (behind : Place) → limiter_from which last place ≡ Ok (o, behind)
     → (Took (limiter_rows which o) place behind) × (last ≡ o.value)
 unfolding limiter_from

@@ -1,4 +1,5 @@
--- The lines that an opening is read from are those that are written for it, but for the Datas that they hold.
+-- The lines that an opening is read from are the lines that are written for it, except for the
+-- Datas in them.
 use Rattle.std.proofs.Common.{◌≡◌, ℕ, ◌+◌, List, [], ◌∷◌, ◌++◌, Ok, refl, sym, ap, subst, ◌∙◌, codes}
 use Rattle.hex.specs.Hex.{encode_upper}
 use Rattle.byte_reading.proofs.OutcomeLemmas.{ok_is, bind_ok}
@@ -31,7 +32,7 @@ use Rattle.trace_openings.proofs.LimitersBack.{limiter_back, export_back}
 
 -- ---- the script table and the schedules
 
--- the line of the script table, which stands as this Data
+-- the line of the script table, with this Data
 record TableRead (scripts : List Script) (place behind : Place) : Type 0 where
   pub form : Data
   pub says : table_of form ≡ Ok scripts
@@ -48,7 +49,7 @@ table_back place scripts behind e =
       took = subst (λ (row : Row). Took (row ∷ []) place behind) (word.1 ∙ ap (λ (w : Word). codes "scripts" ∷ w ∷ []) form.2) line.took;
     }
 
--- the line of a schedule, whose entries stand as this Data
+-- the line of a schedule, with this Data as its entries
 record EntriesRead (number : ℕ) (schedule : Schedule) (place behind : Place) : Type 0 where
   pub form : Data
   pub says : entries_of form ≡ Ok schedule.entries
@@ -106,14 +107,14 @@ same_rows : (device other : List ℕ) (state other_state : ControlState) (mode o
     → switch_rows device state mode ≡ switch_rows other other_state other_mode
 same_rows device other state other_state mode other_mode is_device is_state is_mode = rw (is_device, is_state, is_mode) refl
 
--- the lines behind these
+-- the lines after these
 abbrev rest_rows : Opening → Forms → List Row
 rest_rows o forms =
     (value_row Import o.import ∷ (codes "now" ∷ moment_word o.moment ∷ []) ∷ (limiter_rows Import o.import ++ (value_row Export o.export ∷ limiter_rows Export o.export)))
     ++ (codes "scripts" ∷ data_word forms.table ∷ []) ∷ entries_row 0 o.schedules.first forms.first ∷ entries_row 1 o.schedules.second forms.second
     ∷ entries_row 2 o.schedules.third forms.third ∷ entries_row 3 o.schedules.fourth forms.fourth ∷ []
 
--- an opening that was read behind the line of the mode, and the Datas that its lines hold
+-- an opening that was read from the lines after that of the mode, and the Datas in these lines
 record RestRead (device : List ℕ) (state : ControlState) (mode : ControlMode) (o : Opening) (place behind : Place) : Type 0 where
   pub device_is : device ≡ o.device
   pub state_is : state ≡ o.state
@@ -151,11 +152,11 @@ rest_back device state mode place o behind e =
           then _ _ export.0.1 scripts.0.1 schedules.0.1 table.took entries.took))));
     })
 
--- all lines behind that of the version
+-- all lines after that of the version
 abbrev rows_behind : Opening → Forms → List Row
 rows_behind o forms = switch_rows o.device o.state o.mode ++ rest_rows o forms
 
--- an opening that was read, and the Datas that its lines hold
+-- an opening that was read, and the Datas in its lines
 record OpeningRead (o : Opening) (place behind : Place) : Type 0 where
   pub forms : Forms
   pub say : AreFormsOf o forms
@@ -201,7 +202,7 @@ all_back place o behind e =
           inner.took,
     )
 
--- the lines of an opening, as they are told in 25 lines and five
+-- the lines of an opening are the same 25 lines followed by the same five
 rows_are : (o : Opening) (forms : Forms) → all_rows o forms ≡ rows_with o forms
 unfolding opening_rows rows_with
 rows_are o forms = refl
@@ -214,13 +215,13 @@ opening_back place o behind e =
     let read = all_back place o behind e in
     (read.0, read.1, read.2.lines ∙ ap (λ (rows : List Row). rows ++ behind.rows) (rows_are o read.0))
 
--- they are thirty lines
+-- an opening has thirty lines
 pub opening_lines : (place : Place) (o : Opening) (behind : Place) → opening_from place ≡ Ok ((Two, o), behind) → (behind.number ≡ place.number + 30) × (behind.unended ≡ place.unended)
 opening_lines place o behind e =
     let read = all_back place o behind e in
     (read.2.number, read.2.unended)
 
--- with the Datas that are written they are the lines that are written
+-- with the Datas that are written, the lines are those that are written
 pub written_rows : (o : Opening) → rows_with o (written_forms o) ≡ opening_rows o
 unfolding opening_rows rows_with
 written_rows o = refl

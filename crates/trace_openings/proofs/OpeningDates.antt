@@ -1,4 +1,4 @@
--- The text of a date-time is bytes.
+-- The text of a date-time consists of bytes.
 use Rattle.std.proofs.Common.{ℕ, ◌<◌, [], ◌∷◌, ◌++◌, length, Option, Some, None, ℤ, arith, length-append}
 use Rattle.std.specs.Int.{w16, cast_unsigned}
 use Rattle.hex.specs.Hex.{IsBytes}

@@ -1,4 +1,4 @@
--- Each line of an opening that is written is read again.
+-- Each line of an opening that is written is read back.
 use Rattle.std.proofs.Common.{◌≡◌, ℕ, zero, suc, ◌≤◌, true, false, nat_eq, nat_le, ◌==◌, List, [], ◌∷◌, length, Option, Some, None, Ok, refl, arith, decimal, codes, eq-eqb}
 use Rattle.std.proofs.lemmas.Bool.Decides.{nat_tests}
 use Rattle.std.specs.List.{All}
@@ -78,7 +78,7 @@ mode_again mode state fit =
     let fits = mode_fits mode state fit in
     rw (read, found, fits) refl
 
--- the word of no moment is no number
+-- `-`, the word of no moment, is not a number
 hyphen_is_no_number : (word : Word) → is_decimal word ≡ true → pointwise nat_eq word (codes "-") ≡ false
 hyphen_is_no_number [] e = refl
 hyphen_is_no_number (c ∷ []) e = grind (arith, nat_tests)
@@ -207,11 +207,11 @@ count_again name count within =
     let fired = flag_again count.fired in
     rw (first, run, fired) refl
 
--- runs pass the test exactly where samples can give them
+-- runs pass the test exactly if samples can give them
 abbrev pub FitRunsMean : Type 0
 FitRunsMean = (last : ℕ) (over under : Count) → IsTrue (are_fit last over under) ↔ IsFit last over under
 
--- the run over the threshold is fit by itself
+-- the run over the threshold fits the last value even without the run under it
 over_fits : (last : ℕ) (over under : Count) → IsFit last over under → IsFit last over no_run
 over_fits last over under fits = record {
   over_fits = fits.over_fits;

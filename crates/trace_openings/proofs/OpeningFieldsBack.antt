@@ -1,4 +1,4 @@
--- Each line of an opening that is read is written as that line, but for the Data that it may hold.
+-- Each line of an opening that is read is written back as that line, except for a Data in it.
 use Rattle.std.proofs.Common.{◌≡◌, ℕ, Bool, ◌==◌, List, [], ◌∷◌, Option, Ok, ap, subst, ◌∙◌, arith, decimal, codes}
 use Rattle.std.proofs.lemmas.Bool.{eqb-true}
 use Rattle.byte_reading.proofs.OutcomeLemmas.{ok_is, bind_ok, guard_ok}
@@ -129,7 +129,7 @@ schedule_line row a b c d found number word selector kind entries form is_row is
     is_c ∙ ap (λ (ws : Row). decimal (number_of kind) ∷ ws) (
     is_d ∙ ap (λ (w : Word). w ∷ []) is_word))))
 
--- a schedule, whose entries stand as a Data that is read as these
+-- a schedule, and a Data that is read as its entries
 pub schedule_read : (number : ℕ) (row : Row) (schedule : Schedule) → schedule_from number row ≡ Ok schedule
     → (form : Data) × (entries_of form ≡ Ok schedule.entries) × (row ≡ entries_row number schedule form)
 unfolding schedule_from

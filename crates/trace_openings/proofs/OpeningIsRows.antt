@@ -1,4 +1,5 @@
--- The lines of an opening are of words that a line can hold, so that its text is read as them.
+-- The lines of an opening consist of words that a line can hold, so its text is read as these
+-- lines.
 use Rattle.std.proofs.Common.{◌≡◌, ℕ, ◌≤◌, true, List, [], ◌∷◌, ◌++◌, Option, Some, None, refl, arith, decimal, codes}
 use Rattle.std.specs.Prelude.{IfSome}
 use Rattle.std.specs.List.{list_all}
@@ -32,11 +33,11 @@ use Rattle.trace_openings.specs.OpeningTraced.{AreIds, IsTracedLimiter, IsTraced
 use Rattle.trace_words.specs.Rows.{Word, Row}
 use Rattle.trace_words.specs.Writing.{all_words, value_words, data_word, flag_number}
 
--- each of the lines is read again
+-- each of the lines consists of words that a line can hold
 abbrev AreRows : List Row → Type 0
 AreRows rows = list_all is_row rows ≡ true
 
--- a line more
+-- one more line
 more_rows : (row : Row) (rows : List Row) → is_row row ≡ true → AreRows rows → AreRows (row ∷ rows)
 more_rows row rows is are = rw is are
 

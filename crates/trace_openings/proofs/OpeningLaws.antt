@@ -1,4 +1,4 @@
--- An opening that is written is read again, line by line.
+-- An opening that is written is read back, line by line.
 use Rattle.std.proofs.Common.{◌≡◌, ℕ, suc, ◌≤◌, List, [], ◌∷◌, ◌++◌, Ok, refl, arith, decimal, codes}
 use Rattle.hex.specs.Hex.{encode_upper}
 use Rattle.cosem_names.specs.declared.objects.Which.{Which}
@@ -90,7 +90,7 @@ schedules_again schedules number rows unended traced_first traced_second traced_
     let fourth = line_again (schedule_from 3) fourth_row schedules.fourth (three_on number) rows unended (schedule_again 3 schedules.fourth (omega arith) traced_fourth) in
     rw (first, second, third, fourth) refl
 
--- the lines behind that of the version, and others
+-- the lines after that of the version, followed by others
 abbrev behind_version : Opening → List Row → List Row
 behind_version o rows =
     (codes "device" ∷ encode_upper o.device ∷ []) ∷ number_row (codes "state") (state_number o.state) ∷ number_row (codes "mode") (mode_number o.mode)

@@ -1,4 +1,4 @@
--- What is so of each line of an opening that is read.
+-- Facts about each line of an opening that is read.
 use Rattle.std.proofs.Common.{◌≡◌, ℕ, ◌≤◌, List, length, Result, Ok, Err, ap, arith, inr}
 use Rattle.byte_reading.specs.Outcome.{◌>>=◌, Fails}
 use Rattle.byte_reading.proofs.OutcomeLemmas.{done}
@@ -11,7 +11,7 @@ use Rattle.trace_words.specs.declared.fault.RowFault.{RowFault}
 use Rattle.trace_words.specs.declared.fault.RowFault.TheVariants.{Memory}
 use Rattle.trace_words.proofs.WordsBack.{wanted_is}
 
--- a word in hexadecimal has a byte or more
+-- a word in hexadecimal has at least one byte
 pub bytes_some : (word bytes : List ℕ) → bytes_in word ≡ Ok bytes → 1 ≤ length bytes
 bytes_some word bytes e = let h = (bytes_only word bytes (wanted_is (bytes_of word) bytes e)).3 in omega (arith, h)
 
@@ -19,6 +19,6 @@ bytes_some word bytes e = let h = (bytes_only word bytes (wanted_is (bytes_of wo
 pub id_is : (word : Word) (words : Row) (n : ℕ) → number_in 65535 word ≡ Ok n → id_from word words ≡ Ok (n, words)
 id_is word words n e = ap (λ (r : Result ℕ RowFault). r >>= λ (id : ℕ). done RowFault (id, words)) e
 
--- or it is none
+-- a word that is not a group id is refused
 pub id_fails : (word : Word) (words : Row) (fault : RowFault) → number_in 65535 word ≡ Err fault → Fails Memory fault (id_from word words)
 id_fails word words fault e = inr (ap (λ (r : Result ℕ RowFault). r >>= λ (id : ℕ). done RowFault (id, words)) e)

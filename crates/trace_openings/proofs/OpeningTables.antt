@@ -1,4 +1,5 @@
--- The tables of an opening are within the limits of a Data's text: a script table of at most 5,362 bytes, entries of at most 242.
+-- The tables of an opening are within the limits of a Data's text: a script table has at most 5,362
+-- bytes, the entries of a schedule at most 242.
 use Rattle.std.proofs.Common.{◌≡◌, ℕ, suc, ◌+◌, ◌*◌, ◌<◌, ◌≤◌, ◌^◌, true, nat_lt, List, [], ◌∷◌, ◌++◌, map, length, Option, Some, None, ℤ, pos, refl, ap, ◌∙◌, arith, length-append}
 use Rattle.std.proofs.lemmas.Bool.Decides.{nat_tests}
 use Rattle.std.proofs.lemmas.Int.{fits_signed_from_abs}
@@ -33,14 +34,14 @@ use Rattle.script_steps.specs.declared.step.Step.TheVariants as step
 use Rattle.trace_openings.specs.OpeningTraced.{IsTracedStep, IsTracedScript}
 use Rattle.trace_words.specs.Writing.{IsHeld}
 
--- a value within all limits, whose text has no more than so many bytes, and that is not nested deeper than so
+-- a value within all limits, with a text of at most `most` bytes and a nesting of at most `deep`
 record IsSmall (t : Tree) (most deep : ℕ) : Type 0 where
   within : IsWithin t
   fine : IsFine t
   short : length (text t) ≤ most
   flat : nesting t ≤ deep
 
--- so many of them
+-- `count` such values
 record AreSmall (ts : Trees) (count most deep : ℕ) : Type 0 where
   within : AreWithin ts
   fine : AreFine ts
@@ -87,7 +88,7 @@ array_small ts count most deep total less le small =
       flat = omega (arith, small.flat);
     }
 
--- a structure of so many bytes of items
+-- a structure whose items have at most `most` bytes
 structure_small : (ts : Trees) (most deep : ℕ) → count_of ts < 0x80 → AreWithin ts → AreFine ts → length (texts ts) ≤ most → nests ts ≤ deep → IsSmall (structure ts) (2 + most) (deep + 1)
 structure_small ts most deep few within fine short flat =
     let joined : length (length_text (count_of ts) ++ texts ts) ≡ length (length_text (count_of ts)) + length (texts ts) = length-append (length_text (count_of ts)) (texts ts) in

@@ -1,4 +1,4 @@
--- The lines that an opening takes.
+-- The number of lines that an opening has.
 use Rattle.std.proofs.Common.{◌≡◌, ℕ, ◌+◌, List, [], ◌∷◌, ◌++◌, Ok}
 use Rattle.byte_reading.proofs.OutcomeLemmas.{bind_ok}
 use Rattle.cosem_names.specs.declared.objects.Which.{Which}
@@ -25,7 +25,7 @@ unfolding limiter_from
 limiter_takes which last place =
     takes_then 7 2 _ _ _ (settings_takes which place) (λ settings. takes_then 1 1 _ _ _ (takes_line _ settings.1) (λ over. takes_then 1 0 _ _ _ (takes_line _ over.1) (λ under. takes_none _ _)))
 
--- the lines of the export limiter, of which version 1 has none
+-- the number of lines of the export limiter, none in version 1
 abbrev export_lines : Version → ℕ
 export_lines One = 0
 export_lines Two = 10
@@ -41,7 +41,7 @@ schedules_takes place =
     takes_then 1 3 _ _ _ (takes_line _ place) (λ first. takes_then 1 2 _ _ _ (takes_line _ first.1) (λ second. takes_then 1 1 _ _ _ (takes_line _ second.1) (λ third.
     takes_then 1 0 _ _ _ (takes_line _ third.1) (λ fourth. takes_none _ _))))
 
--- the lines of an opening behind that of the version
+-- the number of lines of an opening after that of the version
 abbrev pub lines_behind : Version → ℕ
 lines_behind version = 1 + (1 + (1 + (1 + (1 + (9 + (export_lines version + (1 + (4 + 0))))))))
 
@@ -53,7 +53,7 @@ opening_in_takes version place =
     takes_then 9 _ _ _ _ (limiter_takes Import last.0 moment.1) (λ import. takes_then (export_lines version) _ _ _ _ (export_takes version import.1) (λ export.
     takes_then 1 _ _ _ _ (takes_line _ export.1) (λ scripts. takes_then 4 0 _ _ _ (schedules_takes scripts.1) (λ schedules. takes_none _ _)))))))))
 
--- they stand from the place of the opening to the one behind it
+-- the lines between the start of an opening and the place after it
 pub opening_stands : (place : Place) (parts : Version × Opening) (behind : Place) → opening_from place ≡ Ok (parts, behind) → (rows : List Row) × Took rows place behind
 unfolding opening_from
 opening_stands place parts behind e =

@@ -1,4 +1,4 @@
--- Lines of words, as they are written one after the other.
+-- Lines of words, written one after the other.
 use Rattle.std.proofs.Common.{◌≡◌, ℕ, List, [], ◌∷◌, ◌++◌, Result, Ok, Err, sym, ap, ◌∙◌, append_assoc}
 use Rattle.std.specs.Result.{OnOk}
 use Rattle.trace_text.proofs.LinesLemmas.{rows_text-append, rows_text-one}
@@ -7,11 +7,12 @@ use Rattle.trace_words.specs.Rows.{Word, Row}
 use Rattle.trace_words.specs.Writing.{blanked}
 use Rattle.trace_words.proofs.Blanks.{line_of_first}
 
--- a line is its first word, each other one behind a blank, and the byte 0A
+-- a line is its first word, each other word after a blank, and the byte 0A
 row_text : (word : Word) (words : Row) → rows_text ((word ∷ words) ∷ []) ≡ (word ++ blanked words) ++ 10 ∷ []
 row_text word words = rows_text-one (word ∷ words) ∙ ap (λ (line : List ℕ). line ++ 10 ∷ []) (line_of_first word words)
 
--- a line's first word is written, then those behind it, and then it is ended, if memory suffices
+-- the first word of a line is written, then the others, and then the line is ended, unless out of
+-- memory
 pub ended_line : (word : Word) (words : Row) (before first middle after : List ℕ) {T E : Type 0} (result : Result T E) → first ≡ before ++ word → middle ≡ first ++ blanked words
     → OnOk result (after ≡ middle ++ 10 ∷ []) → OnOk result (after ≡ before ++ rows_text ((word ∷ words) ∷ []))
 ended_line word words before first middle after (Ok x) labelled written ended =
@@ -21,12 +22,12 @@ ended_line word words before first middle after (Ok x) labelled written ended =
     ∙ ap (λ (bs : List ℕ). before ++ bs) (sym (row_text word words))
 ended_line word words before first middle after (Err error) labelled written ended = ended
 
--- lines are written, and then others
+-- lines are written, followed by others
 pub joined : (rows others : List Row) (before middle after : List ℕ) → middle ≡ before ++ rows_text rows → after ≡ middle ++ rows_text others → after ≡ before ++ rows_text (rows ++ others)
 joined rows others before middle after first second =
     second ∙ ap (λ (bs : List ℕ). bs ++ rows_text others) first ∙ append_assoc before (rows_text rows) (rows_text others) ∙ ap (λ (bs : List ℕ). before ++ bs) (sym (rows_text-append rows others))
 
--- the same, if memory suffices for the others
+-- lines are written, followed by others, unless out of memory
 pub joined_last : (rows others : List Row) (before middle after : List ℕ) {T E : Type 0} (result : Result T E) → middle ≡ before ++ rows_text rows
     → OnOk result (after ≡ middle ++ rows_text others) → OnOk result (after ≡ before ++ rows_text (rows ++ others))
 joined_last rows others before middle after (Ok x) first second = joined rows others before middle after first second

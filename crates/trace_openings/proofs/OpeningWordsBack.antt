@@ -1,4 +1,5 @@
--- Each word of an opening that is read is written as that word, but for the spelling that a Data has of several.
+-- Each word of an opening that is read is written back as that word, except for a Data with several
+-- spellings.
 use Rattle.std.proofs.Common.{◌≡◌, ℕ, ◌≤◌, false, cond, nat_eq, nat_le, ◌==◌, List, ◌∷◌, length, Option, Some, None, Result, Ok, Err, refl, ap, ◌∙◌, arith, inl, inr, decimal, codes}
 use Rattle.std.proofs.lemmas.Bool.{eqb-true}
 use Rattle.std.proofs.lemmas.Bool.Decides.{nat_tests}
@@ -35,7 +36,7 @@ use Rattle.trace_words.specs.declared.fault.RowFault.TheVariants.{Wrong}
 use Rattle.trace_words.specs.declared.version.Version.{Version}
 use Rattle.trace_words.specs.declared.version.Version.TheVariants.{One, Two}
 
--- one of several that is found by its number, or one of those that are tried later
+-- a value found by its number among several: this one, or one of those tried later
 found_back : (X : Type 0) (number : X → ℕ) (n k : ℕ) (x : X) (later : Option X) (y : X) → k ≡ number x → (later ≡ Some y → n ≡ number y) → cond (n == k) (Some x) later ≡ Some y → n ≡ number y
 found_back X number n k x later y is back e =
     elim (chosen (n == k) (Some x) later (Some y) e) [
@@ -61,7 +62,7 @@ type_is n kind e =
     found_back ScheduleType number_of n 4 Type4 _ kind refl (
     found_back ScheduleType number_of n 5 Type5 _ kind refl (λ none. absurd (cc none)))))) e
 
--- the number of a version of the text
+-- the number of a version
 abbrev pub version_number : Version → ℕ
 version_number One = 1
 version_number Two = 2

@@ -1,4 +1,4 @@
--- The lines of an opening are not long.
+-- Bounds on the length of the lines of an opening.
 use Rattle.std.proofs.Common.{◌≡◌, ℕ, suc, ◌+◌, ◌*◌, ◌<◌, ◌≤◌, List, [], ◌∷◌, ◌++◌, codes, decimal, length, Option, Some, None, IfSome, arith}
 use Rattle.hex.specs.Hex.{encode_upper}
 use Rattle.action_schedule.specs.Kinds.{number_of}
@@ -30,7 +30,7 @@ use Rattle.trace_words.proofs.ShortRows.{AreShort, HasWords, IsShort, both_short
 
 -- ---- lines
 
--- a first word and one that is short
+-- a line of a first word and one short word
 word_row_short : (name word : Word) (long : ℕ) → length name ≤ 20 → length word ≤ long → long ≤ 16384 → IsShort (name ∷ word ∷ [])
 word_row_short name word long short le most =
     words_in (1 + 20 + (1 + long + 0)) 20000 (name ∷ word ∷ []) (word_on 20 (1 + long + 0) name (word ∷ []) short (word_on long 0 word [] le no_words)) (omega (arith, most))
@@ -52,7 +52,7 @@ ids_short (id ∷ ids) (one, others) =
 
 -- ---- a limiter
 
--- the first word of a limiter's line has one byte more at most
+-- the label of a limiter's line has at most one byte more than its name
 label_short : (which : Which) (name : Word) (long : ℕ) → length name ≤ long → length (label which name) ≤ suc long
 label_short Import name long le = omega (arith, le)
 label_short Export name long le = omega (arith, le)
@@ -146,7 +146,7 @@ tables_short o is = (
   ),
 )
 
--- the lines from those of the export limiter on
+-- the lines from that of the export limiter's last sample on
 abbrev export_rows : Opening → List Row
 export_rows o = value_row Export o.export ∷ (limiter_rows Export o.export ++ table_rows o)
 

@@ -1,8 +1,8 @@
--- The lines of an opening, each by itself: a first word that names it, and its values.
---     behind, labelled          what stands behind the first word; a line of one value
---     label                     the first word of a limiter's line
---     version_in .. entries_in  a word
---     version_from .. schedule_from   a line of words
+-- The lines of an opening, one by one: a first word, the label, and its values.
+--     behind, labelled                the words after the label; a line of one value
+--     label                           the label of a limiter's line
+--     version_in .. entries_in        the value of a word
+--     version_from .. schedule_from   the value of a line of words
 use Rattle.std.specs.Prelude.{ℕ, ◌==◌, nat_eq, nat_le, codes, List, ◌++◌, length, Option, Some, None, Result, Ok, Err, if◌then◌else◌}
 use Rattle.std.specs.Cmp.Lexicographic.{pointwise}
 use Rattle.std.specs.Result.{result_ok}
@@ -38,12 +38,12 @@ use Rattle.trace_words.specs.Labels.{labelled, behind}
 
 -- ---- words
 
--- the first word of a line of one of the limiters: those of the export limiter begin with an x
+-- the label of a line of one of the limiters; those of the export limiter begin with an x
 abbrev pub label : Which → Word → Word
 label Import name = name
 label Export name = codes "x" ++ name
 
--- the version of the text
+-- the version of the format, 1 or 2
 abbrev pub version_in : Word → Result Version RowFault
 version_in word = do
   number ← number_in 2 word
@@ -61,7 +61,7 @@ state_in word = do
   number ← number_in 2 word
   Ok (if number == 0 then Disconnected else if number == 1 then Connected else ReadyForReconnection)
 
--- a mode that goes with the state
+-- a control mode that fits the control state
 unfoldable pub mode_in : ControlState → Word → Result ControlMode RowFault
 mode_in state word = do
   number ← number_in 6 word
@@ -75,19 +75,19 @@ moment_in word = if pointwise nat_eq word (codes "-") then Ok None else do
   moment ← value_in word
   Ok (Some moment)
 
--- the twelve bytes of a date-time in hexadecimal
+-- a date-time, its twelve bytes in hexadecimal
 unfoldable pub start_in : Word → Result DateTimeFields RowFault
 start_in word = do
   bytes ← bytes_in word
   wanted (result_ok (date_time_of bytes))
 
--- a script table, its Data in hexadecimal
+-- a script table, a Data in hexadecimal
 unfoldable pub table_in : Word → Result (List Script) RowFault
 table_in word = do
   value ← data_in word
   wanted (result_ok (table_of value))
 
--- the entries of a schedule, their Data in hexadecimal
+-- the entries of a schedule, a Data in hexadecimal
 unfoldable pub entries_in : Word → Result (List EntryPattern) RowFault
 entries_in word = do
   value ← data_in word
@@ -99,7 +99,7 @@ type_in word = do
   number ← number_in 5 word
   wanted (type_of_number number)
 
--- one of several ids
+-- one id in a list
 abbrev pub id_from : Word → Row → Read ℕ
 id_from word words = do
   id ← number_in 65535 word
@@ -126,7 +126,7 @@ groups_from which row = do
   words ← behind (label which (codes "groups")) row
   all_at id_from 32 words.1
 
--- the selectors of the actions, over and under
+-- the script selectors of the actions, over and under the threshold
 unfoldable pub actions_from : Which → Row → Result Actions RowFault
 actions_from which row = do
   words ← behind (label which (codes "actions")) row
@@ -134,7 +134,7 @@ actions_from which row = do
   under ← last_as (number_in 65535) over.1
   Ok (record { over = over.0; under = under })
 
--- a run, and whether it has fired
+-- the length of a run, and whether it has fired
 unfoldable pub count_from : Word → Row → Result Count RowFault
 count_from name row = do
   words ← behind name row
@@ -142,14 +142,14 @@ count_from name row = do
   fired ← last_as flag_in run.1
   Ok (record { run = run.0; fired = fired })
 
--- the run over the threshold, which the last value can end
+-- the run over the threshold, if the last value allows it
 unfoldable pub over_from : Which → ℕ → Row → Result Count RowFault
 over_from which last row = do
   over ← count_from (label which (codes "over")) row
   guard (are_fit last over no_run) Wrong
   Ok over
 
--- the run under it, where there is none over it
+-- the run under the threshold, if the last value and the run over the threshold allow it
 unfoldable pub under_from : Which → ℕ → Count → Row → Result Count RowFault
 under_from which last over row = do
   under ← count_from (label which (codes "under")) row

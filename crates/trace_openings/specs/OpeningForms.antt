@@ -1,9 +1,11 @@
--- The Datas in the lines of an opening. A script table, and the entries of a schedule, are written in one form, and read in others that say the same: a start, a
--- time or a date under its own tag in place of an octet-string's, and null-data or any integer as the parameter of a method in place of the integer 0.
---     Forms             the Datas that stand in the lines of an opening
---     written_forms     those that are written
---     AreFormsOf        those that are read as the opening's table and entries
---     rows_with         the lines that are written, but for these Datas
+-- The Datas in the lines of an opening. A script table, and the entries of a schedule, are written
+-- in one form and read in others that mean the same: a start, a time or a date may have its own tag
+-- instead of an octet-string's, and the parameter of a method may be null-data or any integer
+-- instead of the integer 0.
+--     Forms             the Datas in the lines of an opening
+--     written_forms     the Datas that are written
+--     AreFormsOf        Datas that are read as the opening's table and entries
+--     rows_with         the lines that are written, but with these Datas
 use Rattle.std.specs.Prelude.{◌≡◌, ℕ, codes, decimal, List, [], ◌∷◌, ◌++◌, take, Ok}
 use Rattle.action_schedule.specs.Kinds.{number_of}
 use Rattle.action_schedule.specs.Reading.{entries_of}
@@ -17,7 +19,7 @@ use Rattle.trace_openings.specs.OpeningRows.{opening_rows}
 use Rattle.trace_words.specs.Rows.{Row}
 use Rattle.trace_words.specs.Writing.{data_word}
 
--- the script table, and the entries of each schedule
+-- the Data of the script table, and that of the entries of each schedule
 pub record Forms : Type 0 where
   pub table : Data
   pub first : Data
@@ -25,7 +27,7 @@ pub record Forms : Type 0 where
   pub third : Data
   pub fourth : Data
 
--- as they are written
+-- the Datas that are written for an opening
 abbrev pub written_forms : Opening → Forms
 written_forms opening = record {
   table = data_of opening.scripts;
@@ -35,7 +37,7 @@ written_forms opening = record {
   fourth = entries_data opening.schedules.fourth.entries;
 }
 
--- they are read as those of the opening
+-- these Datas are read as the table and the entries of the opening
 pub record AreFormsOf (opening : Opening) (forms : Forms) : Type 0 where
   pub table : table_of forms.table ≡ Ok opening.scripts
   pub first : entries_of forms.first ≡ Ok opening.schedules.first.entries
@@ -43,11 +45,12 @@ pub record AreFormsOf (opening : Opening) (forms : Forms) : Type 0 where
   pub third : entries_of forms.third ≡ Ok opening.schedules.third.entries
   pub fourth : entries_of forms.fourth ≡ Ok opening.schedules.fourth.entries
 
--- the line of a schedule with these entries
+-- the line of a schedule whose entries are this Data
 abbrev pub entries_row : ℕ → Schedule → Data → Row
 entries_row number schedule entries = codes "schedule" ∷ decimal number ∷ decimal schedule.selector ∷ decimal (number_of schedule.kind) ∷ data_word entries ∷ []
 
--- the 25 lines before that of the script table as they are written, and the last five with these Datas
+-- the 25 lines before that of the script table as they are written, followed by the last five with
+-- these Datas
 unfoldable pub rows_with : Opening → Forms → List Row
 rows_with opening forms =
     take 25 (opening_rows opening)

@@ -24,11 +24,11 @@ use Rattle.trace_words.specs.declared.version.Version.TheVariants.{One, Two}
 
 -- ---- a limiter
 
--- the line of its last sample
+-- the line of a value of a limiter
 abbrev pub value_line : Which → Place → ReadLines ℕ
 value_line which place = line_as (labelled (label which (codes "value")) value_in) place
 
--- the lines of what is set of it
+-- the lines of a limiter's settings
 unfoldable pub settings_from : Which → Place → ReadLines Settings
 settings_from which place = do
   normal ← line_as (labelled (label which (codes "normal")) value_in) place
@@ -51,7 +51,7 @@ settings_from which place = do
     actions.1,
   )
 
--- all its lines behind that of its last sample
+-- a limiter's lines after that of its last sample
 unfoldable pub limiter_from : Which → ℕ → Place → ReadLines LimiterOpening
 limiter_from which last place = do
   settings ← settings_from which place
@@ -63,7 +63,7 @@ limiter_from which last place = do
 abbrev pub new_limiter : LimiterOpening
 new_limiter = record { settings = new_settings; value = 0; over = no_run; under = no_run }
 
--- the export limiter, which version 1 of the text doesn't tell
+-- the export limiter, which has no lines in version 1 and is then new
 unfoldable pub export_from : Version → Place → ReadLines LimiterOpening
 export_from One place = Ok (new_limiter, place)
 export_from Two place = do
@@ -81,13 +81,13 @@ schedules_from place = do
   fourth ← line_as (schedule_from 3) third.1
   Ok (record { first = first.0; second = second.0; third = third.0; fourth = fourth.0 }, fourth.1)
 
--- a core can have this device name, state and mode
+-- the device name has 1 to 16 bytes, and the control mode fits the control state
 pub record IsFitStart (device : List ℕ) (state : ControlState) (mode : ControlMode) : Type 0 where
   pub device_some : 1 ≤ length device
   pub device_few : length device ≤ 16
   pub control : mode ≡ Mode0 → state ≡ Connected
 
--- the export limiter and what stands behind it, behind the other parts of an opening
+-- the rest of an opening, from the lines after those of the import limiter
 unfoldable pub opening_behind_import : Version → List ℕ → ControlState → ControlMode → Option ℕ → LimiterOpening → Place → ReadLines Opening
 opening_behind_import version device state mode moment import place = do
   export ← export_from version place
@@ -98,7 +98,7 @@ opening_behind_import version device state mode moment import place = do
     schedules.1,
   )
 
--- an opening of this device name, state and mode, its other parts from the lines behind these
+-- an opening with this device name, state and mode, its other parts from the lines after these
 unfoldable pub opening_with : Version → List ℕ → ControlState → ControlMode → Place → ReadLines Opening
 opening_with version device state mode place = do
   last ← value_line Import place
@@ -112,7 +112,7 @@ opening_with version device state mode place = do
     schedules.1,
   )
 
--- the opening behind the line of the version
+-- the opening, from the lines after that of the version
 unfoldable pub opening_in : Version → Place → ReadLines Opening
 opening_in version place = do
   device ← line_as (labelled (codes "device") device_in) place

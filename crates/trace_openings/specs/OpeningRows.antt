@@ -1,4 +1,4 @@
--- The lines that are written for an opening, in version 2 of the text.
+-- The lines that are written for an opening, in version 2.
 use Rattle.std.specs.Prelude.{ℕ, codes, decimal, List, [], ◌∷◌, ◌++◌, Option, Some, None}
 use Rattle.hex.specs.Hex.{encode_upper}
 use Rattle.action_schedule.specs.Schedule.{Schedule}
@@ -37,7 +37,7 @@ groups_row which groups = label which (codes "groups") ∷ all_words value_words
 abbrev pub value_row : Which → LimiterOpening → Row
 value_row which limiter = number_row (label which (codes "value")) limiter.value
 
--- the lines of what is set of it
+-- the lines of a limiter's settings
 abbrev pub settings_rows : Which → Settings → List Row
 settings_rows which settings =
     number_row (label which (codes "normal")) settings.normal_threshold
@@ -49,7 +49,7 @@ settings_rows which settings =
     ∷ (label which (codes "actions") ∷ decimal settings.actions.over ∷ decimal settings.actions.under ∷ [])
     ∷ []
 
--- all its lines behind that of its last sample
+-- a limiter's lines after that of its last sample
 abbrev pub limiter_rows : Which → LimiterOpening → List Row
 limiter_rows which limiter =
     settings_rows which limiter.settings ++ count_row (label which (codes "over")) limiter.over ∷ count_row (label which (codes "under")) limiter.under ∷ []
@@ -61,7 +61,7 @@ schedule_row number schedule =
 abbrev pub schedule_rows : Schedules → List Row
 schedule_rows schedules = schedule_row 0 schedules.first ∷ schedule_row 1 schedules.second ∷ schedule_row 2 schedules.third ∷ schedule_row 3 schedules.fourth ∷ []
 
--- version, device name, and the switch
+-- the lines of the version, the device name and the switch
 abbrev pub head_rows : Opening → List Row
 head_rows opening =
     number_row (codes "RELAYTRACE") 2

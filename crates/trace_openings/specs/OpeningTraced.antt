@@ -1,8 +1,8 @@
--- The openings that can be written, so that their lines are read again: numbers of the ranges of their types.
+-- The openings whose written lines are read back: all numbers are in the ranges of their types.
 --     AreIds               group ids of 16 bits
---     IsTracedLimiter      a limiter of such numbers
---     IsTracedSchedule     a schedule of such numbers
---     IsTracedScript       a script of such numbers
+--     IsTracedLimiter      a limiter with numbers in their ranges
+--     IsTracedSchedule     a schedule with numbers in their ranges
+--     IsTracedScript       a script with numbers in their ranges
 --     IsWritable           an opening of such parts that a core can have
 use Rattle.std.specs.Prelude.{ℕ, ◌≤◌, List, [], ◌∷◌, IfSome}
 use Rattle.std.specs.List.{All}
@@ -22,7 +22,8 @@ abbrev pub AreIds : List ℕ → Type 0
 AreIds [] = Unit {0}
 AreIds (id ∷ ids) = (id ≤ 65535) × AreIds ids
 
--- watts and seconds of 32 bits, ids and selectors of 16 bits, and a start with fields in their ranges
+-- watts and seconds of 32 bits, ids and selectors of 16 bits, and a start with fields in their
+-- ranges
 pub record IsTracedLimiter (o : LimiterOpening) : Type 0 where
   pub value : o.value ≤ 4294967295
   pub normal_threshold : o.settings.normal_threshold ≤ 4294967295
@@ -41,19 +42,20 @@ pub record IsTracedSchedule (schedule : Schedule) : Type 0 where
   pub selector : schedule.selector ≤ 65535
   pub entries : AreEntries schedule.entries
 
--- watts of 32 bits, and a profile's id of 16 bits and seconds of 32 bits; what else a step holds is so in each table
+-- watts of 32 bits, a profile's id of 16 bits and its seconds of 32 bits; the other parts of a step
+-- are in their ranges in every table
 abbrev pub IsTracedStep : Step → Type 0
 IsTracedStep (WriteNormal which watts) = watts ≤ 4294967295
 IsTracedStep (WriteEmergency which watts) = watts ≤ 4294967295
 IsTracedStep (WriteProfile which profile) = (profile.id ≤ 65535) × (profile.duration ≤ 4294967295)
 IsTracedStep _ = Unit {0}
 
--- an identifier of 16 bits, and such steps
+-- an identifier of 16 bits, and steps with numbers in their ranges
 pub record IsTracedScript (script : Script) : Type 0 where
   pub identifier : script.identifier ≤ 65535
   pub steps : All IsTracedStep script.steps
 
--- an opening whose lines are read again
+-- an opening whose lines are read back
 pub record IsWritable (o : Opening) : Type 0 where
   pub fit : IsFitOpening o
   pub device : IsBytes o.device

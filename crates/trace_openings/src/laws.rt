@@ -1,4 +1,5 @@
-//! What holds of such lines as such: the function is a law, which its contract states and a call of it makes known.
+//! Laws of the lines of an opening. Each function is a law: its contract states it, and a call
+//! makes it known to the prover.
 ghost use Rattle.std.specs.Prelude.{◌≡◌, ℕ, ◌+◌, List, ◌++◌, IsTrue, Ok};
 ghost use Rattle.std.specs.List.{list_all};
 ghost use Rattle.trace_text.specs.Lines.{is_row};
@@ -13,8 +14,9 @@ ghost use Rattle.trace_words.specs.declared.version.Version.TheVariants.{Two};
 
 use limiter_core::fit_runs_mean;
 
-/// An opening of numbers of their types' ranges that a core can have is read again from the 30 lines that are written for it, whatever stands behind them; and
-/// these are lines of words.
+/// An opening that a core can have, with numbers in the ranges of their types, is read back from
+/// the 30 lines that are written for it, whatever follows them. Every one of these is a line of
+/// words.
 pub fn written_opening_is_read()
     ensures again { (opening : Opening) (rows : List Row) (unended : List ℕ) → IsWritable opening
         → opening_from (record { number = 1; rows = opening_rows opening ++ rows; unended = unended })
@@ -24,8 +26,10 @@ pub fn written_opening_is_read()
     fit_runs_mean();
 }
 
-/// The lines of version 2 that an opening is read from are the 30 that are written for it, but that a script table and the entries of a schedule may stand there as
-/// another Data that is read as these: they are the lines written where these Datas are the ones that are written.
+/// The lines of version 2 that an opening is read from are the 30 lines that are written for it,
+/// except that the script table and the entries of a schedule may be other Datas that are read as
+/// the same table or entries. With the Datas that are written, the lines are those that are
+/// written.
 #[tactic(auto, using(crate::proofs::OpeningBack::opening_back, crate::proofs::OpeningBack::opening_lines, crate::proofs::OpeningBack::written_rows))]
 pub fn read_opening_is_written()
     ensures lines { (place behind : Place) (opening : Opening) → opening_from place ≡ Ok ((Two, opening), behind)

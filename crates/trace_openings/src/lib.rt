@@ -1,10 +1,12 @@
-//! The opening of a trace as text: the version of the text, the name of the device, its switch, both limiters, the script table and four schedules, in a line of
-//! words each or in several.
+//! Reads and writes the opening of a trace as text: the version of the format, the device name, the
+//! switch, both limiters, the script table and the four schedules, each in one line of words or
+//! several.
 //!
-//! Version 1 of the text tells nothing of the export limiter, which is then new. A value of type Data stands as its written text.
+//! Version 1 has no lines of the export limiter, which is then that of a new meter. A value of type
+//! Data is written as its A-XDR encoding in hexadecimal.
 //!
-//! `read_opening` reads the opening from the lines of a trace (`trace_words::TraceLines`), and `write_opening` writes these lines, in version 2. What is written is
-//! read again.
+//! `read_opening` reads the opening from the lines of a trace (`trace_words::TraceLines`);
+//! `write_opening` writes these lines, in version 2. An opening that is written is read back.
 #![tactic(auto)]
 
 mod laws;

@@ -14,21 +14,21 @@ use relay_core::LimiterOpening;
 use std::alloc::Global;
 use trace_words::{TraceFault, TraceLines, Version};
 
-/// The line of a value of a limiter, by its word.
+/// Reads the line of one value of a limiter, with the label `word`.
 fn read_value(which: Which, word: &[u8], lines: &mut TraceLines) -> Result<u32, TraceFault>
     ensures { ReadsLines (λ value. value) result lines.new (line_as (labelled (label which word.now) value_in) lines.old) }
 {
     lines.read(|words| value(which, word, words))
 }
 
-/// The line of a limiter's last sample.
+/// Reads the line of a limiter's last sample, in watts.
 pub(crate) fn read_last(which: Which, lines: &mut TraceLines) -> Result<u32, TraceFault>
     ensures { ReadsLines (λ value. value) result lines.new (value_line which lines.old) }
 {
     read_value(which, b"value", lines)
 }
 
-/// The lines of what is set of a limiter.
+/// Reads the lines of a limiter's settings.
 #[tactic(auto, unfolding(crate::specs::OpeningReading::settings_from))]
 fn read_settings(
     alloc: Global,
@@ -56,7 +56,7 @@ fn read_settings(
     })
 }
 
-/// The lines of a limiter behind that of its last sample.
+/// Reads the lines of a limiter after that of its last sample, `last`.
 #[tactic(auto, unfolding(crate::specs::OpeningReading::limiter_from))]
 pub(crate) fn read_limiter(
     alloc: Global,
@@ -79,7 +79,7 @@ pub(crate) fn read_limiter(
     })
 }
 
-/// A limiter that is new.
+/// Returns a new limiter.
 fn new_limiter(alloc: Global) -> LimiterOpening
     ensures new { result ≡ new_limiter }
     ensures fit { IsFitLimiterOpening result }
@@ -92,7 +92,7 @@ fn new_limiter(alloc: Global) -> LimiterOpening
     }
 }
 
-/// The lines of the export limiter, which version 1 of the text doesn't tell.
+/// Reads the lines of the export limiter. In version 1 there are none, and the limiter is new.
 #[tactic(auto, unfolding(crate::specs::OpeningReading::export_from))]
 pub(crate) fn read_export(
     alloc: Global,

@@ -15,7 +15,7 @@ use std::alloc::{AllocError, Global};
 use trace_text::{add_hex, add_number, end_line};
 use trace_words::add_flag;
 
-/// Writes the first word of a line: that of the export limiter begins with an x.
+/// Appends the label of a line of a limiter. Labels of the export limiter begin with an x.
 fn write_label(out: &mut Vec<u8>, which: Which, name: &[u8]) -> Result<(), AllocError>
     ensures { OnOk result (out.new.items ≡ out.old.items ++ label which name.now) }
 {
@@ -25,7 +25,7 @@ fn write_label(out: &mut Vec<u8>, which: Which, name: &[u8]) -> Result<(), Alloc
     out.extend_from_slice(name)
 }
 
-/// Writes a line of one number.
+/// Appends a line of one number.
 fn write_value(out: &mut Vec<u8>, which: Which, name: &[u8], value: u32) -> Result<(), AllocError>
     ensures { OnOk result (out.new.items ≡ out.old.items ++ rows_text (number_row (label which name.now) value ∷ [])) }
 {
@@ -34,7 +34,7 @@ fn write_value(out: &mut Vec<u8>, which: Which, name: &[u8], value: u32) -> Resu
     end_line(out)
 }
 
-/// Writes the line of an emergency profile: id, start and duration.
+/// Appends the line of an emergency profile: id, start and duration.
 fn write_profile(
     alloc: Global,
     out: &mut Vec<u8>,
@@ -50,7 +50,7 @@ fn write_profile(
     end_line(out)
 }
 
-/// Adds ids.
+/// Appends ids, each as a word.
 fn add_ids(out: &mut Vec<u8>, ids: &[u16]) -> Result<(), AllocError>
     ensures { OnOk result (out.new.items ≡ out.old.items ++ blanked (all_words value_words ids.now)) }
 {
@@ -60,7 +60,7 @@ fn add_ids(out: &mut Vec<u8>, ids: &[u16]) -> Result<(), AllocError>
     Ok(())
 }
 
-/// Writes the line of the groups.
+/// Appends the line of the group ids.
 fn write_groups(out: &mut Vec<u8>, which: Which, groups: &Listed<u16>) -> Result<(), AllocError>
     ensures { OnOk result (out.new.items ≡ out.old.items ++ rows_text (groups_row which groups.now ∷ [])) }
 {
@@ -69,7 +69,7 @@ fn write_groups(out: &mut Vec<u8>, which: Which, groups: &Listed<u16>) -> Result
     end_line(out)
 }
 
-/// Writes the line of the actions: the selectors over and under.
+/// Appends the line of the actions: the script selectors over and under the threshold.
 fn write_actions(out: &mut Vec<u8>, which: Which, actions: &Actions) -> Result<(), AllocError>
     ensures { OnOk result (out.new.items ≡ out.old.items
         ++ rows_text ((label which (codes "actions") ∷ decimal actions.now.over ∷ decimal actions.now.under ∷ []) ∷ [])) }
@@ -80,7 +80,7 @@ fn write_actions(out: &mut Vec<u8>, which: Which, actions: &Actions) -> Result<(
     end_line(out)
 }
 
-/// Writes the line of a run, and of whether it has fired.
+/// Appends the line of a run: its length in samples, and whether it has fired.
 fn write_count(
     out: &mut Vec<u8>,
     which: Which,
@@ -95,7 +95,7 @@ fn write_count(
     end_line(out)
 }
 
-/// Writes the line of a limiter's last sample.
+/// Appends the line of a limiter's last sample.
 pub(crate) fn write_last(
     out: &mut Vec<u8>,
     which: Which,
@@ -106,7 +106,7 @@ pub(crate) fn write_last(
     write_value(out, which, b"value", limiter.value)
 }
 
-/// Writes the lines of what is set of a limiter.
+/// Appends the lines of a limiter's settings.
 #[tactic(auto)]
 fn write_settings(
     alloc: Global,
@@ -125,7 +125,7 @@ fn write_settings(
     write_actions(out, which, &settings.actions)
 }
 
-/// Writes a limiter's lines behind that of its last sample.
+/// Appends a limiter's lines after that of its last sample.
 #[tactic(auto)]
 pub(crate) fn write_limiter(
     alloc: Global,

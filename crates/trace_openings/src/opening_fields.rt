@@ -18,7 +18,7 @@ use trace_words::{
     number_in,
 };
 
-/// The version of the text.
+/// Reads the version of the format, 1 or 2.
 fn version_in(word: &[u8]) -> Result<Version, RowFault>
     ensures { result ≡ version_in word.now }
 {
@@ -29,14 +29,14 @@ fn version_in(word: &[u8]) -> Result<Version, RowFault>
     }
 }
 
-/// The line of the version.
+/// Reads the line of the version.
 pub(crate) fn version(words: &mut Words) -> Result<Version, RowFault>
     ensures { Gives Memory (λ version. version) result (version_from words.old) }
 {
     labelled(b"RELAYTRACE", words, version_in)
 }
 
-/// A device name.
+/// Reads a device name, 1 to 16 bytes in hexadecimal.
 #[tactic(auto, unfolding(crate::specs::OpeningFields::device_in), using(crate::proofs::OpeningLemmas::bytes_some))]
 fn device_in(alloc: Global, word: &[u8]) -> Result<Octets, RowFault>
     ensures device { Gives Memory (λ device. device) result (device_in word.now) }
@@ -50,7 +50,7 @@ fn device_in(alloc: Global, word: &[u8]) -> Result<Octets, RowFault>
     Ok(device)
 }
 
-/// The line of the device name.
+/// Reads the line of the device name.
 pub(crate) fn device(alloc: Global, words: &mut Words) -> Result<Octets, RowFault>
     ensures device { Gives Memory (λ device. device) result (labelled (codes "device") device_in words.old) }
     ensures some { IfOk result (λ device. 1 ≤ length device) }
@@ -59,7 +59,7 @@ pub(crate) fn device(alloc: Global, words: &mut Words) -> Result<Octets, RowFaul
     labelled(b"device", words, |word| device_in(alloc, word))
 }
 
-/// The state of the switch.
+/// Reads a control state (class 70, attribute 3) as a number, 0 to 2.
 fn state_in(word: &[u8]) -> Result<ControlState, RowFault>
     ensures { result ≡ state_in word.now }
 {
@@ -70,14 +70,15 @@ fn state_in(word: &[u8]) -> Result<ControlState, RowFault>
     }
 }
 
-/// The line of the switch's state.
+/// Reads the line of the control state.
 pub(crate) fn state(words: &mut Words) -> Result<ControlState, RowFault>
     ensures { Gives Memory (λ state. state) result (labelled (codes "state") state_in words.old) }
 {
     labelled(b"state", words, state_in)
 }
 
-/// The mode of a switch in this state.
+/// Reads a control mode (class 70, attribute 4) as a number, 0 to 6. Errors: `Wrong` also if the
+/// mode does not fit `state`.
 #[tactic(auto, unfolding(crate::specs::OpeningFields::mode_in, disconnect_control::specs::Control::is_mode_fit))]
 fn mode_in(state: ControlState, word: &[u8]) -> Result<ControlMode, RowFault>
     ensures mode { result ≡ mode_in state word.now }
@@ -93,7 +94,7 @@ fn mode_in(state: ControlState, word: &[u8]) -> Result<ControlMode, RowFault>
     }
 }
 
-/// The line of the mode of a switch in this state.
+/// Reads the line of the control mode of a switch in `state`.
 pub(crate) fn mode(state: ControlState, words: &mut Words) -> Result<ControlMode, RowFault>
     ensures mode { Gives Memory (λ mode. mode) result (labelled (codes "mode") (mode_in state) words.old) }
     ensures fit { IfOk result (λ mode. mode ≡ Mode0 → state ≡ Connected) }
@@ -101,7 +102,7 @@ pub(crate) fn mode(state: ControlState, words: &mut Words) -> Result<ControlMode
     labelled(b"mode", words, |word| mode_in(state, word))
 }
 
-/// A moment, in seconds, or None.
+/// Reads a moment, in seconds, or `-` for `None`.
 fn moment_in(word: &[u8]) -> Result<Option<u32>, RowFault>
     ensures { result ≡ moment_in word.now }
 {
@@ -111,14 +112,14 @@ fn moment_in(word: &[u8]) -> Result<Option<u32>, RowFault>
     Ok(Some(number_in(word, u32::MAX)?))
 }
 
-/// The line of the last moment.
+/// Reads the line of the clock's last moment.
 pub(crate) fn moment(words: &mut Words) -> Result<Option<u32>, RowFault>
     ensures { Gives Memory (λ moment. moment) result (labelled (codes "now") moment_in words.old) }
 {
     labelled(b"now", words, moment_in)
 }
 
-/// A script table.
+/// Reads a script table, a Data in hexadecimal.
 #[tactic(auto, unfolding(crate::specs::OpeningFields::table_in))]
 fn table_in(alloc: Global, word: &[u8]) -> Result<ScriptTable, RowFault>
     ensures { Gives Memory (λ table. table) result (table_in word.now) }
@@ -134,14 +135,14 @@ fn table_in(alloc: Global, word: &[u8]) -> Result<ScriptTable, RowFault>
     }
 }
 
-/// The line of the script table.
+/// Reads the line of the script table.
 pub(crate) fn table(alloc: Global, words: &mut Words) -> Result<ScriptTable, RowFault>
     ensures { Gives Memory (λ table. table) result (labelled (codes "scripts") table_in words.old) }
 {
     labelled(b"scripts", words, |word| table_in(alloc, word))
 }
 
-/// The type of a schedule.
+/// Reads the type of a schedule.
 fn type_in(word: &[u8]) -> Result<ScheduleType, RowFault>
     ensures { result ≡ type_in word.now }
 {
@@ -151,7 +152,7 @@ fn type_in(word: &[u8]) -> Result<ScheduleType, RowFault>
     }
 }
 
-/// A schedule of the entries in a word.
+/// Returns a schedule with the entries that `word` holds.
 #[tactic(auto, unfolding(crate::specs::OpeningFields::entries_in))]
 fn with_entries(
     alloc: Global,
@@ -180,7 +181,7 @@ fn with_entries(
     }
 }
 
-/// The line of the schedule of this number.
+/// Reads the line of the schedule with this number.
 #[tactic(auto, unfolding(crate::specs::OpeningFields::schedule_from))]
 pub(crate) fn schedule(
     alloc: Global,

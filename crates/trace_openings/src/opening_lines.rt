@@ -15,7 +15,7 @@ use relay_core::{LimiterOpening, Opening, Schedules};
 use std::alloc::Global;
 use trace_words::{TraceFault, TraceLines, Version};
 
-/// The line of a schedule, by its number from 0.
+/// Reads the line of the schedule with this number, counted from 0.
 fn read_schedule(
     alloc: Global,
     number: u32,
@@ -27,7 +27,7 @@ fn read_schedule(
     lines.read(|words| schedule(alloc, number, words))
 }
 
-/// The lines of the four schedules.
+/// Reads the lines of the four schedules.
 #[tactic(auto, unfolding(crate::specs::OpeningReading::schedules_from))]
 fn read_schedules(alloc: Global, lines: &mut TraceLines) -> Result<Schedules, TraceFault>
     ensures { ReadsLines (λ schedules. schedules) result lines.new (schedules_from lines.old) }
@@ -47,7 +47,7 @@ fn read_schedules(alloc: Global, lines: &mut TraceLines) -> Result<Schedules, Tr
     })
 }
 
-/// What the first lines tell: the device and its switch.
+/// The device name and the switch, from the first lines.
 #[derive(Drop)]
 struct Start {
     device: Octets,
@@ -55,7 +55,7 @@ struct Start {
     mode: ControlMode,
 }
 
-/// The lines behind those of the import limiter.
+/// Reads the lines after those of the import limiter.
 #[tactic(auto, unfolding(crate::specs::OpeningReading::opening_behind_import))]
 fn read_behind_import(
     alloc: Global,
@@ -96,7 +96,7 @@ fn read_behind_import(
     })
 }
 
-/// The lines behind that of the switch's mode.
+/// Reads the lines after that of the control mode.
 #[tactic(auto, unfolding(crate::specs::OpeningReading::opening_with, crate::specs::OpeningReading::opening_behind_import))]
 fn read_behind_mode(
     alloc: Global,
@@ -115,7 +115,7 @@ fn read_behind_mode(
     Ok(opening)
 }
 
-/// The lines behind that of the version.
+/// Reads the lines after that of the version.
 #[tactic(auto, unfolding(crate::specs::OpeningReading::opening_in))]
 fn read_parts(
     alloc: Global,
@@ -136,8 +136,9 @@ fn read_parts(
     read_behind_mode(alloc, version, start, lines)
 }
 
-/// Reads the opening of a trace: its lines from that of the version to that of the last schedule. Errors: `Line` with the number of the first line that is
-/// missing or not as it stands there in a trace, or whose value no meter has, and `Memory`.
+/// Reads the opening of a trace: its lines from that of the version to that of the last schedule.
+/// Errors: `Line` with the number of the first line that is missing, malformed or has a value that
+/// no meter has; `Memory`.
 #[tactic(auto, unfolding(crate::specs::OpeningReading::opening_from))]
 pub fn read_opening(alloc: Global, lines: &mut TraceLines) -> Result<(Version, Opening), TraceFault>
     ensures reads { ReadsLines (λ parts. parts) result lines.new (opening_from lines.old) }

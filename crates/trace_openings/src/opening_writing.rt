@@ -21,10 +21,10 @@ use std::alloc::{AllocError, Global};
 use trace_text::{add_hex, add_number, add_word, end_line};
 use trace_words::{add_data, write_number_line};
 
-/// The version of the text that is written.
+/// The version of the format that is written.
 const VERSION: u64 = 2;
 
-/// Writes the line of a device name.
+/// Appends the line of a device name.
 fn write_device(alloc: Global, out: &mut Vec<u8>, device: &Octets) -> Result<(), AllocError>
     ensures { OnOk result (out.new.items ≡ out.old.items ++ rows_text ((codes "device" ∷ encode_upper device.now ∷ []) ∷ [])) }
 {
@@ -33,21 +33,21 @@ fn write_device(alloc: Global, out: &mut Vec<u8>, device: &Octets) -> Result<(),
     end_line(out)
 }
 
-/// Writes the line of the switch's state.
+/// Appends the line of the control state.
 fn write_state(out: &mut Vec<u8>, state: ControlState) -> Result<(), AllocError>
     ensures { OnOk result (out.new.items ≡ out.old.items ++ rows_text (number_row (codes "state") (state_number state) ∷ [])) }
 {
     write_number_line(out, b"state", u64::from(state.number()))
 }
 
-/// Writes the line of the switch's mode.
+/// Appends the line of the control mode.
 fn write_mode(out: &mut Vec<u8>, mode: ControlMode) -> Result<(), AllocError>
     ensures { OnOk result (out.new.items ≡ out.old.items ++ rows_text (number_row (codes "mode") (mode_number mode) ∷ [])) }
 {
     write_number_line(out, b"mode", u64::from(mode.number()))
 }
 
-/// Writes the version, the device name and the switch.
+/// Appends the lines of the version, the device name and the switch.
 #[tactic(auto)]
 fn write_head(alloc: Global, out: &mut Vec<u8>, opening: &Opening) -> Result<(), AllocError>
     ensures { OnOk result (out.new.items ≡ out.old.items ++ rows_text (head_rows opening.now)) }
@@ -58,7 +58,7 @@ fn write_head(alloc: Global, out: &mut Vec<u8>, opening: &Opening) -> Result<(),
     write_mode(out, opening.mode)
 }
 
-/// Adds the clock's last moment, or `-` before the first.
+/// Appends the clock's last moment, or `-` before the first.
 fn add_moment(out: &mut Vec<u8>, moment: Option<u32>) -> Result<(), AllocError>
     ensures { OnOk result (out.new.items ≡ out.old.items ++ blanked (moment_word moment ∷ [])) }
 {
@@ -68,7 +68,7 @@ fn add_moment(out: &mut Vec<u8>, moment: Option<u32>) -> Result<(), AllocError>
     }
 }
 
-/// Writes the line of the clock's last moment, or of `-` before the first.
+/// Appends the line of the clock's last moment, or of `-` before the first.
 fn write_moment(out: &mut Vec<u8>, moment: Option<u32>) -> Result<(), AllocError>
     ensures { OnOk result (out.new.items ≡ out.old.items ++ rows_text ((codes "now" ∷ moment_word moment ∷ []) ∷ [])) }
 {
@@ -77,7 +77,7 @@ fn write_moment(out: &mut Vec<u8>, moment: Option<u32>) -> Result<(), AllocError
     end_line(out)
 }
 
-/// Adds a script table.
+/// Appends a script table as a word.
 fn add_table(alloc: Global, out: &mut Vec<u8>, scripts: &ScriptTable) -> Result<(), AllocError>
     ensures { OnOk result (out.new.items ≡ out.old.items ++ blanked (data_word (data_of scripts.now) ∷ [])) }
 {
@@ -87,7 +87,7 @@ fn add_table(alloc: Global, out: &mut Vec<u8>, scripts: &ScriptTable) -> Result<
     added
 }
 
-/// Writes the line of the script table.
+/// Appends the line of the script table.
 fn write_scripts(alloc: Global, out: &mut Vec<u8>, scripts: &ScriptTable) -> Result<(), AllocError>
     ensures { OnOk result (out.new.items ≡ out.old.items ++ rows_text ((codes "scripts" ∷ data_word (data_of scripts.now) ∷ []) ∷ [])) }
 {
@@ -96,7 +96,7 @@ fn write_scripts(alloc: Global, out: &mut Vec<u8>, scripts: &ScriptTable) -> Res
     end_line(out)
 }
 
-/// Adds the entries of a schedule.
+/// Appends the entries of a schedule as a word.
 fn add_entries(
     alloc: Global,
     out: &mut Vec<u8>,
@@ -110,7 +110,7 @@ fn add_entries(
     added
 }
 
-/// Writes the line of a schedule: its number, selector, type and entries.
+/// Appends the line of a schedule: its number, selector, type and entries.
 fn write_schedule(
     alloc: Global,
     out: &mut Vec<u8>,
@@ -127,7 +127,7 @@ fn write_schedule(
     end_line(out)
 }
 
-/// Writes the lines of the four schedules.
+/// Appends the lines of the four schedules.
 #[tactic(auto)]
 fn write_schedules(
     alloc: Global,
@@ -142,8 +142,8 @@ fn write_schedules(
     write_schedule(alloc, out, 3, &schedules.fourth)
 }
 
-/// Writes the lines of an opening behind what is there, each with the byte 0A that ends it: from the version, 2, up to the last schedule. Where memory runs
-/// out a part of them may be written.
+/// Appends the lines of an opening, in version 2, each with the byte 0A that ends it: from the line
+/// of the version to that of the last schedule. On an error a part of them may have been appended.
 pub fn write_opening(alloc: Global, out: &mut Vec<u8>, opening: &Opening) -> Result<(), AllocError>
     ensures { OnOk result (out.new.items ≡ out.old.items ++ rows_text (opening_rows opening.now)) }
 {

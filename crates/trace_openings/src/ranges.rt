@@ -1,4 +1,5 @@
-//! The numbers of every opening are of their types. These functions only look at an opening, and allocate nothing.
+//! Proofs that the numbers of every opening are in the ranges of their types. These functions only
+//! look at an opening, and do not allocate.
 ghost use Rattle.std.specs.Prelude.{◌≡◌, ◌≤◌, IfSome, IsTrue};
 ghost use Rattle.std.specs.List.{All};
 ghost use Rattle.hex.specs.Hex.{IsBytes};
@@ -11,7 +12,8 @@ use limiter_core::Profile;
 use relay_core::{LimiterOpening, Opening, Schedules};
 use script_steps::{Script, Step};
 
-/// The numbers of an opening are of their types, so one that a core can open with is read again from its lines.
+/// Makes known that the numbers of an opening are in the ranges of their types: if a core can start
+/// from the opening, it is read back from its lines.
 pub fn opening_is_writable(opening: &Opening)
     ensures { IsFitOpening opening.now → IsWritable opening.now }
 {
@@ -32,7 +34,7 @@ pub fn opening_is_writable(opening: &Opening)
     schedule_is_traced(fourth);
 }
 
-// A read makes known that a referenced number is of its type.
+// Makes known, by a read, that a borrowed number is in the range of its type.
 fn look_at<T: Drop>(_number: T) {}
 
 fn are_bytes(_bytes: &[u8])

@@ -1,10 +1,10 @@
--- Nothing is left behind a value.
+-- Nothing is left after a value.
 use Rattle.std.proofs.Common.{◌≡◌, ℕ, List, [], ◌∷◌, Ok, Err, refl}
 use Rattle.trace_words.specs.Places.{Place, nothing_left, ended_at}
 use Rattle.trace_words.specs.Rows.{Row}
 use Rattle.trace_words.specs.declared.fault.TraceFault.{TraceFault}
 
--- the end is alike for each value
+-- the end is the same for each value
 nothing_left_as : {X : Type 0} (number : ℕ) (rows : List Row) (unended : List ℕ) (x : X) → nothing_left {X = Unit {0}} number rows unended tt ≡ Ok tt → nothing_left number rows unended x ≡ Ok x
 nothing_left_as number [] [] x e = refl
 nothing_left_as number [] (byte ∷ bytes) x e = absurd cc

@@ -20,7 +20,7 @@ pub record EventsLeft (events : List Event) (i : ℕ) (out total : List ℕ) : T
 pub no_event_written : (events : List Event) (out : List ℕ) → EventsLeft events 0 out (out ++ rows_text (map event_row events))
 no_event_written events out = record { all = refl }
 
--- the line of an event more is written
+-- the line of one more event is written
 pub event_more : (events : List Event) (i : ℕ) (event : Event) (out new total : List ℕ) → i < length events → event ≡ get_or events i event
     → new ≡ out ++ line_of (event_row event) ++ 10 ∷ [] → EventsLeft events i out total → EventsLeft events (i + 1) new total
 event_more events i event out new total lt is written left =

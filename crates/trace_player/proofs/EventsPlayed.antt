@@ -1,4 +1,4 @@
--- Events read, taken and answered by their lines, one after the other.
+-- Events that are read and applied and whose lines are written, one after the other.
 use Rattle.std.proofs.Common.{◌≡◌, ℕ, suc, ◌+◌, ◌<◌, ◌≤◌, List, [], ◌∷◌, ◌++◌, length, refl, sym, ap, ◌∙◌, subst, append_assoc, arith}
 use Rattle.std.proofs.lemmas.List.{length-append}
 use Rattle.relay_core.specs.Machine.{at_event}
@@ -16,7 +16,7 @@ use Rattle.trace_player.specs.Playing.{PlaysEvent, PlaysEvents, lines_text}
 use Rattle.trace_player.specs.Traces.{events_at}
 use Rattle.trace_player.proofs.EventsRead.{EventsRead, none_read, event_read, events_read}
 
--- the lines of a run and one more
+-- the lines of a run followed by one more
 lines_text-push : (number : ℕ) (lines : List Line) (line : Line) → lines_text number (lines ++ line ∷ []) ≡ lines_text number lines ++ line_text (length lines + number) line ++ 10 ∷ []
 unfolding lines_text
 lines_text-push number [] line =
@@ -37,7 +37,7 @@ lines_length : (events : List Event) (w : World) → length (lines_of events w) 
 lines_length [] w = refl
 lines_length (event ∷ events) w = ap suc (lines_length events (at_event event w).world)
 
--- of so many events the first i were read, taken and answered
+-- the first i of the events were read and applied, and their lines written
 pub record Underway (version : Version) (count i : ℕ) (start place : Place) (old now : RelayCore) (out : List ℕ) : Type 0 where
   pub events : List Event
   pub read : EventsRead version count i events place (events_at version count start)
@@ -46,13 +46,13 @@ pub record Underway (version : Version) (count i : ℕ) (start place : Place) (o
   pub world : (w : World) → StandsFor old w → StandsFor now (world_after events w)
   pub wrote : (w : World) → StandsFor old w → out ≡ lines_text 1 (lines_of events w)
 
--- none was
+-- no event was
 pub none_played : (version : Version) (count : ℕ) (start : Place) (core : RelayCore) → Underway version count 0 start start core core []
 unfolding lines_text
 none_played version count start core =
     record { events = []; read = none_read version count start; counted = refl; within = omega arith; world = λ w stands. stands; wrote = λ w stands. refl }
 
--- one more
+-- one more event was
 pub event_played : (version : Version) (count i number : ℕ) (start place after : Place) (old now next : RelayCore) (out out' : List ℕ) → i < count → number ≡ i + 1
     → PlaysEvent version number place after now next out out' → Underway version count i start place old now out → Underway version count (i + 1) start after old next out'
 event_played version count i number start place after old now next out out' lt numbered one so_far =
@@ -75,7 +75,7 @@ event_played version count i number start place after old now next out out' lt n
           ∙ ap (lines_text 1) (sym (lines_of-append front (event ∷ []) w));
     }
 
--- all were
+-- all events were
 pub events_played : (version : Version) (count i : ℕ) (start place : Place) (old now : RelayCore) (out : List ℕ) → count ≤ i → Underway version count i start place old now out
     → PlaysEvents version count start place old out
 events_played version count i start place old now out le so_far =

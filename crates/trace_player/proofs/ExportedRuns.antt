@@ -1,4 +1,4 @@
--- What runs again prints again.
+-- A run that is replayed prints the same lines.
 use Rattle.std.proofs.Common.{◌≡◌, List, ap, ◌∙◌}
 use Rattle.relay_events.specs.declared.event.Event.{Event}
 use Rattle.relay_core.specs.Opening.{opened}
@@ -9,7 +9,7 @@ use Rattle.relay_recorder.specs.declared.trace.Trace.{Trace}
 use Rattle.trace_player.specs.Exported.{PrintsTheEnd}
 use Rattle.trace_player.specs.Playing.{lines_text}
 
--- what runs again prints the same lines
+-- a trace that replays the run of a recorder prints the same lines
 pub prints_the_end : (r : Recording) (trace : Trace) → trace.events ≡ r.events → Replays r (opened trace.opening) → PrintsTheEnd r trace
 prints_the_end r trace same replays = λ history origin stands.
     let runs = replays history origin stands in

@@ -1,4 +1,4 @@
--- A text is told to be too long by its length alone: its lines give no such fault.
+-- A text is too long by its length alone: its lines never give that fault.
 use Rattle.std.proofs.Common.{◌≡◌, ℕ, zero, suc, if◌then◌else◌, ◌<◌, Bool, true, false, nat_lt, List, [], ◌∷◌, length, Result, Ok, Err, refl, arith}
 use Rattle.std.proofs.lemmas.Bool.Decides.{nat_tests}
 use Rattle.byte_reading.specs.Outcome.{◌>>=◌}
@@ -14,28 +14,28 @@ use Rattle.trace_words.specs.declared.version.Version.{Version}
 use Rattle.trace_words.specs.declared.version.Version.TheVariants.{One, Two}
 use Rattle.trace_player.specs.Traces.{most_bytes, events_at, trace_from, trace_of}
 
--- an answer other than that a text is too long
+-- a result other than that a text is too long
 abbrev IsOther : {X : Type 0} → Result X TraceFault → Type 0
 IsOther r = r ≡ Err TooLong → ⊥
 
--- an `Err` whose type of values is given
+-- an `Err` of this type of values
 abbrev failed : (X : Type 0) → TraceFault → Result X TraceFault
 failed X fault = Err fault
 
--- two equal faults are equal whatever would have been read
+-- two equal faults are equal whatever the type of the values
 fault_is : (X Y : Type 0) (f g : TraceFault) → failed X f ≡ failed X g → failed Y f ≡ failed Y g
 fault_is X Y f g e = cc
 
--- steps that answer otherwise, one after the other
+-- two steps with other results, one after the other
 then_other : {X Y : Type 0} (r : Result X TraceFault) (next : X → Result Y TraceFault) → IsOther r → ((x : X) → IsOther (next x)) → IsOther (r >>= next)
 then_other (Ok x) next first others e = others x e
 then_other {X = X} {Y = Y} (Err fault) next first others e = first (fault_is Y X fault TooLong e)
 
--- a value is no fault
+-- a value is not a fault
 value_other : {X : Type 0} (x : X) → IsOther (Ok x)
 value_other x e = absurd cc
 
--- what a line gives
+-- the result of a line
 passed_other : {X : Type 0} (r : Result X RowFault) (number : ℕ) (rows : List Row) (unended : List ℕ) → IsOther (passed r number rows unended)
 passed_other (Ok x) number rows unended e = absurd cc
 passed_other (Err fault) number rows unended e = absurd cc
@@ -48,7 +48,7 @@ line_other : {X : Type 0} (value_in : Row → Result X RowFault) (place : Place)
 unfolding line_as
 line_other value_in place e = first_other value_in place.number place.rows place.unended e
 
--- the end
+-- the result of the end
 left_other : {X : Type 0} (number : ℕ) (rows : List Row) (unended : List ℕ) (x : X) → IsOther (nothing_left number rows unended x)
 left_other number [] [] x e = absurd cc
 left_other number [] (byte ∷ bytes) x e = absurd cc
@@ -58,7 +58,7 @@ ended_other : {X : Type 0} (place : Place) (x : X) → IsOther (ended_at place x
 unfolding ended_at
 ended_other place x e = left_other place.number place.rows place.unended x e
 
--- the opening
+-- the result of the opening
 settings_other : (which : Which) (place : Place) → IsOther (settings_from which place)
 unfolding settings_from
 settings_other which place =
@@ -94,20 +94,20 @@ opening_other : (place : Place) → IsOther (opening_from place)
 unfolding opening_from
 opening_other place = then_other _ _ (line_other _ place) (λ version. then_other _ _ (behind_version_other version.0 version.1) (λ opening. value_other _))
 
--- the events
+-- the result of the events
 events_other : (version : Version) (count : ℕ) (place : Place) → IsOther (events_at version count place)
 unfolding events_at
 events_other version zero place = value_other _
 events_other version (suc count) place =
     then_other _ _ (line_other _ place) (λ event. then_other _ _ (events_other version count event.1) (λ others. value_other _))
 
--- the lines of a trace
+-- the result of the lines of a trace
 trace_other : (place : Place) → IsOther (trace_from place)
 unfolding trace_from
 trace_other place =
     then_other _ _ (opening_other place) (λ opening. then_other _ _ (line_other _ opening.1) (λ count. then_other _ _ (events_other opening.0.0 count.0 count.1) (λ events. ended_other events.1 _)))
 
--- a text is too long where it is told so
+-- the fault `TooLong` means that the text is too long
 told_long : (text : List ℕ) (long : Bool) → nat_lt most_bytes (length text) ≡ long → IsOther (trace_from (place_of text)) → (if long then Err TooLong else trace_from (place_of text)) ≡ Err TooLong → most_bytes < length text
 told_long text true is other e = grind (arith, nat_tests)
 told_long text false is other e = absurd (other e)

@@ -1,4 +1,4 @@
--- The lines behind an opening, in the text that they stand in.
+-- The lines after an opening, in the text that contains them.
 use Rattle.std.proofs.Common.{◌≡◌, ℕ, ◌+◌, ◌-◌, ◌<◌, ◌≤◌, ◌^◌, List, [], ◌∷◌, ◌++◌, length, length-append, drop, Ok, refl, sym, ap, ◌∙◌, arith, inl, inr}
 use Rattle.byte_reading.specs.Outcome.{◌>>=◌, Fails}
 use Rattle.relay_core.specs.declared.opening.Opening.{Opening}
@@ -16,13 +16,14 @@ use Rattle.trace_openings.specs.OpeningReading.{opening_from}
 use Rattle.trace_lines.specs.Events.{events_from}
 use Rattle.trace_player.specs.Traces.{most_bytes, trace_behind, trace_from}
 
--- the events of a trace stand in the last bytes of its text
+-- the events of a trace are in the last bytes of its text
 pub record IsHeld (text rest : List ℕ) (version : Version) (count : ℕ) (opening : Opening) (number : ℕ) : Type 0 where
   pub within : length rest ≤ length text
   pub counted : number + length text < 2 ^ 64
   pub is : trace_behind version count opening (place_at number (drop (length text - length rest) text)) ≡ trace_from (place_of text)
 
--- an opening and the number of the events were read, and the trace is that of the events behind them
+-- an opening and the number of the events were read, and the trace is that of the events that
+-- follow
 trace_is : (start middle behind : Place) (version : Version) (opening : Opening) (count : ℕ) → opening_from start ≡ Ok ((version, opening), middle) → line_as events_from middle ≡ Ok (count, behind)
     → trace_behind version count opening behind ≡ trace_from start
 unfolding trace_from
@@ -50,7 +51,7 @@ held_behind text bytes rest version opening count number start middle behind sho
           ∙ trace_is (place_of text) middle behind version opening count from_text counted;
     }
 
--- the number of the events isn't read
+-- the number of the events cannot be read
 pub count_fails : (text bytes : List ℕ) (version : Version) (opening : Opening) (start middle : Place) (fault : TraceFault) → start ≡ place_of bytes → bytes ≡ text
     → opening_from start ≡ Ok ((version, opening), middle) → Fails Memory fault (line_as events_from middle) → Fails Memory fault (trace_from (place_of text))
 unfolding trace_from

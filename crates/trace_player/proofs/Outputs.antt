@@ -16,7 +16,7 @@ use Rattle.trace_player.proofs.Ends.{ended_as, unended_as}
 abbrev trace_with : {version : Version} {count : ℕ} {place after : Place} {core : RelayCore} {out : List ℕ} → Opening → PlaysEvents version count place after core out → Trace
 trace_with opening played = record { opening = opening; events = played.events }
 
--- nothing is left behind the events
+-- nothing is left after the events
 pub played_behind : (version : Version) (count : ℕ) (opening : Opening) (place after : Place) (core : RelayCore) (out : List ℕ) → PlaysEvents version count place after core out
     → StandsFor core (opened opening) → ended_at {X = Unit {0}} after tt ≡ Ok tt → PlaysTrace (trace_behind version count opening place) out count
 played_behind version count opening place after core out played stands ended =
@@ -27,7 +27,7 @@ played_behind version count opening place after core out played stands ended =
       counted = played.counted;
     }
 
--- something is
+-- something is left after the events
 pub surplus_behind : (version : Version) (count : ℕ) (opening : Opening) (place after : Place) (core : RelayCore) (out : List ℕ) (fault : TraceFault)
     → PlaysEvents version count place after core out → ended_at {X = Unit {0}} after tt ≡ Err fault → trace_behind version count opening place ≡ Err fault
 surplus_behind version count opening place after core out fault played left = rw played.read (unended_as after (trace_with opening played) fault left)

@@ -1,4 +1,4 @@
--- A trace that fits its text is one whose text is read again.
+-- A trace that fits its text is one whose text is read back.
 use Rattle.std.proofs.Common.{◌≤◌, List, [], ◌∷◌, All, length}
 use Rattle.std.proofs.lemmas.List.Elements.{All-head, All-tail}
 use Rattle.relay_core.specs.Opening.{IsFitOpening}

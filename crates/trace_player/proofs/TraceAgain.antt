@@ -1,4 +1,4 @@
--- A trace that is written is read again.
+-- A trace that is written is read back.
 use Rattle.std.proofs.Common.{◌≡◌, ℕ, suc, ◌≤◌, Bool, true, false, ◌&&◌, nat_lt, if◌then◌else◌, List, [], ◌∷◌, ◌++◌, length, map, Result, Ok, Err, refl, ap, ap₂, ◌∙◌, arith, codes}
 use Rattle.std.proofs.lemmas.Bool.Decides.{nat_tests}
 use Rattle.std.proofs.lemmas.List.Folds.{list_all-append}
@@ -23,7 +23,7 @@ use Rattle.trace_player.specs.Written.{AreTraced, IsWritableTrace}
 use Rattle.trace_text.proofs.Known.{rows_whole, rows_ended}
 use Rattle.trace_text.specs.Lines.{is_row}
 
--- the lines of an opening are read again, before other lines, and are lines
+-- the lines of an opening are read back, whatever lines follow, and are lines of words
 abbrev pub OpensAgain : Type 0
 OpensAgain = (opening : Opening) (rows : List Row) (unended : List ℕ) → IsWritable opening
     → opening_from (record { number = 1; rows = opening_rows opening ++ rows; unended = unended }) ≡ Ok ((Two, opening), record { number = 31; rows = rows; unended = unended })
@@ -36,12 +36,12 @@ HasRows = (opening : Opening) → IsWritable opening → list_all is_row (openin
 both_true : (a b : Bool) → a ≡ true → b ≡ true → (a && b) ≡ true
 both_true a b ea eb = rw (ea, eb) refl
 
--- their lines
+-- the lines of events are lines of words
 are_rows : (events : List Event) → AreTraced events → list_all is_row (map event_row events) ≡ true
 are_rows [] are = refl
 are_rows (event ∷ events) (one, are) = both_true (is_row (event_row event)) (list_all is_row (map event_row events)) (event_is_row event one) (are_rows events are)
 
--- all lines
+-- all lines of a trace are lines of words
 rows_are : HasRows → (trace : Trace) → IsWritableTrace trace → list_all is_row (trace_rows trace) ≡ true
 rows_are has trace is =
     let count : Row = number_row (codes "events") (length trace.events) in
@@ -52,7 +52,7 @@ rows_are has trace is =
 
 -- ---- reading
 
--- the number of the line behind those of events, the first of them with this number
+-- the number of the line after those of events, the first of which has this number
 abbrev behind_events : ℕ → List Event → ℕ
 behind_events number [] = number
 behind_events number (event ∷ events) = behind_events (suc number) events

@@ -1,4 +1,5 @@
--- The text of version 2 that a trace is read from is the one that is written for it, but for the Datas in the lines of its opening.
+-- The text of version 2 that a trace is read from is the text that is written for it, except for
+-- the Datas in the lines of its opening.
 use Rattle.std.proofs.Common.{◌≡◌, ℕ, zero, suc, nat_lt, List, [], ◌∷◌, ◌++◌, length, map, Ok, refl, sym, ap, ap₂, subst, ◌∙◌, arith, append-nil, codes}
 use Rattle.byte_reading.proofs.OutcomeLemmas.{ok_is, bind_ok, refused_ok}
 use Rattle.relay_events.specs.declared.event.Event.{Event}
@@ -26,11 +27,11 @@ use Rattle.trace_text.specs.Lines.{rows_of, rows_text, unended_of}
 
 -- ---- events
 
--- no line is taken
+-- no line is read
 nothing : (place : Place) → Took [] place place
 nothing place = record { lines = refl; number = omega arith; unended = refl }
 
--- the lines of events, and how many they are
+-- the lines of events, and their number
 all_events_back : (version : Version) (count : ℕ) (place : Place) (events : List Event) (behind : Place) → events_at version count place ≡ Ok (events, behind)
     → (length events ≡ count) × Took (map event_row events) place behind
 unfolding events_at
@@ -74,7 +75,7 @@ version_two place rows version o behind is e =
 
 -- ---- all of it
 
--- the text of these lines, behind which nothing is left
+-- the text of these lines, after which nothing is left
 text_is : (text : List ℕ) (front middle others last events : List Row) (count : Row) (a b c : List ℕ)
     → rows_of text ≡ front ++ middle → middle ≡ (count ∷ []) ++ others → others ≡ events ++ last → last ≡ []
     → a ≡ unended_of text → b ≡ a → c ≡ b → c ≡ [] → text ≡ rows_text (front ++ count ∷ events)
@@ -112,6 +113,6 @@ trace_back text trace two e =
       subst (λ (n : ℕ). text ≡ rows_text (rows_with o front.0 ++ number_row (codes "events") n ∷ map event_row events.0.0)) (sym them.0) whole,
     )
 
--- with the Datas that are written it is the text that is written
+-- with the Datas that are written, it is the text that is written
 pub written_text : (trace : Trace) → text_with trace (written_forms trace.opening) ≡ trace_text trace
 written_text trace = ap (λ (rows : List Row). rows_text (rows ++ number_row (codes "events") (length trace.events) ∷ map event_row trace.events)) (written_rows trace.opening)

@@ -1,4 +1,4 @@
--- The fault of a player whose input was not read to its end.
+-- The fault of a player whose input could not be read to its end.
 use Rattle.byte_streams.specs.declared.fault.InputFault.{InputFault}
 use Rattle.byte_streams.specs.declared.fault.InputFault.TheVariants as input_fault
 use Rattle.trace_player.specs.declared.fault.PlayFault.{PlayFault}

@@ -1,8 +1,8 @@
 -- What a trace prints when it is played: a line for each event, counted from 1.
 --     lines_text       lines as text
 --     played           the output of a trace
---     PlaysEvent       an event was read from the next line, taken, and answered by its line
---     PlaysEvents      so many were, one after the other
+--     PlaysEvent       an event was read from the next line and applied, and its line written
+--     PlaysEvents      a number of events were, one after the other
 --     PlaysTrace       a trace was read and played
 use Rattle.std.specs.Prelude.{◌≡◌, ℕ, suc, List, [], ◌∷◌, ◌++◌, length, Result, Ok}
 use Rattle.relay_core.specs.Machine.{at_event}
@@ -26,25 +26,26 @@ unfoldable pub lines_text : ℕ → List Line → List ℕ
 lines_text number [] = []
 lines_text number (line ∷ lines) = line_text number line ++ 10 ∷ lines_text (suc number) lines
 
--- the output of a trace: the lines of the run over its events, from the world that its opening tells of
+-- the output of a trace: the lines of the run over its events, from the world of its opening
 abbrev pub played : Trace → List ℕ
 played trace = lines_text 1 (lines_of trace.events (opened trace.opening))
 
--- the event of the next line was read, a meter took it, and its line was written behind the others
+-- the event of the next line was read and applied to a meter, and its line was written after the
+-- others
 pub record PlaysEvent (version : Version) (number : ℕ) (place place' : Place) (core core' : RelayCore) (out out' : List ℕ) : Type 0 where
   pub event : Event
   pub read : line_as (event_of version) place ≡ Ok (event, place')
   pub world : (w : World) → StandsFor core w → StandsFor core' (at_event event w).world
   pub wrote : (w : World) → StandsFor core w → out' ≡ out ++ line_text number (line_at event w) ++ 10 ∷ []
 
--- the events of the next lines, so many, were read, a meter took them, and this is what it answered
+-- the next `count` events were read and applied to a meter, and these lines were written
 pub record PlaysEvents (version : Version) (count : ℕ) (place place' : Place) (core : RelayCore) (out : List ℕ) : Type 0 where
   pub events : List Event
   pub read : events_at version count place ≡ Ok (events, place')
   pub counted : count ≡ length events
   pub wrote : (w : World) → StandsFor core w → out ≡ lines_text 1 (lines_of events w)
 
--- what was read is a trace of so many events, and this is its output
+-- what was read is a trace of `count` events, and this is its output
 pub record PlaysTrace (given : Result Trace TraceFault) (out : List ℕ) (count : ℕ) : Type 0 where
   pub trace : Trace
   pub read : given ≡ Ok trace

@@ -1,8 +1,8 @@
--- What came of a trace that was read, run and written.
---     Gave          what was read gave a trace, which was run, or a fault
---     Played        what came of the bytes that were read
---     TakesTrace    a trace was read and run, or it was not
---     Plays         a trace was played, or it was not
+-- The results of reading, running and writing a trace.
+--     Gave          a trace was read and run, or this fault
+--     Played        the result of playing the bytes that were read
+--     TakesTrace    a trace was read from a reader and run, or this fault
+--     Plays         a trace was played from a reader to a writer, or this fault
 use Rattle.std.specs.Prelude.{◌≡◌, ◌<◌, ◌≤◌, ℕ, Option, List, [], length, ⊤, Result, Ok, Err}
 use Rattle.std.specs.Io.KnownBytes.{Appends, Consumes, IsAtEnd}
 use Rattle.relay_recorder.specs.declared.trace.Trace.{Trace}
@@ -13,7 +13,7 @@ use Rattle.trace_player.specs.declared.fault.PlayFault.{PlayFault}
 use Rattle.trace_player.specs.declared.fault.PlayFault.TheVariants as fault
 use Rattle.trace_player.specs.declared.output.Output.{Output}
 
--- what the bytes that were read give: the output of the trace that all of them tell, or why not
+-- the result for the bytes that were read: the output of the trace that they all are, or a fault
 abbrev pub Gave : List ℕ → ℕ → Result Output PlayFault → Option (List ℕ) → ℕ → Type 0
 Gave bytes failed (Ok output) left' failed' = PlaysTrace (trace_of bytes) output.lines.items output.count × IsAtEnd left'
 Gave bytes failed (Err (fault.Line number)) left' failed' = (trace_of bytes ≡ Err (trace_fault.Line number)) × IsAtEnd left'
@@ -22,7 +22,7 @@ Gave bytes failed (Err fault.Read) left' failed' = (length bytes ≤ most_bytes)
 Gave bytes failed (Err fault.Write) left' failed' = ⊥
 Gave bytes failed (Err fault.Memory) left' failed' = ⊤
 
--- a trace was read and run, or it was not: some bytes were read, and this they give
+-- bytes were read, and the result is that for these bytes
 pub record TakesTrace (left : Option (List ℕ)) (failed : ℕ) (result : Result Output PlayFault) (left' : Option (List ℕ)) (failed' : ℕ) : Type 0 where
   pub bytes : List ℕ
   pub read : Consumes left left' bytes
@@ -31,7 +31,8 @@ pub record TakesTrace (left : Option (List ℕ)) (failed : ℕ) (result : Result
 module _ {R W : Type 0}
     (remaining : R → Option (List ℕ)) (read_failures : R → ℕ)
     (contents : W → Option (List ℕ)) (write_failures : W → ℕ) where
-  -- what came of the bytes that were read: nothing is written but the whole output of the trace that they tell
+  -- the result of playing the bytes that were read: nothing is written but the whole output of
+  -- their trace
   abbrev pub Played : List ℕ → R → W → Result ℕ PlayFault → R → W → Type 0
   Played bytes r w (Ok count) r' w' =
       (trace : Trace) × (trace_of bytes ≡ Ok trace) × IsAtEnd (remaining r')
@@ -46,7 +47,7 @@ module _ {R W : Type 0}
       (trace : Trace) × (trace_of bytes ≡ Ok trace) × IsAtEnd (remaining r') × (write_failures w < write_failures w')
   Played bytes r w (Err fault.Memory) r' w' = Appends (contents w) (contents w') []
 
-  -- a trace was played, or it was not: some bytes were read, and this came of them
+  -- bytes were read, and the result is that of playing these bytes
   pub record Plays (r : R) (w : W) (result : Result ℕ PlayFault) (r' : R) (w' : W) : Type 0 where
     pub bytes : List ℕ
     pub read : Consumes (remaining r) (remaining r') bytes

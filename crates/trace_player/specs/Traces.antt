@@ -1,6 +1,6 @@
 -- A trace as text: an opening, the number of its events, and the line of each.
---     events_at        so many events, read from their lines
---     trace_behind     a trace of an opening that was read, and of so many events, behind which nothing is left
+--     events_at        a number of events, read from their lines
+--     trace_behind     a trace of an opening and a number of events, after which nothing is left
 --     trace_of         the trace of a text, or its fault
 --     trace_text       the text that is written for a trace, in version 2
 use Rattle.std.specs.Prelude.{ℕ, zero, suc, nat_lt, if◌then◌else◌, codes, List, [], ◌∷◌, ◌++◌, length, map, Result, Ok, Err}
@@ -20,11 +20,11 @@ use Rattle.trace_words.specs.declared.fault.TraceFault.TheVariants.{TooLong}
 use Rattle.trace_words.specs.declared.version.Version.{Version}
 use Rattle.trace_text.specs.Lines.{rows_text}
 
--- the most bytes that a text has
+-- the maximum length of a text, in bytes
 abbrev pub most_bytes : ℕ
 most_bytes = 33554432
 
--- the events of the next lines, so many
+-- the events of the next lines, this number of them
 unfoldable pub events_at : Version → ℕ → Place → ReadLines (List Event)
 events_at version zero place = Ok ([], place)
 events_at version (suc count) place = do
@@ -32,13 +32,13 @@ events_at version (suc count) place = do
   others ← events_at version count event.1
   Ok (event.0 ∷ others.0, others.1)
 
--- a trace of this opening, and of so many events from here on, behind which nothing is left
+-- a trace of this opening and of this number of events from here on, after which nothing is left
 abbrev pub trace_behind : Version → ℕ → Opening → Place → Result Trace TraceFault
 trace_behind version count opening place = do
   events ← events_at version count place
   ended_at events.1 (record { opening = opening; events = events.0 })
 
--- the opening, the number of the events, these, and nothing more
+-- a trace: the opening, the number of the events, the events, and nothing more
 unfoldable pub trace_from : Place → Result Trace TraceFault
 trace_from place = do
   opening ← opening_from place
@@ -50,7 +50,7 @@ trace_from place = do
 unfoldable pub trace_of : List ℕ → Result Trace TraceFault
 trace_of text = if nat_lt most_bytes (length text) then Err TooLong else trace_from (place_of text)
 
--- the lines of a trace, and their text
+-- the lines of a trace
 abbrev pub trace_rows : Trace → List Row
 trace_rows trace = opening_rows trace.opening ++ number_row (codes "events") (length trace.events) ∷ map event_row trace.events
 

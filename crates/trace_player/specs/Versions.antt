@@ -1,4 +1,4 @@
--- The texts of version 2, and what they say beside the Datas in the lines of their opening.
+-- The texts of version 2, and what they contain apart from the Datas in the lines of their opening.
 use Rattle.std.specs.Prelude.{◌≡◌, ℕ, codes, List, ◌∷◌, ◌++◌, length, map}
 use Rattle.relay_recorder.specs.declared.trace.Trace.{Trace}
 use Rattle.trace_openings.specs.OpeningForms.{Forms, rows_with}
@@ -7,7 +7,7 @@ use Rattle.trace_words.specs.Rows.{Row}
 use Rattle.trace_lines.specs.Writing.{event_row}
 use Rattle.trace_text.specs.Lines.{rows_of, rows_text}
 
--- the first line of a text says version 2
+-- the first line of a text has version 2
 abbrev pub IsOfVersionTwo : List ℕ → Type 0
 IsOfVersionTwo text = (rows : List Row) × (rows_of text ≡ number_row (codes "RELAYTRACE") 2 ∷ rows)
 

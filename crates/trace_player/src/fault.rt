@@ -10,7 +10,8 @@ use thiserror::Error;
 /// Why a trace was not played.
 #[derive(Clone, Copy, Debug, PartialEq, Eq, Error)]
 pub enum PlayFault {
-    /// The first line, counted from 1, that is not as a trace has it there, or whose value no meter has. A line that is missing counts too.
+    /// The number, counted from 1, of the first line that is missing, malformed, or has a value
+    /// that no meter has.
     #[error("line {0} of the trace is wrong")]
     Line(u64),
     /// The trace has more than 33,554,432 bytes.
@@ -22,12 +23,12 @@ pub enum PlayFault {
     /// A write failed.
     #[error("a write failed")]
     Write,
-    /// Memory ran out.
+    /// Out of memory.
     #[error("no memory")]
     Memory,
 }
 
-/// The number of the fault, 1 to 5.
+/// Returns the number of the fault, 1 to 5.
 impl From<PlayFault> for u8 {
     ghost from_gives = { λ fault number. number ≡ fault_number fault };
 

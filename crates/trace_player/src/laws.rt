@@ -1,4 +1,5 @@
-//! What holds of traces and their texts as such: each function is a law, which its contract states and a call of it makes known.
+//! Laws of traces and their texts. Each function is a law: its contract states it, and a call makes
+//! it known to the prover.
 ghost use Rattle.std.specs.Prelude.{◌≡◌, ℕ, List, Ok};
 ghost use Rattle.relay_core.specs.Opening.{opened};
 ghost use Rattle.relay_recorder.specs.Recording.{Recording};
@@ -12,15 +13,17 @@ ghost use Rattle.trace_player.specs.Written.{IsWritableTrace};
 
 use trace_openings::written_opening_is_read;
 
-/// A trace of numbers of their types' ranges, that a core can open with, is read again from the text that is written for it.
+/// A trace that a core can start from, with numbers in the ranges of their types, is read back from
+/// the text that is written for it.
 pub fn written_trace_is_read()
     ensures { (trace : Trace) → IsWritableTrace trace → trace_of (trace_text trace) ≡ Ok trace }
 {
     written_opening_is_read();
 }
 
-/// The text of version 2 that a trace is read from is the one that is written for it, but that the script table and the entries of the schedules may stand there as
-/// other Datas that are read as these: where they are those that are written, it is the text that is written.
+/// The text of version 2 that a trace is read from is the text that is written for it, except that
+/// the script table and the entries of the schedules may be other Datas that are read as the same
+/// table or entries. With the Datas that are written, it is the text that is written.
 #[tactic(auto, using(crate::proofs::TraceBack::trace_back, crate::proofs::TraceBack::written_text))]
 pub fn read_trace_is_written()
     ensures text { (text : List ℕ) (trace : Trace) → IsOfVersionTwo text → trace_of text ≡ Ok trace
@@ -28,8 +31,9 @@ pub fn read_trace_is_written()
     ensures written { (trace : Trace) → text_with trace (written_forms trace.opening) ≡ trace_text trace }
 {}
 
-/// What a recorder exports prints the lines of the kept events in every history that the recorder stands for: so a trace that was exported, written and played
-/// tells the replies that were given.
+/// The trace that a recorder exports prints, when played, the lines of the kept events in every
+/// history that the recorder represents. So a trace that was exported, written and played shows the
+/// replies that were given.
 pub fn exported_run_is_played()
     ensures { (r : Recording) (trace : Trace) → trace.events ≡ r.events → Replays r (opened trace.opening) → PrintsTheEnd r trace }
 {}

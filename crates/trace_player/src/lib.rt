@@ -1,7 +1,8 @@
-//! Traces of a meter, played: the text of an opening and of events gives a line of text for the reply to each event.
+//! Plays the trace of a meter: from the text of an opening and of events, it writes a line for the
+//! reply to each event.
 //!
-//! `read_trace` and `write_trace` read and write the text of a trace, `play` reads one, runs its events on a meter that stands as the opening says, and writes a line
-//! for each.
+//! `read_trace` and `write_trace` read and write the text of a trace. `play` reads a trace, runs
+//! its events on a meter in the state of the opening, and writes a line for each.
 #![tactic(auto)]
 
 mod fault;

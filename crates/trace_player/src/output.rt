@@ -14,14 +14,15 @@ use trace_lines::read_event_count;
 use trace_openings::read_opening;
 use trace_words::{HeldLines, TraceFault, TraceLines, Version};
 
-/// What a trace prints, and how many events it has.
+/// The lines that a trace prints, and the number of its events.
 #[derive(Debug, Drop)]
 pub(crate) struct Output {
     pub(crate) lines: Vec<u8>,
     pub(crate) count: u32,
 }
 
-/// Plays the events behind an opening, so many, behind whose lines nothing is left.
+/// Plays the `count` events after an opening. Errors: `Line` if anything follows them, among
+/// others.
 fn play_behind(
     alloc: Global,
     version: Version,
@@ -44,7 +45,8 @@ fn play_behind(
     Ok(output)
 }
 
-/// Plays the events that stand at the end of a text, in so many bytes. What was read of the text is let go on the way.
+/// Plays the events in the last `left` bytes of a text; the first line of these has the number
+/// `number`. Text that has been read is dropped on the way.
 fn play_held(
     alloc: Global,
     version: Version,
@@ -67,7 +69,7 @@ fn play_held(
     played
 }
 
-/// Plays the trace that a text tells.
+/// Plays the trace of a text.
 #[tactic(auto, unfolding(crate::specs::Traces::trace_from))]
 fn play_lines(alloc: Global, text: Vec<u8>) -> Result<Output, TraceFault>
     requires { length text.items ≤ most_bytes }
@@ -89,7 +91,8 @@ fn play_lines(alloc: Global, text: Vec<u8>) -> Result<Output, TraceFault>
     played
 }
 
-/// Plays the text of a trace, each event as soon as its line is read. Errors: `TooLong`, `Line` of the first line that is not as a trace has it there, `Memory`.
+/// Plays the text of a trace, each event as soon as its line is read. Errors: `TooLong`; `Line`
+/// with the number of the first line that is missing or malformed; `Memory`.
 #[tactic(auto, unfolding(crate::specs::Traces::trace_of), using(crate::proofs::Faults::told_too_long))]
 pub(crate) fn play_text(alloc: Global, text: Vec<u8>) -> Result<Output, TraceFault>
     ensures ok { IfOk result (λ output. PlaysTrace (trace_of text.items) output.lines.items output.count) }

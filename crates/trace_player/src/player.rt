@@ -7,7 +7,8 @@ use byte_streams::{Reader, Writer, read_to_end_within};
 use std::alloc::Global;
 use trace_words::TraceFault;
 
-/// What the trace that the bytes of a reader tell prints. Of these bytes nothing is held any more.
+/// Reads all bytes of a reader and plays the trace in them. The bytes are dropped before it
+/// returns.
 fn play_input<R: Reader>(alloc: Global, reader: &mut R) -> Result<Output, PlayFault>
     requires { R.can_read reader.now }
     ensures { TakesTrace (R.remaining reader.old) (R.failures reader.old) result (R.remaining reader.new) (R.failures reader.new) }
@@ -21,11 +22,14 @@ fn play_input<R: Reader>(alloc: Global, reader: &mut R) -> Result<Output, PlayFa
     }
 }
 
-/// Plays a trace: reads its text to the end, runs its events on a meter that stands as its opening says, and writes a line for each event with the reply and the
-/// switch after it. Answers how many events there were.
+/// Plays a trace: reads its text to the end, runs its events on a meter in the state of the
+/// opening, and writes a line for each event with the reply and the switch after it. Returns the
+/// number of events.
 ///
-/// Nothing is written before the last event has run, so that a fault of the text, a failed read and want of memory leave the writer as it was. Errors: `Line` of the
-/// first line that is not as a trace has it there, `TooLong`, `Read`, `Write` where the writer may have taken some of the lines, `Memory`.
+/// Nothing is written before the last event has run: after a fault of the text, a failed read or
+/// running out of memory the writer is unchanged. Errors: `Line` with the number of the first line
+/// that is missing or malformed; `TooLong`; `Read`; `Write`, after which the writer may have taken
+/// some of the lines; `Memory`.
 pub fn play<R: Reader, W: Writer>(
     alloc: Global,
     reader: &mut R,

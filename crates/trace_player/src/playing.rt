@@ -18,7 +18,7 @@ use trace_lines::{next_held_event, write_line};
 use trace_text::end_line;
 use trace_words::{HeldLines, TraceFault, Version};
 
-/// Writes a line, and the byte that ends it.
+/// Appends the line of a reply, with the byte 0A that ends it.
 fn add_line(alloc: Global, out: &mut Vec<u8>, number: u64, line: &Line) -> Result<(), AllocError>
     ensures { OnOk result (out.new.items ≡ out.old.items ++ line_text number line.now ++ 10 ∷ []) }
 {
@@ -26,7 +26,7 @@ fn add_line(alloc: Global, out: &mut Vec<u8>, number: u64, line: &Line) -> Resul
     end_line(out)
 }
 
-/// Lets a meter take an event, and writes its line.
+/// Applies an event to a meter, and appends the line of the reply.
 fn play_event(
     alloc: Global,
     number: u64,
@@ -41,7 +41,7 @@ fn play_event(
     add_line(alloc, out, number, &line)
 }
 
-/// Reads the event of the next line, lets a meter take it, and writes the line of its reply.
+/// Reads the event of the next line, applies it to a meter, and appends the line of the reply.
 fn play_next(
     alloc: Global,
     version: Version,
@@ -59,8 +59,8 @@ fn play_next(
     Ok(played?)
 }
 
-/// The lines of the next events, so many, each of which a meter takes as soon as it is read, the first of them with number 1. An event is let go before the next
-/// is read.
+/// Reads the next `count` events, applies each to a meter as soon as it is read, and returns the
+/// lines of the replies, the first with number 1. An event is dropped before the next is read.
 pub(crate) fn play_events(
     alloc: Global,
     version: Version,

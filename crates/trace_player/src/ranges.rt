@@ -1,4 +1,5 @@
-//! The numbers of every trace are of their types, so a trace that fits its text is read again. These functions only look at a trace, and allocate nothing.
+//! Proofs that the numbers of every trace are in the ranges of their types, so a trace that fits
+//! its text is read back. These functions only look at a trace, and do not allocate.
 ghost use Rattle.std.specs.Prelude.{◌≡◌, ◌≤◌, length, Ok};
 ghost use Rattle.std.specs.List.{All};
 ghost use Rattle.trace_lines.specs.Traced.{FitsLine, IsTraced};
@@ -11,7 +12,7 @@ use relay_recorder::Trace;
 use trace_lines::event_is_traced;
 use trace_openings::opening_is_writable;
 
-// Each event that fits its line is read again from it.
+// Makes known that each event that fits its line is read back from it.
 fn events_are_traced(events: &[Event])
     ensures { All (λ event. FitsLine event → IsTraced event) events.now }
 {
@@ -20,7 +21,8 @@ fn events_are_traced(events: &[Event])
     }
 }
 
-/// A trace that fits its text is read again from it, if the text has at most 33,554,432 bytes. That of at most 1,024 events has.
+/// Makes known that a trace that fits its text is read back from it if the text has at most
+/// 33,554,432 bytes, as the text of at most 1,024 events has.
 #[tactic(auto, using(crate::proofs::RangeLemmas::is_writable, crate::proofs::RangeLemmas::is_short))]
 pub(crate) fn trace_is_read_again(trace: &Trace)
     ensures again { FitsText trace.now → length (trace_text trace.now) ≤ most_bytes → trace_of (trace_text trace.now) ≡ Ok trace.now }

@@ -12,10 +12,10 @@ use trace_lines::{next_event, read_event_count};
 use trace_openings::read_opening;
 use trace_words::{TraceFault, TraceLines, Version};
 
-/// The text of a trace has at most so many bytes.
+/// The maximum length of the text of a trace, in bytes.
 pub const MAX_BYTES: usize = 33_554_432;
 
-/// The events of the next lines, so many.
+/// Reads the events of the next `count` lines.
 fn read_events(
     alloc: Global,
     version: Version,
@@ -31,7 +31,7 @@ fn read_events(
     Ok(events)
 }
 
-/// A trace behind whose lines nothing is left.
+/// Returns `trace` if nothing is left of the lines.
 #[tactic(auto, using(crate::proofs::Ends::ended_as, crate::proofs::Ends::unended_as))]
 fn ended(lines: &TraceLines, trace: Trace) -> Result<Trace, TraceFault>
     ensures ended { result ≡ ended_at lines.now trace }
@@ -46,7 +46,7 @@ fn ended(lines: &TraceLines, trace: Trace) -> Result<Trace, TraceFault>
     }
 }
 
-/// The trace that lines tell.
+/// Reads a trace from its lines.
 #[tactic(auto, unfolding(crate::specs::Traces::trace_from))]
 fn read_lines(alloc: Global, lines: &mut TraceLines) -> Result<Trace, TraceFault>
     ensures exact { Gives trace_fault.Memory (λ trace. trace) result (trace_from lines.old) }
@@ -66,7 +66,8 @@ fn read_lines(alloc: Global, lines: &mut TraceLines) -> Result<Trace, TraceFault
     }
 }
 
-/// Reads the text of a trace, in version 1 or 2. Errors: `TooLong`, `Line` of the first line that is not as a trace has it there, `Memory`.
+/// Reads the text of a trace, in version 1 or 2. Errors: `TooLong`; `Line` with the number of the
+/// first line that is missing or malformed; `Memory`.
 #[tactic(auto, unfolding(crate::specs::Traces::trace_of), using(crate::proofs::Faults::told_too_long))]
 pub fn read_trace(alloc: Global, text: &[u8]) -> Result<Trace, TraceFault>
     ensures exact { Gives trace_fault.Memory (λ trace. trace) result (trace_of text.now) }

@@ -14,7 +14,7 @@ use trace_lines::{write_event, write_event_count};
 use trace_openings::write_opening;
 use trace_text::end_line;
 
-/// Writes the line of an event, and the byte that ends it.
+/// Appends the line of an event, with the byte 0A that ends it.
 fn add_event(alloc: Global, out: &mut Vec<u8>, event: &Event) -> Result<(), AllocError>
     ensures { OnOk result (out.new.items ≡ out.old.items ++ line_of (event_row event.now) ++ 10 ∷ []) }
 {
@@ -22,7 +22,7 @@ fn add_event(alloc: Global, out: &mut Vec<u8>, event: &Event) -> Result<(), Allo
     end_line(out)
 }
 
-/// Writes the lines of events.
+/// Appends the lines of events.
 fn add_events(alloc: Global, out: &mut Vec<u8>, events: &[Event]) -> Result<(), AllocError>
     ensures { OnOk result (out.new.items ≡ out.old.items ++ rows_text (map event_row events.now)) }
 {
@@ -32,7 +32,7 @@ fn add_events(alloc: Global, out: &mut Vec<u8>, events: &[Event]) -> Result<(), 
     Ok(())
 }
 
-// Writes the lines of a trace.
+// Returns the lines of a trace as text.
 #[tactic(auto, using(crate::proofs::EventsLeft::text_joined))]
 fn write_lines(alloc: Global, trace: &Trace) -> Result<Octets, AllocError>
     ensures { IfOk result (λ text. text ≡ trace_text trace.now) }
@@ -44,11 +44,12 @@ fn write_lines(alloc: Global, trace: &Trace) -> Result<Octets, AllocError>
     Ok(Octets::from_vec(out))
 }
 
-/// Writes the text of a trace, in version 2. Errors: `AllocError`.
+/// Returns the text of a trace, in version 2. Errors: `AllocError`.
 ///
-/// [`read_trace`](crate::read_trace) reads the text back as the same trace if a core can open with the opening, [`fits_line`](trace_lines::fits_line)
-/// accepts each event, there are at most 65,536 events, and the text has at most 33,554,432 bytes. The text of at most
-/// 1,024 such events is never longer.
+/// [`read_trace`](crate::read_trace) reads the text back as the same trace if a core can start from
+/// the opening, [`fits_line`](trace_lines::fits_line) accepts each event, there are at most 65,536
+/// events, and the text has at most 33,554,432 bytes. The text of at most 1,024 such events is
+/// never longer.
 pub fn write_trace(alloc: Global, trace: &Trace) -> Result<Octets, AllocError>
     ensures text { IfOk result (λ text. text ≡ trace_text trace.now) }
     ensures again { IfOk result (λ text. FitsText trace.now → length text ≤ most_bytes → trace_of text ≡ Ok trace.now) }

@@ -12,7 +12,8 @@ use trace_player::{play, write_trace};
 use trace_text::Lines;
 use trace_words::Version;
 
-// Script 1 writes a threshold of 9,000 watts; over the threshold of 5,000 it runs after 4 seconds, under it the null script after 5. Then three samples.
+// Script 1 writes a threshold of 9,000 watts. It runs after 4 seconds over the threshold of 5,000,
+// and the null script after 5 seconds under it. Three samples follow.
 const LIMITED: &[u8] =
     b"set 1 9 00000A006AFF 2 0 0101020212000101010205160112004709060000110000FF0F040600002328
 set 1 71 0000110000FF 11 0 02020202090600000A006AFF1200010202090600000A006AFF120000
@@ -22,12 +23,12 @@ set 1 71 0000110000FF 7 0 0600000005
 samples 6000 6000 6000
 ";
 
-// A threshold is written and read.
+// A write of the threshold and a read of it.
 const THRESHOLD: &[u8] = b"set 1 71 0000110000FF 4 0 0600001B58
 get 1 71 0000110000FF 4 0
 ";
 
-// Mode 1 is written, the supply is cut remotely, and the button is pressed in vain.
+// A write of mode 1, a remote disconnection, and a press of the button, which is refused.
 const CUT: &[u8] = b"set 1 70 000060030AFF 4 0 1601
 execute 1 70 000060030AFF 1 0F00
 button
@@ -42,19 +43,19 @@ fn new_recorder(rt: &impl Abort, alloc: Global, capacity: u16) -> Result<Recorde
     recorder
 }
 
-// The event of a line.
+// Returns the event of a line.
 fn event(alloc: Global, line: &[u8]) -> Result<Event, AllocError> {
     read_event(alloc, Version::Two, line).map_err(|_| AllocError)
 }
 
-// Lets a recorder take an event.
+// Applies an event to a recorder.
 fn take_event(recorder: &mut Recorder, alloc: Global, event: Event) -> Result<(), AllocError> {
     let reply = recorder.apply(alloc, event)?;
     drop(reply);
     Ok(())
 }
 
-// Lets a recorder take the event of a line.
+// Applies the event of a line to a recorder.
 fn take_line(recorder: &mut Recorder, alloc: Global, line: &[u8]) -> Result<(), AllocError> {
     match read_event(alloc, Version::Two, line) {
         Ok(event) => take_event(recorder, alloc, event),
@@ -62,7 +63,7 @@ fn take_line(recorder: &mut Recorder, alloc: Global, line: &[u8]) -> Result<(), 
     }
 }
 
-// Lets a recorder take the event of each line of a text.
+// Applies the event of each line of a text to a recorder.
 fn take(recorder: &mut Recorder, alloc: Global, text: &[u8]) -> Result<(), AllocError> {
     for line in Lines::new(text) {
         take_line(recorder, alloc, line)?;
@@ -70,7 +71,7 @@ fn take(recorder: &mut Recorder, alloc: Global, text: &[u8]) -> Result<(), Alloc
     Ok(())
 }
 
-// Samples of 6,000 watts, as many as a block holds.
+// Returns the line of a full block of samples of 6,000 watts.
 fn full_block(alloc: Global) -> Result<Vec<u8>, AllocError> {
     let mut line = Vec::from_slice(alloc, b"samples")?;
     for _ in 0..256 {
@@ -79,7 +80,7 @@ fn full_block(alloc: Global) -> Result<Vec<u8>, AllocError> {
     Ok(line)
 }
 
-// The same as an event.
+// Returns the event of a full block of samples of 6,000 watts.
 fn full_block_event(alloc: Global) -> Result<Event, AllocError> {
     let line = full_block(alloc)?;
     let block = event(alloc, line.as_slice());
@@ -87,7 +88,8 @@ fn full_block_event(alloc: Global) -> Result<Event, AllocError> {
     block
 }
 
-// How often both sides fire by a reply, or a hundred of each.
+// Returns how many times both sides fire by a reply, or a hundred for each if it is not a reply to
+// samples.
 fn fired_by(reply: &Reply) -> (u16, u16) {
     match reply {
         Reply::Sampled { over, under } => (*over, *under),
@@ -95,7 +97,8 @@ fn fired_by(reply: &Reply) -> (u16, u16) {
     }
 }
 
-// How often both sides fire in a full block, or a hundred of each.
+// Applies a full block and returns how many times both sides fire, or a hundred for each if the
+// reply is another.
 fn fired(recorder: &mut Recorder, alloc: Global) -> Result<(u16, u16), AllocError> {
     let block = full_block_event(alloc)?;
     let reply = recorder.apply(alloc, block)?;
@@ -104,7 +107,7 @@ fn fired(recorder: &mut Recorder, alloc: Global) -> Result<(u16, u16), AllocErro
     Ok(given)
 }
 
-// The text of a recorder's export.
+// Returns the text of a recorder's export.
 fn exported(alloc: Global, recorder: &Recorder) -> Result<Octets, AllocError> {
     let trace = recorder.export(alloc)?;
     let text = write_trace(alloc, &trace);
@@ -112,7 +115,7 @@ fn exported(alloc: Global, recorder: &Recorder) -> Result<Octets, AllocError> {
     text
 }
 
-// Whether a text has this line at a number, counted from 1.
+// Returns whether the line with this number, counted from 1, is the one wanted.
 fn has_line(text: &[u8], number: usize, wanted: &[u8]) -> bool {
     let mut at = 0usize;
     for line in Lines::new(text) {
@@ -124,7 +127,7 @@ fn has_line(text: &[u8], number: usize, wanted: &[u8]) -> bool {
     false
 }
 
-// What a text plays to.
+// Returns the text that a trace plays to.
 fn played(alloc: Global, text: &[u8]) -> Result<Vec<u8>, AllocError> {
     let mut reader = Counted::new(text);
     let mut writer = Counted::new(Vec::new(alloc));
@@ -138,7 +141,7 @@ fn played(alloc: Global, text: &[u8]) -> Result<Vec<u8>, AllocError> {
     }
 }
 
-// Whether a text plays to these lines.
+// Returns whether a trace plays to these lines.
 fn text_plays_to(alloc: Global, text: &[u8], lines: &[u8]) -> Result<bool, AllocError> {
     let output = played(alloc, text)?;
     let is_so = output.as_slice() == lines;
@@ -146,7 +149,7 @@ fn text_plays_to(alloc: Global, text: &[u8], lines: &[u8]) -> Result<bool, Alloc
     Ok(is_so)
 }
 
-// Whether a recorder's export plays to these lines.
+// Returns whether a recorder's export plays to these lines.
 fn plays_to(alloc: Global, recorder: &Recorder, lines: &[u8]) -> Result<bool, AllocError> {
     let text = exported(alloc, recorder)?;
     let is_so = text_plays_to(alloc, text.as_slice(), lines);
@@ -154,14 +157,14 @@ fn plays_to(alloc: Global, recorder: &Recorder, lines: &[u8]) -> Result<bool, Al
     is_so
 }
 
-// Wants the limiter's lines of an export whose only event is a press.
+// Checks the limiter's lines of an export whose only event is a press.
 fn has_a_fired_run(rt: &impl Abort, text: &[u8]) {
     assert!(rt; has_line(text, 5, b"value 6000") && has_line(text, 7, b"normal 9000"));
     assert!(rt; has_line(text, 14, b"over 0 0") && has_line(text, 15, b"under 219 1"));
     assert!(rt; has_line(text, 31, b"events 1") && has_line(text, 32, b"button"));
 }
 
-// Wants what a press after a run that has fired is exported as.
+// Checks the export of a press after a run that has fired.
 fn exports_a_press(rt: &impl Abort, alloc: Global, recorder: &Recorder) -> Result<(), AllocError> {
     let text = exported(alloc, recorder)?;
     has_a_fired_run(rt, text.as_slice());
@@ -170,7 +173,7 @@ fn exports_a_press(rt: &impl Abort, alloc: Global, recorder: &Recorder) -> Resul
     Ok(())
 }
 
-// Lets a recorder take what fires its under run, and a press.
+// Applies the samples that fire the run under the threshold, and a press, to a recorder.
 fn take_a_fired_run(
     rt: &impl Abort,
     alloc: Global,
@@ -190,7 +193,7 @@ fn a_run_that_has_fired_is_exported(rt: HostRuntime) -> Result<(), Fail> {
     Ok(taken?)
 }
 
-// Wants what a write and a read are exported as.
+// Checks the export of a write and a read.
 fn exports_both(rt: &impl Abort, alloc: Global, recorder: &mut Recorder) -> Result<(), AllocError> {
     take(recorder, alloc, THRESHOLD)?;
     let text = exported(alloc, recorder)?;
@@ -209,14 +212,14 @@ fn a_write_and_a_read_are_exported(rt: HostRuntime) -> Result<(), Fail> {
     Ok(taken?)
 }
 
-// The lines of an opening.
+// Returns the lines of an opening.
 fn lines_of(alloc: Global, opening: &Opening) -> Result<Vec<u8>, AllocError> {
     let mut lines = Vec::new(alloc);
     write_opening(alloc, &mut lines, opening)?;
     Ok(lines)
 }
 
-// The lines that tell of a core.
+// Returns the lines of the opening of a core.
 fn opening_lines(alloc: Global, core: &RelayCore) -> Result<Vec<u8>, AllocError> {
     let opening = core.to_opening(alloc)?;
     let lines = lines_of(alloc, &opening);
@@ -224,7 +227,7 @@ fn opening_lines(alloc: Global, core: &RelayCore) -> Result<Vec<u8>, AllocError>
     lines
 }
 
-// The lines that tell of a copy of a core.
+// Returns the lines of the opening of a copy of a core.
 fn copied_lines(alloc: Global, core: &RelayCore) -> Result<Vec<u8>, AllocError> {
     let copy = core.try_copy(alloc)?;
     let lines = opening_lines(alloc, &copy);
@@ -232,7 +235,7 @@ fn copied_lines(alloc: Global, core: &RelayCore) -> Result<Vec<u8>, AllocError> 
     lines
 }
 
-// Whether a copy of a core tells of itself so.
+// Returns whether the opening of a copy of a core has these lines.
 fn copy_tells(alloc: Global, core: &RelayCore, lines: &[u8]) -> Result<bool, AllocError> {
     let copied = copied_lines(alloc, core)?;
     let is_so = copied.as_slice() == lines;
@@ -240,7 +243,7 @@ fn copy_tells(alloc: Global, core: &RelayCore, lines: &[u8]) -> Result<bool, All
     Ok(is_so)
 }
 
-// Whether a copy of a core is written down as the core itself.
+// Returns whether the openings of a core and of its copy have the same lines.
 fn core_is_copied(alloc: Global, core: &RelayCore) -> Result<bool, AllocError> {
     let own = opening_lines(alloc, core)?;
     let is_so = copy_tells(alloc, core, own.as_slice());
@@ -248,14 +251,14 @@ fn core_is_copied(alloc: Global, core: &RelayCore) -> Result<bool, AllocError> {
     is_so
 }
 
-// The line of an event.
+// Returns the line of an event.
 fn line_of(alloc: Global, event: &Event) -> Result<Vec<u8>, AllocError> {
     let mut line = Vec::new(alloc);
     write_event(alloc, &mut line, event)?;
     Ok(line)
 }
 
-// The line of a copy of an event.
+// Returns the line of a copy of an event.
 fn copied_line(alloc: Global, event: &Event) -> Result<Vec<u8>, AllocError> {
     let copy = event.try_copy(alloc)?;
     let line = line_of(alloc, &copy);
@@ -263,7 +266,7 @@ fn copied_line(alloc: Global, event: &Event) -> Result<Vec<u8>, AllocError> {
     line
 }
 
-// Whether a copy of an event is written as this line.
+// Returns whether a copy of an event has this line.
 fn event_is_copied(alloc: Global, event: &Event, line: &[u8]) -> Result<bool, AllocError> {
     let copied = copied_line(alloc, event)?;
     let is_so = copied.as_slice() == line;
@@ -271,13 +274,13 @@ fn event_is_copied(alloc: Global, event: &Event, line: &[u8]) -> Result<bool, Al
     Ok(is_so)
 }
 
-// Wants the opening and the events of an export whose first event was pushed out.
+// Checks the opening and the events of an export whose first event was dropped.
 fn begins_in_mode_1(rt: &impl Abort, text: &[u8]) {
     assert!(rt; has_line(text, 3, b"state 1") && has_line(text, 4, b"mode 1"));
     assert!(rt; has_line(text, 31, b"events 2") && has_line(text, 33, b"button"));
 }
 
-// Wants what is exported once the first of three events was pushed out.
+// Checks the export after the first of three events was dropped.
 fn exports_the_last(rt: &impl Abort, alloc: Global, recorder: &Recorder) -> Result<(), AllocError> {
     let text = exported(alloc, recorder)?;
     begins_in_mode_1(rt, text.as_slice());
@@ -287,7 +290,7 @@ fn exports_the_last(rt: &impl Abort, alloc: Global, recorder: &Recorder) -> Resu
     Ok(())
 }
 
-// Wants that copies of the core and of the first kept event are written as these.
+// Checks that copies of the core and of the first kept event have the same lines as these.
 fn is_copied(rt: &impl Abort, alloc: Global, recorder: &Recorder) -> Result<(), AllocError> {
     assert!(rt; core_is_copied(alloc, recorder.core())?);
     assert!(rt; recorder.count() == 2);
@@ -296,7 +299,7 @@ fn is_copied(rt: &impl Abort, alloc: Global, recorder: &Recorder) -> Result<(), 
     Ok(())
 }
 
-// Lets a recorder take three events, of which it keeps two.
+// Applies three events to a recorder, which keeps the last two.
 fn take_a_cut(rt: &impl Abort, alloc: Global, recorder: &mut Recorder) -> Result<(), AllocError> {
     take(recorder, alloc, CUT)?;
     exports_the_last(rt, alloc, recorder)?;

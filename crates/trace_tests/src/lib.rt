@@ -1,6 +1,8 @@
-//! Tests of `trace_words`, `trace_openings`, `trace_lines` and `trace_player`: lines of a trace, read and written; traces read, written and played, and what a recorder exports.
+//! Tests of `trace_words`, `trace_openings`, `trace_lines` and `trace_player`: lines of a trace
+//! that are read and written, traces that are read, written and played, and what a recorder
+//! exports.
 //!
-//! They stand apart from what they test, since a check of tests proves anew all that stands in their crate.
+//! The tests have a crate of their own, because checking tests proves their whole crate again.
 #![tactic(auto)]
 
 #[cfg(test)]

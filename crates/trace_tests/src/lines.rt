@@ -1,4 +1,4 @@
-//! Lines of a trace, and the events and replies that they stand for.
+//! Lines of a trace, and their events and replies.
 use cosem_axdr::Data;
 use cosem_names::{
     AttrRef, AttributeSelection, ClassId, GetResult, Level, MethodRef, Obis, ResultCode,
@@ -16,7 +16,7 @@ use trace_words::{RowFault, Version};
 // 0.0.96.3.10.255, the disconnect control.
 const CONTROL: Obis = Obis([0, 0, 0x60, 3, 0x0A, 0xFF]);
 
-// 0.0.96.3.11.255, which is no object.
+// 0.0.96.3.11.255, which is not an object of the meter.
 const NO_OBJECT: Obis = Obis([0, 0, 0x60, 3, 0x0B, 0xFF]);
 
 fn attribute(name: Obis, number: u8) -> AttrRef {
@@ -27,7 +27,7 @@ fn attribute(name: Obis, number: u8) -> AttrRef {
     }
 }
 
-// A read of the disconnect control's state by a public client.
+// Returns a public client's read of the control state.
 fn get_state() -> Event {
     Event::Get {
         level: Level::Public,
@@ -36,7 +36,7 @@ fn get_state() -> Event {
     }
 }
 
-// A write of the disconnect control's mode.
+// Returns a write of the control mode.
 fn set_mode(mode: u8) -> Event {
     Event::Set {
         level: Level::Management,
@@ -46,7 +46,7 @@ fn set_mode(mode: u8) -> Event {
     }
 }
 
-// A call of a method of the disconnect control.
+// Returns a call of a method of the disconnect control.
 fn execute(number: u8, parameter: Option<Data>) -> Event {
     let method = MethodRef {
         class: ClassId(70),
@@ -60,7 +60,7 @@ fn execute(number: u8, parameter: Option<Data>) -> Event {
     }
 }
 
-// A read of two attributes, of the second a part.
+// Returns a read of two attributes, of the second with selective access.
 fn get_two(alloc: Global) -> Result<Event, AllocError> {
     let mut items = Vec::new(alloc);
     items.push(AttributeSelection {
@@ -77,7 +77,7 @@ fn get_two(alloc: Global) -> Result<Event, AllocError> {
     })
 }
 
-// Whether this is the line of an event.
+// Returns whether this is the line of an event.
 fn is_line_of(alloc: Global, event: &Event, line: &[u8]) -> Result<bool, AllocError> {
     let mut out = Vec::new(alloc);
     let written = write_event(alloc, &mut out, event);
@@ -87,14 +87,14 @@ fn is_line_of(alloc: Global, event: &Event, line: &[u8]) -> Result<bool, AllocEr
     Ok(same)
 }
 
-// The same of an event that is let go.
+// Returns whether this is the line of an event, which is dropped.
 fn is_written(alloc: Global, event: Event, line: &[u8]) -> Result<bool, AllocError> {
     let same = is_line_of(alloc, &event, line);
     drop(event);
     same
 }
 
-// Whether samples are written as this line.
+// Returns whether this is the line of a block of samples.
 fn are_samples(alloc: Global, values: &[u32], line: &[u8]) -> Result<bool, AllocError> {
     match Block::from_slice(alloc, values) {
         Ok(block) => is_written(alloc, Event::Samples(block), line),
@@ -102,7 +102,7 @@ fn are_samples(alloc: Global, values: &[u32], line: &[u8]) -> Result<bool, Alloc
     }
 }
 
-// Whether pairs of samples are written as this line.
+// Returns whether this is the line of a block of pairs of samples.
 fn are_pairs(
     alloc: Global,
     imports: &[u32],
@@ -115,7 +115,7 @@ fn are_pairs(
     }
 }
 
-// Whether a line is read, and the event written as the same line.
+// Returns whether a line is read, and its event written as the same line.
 fn is_read_again(alloc: Global, version: Version, line: &[u8]) -> Result<bool, AllocError> {
     match read_event(alloc, version, line) {
         Ok(event) => is_written(alloc, event, line),
@@ -123,7 +123,7 @@ fn is_read_again(alloc: Global, version: Version, line: &[u8]) -> Result<bool, A
     }
 }
 
-// Whether this holds of each line of a text.
+// Returns whether each line of a text is read, and its event written as the same line.
 fn are_read_again(alloc: Global, version: Version, text: &[u8]) -> Result<bool, AllocError> {
     for line in Lines::new(text) {
         if !is_read_again(alloc, version, line)? {
@@ -133,7 +133,7 @@ fn are_read_again(alloc: Global, version: Version, text: &[u8]) -> Result<bool, 
     Ok(true)
 }
 
-// Whether a line is that of no event.
+// Returns whether a line is refused as the line of an event.
 fn is_wrong(alloc: Global, version: Version, line: &[u8]) -> bool {
     match read_event(alloc, version, line) {
         Ok(event) => {
@@ -144,7 +144,7 @@ fn is_wrong(alloc: Global, version: Version, line: &[u8]) -> bool {
     }
 }
 
-// Whether this holds of each line of a text.
+// Returns whether each line of a text is refused as the line of an event.
 fn are_wrong(alloc: Global, version: Version, text: &[u8]) -> bool {
     for line in Lines::new(text) {
         if !is_wrong(alloc, version, line) {
@@ -154,7 +154,7 @@ fn are_wrong(alloc: Global, version: Version, text: &[u8]) -> bool {
     true
 }
 
-// Whether a line is read that has so many samples of 5 behind what stands there.
+// Appends `count` samples of 5 to a line, and returns whether it is read.
 fn is_read_behind(alloc: Global, line: &mut Vec<u8>, count: usize) -> Result<bool, AllocError> {
     for _ in 0..count {
         line.extend_from_slice(b" 5")?;
@@ -162,7 +162,7 @@ fn is_read_behind(alloc: Global, line: &mut Vec<u8>, count: usize) -> Result<boo
     is_read_again(alloc, Version::Two, line.as_slice())
 }
 
-// Whether a line of so many samples is read.
+// Returns whether a line of `count` samples is read.
 fn is_read_with(alloc: Global, count: usize) -> Result<bool, AllocError> {
     let mut line = Vec::from_slice(alloc, b"samples")?;
     let read = is_read_behind(alloc, &mut line, count);
@@ -170,7 +170,7 @@ fn is_read_with(alloc: Global, count: usize) -> Result<bool, AllocError> {
     read
 }
 
-// Whether this is the text of a line.
+// Returns whether this is the text of the line of a reply.
 fn is_text_of(alloc: Global, number: u64, line: &Line, text: &[u8]) -> Result<bool, AllocError> {
     let mut out = Vec::new(alloc);
     let written = write_line(alloc, &mut out, number, line);
@@ -180,7 +180,7 @@ fn is_text_of(alloc: Global, number: u64, line: &Line, text: &[u8]) -> Result<bo
     Ok(same)
 }
 
-// Whether this is the line of a reply, with the switch as told.
+// Returns whether this is the line of a reply, with this state of the switch.
 fn is_line(
     alloc: Global,
     number: u64,
@@ -199,12 +199,12 @@ fn is_line(
     same
 }
 
-// Whether this is the line of a reply, the switch connected.
+// Returns whether this is the line of a reply, with the switch connected.
 fn is_line_on(alloc: Global, number: u64, reply: Reply, text: &[u8]) -> Result<bool, AllocError> {
     is_line(alloc, number, reply, ControlState::Connected, true, text)
 }
 
-// What a read of two attributes gives, of which the second is not there.
+// Returns the results of a read of two attributes, of which the second does not exist.
 fn two_values(alloc: Global) -> Result<Reply, AllocError> {
     let mut items = Vec::new(alloc);
     items.push(GetResult::Value(Data::Enum(1)))?;
@@ -334,7 +334,7 @@ fn other_lines_are_wrong(rt: HostRuntime) {
     assert!(rt; are_wrong(alloc, Version::Two, numbers));
 }
 
-// A longer length, another true, a byte more, a byte less and no value are wrong.
+// A longer length, another true, one more byte, one byte less and no value are refused.
 #[test]
 fn data_is_read_in_its_written_spelling_alone(rt: HostRuntime) {
     let alloc = rt.alloc();
@@ -348,7 +348,8 @@ fn data_is_read_in_its_written_spelling_alone(rt: HostRuntime) {
     assert!(rt; are_wrong(alloc, Version::Two, others));
 }
 
-// A line of a code: its number, the code, the state of the switch, whether the supply is on, and the text.
+// A line of a code: its number, the code, the control state, whether the supply is on, and the
+// text.
 type CodeLine = (u64, ResultCode, ControlState, bool, &'static [u8]);
 
 const CODE_LINES: &[CodeLine] = &[

@@ -1,4 +1,4 @@
-//! Openings of traces, and the lines that are none.
+//! Openings of traces, and lines that are refused in them.
 use cosem_axdr::Octets;
 use disconnect_control::{ControlMode, ControlState};
 use limiter_core::Count;
@@ -10,7 +10,7 @@ use trace_openings::read_opening;
 use trace_text::Lines;
 use trace_words::{TraceFault, TraceLines, Version};
 
-// A meter that is new, in version 1.
+// A new meter, in version 1.
 const NEW_METER: &[u8] = b"RELAYTRACE 1\n\
       device 52454C415931\n\
       state 1\n\
@@ -32,7 +32,8 @@ const NEW_METER: &[u8] = b"RELAYTRACE 1\n\
       schedule 2 0 5 0100\n\
       schedule 3 0 5 0100\n";
 
-// A meter with settings of its own, in version 2. Script 1 disconnects, and schedule 1 runs it at the last second of each month.
+// A meter with settings of its own, in version 2. Script 1 disconnects, and schedule 1 runs it at
+// the last second of each month.
 const SET_METER: &[u8] = b"RELAYTRACE 2\n\
       device 00\n\
       state 2\n\
@@ -64,7 +65,7 @@ const SET_METER: &[u8] = b"RELAYTRACE 2\n\
       schedule 2 0 2 0100\n\
       schedule 3 65535 4 0100\n";
 
-// Puts a text with another line in the place of one behind what is there.
+// Appends a text, with `other` instead of its line `number`.
 fn add_with_line(
     changed: &mut Vec<u8>,
     text: &[u8],
@@ -80,7 +81,7 @@ fn add_with_line(
     Ok(())
 }
 
-// Puts a text without one of its lines behind what is there.
+// Appends a text without its line `number`.
 fn add_without_line(changed: &mut Vec<u8>, text: &[u8], number: u64) -> Result<(), AllocError> {
     let mut at: u64 = 0;
     for line in Lines::new(text) {
@@ -93,7 +94,7 @@ fn add_without_line(changed: &mut Vec<u8>, text: &[u8], number: u64) -> Result<(
     Ok(())
 }
 
-// What is asked of an opening that is read.
+// What to check of an opening that is read.
 #[derive(Clone, Copy)]
 enum Asked {
     Nothing,
@@ -101,7 +102,7 @@ enum Asked {
     IsSetMeter,
 }
 
-// Whether an opening of this version is as asked.
+// Returns whether an opening of this version passes the check.
 fn is_as_asked(version: Version, opening: &Opening, asked: Asked) -> bool {
     match asked {
         Asked::Nothing => true,
@@ -110,7 +111,8 @@ fn is_as_asked(version: Version, opening: &Opening, asked: Asked) -> bool {
     }
 }
 
-// Whether the opening that is read from lines is as asked. Openings are let go here alone: that one may be is long to prove.
+// Returns whether the opening that is read from lines passes the check. Openings are dropped only
+// here, because the proof that one may be dropped is slow.
 fn opened(alloc: Global, lines: &mut TraceLines, asked: Asked) -> Result<bool, TraceFault> {
     match read_opening(alloc, lines) {
         Ok((version, opening)) => {
@@ -122,7 +124,7 @@ fn opened(alloc: Global, lines: &mut TraceLines, asked: Asked) -> Result<bool, T
     }
 }
 
-// The number of the line for which an opening is refused.
+// Returns the number of the line for which an opening is refused.
 fn wrong_line(alloc: Global, text: &[u8]) -> Option<u64> {
     match opened(alloc, &mut TraceLines::new(text), Asked::Nothing) {
         Err(TraceFault::Line(number)) => Some(number),
@@ -130,18 +132,18 @@ fn wrong_line(alloc: Global, text: &[u8]) -> Option<u64> {
     }
 }
 
-// Whether an opening is read.
+// Returns whether an opening is read.
 fn is_read(alloc: Global, text: &[u8]) -> bool {
     opened(alloc, &mut TraceLines::new(text), Asked::Nothing).is_ok()
 }
 
-// Whether the opening of a text is as asked, with nothing behind it.
+// Returns whether the opening of a text passes the check, and nothing follows it.
 fn is_whole(alloc: Global, text: &[u8], asked: Asked) -> Result<bool, TraceFault> {
     let mut lines = TraceLines::new(text);
     Ok(opened(alloc, &mut lines, asked)? && lines.end().is_ok())
 }
 
-// The number of the line for which an opening with another line is refused.
+// Returns the number of the line for which an opening with another line is refused.
 fn wrong_line_with(
     alloc: Global,
     text: &[u8],
@@ -156,7 +158,7 @@ fn wrong_line_with(
     Ok(wrong)
 }
 
-// Whether an opening with another line is read.
+// Returns whether an opening with another line is read.
 fn is_read_with(alloc: Global, text: &[u8], number: u64, other: &[u8]) -> Result<bool, AllocError> {
     let mut changed = Vec::new(alloc);
     let added = add_with_line(&mut changed, text, number, other);
@@ -166,7 +168,7 @@ fn is_read_with(alloc: Global, text: &[u8], number: u64, other: &[u8]) -> Result
     Ok(read)
 }
 
-// The number of the line for which an opening without one of its lines is refused.
+// Returns the number of the line for which an opening without one of its lines is refused.
 fn wrong_line_without(alloc: Global, text: &[u8], number: u64) -> Result<Option<u64>, AllocError> {
     let mut changed = Vec::new(alloc);
     let added = add_without_line(&mut changed, text, number);
@@ -176,7 +178,7 @@ fn wrong_line_without(alloc: Global, text: &[u8], number: u64) -> Result<Option<
     Ok(wrong)
 }
 
-// Whether each of a text's lines is missed where it is left out.
+// Returns whether each of a text's lines is reported as missing if it is left out.
 fn are_missed(alloc: Global, text: &[u8], count: u64) -> Result<bool, AllocError> {
     for number in 0..count {
         let number = number.wrapping_add(1);
@@ -187,18 +189,18 @@ fn are_missed(alloc: Global, text: &[u8], count: u64) -> Result<bool, AllocError
     Ok(true)
 }
 
-// What holds of an opening with each of several other lines in the place of the line of a number.
+// What holds of an opening one of whose lines is replaced.
 #[derive(Clone, Copy)]
 enum Other {
-    // It is refused for that line.
+    // With this line, the opening is refused at its number.
     Wrong(u64, &'static [u8]),
-    // It is read.
+    // With this line at its number, the opening is read.
     Read(u64, &'static [u8]),
-    // It is refused for this line, the first number, once the line of the second number is another one.
+    // With this line at the second number, the opening is refused at the first number.
     WrongAt(u64, u64, &'static [u8]),
 }
 
-// Whether an opening with another line is refused for the line of a number.
+// Returns whether an opening with another line is refused at this line number.
 fn are_wrong_at(
     alloc: Global,
     text: &[u8],
@@ -236,7 +238,7 @@ fn holds(alloc: Global, text: &[u8], other: Other) -> Result<bool, AllocError> {
     }
 }
 
-// Whether all of these hold of a text.
+// Returns whether all of these hold of a text.
 fn hold(alloc: Global, text: &[u8], rows: &[Other]) -> Result<bool, AllocError> {
     for row in rows {
         if !holds(alloc, text, *row)? {
@@ -246,7 +248,7 @@ fn hold(alloc: Global, text: &[u8], rows: &[Other]) -> Result<bool, AllocError> 
     Ok(true)
 }
 
-// Whether a limiter has these thresholds and durations.
+// Returns whether a limiter has these thresholds and durations.
 fn has_limits(limiter: &LimiterOpening, limits: [u32; 4]) -> bool {
     [
         limiter.settings.normal_threshold,
@@ -256,12 +258,12 @@ fn has_limits(limiter: &LimiterOpening, limits: [u32; 4]) -> bool {
     ] == limits
 }
 
-// Whether a limiter has this last sample and these runs.
+// Returns whether a limiter has this last sample and these runs.
 fn has_runs(limiter: &LimiterOpening, value: u32, over: Count, under: Count) -> bool {
     limiter.value == value && limiter.over == over && limiter.under == under
 }
 
-// Whether a limiter has this profile, these groups and these actions.
+// Returns whether a limiter has this profile, these groups and these actions.
 fn has_emergency(
     limiter: &LimiterOpening,
     profile: (u16, u32),
@@ -283,19 +285,19 @@ fn count(run: u64, fired: bool) -> Count {
     Count { run, fired }
 }
 
-// Whether a limiter is that of a new meter.
+// Returns whether a limiter is that of a new meter.
 fn is_new_limiter(limiter: &LimiterOpening) -> bool {
     has_limits(limiter, [4_294_967_295, 4_294_967_295, 0, 0])
         && has_runs(limiter, 0, count(0, false), count(0, false))
         && has_emergency(limiter, (0, 0), &[], (0, 0))
 }
 
-// Whether a device has this name.
+// Returns whether a device has this name.
 fn is_named(device: &Octets, name: &[u8]) -> bool {
     device.as_slice() == name
 }
 
-// Whether an opening tells of the new meter.
+// Returns whether an opening is that of the new meter.
 fn is_new_meter(opening: &Opening) -> bool {
     is_named(&opening.device, b"RELAY1")
         && opening.state == ControlState::Connected
@@ -307,7 +309,7 @@ fn is_new_meter(opening: &Opening) -> bool {
         && opening.schedules.first.selector() == 0
 }
 
-// Whether an opening tells of the switch of the meter with settings of its own.
+// Returns whether an opening has the switch of the meter with settings of its own.
 fn is_set_switch(opening: &Opening) -> bool {
     is_named(&opening.device, &[0])
         && opening.state == ControlState::ReadyForReconnection
@@ -315,21 +317,21 @@ fn is_set_switch(opening: &Opening) -> bool {
         && opening.moment == Some(828_282_828)
 }
 
-// Whether a limiter is its import limiter.
+// Returns whether a limiter is the import limiter of that meter.
 fn is_set_import(limiter: &LimiterOpening) -> bool {
     has_limits(limiter, [5000, 1000, 60, 5])
         && has_runs(limiter, 10, count(3, false), count(0, false))
         && has_emergency(limiter, (7, 3600), &[7, 65_535], (1, 2))
 }
 
-// Whether a limiter is its export limiter.
+// Returns whether a limiter is the export limiter of that meter.
 fn is_set_export(limiter: &LimiterOpening) -> bool {
     has_limits(limiter, [9, 8, 7, 6])
         && has_runs(limiter, 0, count(0, false), count(42_949_672_950, true))
         && has_emergency(limiter, (0, 0), &[], (3, 4))
 }
 
-// Whether an opening has its scripts and schedules.
+// Returns whether an opening has the scripts and schedules of that meter.
 fn has_set_schedules(opening: &Opening) -> bool {
     opening.scripts.step_count(1) == Some(1)
         && opening.schedules.first.selector() == 3
@@ -346,12 +348,12 @@ fn is_set_meter(opening: &Opening) -> bool {
         && has_set_schedules(opening)
 }
 
-// The number of events that a text tells.
+// Returns the number of events that a text states.
 fn event_count(text: &[u8]) -> Option<u32> {
     read_event_count(&mut TraceLines::new(text)).ok()
 }
 
-// Reads a line as that of an event, which is let go.
+// Reads a line as that of an event, which is dropped.
 fn skip_event(alloc: Global, version: Version, lines: &mut TraceLines) -> Result<(), TraceFault> {
     match next_event(alloc, version, lines) {
         Ok(event) => {
@@ -362,7 +364,7 @@ fn skip_event(alloc: Global, version: Version, lines: &mut TraceLines) -> Result
     }
 }
 
-// What comes of the second line of a text, if the first is that of an event.
+// Returns the result of reading the second line of a text, if the first is that of an event.
 fn second(alloc: Global, version: Version, text: &[u8]) -> Option<Result<(), TraceFault>> {
     let mut lines = TraceLines::new(text);
     match skip_event(alloc, version, &mut lines) {
@@ -381,10 +383,10 @@ fn an_opening_of_version_2_is_read(rt: HostRuntime) {
     assert!(rt; matches!(is_whole(rt.alloc(), SET_METER, Asked::IsSetMeter), Ok(true)));
 }
 
-// Texts, and the lines for which they are refused as openings.
+// Texts, and the number of the line for which each is refused as an opening.
 const SHORT: &[(&[u8], u64)] = &[(b"", 1), (b"RELAYTRACE 1", 1), (b"RELAYTRACE 1\n", 2)];
 
-// Whether each text is refused for its line.
+// Returns whether each text is refused for its line.
 fn are_short(alloc: Global, texts: &[(&[u8], u64)]) -> bool {
     for (text, line) in texts {
         if wrong_line(alloc, text) != Some(*line) {
@@ -402,7 +404,7 @@ fn a_line_that_is_missing_is_told(rt: HostRuntime) -> Result<(), Fail> {
     Ok(())
 }
 
-// The line behind the import limiter is one of the export limiter in version 2 alone.
+// The line after the import limiter is one of the export limiter in version 2 only.
 const VERSIONS: &[Other] = &[
     Other::Wrong(
         1,
@@ -438,7 +440,7 @@ fn a_device_name_has_1_to_16_bytes(rt: HostRuntime) {
     assert!(rt; matches!(hold(rt.alloc(), NEW_METER, DEVICES), Ok(true)));
 }
 
-// In state 2 mode 0 is wrong, and in state 0 too.
+// Mode 0 is refused in state 2, and in state 0.
 const MODES: &[Other] = &[
     Other::Wrong(3, b"state\nstate 3\nstate 01\nstate 1 1\nstate -\n"),
     Other::Wrong(4, b"mode\nmode 7\nmode 00\nmode 0 0\nmode\t0\n"),
@@ -472,7 +474,8 @@ fn values_are_of_32_bits(rt: HostRuntime) {
     assert!(rt; matches!(hold(rt.alloc(), NEW_METER, VALUES), Ok(true)));
 }
 
-// Wrong are eleven bytes, thirteen, the month FD, and another form of the id, the start or the duration.
+// Eleven bytes, thirteen, the month FD, and another form of the id, the start or the duration are
+// refused.
 const PROFILES: &[Other] = &[
     Other::Read(11, b"profile 65535 07D00101FF00012800800000 4294967295\n"),
     Other::Wrong(
@@ -520,7 +523,7 @@ fn a_limiter_has_up_to_32_groups(rt: HostRuntime) {
     assert!(rt; matches!(hold(rt.alloc(), NEW_METER, GROUPS), Ok(true)));
 }
 
-// The last sample of the new meter is 0.
+// Runs of the new meter, whose last sample is 0.
 const NEW_RUNS: &[Other] = &[
     Other::Wrong(
         14,
@@ -533,7 +536,8 @@ const NEW_RUNS: &[Other] = &[
     Other::Read(15, b"under 1 0\nunder 42949672949 1\n"),
 ];
 
-// That of the other meter is 10. Beside a run over the threshold there is none under it.
+// Runs of the other meter, whose last sample is 10. With a run over the threshold there is none
+// under it.
 const SET_RUNS: &[Other] = &[
     Other::Read(14, b"over 1 0\nover 1 1\nover 42949672950 1\nover 0 0\n"),
     Other::Wrong(14, b"over 0 1\nover 42949672950 0\nover 42949672951 1\n"),
@@ -554,7 +558,7 @@ const GREATEST_RUNS: &[Other] = &[
 
 const GREATEST_EXPORT: &[Other] = &[Other::WrongAt(25, 16, b"xvalue 4294967295\n")];
 
-// Whether a new meter with the greatest value is read, and these lines hold of it.
+// Returns whether a new meter with the greatest value is read, and these lines hold of it.
 fn greatest_holds(alloc: Global, rows: &[Other]) -> Result<bool, AllocError> {
     let mut greatest = Vec::new(alloc);
     let added = add_with_line(&mut greatest, NEW_METER, 5, b"value 4294967295");
@@ -571,7 +575,8 @@ fn the_greatest_value_lies_under_no_threshold(rt: HostRuntime) {
     assert!(rt; matches!(hold(rt.alloc(), SET_METER, GREATEST_EXPORT), Ok(true)));
 }
 
-// Wrong are another spelling, a byte more, a byte less, no array, no table in it, a script 0, and no word.
+// Another encoding, one more byte, one byte less, no array, no table in it, a script 0, and no word
+// are refused.
 const SCRIPTS: &[Other] = &[
     Other::Read(16, b"scripts 0101020212FFFF0100\n"),
     Other::Wrong(
@@ -620,7 +625,7 @@ fn schedules_come_in_their_order(rt: HostRuntime) {
     assert!(rt; matches!(hold(rt.alloc(), NEW_METER, SCHEDULES), Ok(true)));
 }
 
-// The last exported sample is 0, whatever was imported last.
+// Lines of the export limiter, whose last sample is 0, whatever was imported last.
 const EXPORTS: &[Other] = &[
     Other::Wrong(16, b"value 0\nxxvalue 0\nxvalue 00\nxvalue\n"),
     Other::Wrong(17, b"normal 9\nxnormal 4294967296\n"),
@@ -651,7 +656,7 @@ const EVENT_COUNTS: &[(&[u8], Option<u32>)] = &[
     (b"event 1\n", None),
 ];
 
-// Whether each text tells so many events.
+// Returns whether each text states this number of events.
 fn are_counts(texts: &[(&[u8], Option<u32>)]) -> bool {
     for (text, count) in texts {
         if event_count(text) != *count {
@@ -666,7 +671,7 @@ fn there_are_up_to_65536_events(rt: HostRuntime) {
     assert!(rt; are_counts(EVENT_COUNTS));
 }
 
-// What comes of the second line of two events.
+// The result of reading the second line of two events.
 type Second = (Version, &'static [u8], Result<(), TraceFault>);
 
 const SECONDS: &[Second] = &[
@@ -702,7 +707,7 @@ const ENDS: &[(&[u8], Result<(), TraceFault>)] = &[
     (b"button\n", Err(TraceFault::Line(1))),
 ];
 
-// Whether each text is taken so where a trace is to end.
+// Returns whether each text has this result where a trace is to end.
 fn are_ends(texts: &[(&[u8], Result<(), TraceFault>)]) -> bool {
     for (text, wanted) in texts {
         if TraceLines::new(text).end() != *wanted {

@@ -9,7 +9,7 @@ use std::alloc::{AllocError, Global};
 use trace_lines::write_event_count;
 use trace_openings::write_opening;
 
-// The lines of a new meter of the name RELAY1.
+// The lines of a new meter with the name RELAY1.
 const NEW: &[u8] = b"RELAYTRACE 2\n\
     device 52454C415931\n\
     state 1\n\
@@ -41,7 +41,7 @@ const NEW: &[u8] = b"RELAYTRACE 2\n\
     schedule 2 0 5 0100\n\
     schedule 3 0 5 0100\n";
 
-// Those of a meter of which each number is another one.
+// The lines of a meter with settings of its own.
 const BUSY: &[u8] = b"RELAYTRACE 2\n\
     device 52454C415931\n\
     state 2\n\
@@ -73,7 +73,7 @@ const BUSY: &[u8] = b"RELAYTRACE 2\n\
     schedule 2 0 5 0100\n\
     schedule 3 11 4 0100\n";
 
-// A new meter.
+// Returns the core of a new meter.
 fn new_core(alloc: Global) -> Result<RelayCore, AllocError> {
     let device = Octets::from_slice(alloc, b"RELAY1")?;
     let core = RelayCore::new(alloc, &device);
@@ -81,7 +81,7 @@ fn new_core(alloc: Global) -> Result<RelayCore, AllocError> {
     core
 }
 
-// The opening of a new meter.
+// Returns the opening of a new meter.
 fn new_opening(alloc: Global) -> Result<Opening, AllocError> {
     let core = new_core(alloc)?;
     let opening = core.to_opening(alloc);
@@ -89,7 +89,7 @@ fn new_opening(alloc: Global) -> Result<Opening, AllocError> {
     opening
 }
 
-// Whether these are the lines of an opening.
+// Returns whether these are the lines of an opening.
 fn are_lines(alloc: Global, opening: &Opening, lines: &[u8]) -> Result<bool, AllocError> {
     let mut out = Vec::new(alloc);
     let written = write_opening(alloc, &mut out, opening);
@@ -99,7 +99,7 @@ fn are_lines(alloc: Global, opening: &Opening, lines: &[u8]) -> Result<bool, All
     Ok(same)
 }
 
-// Whether the lines of an opening are written behind what is there.
+// Returns whether the lines of an opening are appended after other text.
 fn are_lines_behind(alloc: Global, opening: &Opening, lines: &[u8]) -> Result<bool, AllocError> {
     let mut out = Vec::from_slice(alloc, b"before\n")?;
     let written = write_opening(alloc, &mut out, opening);
@@ -157,14 +157,14 @@ fn set_busy(alloc: Global, opening: &mut Opening) -> Result<(), AllocError> {
     Ok(())
 }
 
-// What is written of an opening.
+// What to check of the lines of an opening.
 #[derive(Clone, Copy)]
 enum Written {
-    // That of a new meter, alone.
+    // The lines of a new meter, alone.
     New,
-    // That of a new meter, behind other lines.
+    // The lines of a new meter, after other lines.
     NewBehind,
-    // That of a meter of which each number is another one.
+    // The lines of the meter with settings of its own.
     Busy,
 }
 
@@ -183,7 +183,8 @@ fn is_written_from(
     }
 }
 
-// Whether the opening of a new meter is written so. It is let go here alone: that it may be is long to prove.
+// Returns whether the lines of an opening pass the check. An opening is dropped only here, because
+// the proof that it may be dropped is slow.
 fn is_written(alloc: Global, written: Written) -> Result<bool, AllocError> {
     let mut opening = new_opening(alloc)?;
     let is_so = is_written_from(alloc, &mut opening, written);
@@ -191,7 +192,7 @@ fn is_written(alloc: Global, written: Written) -> Result<bool, AllocError> {
     is_so
 }
 
-// Whether this is the line of so many events.
+// Returns whether this is the line of this number of events.
 fn is_count(alloc: Global, count: u64, line: &[u8]) -> Result<bool, AllocError> {
     let mut out = Vec::new(alloc);
     let written = write_event_count(&mut out, count);

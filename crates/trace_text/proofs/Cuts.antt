@@ -29,7 +29,7 @@ parts_whole byte bytes none =
     (All-from_get_or (λ (b : ℕ). is_byte byte b ≡ false) bytes 0
     (λ k lt. is_false (is_byte byte (get_or bytes k 0)) (none k (omega arith) lt)))
 
--- else they are cut where it finds the first
+-- otherwise they are cut at the first one that it finds
 pub parts_cut : (byte : ℕ) (bytes : List ℕ) (at : ℕ) → IsFirstByte (is_byte byte) bytes (Some at)
     → parts_at byte bytes ≡ take at bytes ∷ parts_at byte (take (length bytes - (at + 1)) (drop (at + 1) bytes))
 parts_cut byte bytes at found =
@@ -40,6 +40,6 @@ parts_cut byte bytes at found =
     let cut = rw here at (slice_split_first (is_byte byte) bytes 0 (omega (arith, found.0.high))) in
     cut ∙ ap (λ (rest : List ℕ). take at bytes ∷ parts_at byte rest) (sym (to_the_end bytes (at + 1)))
 
--- there is a part at least
+-- there is at least one part
 pub parts_some : (byte : ℕ) (bytes : List ℕ) → 0 < length (parts_at byte bytes)
 parts_some byte bytes = omega (arith, length-slice_split (is_byte byte) bytes)

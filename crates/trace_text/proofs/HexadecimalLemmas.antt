@@ -1,4 +1,5 @@
--- Words of hexadecimal digits in capitals: that what is written is read, and that no other word is read so.
+-- Words of hexadecimal digits in capitals: bytes that are written are read back, and no other word
+-- is read as these bytes.
 use Rattle.std.proofs.Common.{◌≡◌, ℕ, zero, suc, ◌+◌, ◌*◌, ◌/◌, ◌%◌, ◌<◌, Bool, true, false, cond, not, ◌&&◌, ◌||◌, nat_lt, ◌==◌, inl, inr, List, [], ◌∷◌, length, slice_index, Option, Some, None, Result, Ok, Err, refl, sym, ap, ◌∙◌, arith}
 use Rattle.std.specs.List.{list_all}
 use Rattle.std.specs.Result.{result_ok}
@@ -14,7 +15,7 @@ use Rattle.trace_text.proofs.WordsLemmas.{list_all_less, word_is}
 
 -- ---- the sixteen digits
 
--- a test of all numbers below a bound, which computes
+-- a test of all numbers below a bound, by computation
 abbrev all_below : (ℕ → Bool) → ℕ → Bool
 all_below test zero = true
 all_below test (suc n) = test n && all_below test n
@@ -37,7 +38,7 @@ is_written_capital value = is_capital_digit (slice_index upper_digits value)
 written_capital : (value : ℕ) → value < 16 → is_written_capital value ≡ true
 written_capital value lt = all_below-at is_written_capital 16 value refl lt
 
--- a capital digit has a value, and is what writes that value
+-- a capital digit has a value, and that value is written as the digit
 abbrev writes_back : ℕ → Option ℕ → Bool
 writes_back c None = false
 writes_back c (Some value) = nat_lt value 16 && slice_index upper_digits value == c
@@ -69,7 +70,7 @@ capital_digit c e =
     let test = all_below-at is_written_back 71 c refl (capital_below c e) in
     digit_of c (hex_digit_value c) refl (implied (is_capital_digit c) (writes_back c (hex_digit_value c)) test e)
 
--- ---- there and back
+-- ---- written and read back
 
 -- all digits that are written are capitals
 encode_capitals : (bytes : List ℕ) → IsBytes bytes → list_all is_capital_digit (encode_upper bytes) ≡ true
@@ -87,13 +88,13 @@ some_test word h = grind (arith, nat_tests)
 encode_some : (bytes : List ℕ) → 0 < length bytes → 0 < length (encode_upper bytes)
 encode_some bytes some = omega (arith, length-encode_with upper_digits bytes)
 
--- bytes that are written are read again
+-- bytes that are written are read back
 pub bytes_again : (bytes : List ℕ) → 0 < length bytes → IsBytes bytes → bytes_of (encode_upper bytes) ≡ Some bytes
 unfolding bytes_of
 bytes_again bytes some h =
     rw (some_test (encode_upper bytes) (encode_some bytes some), encode_capitals bytes h, decode_of-encode_upper bytes h) refl
 
--- they are a word
+-- the digits of bytes are a word
 capital_is_word_byte : (c : ℕ) → is_capital_digit c ≡ true → is_word_byte c ≡ true
 capital_is_word_byte c e = grind (arith, nat_tests)
 
@@ -107,7 +108,7 @@ uncons : (v : ℕ) (r : Result (List ℕ) FromHexError) (bytes : List ℕ) → c
 uncons v (Ok rest) bytes e = (rest, refl, cc e)
 uncons v (Err fault) bytes e = absurd (cc e)
 
--- the digits of one byte, before those of others
+-- the digits of one byte, followed by those of others
 encode_pair : (high low h l : ℕ) (rest bytes : List ℕ) → h < 16 → l < 16 → slice_index upper_digits h ≡ high → slice_index upper_digits l ≡ low
     → rest ≡ encode_upper bytes → encode_upper ((h * 16 + l) ∷ bytes) ≡ high ∷ low ∷ rest
 unfolding encode_with
@@ -116,7 +117,7 @@ encode_pair high low h l rest bytes small_high small_low is_high is_low others =
     let under : (h * 16 + l) % 16 ≡ l = omega arith in
     rw (over, under, is_high, is_low, others) refl
 
--- two digits that decode before others that do
+-- two digits that decode, followed by others that do
 pair_only : (i high low : ℕ) (rest bytes : List ℕ) (h : Digit high) (l : Digit low)
     → ((tail : List ℕ) → decode_pairs (i + 2) rest ≡ Ok tail → rest ≡ encode_upper tail)
     → decode_pairs i (high ∷ low ∷ rest) ≡ Ok bytes → high ∷ low ∷ rest ≡ encode_upper bytes
@@ -148,7 +149,7 @@ ok_from : (r : Result (List ℕ) FromHexError) (bytes : List ℕ) → result_ok 
 ok_from (Ok x) bytes e = cc e
 ok_from (Err fault) bytes e = absurd (cc e)
 
--- no other word is read so
+-- no other word is read as these bytes
 pub bytes_only : (word bytes : List ℕ) → bytes_of word ≡ Some bytes → (word ≡ encode_upper bytes) × IsBytes bytes × (length word ≡ 2 * length bytes) × (0 < length bytes)
 unfolding bytes_of
 bytes_only word bytes e =

@@ -11,7 +11,7 @@ use Rattle.std.proofs.lemmas.Bool.{and_parts}
 use Rattle.std.proofs.lemmas.List.{append_assoc, append-nil}
 use Rattle.std.proofs.lemmas.List.Splits.{slice_split_at, join_with_byte-slice_split}
 
--- with parts behind it, a part is not the last
+-- if parts follow it, a part is not the last
 pub all_but_last-cons : (part : List ℕ) (parts : List (List ℕ)) → 0 < length parts → all_but_last (part ∷ parts) ≡ part ∷ all_but_last parts
 all_but_last-cons part [] some = absurd (omega arith)
 all_but_last-cons part (next ∷ parts) some = refl
@@ -20,7 +20,7 @@ pub last_of-cons : (part : List ℕ) (parts : List (List ℕ)) → 0 < length pa
 last_of-cons part [] some = absurd (omega arith)
 last_of-cons part (next ∷ parts) some = refl
 
--- what cutting a text at its first byte 0A gives, and what it says of the lines
+-- the lines of a text that is cut at its first byte 0A
 lines_whole : (text : List ℕ) → parts_at 10 text ≡ text ∷ [] → lines_of text ≡ []
 unfolding lines_of
 lines_whole text e = ap all_but_last e
@@ -58,7 +58,7 @@ lines_of-line line rest none = lines_cut (line ++ 10 ∷ rest) line rest (slice_
 pub unended_of-line : (line rest : List ℕ) → HasNo 10 line → unended_of (line ++ 10 ∷ rest) ≡ unended_of rest
 unended_of-line line rest none = unended_cut (line ++ 10 ∷ rest) line rest (slice_split_at (is_byte 10) line 10 rest none refl)
 
--- nothing has no line
+-- an empty text has no line
 pub lines_of-nil : lines_of [] ≡ []
 unfolding lines_of
 lines_of-nil = refl
@@ -67,7 +67,7 @@ pub unended_of-nil : unended_of [] ≡ []
 unfolding unended_of
 unended_of-nil = refl
 
--- each text is that of its lines, and what is behind them
+-- each text is the text of its lines, followed by the text after them
 parts_text : (part : List ℕ) (parts : List (List ℕ)) → join_with_byte 10 (part ∷ parts) ≡ text_of (all_but_last (part ∷ parts)) ++ last_of (part ∷ parts)
 unfolding text_of
 parts_text part [] = refl
@@ -85,7 +85,7 @@ text_of-lines_of text = sym (joined_text (parts_at 10 text) (parts_some 10 text)
 
 -- ---- lines of words
 
--- the text of one line more in front
+-- the text of lines with one more in front
 pub rows_text-cons : (row : List (List ℕ)) (rows : List (List (List ℕ))) → rows_text (row ∷ rows) ≡ line_of row ++ 10 ∷ rows_text rows
 unfolding rows_text text_of
 rows_text-cons row rows = refl
@@ -94,7 +94,7 @@ pub rows_text-nil : rows_text [] ≡ []
 unfolding rows_text text_of
 rows_text-nil = refl
 
--- the text of lines, and then of others
+-- the text of lines followed by others
 pub rows_text-append : (rows others : List (List (List ℕ))) → rows_text (rows ++ others) ≡ rows_text rows ++ rows_text others
 rows_text-append [] others = rw rows_text-nil refl
 rows_text-append (row ∷ rows) others =
@@ -121,7 +121,7 @@ pub rows_of-none : (text : List ℕ) → lines_of text ≡ [] → rows_of text �
 unfolding rows_of
 rows_of-none text e = ap (map words_of) e
 
--- lines of words that are written are read again, whatever is behind them
+-- lines of words that are written are read back, whatever follows them
 pub rows_again : (rows : List (List (List ℕ))) (rest : List ℕ) → list_all is_row rows ≡ true → rows_of (rows_text rows ++ rest) ≡ rows ++ rows_of rest
 rows_again [] rest all = rw rows_text-nil refl
 rows_again (row ∷ rows) rest all =
@@ -141,7 +141,7 @@ unended_again (row ∷ rows) rest all =
     ∙ unended_of-line (line_of row) (rows_text rows ++ rest) (row_has_no_end row both.0)
     ∙ unended_again rows rest both.1
 
--- a text of lines alone has nothing behind them
+-- in a text of lines alone nothing follows the last line
 pub rows_of-rows_text : (rows : List (List (List ℕ))) → list_all is_row rows ≡ true → (rows_of (rows_text rows) ≡ rows) × (unended_of (rows_text rows) ≡ [])
 rows_of-rows_text rows all = (
   ap rows_of (sym (append-nil (rows_text rows))) ∙ rows_again rows [] all ∙ ap (λ (rest : List (List (List ℕ))). rows ++ rest) (rows_of-none [] lines_of-nil) ∙ append-nil rows,
@@ -153,7 +153,7 @@ lines_of_words : (lines : List (List ℕ)) → map line_of (map words_of lines) 
 lines_of_words [] = refl
 lines_of_words (line ∷ lines) = rw (line_of-words_of line, lines_of_words lines) refl
 
--- each text is that of its lines of words, and what is behind them
+-- each text is the text of its lines of words, followed by the text after them
 pub rows_text-rows_of : (text : List ℕ) → rows_text (rows_of text) ++ unended_of text ≡ text
 unfolding rows_text rows_of
 rows_text-rows_of text = ap (λ (lines : List (List ℕ)). text_of lines ++ unended_of text) (lines_of_words (lines_of text)) ∙ text_of-lines_of text

@@ -1,4 +1,4 @@
--- Words of decimal digits: what they are read as, and that what is written is read.
+-- Words of decimal digits: what they are read as, and that a number that is written is read back.
 use Rattle.std.proofs.Common.{rules, ◌≡◌, ℕ, ◌+◌, ◌-◌, ◌*◌, ◌^◌, ◌<◌, ◌≤◌, Bool, true, false, cond, not, ◌&&◌, ◌||◌, nat_lt, nat_le, ◌==◌, inl, inr, List, [], ◌∷◌, ◌++◌, length, take, get_or, slice_index, Option, Some, None, IsTrue, decimal, refl, sym, ap, ◌∙◌, arith}
 use Rattle.std.specs.Char.{is_ascii_digit, digit_value}
 use Rattle.std.specs.Int.{IsInRange}
@@ -13,11 +13,11 @@ use Rattle.std.proofs.lemmas.Str.{digit_value_digit}
 use Rattle.std.proofs.lemmas.Str.Parse.{IsNumeralModel, numerals_by_value, digits_value-take-le}
 use Rattle.trace_text.specs.Numbers.{is_decimal, begins_number, value_of, number_of}
 
--- the test of a word's digits is std's, and so is their value
+-- the test of a word's digits is that of std, and so is their value
 digits_model : IsNumeralModel (λ word. list_all is_ascii_digit word ≡ true) (digits_value 10)
 digits_model = numerals_by_value _ (search rules)
 
--- what makes a word a number
+-- the conditions under which a word is a number
 record IsDecimal (word : List ℕ) : Type 0 where
   some : 0 < length word
   digits : list_all is_ascii_digit word ≡ true
@@ -34,13 +34,13 @@ pub chosen_some : (b : Bool) (x y : ℕ) → cond b (Some x) None ≡ Some y →
 chosen_some true x y e = (refl, cc e)
 chosen_some false x y e = absurd (cc e)
 
--- two tests that are met
+-- two tests that are passed
 and_both : (x y : Bool) → x ≡ true → y ≡ true → (x && y) ≡ true
 and_both x y e f = rw (e, f) refl
 
 -- ---- digit by digit
 
--- the digits of two words, one behind the other
+-- the digits of two words, one after the other
 after-append : (n : ℕ) (xs ys : List ℕ) → digits_value_after 10 n (xs ++ ys) ≡ digits_value_after 10 (digits_value_after 10 n xs) ys
 after-append n [] ys = refl
 after-append n (x ∷ xs) ys = after-append (n * 10 + digit_value x) xs ys
@@ -55,7 +55,7 @@ pub none_taken : (limit : ℕ) (word : List ℕ) → Taken limit word 0 0
 none_taken limit [] = record { digits = refl; value = refl; within = omega arith }
 none_taken limit (c ∷ word) = record { digits = refl; value = refl; within = omega arith }
 
--- what one digit more writes
+-- the number that one more digit writes
 more_value : (word : List ℕ) (i number digit : ℕ) → i < length word → digit ≡ get_or word i 0 → is_ascii_digit digit ≡ true → digits_value 10 (take i word) ≡ number
     → digits_value 10 (take (i + 1) word) ≡ number * 10 + (digit - 48)
 more_value word i number digit lt is test value =
@@ -75,12 +75,12 @@ digit_taken limit word i number digit longer lt is more so_far =
       within = omega (arith, more.0.1, more.1);
     }
 
--- a choice whose test can't be met
+-- a choice whose test fails
 chosen_none : (b : Bool) (x : Option ℕ) → ¬ (b ≡ true) → cond b x None ≡ None
 chosen_none true x unmet = absurd (unmet refl)
 chosen_none false x unmet = refl
 
--- each byte of digits is one
+-- each byte of digits is a digit
 digit_at : (word : List ℕ) (i : ℕ) → i < length word → list_all is_ascii_digit word ≡ true → is_ascii_digit (get_or word i 0) ≡ true
 digit_at word i lt all = by (is_ascii_digit (get_or word i 0)) refl
   where
@@ -108,7 +108,7 @@ all_taken limit word i number le so_far =
     let fits : nat_le number limit ≡ true = grind (arith, nat_tests) in
     rw (digits, value, fits) refl
 
--- a number in its form
+-- the parts of the form of a number
 form_parts : (some digits lead fits : Bool) (n : Option ℕ) → cond (some && lead) (cond (digits && fits) n None) None ≡ cond ((some && digits && lead) && fits) n None
 form_parts true true true fits n = refl
 form_parts true true false fits n = refl
@@ -136,19 +136,19 @@ value_within limit number word e =
     let fits : digits_value 10 word ≤ limit = grind (arith, nat_tests) in
     omega (arith, fits, found.1)
 
--- for the function that reads a number
+-- rules for the function that reads a number
 pub ruleset reading = (begins_not, begins_so, value_within, nat_tests)
 
--- ---- there and back
+-- ---- written and read back
 
--- Bool tests of numbers
+-- boolean tests of numbers
 below_test : (m n : ℕ) → m < n → nat_lt m n ≡ true
 below_test m n h = grind (arith, nat_tests)
 
 lead_test : (word : List ℕ) → 48 < slice_index word 0 → (length word == 1 || not (slice_index word 0 == 48)) ≡ true
 lead_test word h = grind (arith, nat_tests)
 
--- a number that is written has that form
+-- a number that is written has the form of a number
 pub is_decimal-decimal : (n : ℕ) → n < 2 ^ 64 → is_decimal (decimal n) ≡ true
 is_decimal-decimal n small =
     elim (cases_lt 0 n) [
@@ -160,7 +160,7 @@ is_decimal-decimal n small =
           rw (zero, decimal_digit 0 (omega arith)) refl
     ]
 
--- it is read again
+-- a number that is written is read back
 pub number_again : (limit n : ℕ) → n ≤ limit → limit < 2 ^ 64 → number_of limit (decimal n) ≡ Some n
 unfolding number_of
 number_again limit n within small =
@@ -169,7 +169,7 @@ number_again limit n within small =
     let fits : nat_le n limit ≡ true = grind (arith, nat_tests) in
     rw (form, value, fits) refl
 
--- and no other word writes it
+-- no other word writes a number
 pub number_only : (limit n : ℕ) (word : List ℕ) → limit < 2 ^ 64 → number_of limit word ≡ Some n → (word ≡ decimal n) × (n ≤ limit)
 unfolding number_of
 number_only limit n word small e =

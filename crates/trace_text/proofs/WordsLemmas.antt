@@ -1,4 +1,4 @@
--- Words of a line: that those written are read, and which bytes are words.
+-- Words of a line: words that are written are read back, and which bytes are words.
 use Rattle.std.proofs.Common.{◌≡◌, ℕ, ◌<◌, ◌^◌, Bool, true, false, ◌&&◌, nat_lt, List, [], ◌∷◌, ◌++◌, length, All, decimal, refl, sym, ap, ◌∙◌, arith}
 use Rattle.std.specs.Char.{is_ascii_digit}
 use Rattle.std.specs.List.{list_all, join_with_byte}
@@ -15,18 +15,18 @@ use Rattle.trace_text.proofs.NumbersLemmas.{is_decimal-decimal}
 
 -- ---- tests of all bytes
 
--- what passes one test passes another that asks less
+-- bytes that pass a test pass every weaker test
 pub list_all_less : (p q : ℕ → Bool) → ((b : ℕ) → p b ≡ true → q b ≡ true) → (bytes : List ℕ) → list_all p bytes ≡ true → list_all q bytes ≡ true
 list_all_less p q less [] e = refl
 list_all_less p q less (b ∷ bytes) e =
     let both = and_parts (p b) (list_all p bytes) e in
     rw (less b both.0, list_all_less p q less bytes both.1) refl
 
--- none of the bytes is this one
+-- no byte equals this one
 abbrev pub HasNo : ℕ → List ℕ → Type 0
 HasNo byte bytes = All (λ b. is_byte byte b ≡ false) bytes
 
--- a test that this byte fails is passed by bytes without it
+-- bytes without this byte pass a test that only this byte fails
 has_no : (p : ℕ → Bool) (byte : ℕ) → ((b : ℕ) → p b ≡ true → is_byte byte b ≡ false) → (bytes : List ℕ) → list_all p bytes ≡ true → HasNo byte bytes
 has_no p byte fails [] e = All-nil (λ b. is_byte byte b ≡ false)
 has_no p byte fails (b ∷ bytes) e =
@@ -45,7 +45,7 @@ word_bytes : (word : List ℕ) → is_word word ≡ true → list_all is_word_by
 word_bytes [] e = absurd (cc e)
 word_bytes (b ∷ bytes) e = e
 
--- bytes of which there are some are a word if each may stand in one
+-- one or more bytes are a word if each may be in one
 pub word_is : (word : List ℕ) → 0 < length word → list_all is_word_byte word ≡ true → is_word word ≡ true
 word_is [] some e = absurd (omega arith)
 word_is (b ∷ bytes) some e = e
@@ -68,7 +68,7 @@ decimal_is_word n small =
 
 -- ---- lines
 
--- words of a line that is written are read again
+-- the words of a line that is written are read back
 all_words_again : (word : List ℕ) (words : List (List ℕ)) → is_word word ≡ true → list_all is_word words ≡ true → words_of (line_of (word ∷ words)) ≡ word ∷ words
 unfolding words_of line_of
 all_words_again word [] e all = slice_split_none (is_byte 32) word (word_has_no_blank word e)
@@ -88,7 +88,7 @@ pub line_of-words_of : (line : List ℕ) → line_of (words_of line) ≡ line
 unfolding words_of line_of
 line_of-words_of line = join_with_byte-slice_split 32 line
 
--- no line of words has the end of a line among its bytes
+-- a line of words contains no end of a line
 all_no_end : (word : List ℕ) (words : List (List ℕ)) → is_word word ≡ true → list_all is_word words ≡ true → HasNo 10 (line_of (word ∷ words))
 unfolding line_of
 all_no_end word [] e all = word_has_no_end word e

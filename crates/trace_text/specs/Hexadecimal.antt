@@ -9,10 +9,11 @@ use Rattle.hex.specs.Hex.{decode_of}
 abbrev pub is_capital_digit : ℕ → Bool
 is_capital_digit c = is_in_range 48 57 c || is_in_range 65 70 c
 
--- one such digit or more
+-- one or more such digits
 abbrev pub is_hexadecimal : List ℕ → Bool
 is_hexadecimal word = nat_lt 0 (length word) && list_all is_capital_digit word
 
--- the bytes whose digits a word has, two for each, the high four bits first; the empty word, which stands in no line, has none
+-- the bytes that the digits of a word write, two digits for each, the high four bits first; none
+-- for the empty word, which no line has
 unfoldable pub bytes_of : List ℕ → Option (List ℕ)
 bytes_of word = if is_hexadecimal word then result_ok (decode_of word) else None

@@ -7,7 +7,8 @@ use hex::FromHexError;
 use octets::Octets;
 use std::alloc::{AllocError, Global};
 
-/// The bytes that a word writes in pairs of hexadecimal digits, in capitals. `None` of any other word, which the empty word and one in lower case are too.
+/// Returns the bytes that a word writes as pairs of hexadecimal digits in capitals, or `None` for
+/// any other word, including the empty word and one in lower case. Errors: out of memory.
 #[tactic(auto, unfolding(crate::specs::Hexadecimal::bytes_of))]
 pub fn read_hex(alloc: Global, word: &[u8]) -> Result<Option<Octets>, AllocError>
     ensures { IfOk result (λ bytes. bytes ≡ bytes_of word.now) }
@@ -22,14 +23,14 @@ pub fn read_hex(alloc: Global, word: &[u8]) -> Result<Option<Octets>, AllocError
     }
 }
 
-// Whether a word is one hexadecimal digit in capitals or more.
+// Returns whether a word consists of one or more hexadecimal digits in capitals.
 fn has_hexadecimal_form(word: &[u8]) -> bool
     ensures { result ≡ is_hexadecimal word.now }
 {
     !word.is_empty() && all_capital_digits(word)
 }
 
-// Whether each byte is one of the digits 0 to 9 and A to F.
+// Returns whether each byte is one of the digits 0 to 9 and A to F.
 fn all_capital_digits(word: &[u8]) -> bool
     ensures { result ≡ list_all is_capital_digit word.now }
 {
@@ -37,7 +38,7 @@ fn all_capital_digits(word: &[u8]) -> bool
         .all(|digit| matches!(*digit, b'0'..=b'9' | b'A'..=b'F'))
 }
 
-/// Writes two hexadecimal digits for each byte, in capitals, behind what is there; of no bytes nothing. Where memory runs out nothing is written.
+/// Appends two hexadecimal digits in capitals for each byte. On an error nothing is appended.
 pub fn write_hex(alloc: Global, out: &mut Vec<u8>, bytes: &[u8]) -> Result<(), AllocError>
     ensures ok { OnOk result (out.new.items ≡ out.old.items ++ encode_upper bytes.now) }
     ensures err { OnErr result (out.new.items ≡ out.old.items) }

@@ -1,4 +1,5 @@
-//! What holds of such texts as such: each function is a law, which its contract states and a call of it makes known.
+//! Laws of these texts. Each function is a law: its contract states it, and a call makes it known
+//! to the prover.
 ghost use Rattle.std.specs.Prelude.{◌≡◌, ◌<◌, ◌≤◌, ◌^◌, ◌*◌, ◌++◌, ◌∷◌, ℕ, List, [], length, decimal, Some, IsTrue};
 ghost use Rattle.std.specs.List.{list_all};
 ghost use Rattle.hex.specs.Hex.{encode_upper, IsBytes};
@@ -7,7 +8,7 @@ ghost use Rattle.trace_text.specs.Numbers.{number_of};
 ghost use Rattle.trace_text.specs.Words.{words_of, line_of, is_word};
 ghost use Rattle.trace_text.specs.Lines.{is_row, lines_of, rows_of, rows_text, unended_of};
 
-/// A number that is written is a word, it is read again, and no other word writes it.
+/// A number that is written is a word and is read back, and no other word is read as that number.
 #[tactic(auto, using(crate::proofs::Known::numbers))]
 pub fn written_number_is_read()
     ensures word { (n : ℕ) → n < 2 ^ 64 → IsTrue (is_word (decimal n)) }
@@ -16,7 +17,7 @@ pub fn written_number_is_read()
     ensures limited { (word : List ℕ) (n limit : ℕ) → limit < 2 ^ 64 → number_of limit word ≡ Some n → n ≤ limit }
 {}
 
-/// Bytes that are written are a word, they are read again, and no other word writes them.
+/// Bytes that are written are a word and are read back, and no other word is read as these bytes.
 #[tactic(auto, using(crate::proofs::Known::hexes))]
 pub fn written_bytes_are_read()
     ensures word { (bytes : List ℕ) → 0 < length bytes → IsBytes bytes → IsTrue (is_word (encode_upper bytes)) }
@@ -27,7 +28,8 @@ pub fn written_bytes_are_read()
     ensures len { (word bytes : List ℕ) → bytes_of word ≡ Some bytes → length word ≡ 2 * length bytes }
 {}
 
-/// The words of a line that is written are read again, each line is the line of its words, and a word more stands behind a blank.
+/// The words of a line that is written are read back, each line is the line of its words, and one
+/// more word follows a blank.
 #[tactic(auto, using(crate::proofs::Known::words))]
 pub fn written_words_are_read()
     ensures again { (words : List (List ℕ)) → IsTrue (is_row words) → words_of (line_of words) ≡ words }
@@ -35,8 +37,9 @@ pub fn written_words_are_read()
     ensures push { (words : List (List ℕ)) (word : List ℕ) → 0 < length words → line_of (words ++ word ∷ []) ≡ line_of words ++ 32 ∷ word }
 {}
 
-/// The lines of words that are written are read again, also before other text, and each text is that of its lines and of what is behind them. Texts are
-/// written line by line, and read line by line.
+/// Lines of words that are written are read back, whatever text follows them. Each text is the text
+/// of its lines followed by the text after its last byte 0A. Texts are written and read line by
+/// line.
 #[tactic(auto, using(crate::proofs::Known::rows))]
 pub fn written_lines_are_read()
     ensures again { (rows : List (List (List ℕ))) → IsTrue (list_all is_row rows) → rows_of (rows_text rows) ≡ rows }
@@ -50,7 +53,8 @@ pub fn written_lines_are_read()
     ensures none { (text : List ℕ) → lines_of text ≡ [] → rows_of text ≡ [] }
 {}
 
-/// A text whose last line is ended can be cut from what comes behind it: the lines of the whole are those of both, in order.
+/// A text whose last line is ended can be cut off from the text that follows: the lines of the
+/// whole are those of both parts, in order.
 #[tactic(auto, using(crate::proofs::JoinedTexts::lines_joined, crate::proofs::JoinedTexts::unended_joined))]
 pub fn text_may_be_cut_behind_a_line()
     ensures lines { (text rest : List ℕ) → unended_of text ≡ [] → lines_of (text ++ rest) ≡ lines_of text ++ lines_of rest }

@@ -1,8 +1,10 @@
-//! The words of a text of lines: each line ended by the byte 0A, one blank between its words, numbers in decimal without leading zeros, bytes in hexadecimal
+//! Reads and writes texts of lines and words: each line is ended by the byte 0A, one blank
+//! separates words, numbers are decimal without leading zeros, and bytes are hexadecimal in
 //! capitals.
 //!
-//! `Lines` and `Words` read such a text, `read_number` and `read_hex` its words; `write_number`, `write_hex`, `add_word`, `add_number`, `add_hex` and
-//! `end_line` write one. What is written is read back, and a word that is read is the only one that writes its value.
+//! `Lines` and `Words` read such a text, `read_number` and `read_hex` its words; `write_number`,
+//! `write_hex`, `add_word`, `add_number`, `add_hex` and `end_line` write one. What is written is
+//! read back, and each value is read from one word only.
 #![tactic(auto)]
 
 mod cutting;

@@ -6,7 +6,8 @@ ghost use Rattle.trace_text.specs.Taken.{TakesLine};
 use crate::cutting::cut_at;
 use std::marker::Model;
 
-/// The first line of a text, without the byte 0A that ends it, and the text behind it. `None` of a text without an ended line.
+/// Returns the first line of a text, without the byte 0A that ends it, and the text after it.
+/// Returns `None` if no line is ended.
 pub fn split_line(text: &[u8]) -> Option<(&[u8], &[u8])>
     ensures lines { MatchOption result (lines_of text.now ≡ []) (λ parts. lines_of text.now ≡ parts.0.now ∷ lines_of parts.1.now) }
     ensures unended { MatchOption result (unended_of text.now ≡ text.now) (λ parts. unended_of text.now ≡ unended_of parts.1.now) }
@@ -14,7 +15,8 @@ pub fn split_line(text: &[u8]) -> Option<(&[u8], &[u8])>
     cut_at(text, b'\n')
 }
 
-/// The lines of a text that are still to be read, without the byte 0A that ends each. Contracts see the text that is left.
+/// The lines of a text that are still to be read, each without the byte 0A that ends it. Contracts
+/// see the text that is left.
 #[derive(Drop)]
 pub struct Lines<'a> {
     text: &'a [u8],
@@ -29,14 +31,14 @@ impl<'a> Model for Lines<'a> {
 }
 
 impl<'a> Lines<'a> {
-    /// All lines of a text.
+    /// Returns an iterator over all lines of a text.
     pub fn new(text: &'a [u8]) -> Self
         ensures { result ≡ text.now }
     {
         Lines { text }
     }
 
-    /// The text behind the lines that were read.
+    /// Returns the text after the lines that have been read.
     pub fn rest(&self) -> &'a [u8]
         ensures { result.now ≡ self.now }
     {

@@ -5,7 +5,9 @@ ghost use Rattle.trace_text.specs.Numbers.{begins_number, value_of, number_of};
 use itoa::Buffer;
 use std::alloc::AllocError;
 
-/// The number that a word writes in decimal digits without leading zeros, if it is at most `limit`. The empty word and a sign write none.
+/// Returns the number that a word writes in decimal digits without leading zeros, or `None` if the
+/// word is any other or the number is above `limit`. The empty word and a word with a sign are not
+/// numbers.
 #[tactic(auto, using(crate::proofs::NumbersLemmas::reading))]
 pub fn read_number(word: &[u8], limit: u64) -> Option<u64>
     ensures value { result ≡ number_of limit word.now }
@@ -17,7 +19,7 @@ pub fn read_number(word: &[u8], limit: u64) -> Option<u64>
     value_of(word, limit)
 }
 
-// Whether a word has one byte, or several of which the first is not 0.
+// Returns whether a word has one byte, or several of which the first is not 0.
 fn begins_number(word: &[u8]) -> bool
     ensures { result ≡ begins_number word.now }
 {
@@ -28,7 +30,8 @@ fn begins_number(word: &[u8]) -> bool
     }
 }
 
-// The number that a word writes in digits alone, if it is at most `limit`. It is told as soon as the digits so far write a greater one.
+// Returns the number that a word of digits writes, or `None` if it is above `limit`. Returns as
+// soon as the digits so far exceed `limit`.
 fn value_of(word: &[u8], limit: u64) -> Option<u64>
     ensures { result ≡ value_of limit word.now }
 {
@@ -39,7 +42,7 @@ fn value_of(word: &[u8], limit: u64) -> Option<u64>
     Some(number)
 }
 
-// The number that the digits of a number and one digit more write, if it is at most `limit`.
+// Returns the number with one more digit appended, or `None` if it is above `limit`.
 fn with_digit(number: u64, digit: u8, limit: u64) -> Option<u64>
     ensures { SomeIff result (IsTrue (is_ascii_digit digit) × (number * 10 + (digit - 48) ≤ limit)) (number * 10 + (digit - 48)) }
 {
@@ -52,7 +55,7 @@ fn with_digit(number: u64, digit: u8, limit: u64) -> Option<u64>
     if longer <= limit { Some(longer) } else { None }
 }
 
-/// Writes a number in decimal digits behind what is there. Where memory runs out nothing is written.
+/// Appends a number in decimal digits. On an error nothing is appended.
 pub fn write_number(out: &mut Vec<u8>, number: u64) -> Result<(), AllocError>
     ensures ok { OnOk result (out.new.items ≡ out.old.items ++ decimal number) }
     ensures err { OnErr result (out.new.items ≡ out.old.items) }

@@ -22,7 +22,8 @@ impl<'a> Model for Words<'a> {
 }
 
 impl<'a> Words<'a> {
-    /// All words of a line, which is passed without the byte 0A that ends it.
+    /// Returns an iterator over all words of a line, which is passed without the byte 0A that ends
+    /// it.
     pub fn new(line: &'a [u8]) -> Self
         ensures { result ≡ words_of line.now }
     {

@@ -4,7 +4,7 @@ ghost use Rattle.hex.specs.Hex.{encode_upper};
 use itoa::Buffer;
 use std::alloc::{AllocError, Global};
 
-/// Writes a blank and a word behind what is there, the words of the line so far. Where memory runs out nothing is written.
+/// Appends a blank and a word to the words of a line so far. On an error nothing is appended.
 pub fn add_word(out: &mut Vec<u8>, word: &[u8]) -> Result<(), AllocError>
     ensures ok { OnOk result (out.new.items ≡ out.old.items ++ 32 ∷ word.now) }
     ensures err { OnErr result (out.new.items ≡ out.old.items) }
@@ -18,7 +18,7 @@ pub fn add_word(out: &mut Vec<u8>, word: &[u8]) -> Result<(), AllocError>
     added
 }
 
-/// Writes a blank and a number in decimal digits. Where memory runs out nothing is written.
+/// Appends a blank and a number in decimal digits. On an error nothing is appended.
 pub fn add_number(out: &mut Vec<u8>, number: u64) -> Result<(), AllocError>
     ensures ok { OnOk result (out.new.items ≡ out.old.items ++ 32 ∷ decimal number) }
     ensures err { OnErr result (out.new.items ≡ out.old.items) }
@@ -27,7 +27,7 @@ pub fn add_number(out: &mut Vec<u8>, number: u64) -> Result<(), AllocError>
     add_word(out, buffer.format(number).as_bytes())
 }
 
-/// Writes a blank and bytes as hexadecimal digits in capitals. Where memory runs out nothing is written.
+/// Appends a blank and bytes as hexadecimal digits in capitals. On an error nothing is appended.
 pub fn add_hex(alloc: Global, out: &mut Vec<u8>, bytes: &[u8]) -> Result<(), AllocError>
     ensures ok { OnOk result (out.new.items ≡ out.old.items ++ 32 ∷ encode_upper bytes.now) }
     ensures err { OnErr result (out.new.items ≡ out.old.items) }
@@ -36,7 +36,7 @@ pub fn add_hex(alloc: Global, out: &mut Vec<u8>, bytes: &[u8]) -> Result<(), All
     add_word(out, text.as_bytes())
 }
 
-/// Ends the line. Where memory runs out nothing is written.
+/// Appends the byte 0A, which ends a line. On an error nothing is appended.
 pub fn end_line(out: &mut Vec<u8>) -> Result<(), AllocError>
     ensures ok { OnOk result (out.new.items ≡ out.old.items ++ 10 ∷ []) }
     ensures err { OnErr result (out.new.items ≡ out.old.items) }

@@ -1,21 +1,21 @@
--- Words, each behind a blank, as they are written one after the other.
+-- Words, each after a blank, written one after the other.
 use Rattle.std.proofs.Common.{◌≡◌, ℕ, zero, suc, ◌+◌, ◌<◌, ◌≤◌, List, [], ◌∷◌, ◌++◌, length, drop, get_or, refl, sym, ap, ◌∙◌, append_assoc, append-nil, add-one, arith, drop-cons}
 use Rattle.trace_text.specs.Words.{line_of}
 use Rattle.trace_words.specs.Rows.{Word, Row}
 use Rattle.trace_words.specs.Writing.{blanked, all_words, value_words}
 
--- a line is its first word, and then each other one behind a blank
+-- a line is its first word, followed by each other word after a blank
 pub line_of_first : (word : Word) (words : Row) → line_of (word ∷ words) ≡ word ++ blanked words
 unfolding line_of
 line_of_first word [] = sym (append-nil word)
 line_of_first word (next ∷ words) = ap (λ (rest : List ℕ). word ++ 32 ∷ rest) (line_of_first next words)
 
--- words, and then others
+-- words followed by others
 pub blanked-append : (words others : Row) → blanked (words ++ others) ≡ blanked words ++ blanked others
 blanked-append [] others = refl
 blanked-append (word ∷ words) others = ap (λ (rest : List ℕ). (32 ∷ word) ++ rest) (blanked-append words others) ∙ sym (append_assoc (32 ∷ word) (blanked words) (blanked others))
 
--- the words of a value before others are those of the value, and then the others
+-- the words of a value before others are those of the value, followed by the others
 abbrev pub Stands : (X : Type 0) → (X → Row → Row) → Type 0
 Stands X item = (x : X) (words : Row) → blanked (item x words) ≡ blanked (item x []) ++ blanked words
 
@@ -26,7 +26,7 @@ value_stands value words = blanked-append (value_words value []) words
 pub record Left (X : Type 0) (item : X → Row → Row) (xs : List X) (i : ℕ) (out total : List ℕ) : Type 0 where
   pub all : out ++ blanked (all_words item (drop i xs)) ≡ total
 
--- a value more is written
+-- one more value is written
 pub one_more : {X : Type 0} (item : X → Row → Row) → Stands X item → (xs : List X) (i : ℕ) (x d : X) (out new total : List ℕ) → i < length xs → x ≡ get_or xs i d
     → new ≡ out ++ blanked (item x []) → Left X item xs i out total → Left X item xs (i + 1) new total
 unfolding all_words
@@ -43,7 +43,7 @@ one_more {X} item stands xs i x d out new total lt is written left =
 pub none_written : {X : Type 0} (item : X → Row → Row) (xs : List X) (out : List ℕ) → Left X item xs 0 out (out ++ blanked (all_words item xs))
 none_written item xs out = record { all = refl }
 
--- behind the last place nothing is left
+-- after the last place nothing is left
 pub behind_all : {X : Type 0} (xs : List X) (i : ℕ) → length xs ≤ i → drop i xs ≡ []
 behind_all [] zero le = refl
 behind_all [] (suc i) le = refl

@@ -14,20 +14,20 @@ use Rattle.trace_words.specs.declared.fault.RowFault.{RowFault}
 use Rattle.trace_words.specs.declared.fault.RowFault.TheVariants as row_fault
 use Rattle.trace_words.specs.declared.fault.TraceFault.TheVariants.{Line}
 
--- the slice of what was not taken
+-- the slice of the text that has not been read
 pub slice_is : (bytes text : List ℕ) (taken : ℕ) → bytes ≡ text → take (length bytes - taken) (drop taken bytes) ≡ drop taken text
 slice_is bytes text taken is =
     let left = length-drop taken bytes in
     take_all (length bytes - taken) (drop taken bytes) (omega (arith, left)) ∙ ap (drop taken) is
 
--- what stands behind the front of a text
+-- what follows the front of a text
 pub behind_front : (text front rest : List ℕ) → text ≡ front ++ rest → (length rest ≤ length text) × (drop (length text - length rest) text ≡ rest)
 behind_front text front rest is =
     let l : length text ≡ length front + length rest = ap (λ (bytes : List ℕ). length bytes) is ∙ length-append front rest in
     let n : length text - length rest ≡ length front = omega (arith, l) in
     (omega (arith, l), ap (λ (k : ℕ). drop k text) n ∙ ap (λ (bytes : List ℕ). drop (length front) bytes) is ∙ drop-append_seam front rest)
 
--- lines that stand from the start of a text to a place where this is left
+-- the text at a place is the one that follows the lines read from its start
 pub text_behind : (number n : ℕ) (text rest : List ℕ) (rows : List Row) (behind : Place) → Took rows (place_at number text) behind → place_at n rest ≡ behind → text ≡ rows_text rows ++ rest
 text_behind number n text rest rows behind took at =
     let lines : rows_of text ≡ rows ++ rows_of rest = took.lines ∙ ap (λ (p : Place). rows ++ p.rows) (sym at) in
@@ -38,7 +38,7 @@ text_behind number n text rest rows behind took at =
     ∙ append_assoc (rows_text rows) (rows_text (rows_of rest)) (unended_of rest)
     ∙ ap (λ (bytes : List ℕ). rows_text rows ++ bytes) (rows_text-rows_of rest)
 
--- the line behind what was taken of a text, and what is left behind it
+-- the line after what was read of a text, and the text after that line
 pub line_behind : (text line rest : List ℕ) (taken : ℕ) → lines_of (drop taken text) ≡ line ∷ lines_of rest → unended_of (drop taken text) ≡ unended_of rest
     → (length rest ≤ length text) × (drop (length text - length rest) text ≡ rest)
 line_behind text line rest taken is unended =
@@ -50,7 +50,7 @@ line_behind text line rest taken is unended =
     ∙ ap (λ (bytes : List ℕ). take taken text ++ bytes) (text_behind 0 1 here rest row (place_at 1 rest) took refl)
     ∙ sym (append_assoc (take taken text) (rows_text row) rest))
 
--- the words of the first line, and the place behind it
+-- the words of the first line, and the place after it
 first_line : (number : ℕ) (rows : List Row) (unended : List ℕ) (row : Row) (others : List Row) (ends : List ℕ) → rows ≡ row ∷ others → unended ≡ ends
     → line_as (λ words. Ok words) (record { number = number; rows = rows; unended = unended }) ≡ Ok (row, record { number = number + 1; rows = others; unended = ends })
 unfolding line_as

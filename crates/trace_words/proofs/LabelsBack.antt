@@ -1,4 +1,4 @@
--- What a line that begins with a word that names it was read as is written as that line.
+-- A line with a fixed first word that was read is written back as that line.
 use Rattle.std.proofs.Common.{◌≡◌, nat_eq, [], ◌∷◌, Result, Ok, ap, ◌∙◌}
 use Rattle.std.specs.Cmp.Lexicographic.{pointwise}
 use Rattle.byte_reading.proofs.OutcomeLemmas.{ok_is, bind_ok, guard_ok}
@@ -24,7 +24,7 @@ labelled_read X name value_in row x e =
     let read = last_read X value_in words.0.1 x words.2 in
     (read.0, behind_back name row words.0.0 words.0.1 words.1 ∙ ap (λ (ws : Row). name ∷ ws) read.1, read.2)
 
--- each line from which a value is read is the one that is written for it
+-- each line from which a value is read is the line that is written for it
 abbrev pub IsRowBack : (X : Type 0) → (Row → Result X RowFault) → (X → Row) → Type 0
 IsRowBack X value_in row_of = (row : Row) (x : X) → value_in row ≡ Ok x → row ≡ row_of x
 

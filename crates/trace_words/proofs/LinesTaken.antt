@@ -1,4 +1,4 @@
--- How many lines are taken, where a value is read from them.
+-- The number of lines that a value is read from.
 use Rattle.std.proofs.Common.{◌≡◌, ℕ, ◌+◌, List, [], ◌∷◌, ◌++◌, length, length-append, Result, Ok, refl, arith}
 use Rattle.byte_reading.specs.Outcome.{◌>>=◌}
 use Rattle.byte_reading.proofs.OutcomeLemmas.{bind_ok}
@@ -7,13 +7,13 @@ use Rattle.trace_words.specs.Places.{Place, ReadLines, line_as}
 use Rattle.trace_words.specs.Rows.{Row}
 use Rattle.trace_words.specs.declared.fault.RowFault.{RowFault}
 
--- so many lines stand from a place to another
+-- n lines lie between two places
 pub record Passes (n : ℕ) (place behind : Place) : Type 0 where
   pub rows : List Row
   pub long : length rows ≡ n
   pub took : Took rows place behind
 
--- what reads lines from this place takes so many
+-- a reader of lines reads n lines from this place
 abbrev pub Takes : {X : Type 0} → ℕ → Place → ReadLines X → Type 0
 Takes {X} n place read = (x : X) (behind : Place) → read ≡ Ok (x, behind) → Passes n place behind
 

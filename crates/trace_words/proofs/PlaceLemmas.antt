@@ -1,4 +1,4 @@
--- The lines of a text, taken one after the other.
+-- The lines of a text, read one after the other.
 use Rattle.std.proofs.Common.{◌≡◌, ℕ, suc, ◌+◌, ◌<◌, ◌≤◌, ◌^◌, List, [], ◌∷◌, ◌++◌, length, Result, Ok, Err, refl, sym, ap, ◌∙◌, arith, length-append, inl, inr}
 use Rattle.std.specs.Prelude.{IfOk}
 use Rattle.byte_reading.proofs.OutcomeLemmas.{ok_is}
@@ -14,7 +14,7 @@ use Rattle.trace_words.specs.Rows.{Row}
 use Rattle.trace_words.specs.declared.fault.TraceFault.{TraceFault}
 use Rattle.trace_words.specs.declared.fault.TraceFault.TheVariants.{Line, Memory}
 
--- each line takes a byte or more
+-- each line has at least one byte
 pub rows_are_few : (rows : List Row) → length rows ≤ length (rows_text rows)
 rows_are_few [] = omega arith
 rows_are_few (row ∷ rows) =
@@ -37,7 +37,7 @@ row_taken text line rest e = rows_of-taken text line rest e
 pub none_taken : (text : List ℕ) → lines_of text ≡ [] → rows_of text ≡ []
 none_taken text e = rows_of-none text e
 
--- the number of a line that is left has a number behind it
+-- the number of a line that is left can be increased by one
 pub number_goes_on : (number : ℕ) (text line rest : List ℕ) → lines_of text ≡ line ∷ lines_of rest → number + length (rows_of text) < 2 ^ 64 → number + 1 < 2 ^ 64
 number_goes_on number text line rest e room =
     let l : length (rows_of text) ≡ suc (length (rows_of rest)) = ap (λ (rows : List Row). length rows) (rows_of-taken text line rest e) in
@@ -52,7 +52,7 @@ nothing_is_left place number text is e =
     ∙ ap (λ (rows : List Row). nothing_left {X = Unit {0}} number rows (unended_of []) tt) (rows_of-none [] lines_of-nil)
     ∙ ap (λ (bytes : List ℕ). nothing_left {X = Unit {0}} number [] bytes tt) unended_of-nil
 
--- of another text something is
+-- something is left of a text that is not empty
 pub something_is_left : (place : Place) (number : ℕ) (text : List ℕ) → place ≡ place_at number text → (text ≡ [] → ⊥) → ended_at {X = Unit {0}} place tt ≡ Err (Line number)
 unfolding ended_at
 something_is_left place number text is some = ap (λ (p : Place). ended_at {X = Unit {0}} p tt) is ∙ by_rows (rows_of text) (unended_of text) (rows_text-rows_of text)
@@ -87,13 +87,13 @@ pub words_read : {X : Type 0} (given : Row → Result X RowFault) (place : Place
 unfolding line_as
 words_read given place words behind read e reads = words_read_at given place.number place.rows place.unended words behind read e reads
 
--- a line that is read is what its words gave
+-- the result of a line is the result of its words
 pub answer_at_line : {X : Type 0} (P : Result X RowFault → Type 0) (number : ℕ) (read : Result X RowFault) → P read → IfOk (at_line number read) (λ x. P (Ok x))
 answer_at_line P number (Ok x) p = p
 answer_at_line P number (Err Wrong) p = tt
 answer_at_line P number (Err row_fault.Memory) p = tt
 
--- a line that is missing, or not ended, is so whatever it would have been read as
+-- a line that is missing, or not ended, is a fault for every reader
 missing_at : {X : Type 0} (value_from : Row → Result X RowFault) (number : ℕ) (rows : List Row) (unended : List ℕ) (fault : TraceFault)
     → Fails Memory fault (first_as (λ row. Ok row) number rows unended) → Fails Memory fault (first_as value_from number rows unended)
 missing_at value_from number rows unended fault (inl memory) = inl memory
@@ -105,7 +105,7 @@ pub words_missing : {X : Type 0} (value_from : Row → Result X RowFault) (place
 unfolding line_as
 words_missing value_from place fault fails = missing_at value_from place.number place.rows place.unended fault fails
 
--- what was read is what was answered
+-- what was read is what is returned
 pub answer_is : {X : Type 0} (P : Result X RowFault → Type 0) (read : Result X RowFault) → P read → IfOk read (λ x. P (Ok x))
 answer_is P (Ok x) p = p
 answer_is P (Err fault) p = tt

@@ -1,4 +1,4 @@
--- Lines that were read one after the other are those that stand there.
+-- Lines that were read one after the other are the lines of the text.
 use Rattle.std.proofs.Common.{◌≡◌, ℕ, suc, ◌+◌, List, [], ◌∷◌, ◌++◌, length, Result, Ok, Err, sym, ap, subst, ◌∙◌, arith, length-append, append_assoc}
 use Rattle.byte_reading.proofs.OutcomeLemmas.{done, ok_is}
 use Rattle.trace_words.proofs.LabelsBack.{IsRowBack}
@@ -7,7 +7,7 @@ use Rattle.trace_words.specs.Rows.{Row}
 use Rattle.trace_words.specs.declared.fault.RowFault.{RowFault}
 use Rattle.trace_words.specs.declared.fault.TraceFault.{TraceFault}
 
--- these lines stand from a place to another
+-- these lines lie between two places
 pub record Took (rows : List Row) (place behind : Place) : Type 0 where
   pub lines : place.rows ≡ rows ++ behind.rows
   pub number : behind.number ≡ place.number + length rows
@@ -20,7 +20,7 @@ then rows others place middle behind first second = record {
   unended = second.unended ∙ first.unended;
 }
 
--- what is so of a value that was read and of the place behind it
+-- what holds of a value that was read and of the place after it
 pub carried : (X : Type 0) (P : X → Place → Type 0) (x y : X) (a b : Place) → done {A = X × Place} TraceFault (x, a) ≡ Ok (y, b) → P x a → P y b
 carried X P x y a b e p = subst (λ (read : X × Place). P read.0 read.1) (ok_is (x, a) (y, b) e) p
 

@@ -1,4 +1,4 @@
--- Lines of words that are not long, and their text.
+-- Bounds on the length of words and of lines.
 use Rattle.std.proofs.Common.{◌≡◌, ℕ, ◌+◌, ◌*◌, ◌<◌, ◌≤◌, ◌^◌, Bool, true, false, List, [], ◌∷◌, ◌++◌, decimal, length, map, refl, ap, ◌∙◌, arith, length-append}
 use Rattle.std.proofs.lemmas.Fmt.{length-decimal-le}
 use Rattle.hex.proofs.HexLemmas.{length-encode_with}
@@ -34,7 +34,7 @@ words_in less most row words le = record { short = omega (arith, words.short, le
 pub number_short : (n : ℕ) → n ≤ 4294967295 → length (decimal n) ≤ 10
 number_short n le = length-decimal-le 10 n (omega arith) (omega arith) (omega arith)
 
--- one up to the greatest run has at most eleven
+-- a run, up to the greatest one, has at most eleven digits
 pub run_short : (n : ℕ) → n ≤ 42949672950 → length (decimal n) ≤ 11
 run_short n le = length-decimal-le 11 n (omega arith) (omega arith) (omega arith)
 
@@ -62,7 +62,7 @@ pub both_short : (rows others : List Row) → AreShort rows → AreShort others 
 both_short [] others first then = then
 both_short (row ∷ rows) others (one, first) then = (one, both_short rows others first then)
 
--- a first word and a number
+-- a line of a first word and a number
 pub number_row_short : (name : Word) (n : ℕ) → length name ≤ 20 → n ≤ 4294967295 → IsShort (number_row name n)
 number_row_short name n long le =
     words_in (1 + 20 + (1 + 10 + 0)) 20000 (number_row name n) (word_on 20 (1 + 10 + 0) name (decimal n ∷ []) long (word_on 10 0 (decimal n) [] (number_short n le) no_words)) (omega arith)

@@ -1,4 +1,4 @@
--- Values read one after the other up to the end of a line, as a loop reads them.
+-- Values read one after the other up to the end of a line by a loop.
 use Rattle.std.proofs.Common.{◌≡◌, ℕ, zero, suc, ◌-◌, ◌+◌, ◌≤◌, ◌<◌, List, [], ◌∷◌, ◌++◌, length, Result, Ok, Err, refl, sym, ap, ◌∙◌, append_assoc, append-nil, length-append, arith, inl, inr}
 use Rattle.byte_reading.specs.Outcome.{◌>>=◌, Fails}
 use Rattle.byte_reading.proofs.OutcomeLemmas.{done}
@@ -6,21 +6,21 @@ use Rattle.trace_words.specs.Rows.{Word, Row, Read, all_at}
 use Rattle.trace_words.specs.declared.fault.RowFault.{RowFault}
 use Rattle.trace_words.specs.declared.fault.RowFault.TheVariants.{Wrong, Memory}
 
--- what was read before, joined with what is still read
+-- what was read before, joined with what is still to be read
 abbrev pub with_front : {X : Type 0} → List X → Result (List X) RowFault → Result (List X) RowFault
 with_front front read = read >>= λ others. Ok (front ++ others)
 
--- a loop has read these values, not more than so many, and what is left gives the others
+-- a loop has read these values, at most `max`, and the words that are left give the others
 pub record SoFar (X : Type 0) (item_from : Word → Row → Read X) (max : ℕ) (front : List X) (words : Row) (total : Result (List X) RowFault) : Type 0 where
   pub few : length front ≤ max
   pub all : with_front front (all_at item_from (max - length front) words) ≡ total
 
--- one value moves from what is still read to what was read
+-- one value moves from those still to be read to those read
 regroup : {X : Type 0} (front : List X) (d : X) (read : Result (List X) RowFault) → with_front front (read >>= λ others. Ok (d ∷ others)) ≡ with_front (front ++ d ∷ []) read
 regroup front d (Ok x) = ap (done RowFault) (sym (append_assoc front (d ∷ []) x))
 regroup front d (Err fault) = refl
 
--- nothing was read
+-- nothing has been read
 pub none_yet : {X : Type 0} (item_from : Word → Row → Read X) (max : ℕ) (words : Row) → SoFar X item_from max [] words (all_at item_from max words)
 none_yet item_from max words = let k : max - 0 ≡ max = omega arith in record { few = omega arith; all = rw k (same (all_at item_from max words)) }
   where
@@ -28,7 +28,7 @@ none_yet item_from max words = let k : max - 0 ≡ max = omega arith in record {
     same (Ok x) = refl
     same (Err fault) = refl
 
--- one value more
+-- one more value
 pub goes_on : {X : Type 0} (item_from : Word → Row → Read X) (max : ℕ) (front : List X) (old : Row) (word : Word) (words : Row) (d : X) (after : Row) (total : Result (List X) RowFault)
     → old ≡ word ∷ words → (length front ≡ max → ⊥) → item_from word words ≡ Ok (d, after) → SoFar X item_from max front old total → SoFar X item_from max (front ++ d ∷ []) after total
 unfolding all_at
@@ -40,7 +40,7 @@ goes_on {X} item_from max front old word words d after total is more h so_far =
     let one : with_front front (all_at item_from (max - length front) old) ≡ with_front (front ++ d ∷ []) (all_at item_from (max - length (front ++ d ∷ [])) after) = rw (k, is, h) (regroup front d (all_at item_from (max - length (front ++ d ∷ [])) after)) in
     record { few = omega arith; all = sym one ∙ so_far.all }
 
--- a value that is refused is the end
+-- a value that is refused ends the reading
 pub refused : {X : Type 0} (item_from : Word → Row → Read X) (max : ℕ) (fault : RowFault) (front : List X) (old : Row) (word : Word) (words : Row) (total : Result (List X) RowFault)
     → old ≡ word ∷ words → (length front ≡ max → ⊥) → Fails Memory fault (item_from word words) → SoFar X item_from max front old total → Fails Memory fault total
 unfolding all_at
@@ -51,7 +51,7 @@ refused item_from max fault front old word words total is more (inr h) so_far =
     let one : with_front front (all_at item_from (max - length front) old) ≡ Err fault = rw (k, is, h) refl in
     inr (sym so_far.all ∙ one)
 
--- a word more than there may be values
+-- one word more than the maximum number of values
 pub too_many : {X : Type 0} (item_from : Word → Row → Read X) (max : ℕ) (front : List X) (old : Row) (word : Word) (words : Row) (total : Result (List X) RowFault)
     → old ≡ word ∷ words → length front ≡ max → SoFar X item_from max front old total → total ≡ Err Wrong
 unfolding all_at

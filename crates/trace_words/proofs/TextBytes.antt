@@ -72,7 +72,7 @@ boolean_is_bytes false = one_more_byte 0 [] (omega arith) no_bytes
 string_is_bytes : (bytes : List ℕ) → IsBytes bytes → IsBytes (length_text (length bytes) ++ bytes)
 string_is_bytes bytes are = bytes_joined (length_text (length bytes)) bytes (length_is_bytes (length bytes)) are
 
--- what is written behind a tag, and items one after the other
+-- what is written after a tag, and items one after the other
 mutual
   contents_are_bytes : (t : Tree) → IsWithin t → IsBytes (contents_text t)
   contents_are_bytes null within = no_bytes

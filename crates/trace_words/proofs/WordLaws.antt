@@ -1,4 +1,4 @@
--- A word that is written is read again, and can stand in a line.
+-- A word that is written is read back, and can be a word of a line.
 use Rattle.std.proofs.Common.{◌≡◌, ℕ, ◌<◌, ◌≤◌, ◌^◌, Bool, true, false, nat_eq, List, [], ◌∷◌, length, Option, Ok, refl, sym, ap, ◌∙◌, arith, decimal, append-nil, Result}
 use Rattle.std.specs.Cmp.Lexicographic.{pointwise, nat_list_eq_equiv}
 use Rattle.hex.specs.Hex.{encode_upper, IsBytes}
@@ -30,7 +30,7 @@ flag_again false = let h = number_word_again 1 0 (omega arith) (omega arith) in 
 pub bytes_word_again : (bytes : List ℕ) → 0 < length bytes → IsBytes bytes → bytes_in (encode_upper bytes) ≡ Ok bytes
 bytes_word_again bytes some are = ap (λ (o : Option (List ℕ)). wanted o) (bytes_again bytes some are)
 
--- a list of bytes is the same as itself
+-- a list of bytes equals itself
 pub same_bytes : (bytes : List ℕ) → pointwise nat_eq bytes bytes ≡ true
 same_bytes bytes = nat_list_eq_equiv.refl bytes
 
@@ -54,7 +54,7 @@ labelled_again name value_in word x e =
 
 -- ---- words that a line can hold
 
--- each of the words can stand in a line
+-- each of the words can be a word of a line
 abbrev pub AreWords : Row → Type 0
 AreWords words = list_all is_word words ≡ true
 
@@ -68,7 +68,7 @@ flag_is_word false = number_is_word 0 (omega arith)
 pub data_is_word : (value : Data) → IsHeld value → is_word (data_word value) ≡ true
 data_is_word value held = hex_is_word (text (tree_of value)) (omega arith) (text_is_bytes (tree_of value) held.fits)
 
--- a word more
+-- one more word
 pub more : (word : List ℕ) (words : Row) → is_word word ≡ true → AreWords words → AreWords (word ∷ words)
 more word words is are = rw is are
 

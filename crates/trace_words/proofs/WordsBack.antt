@@ -1,4 +1,4 @@
--- What words were read as is written as these words.
+-- Words that were read are written back as the same words.
 use Rattle.std.proofs.Common.{◌≡◌, ℕ, zero, suc, ◌<◌, ◌≤◌, ◌^◌, Bool, true, false, nat_eq, ◌==◌, List, [], ◌∷◌, Option, Some, None, Result, Ok, refl, sym, ap, ◌∙◌, arith, decimal}
 use Rattle.std.proofs.lemmas.Bool.Decides.{nat_tests, Decides-eqb}
 use Rattle.std.proofs.lemmas.Slice.Eq.{slice_eq-Decides}
@@ -24,11 +24,11 @@ pub wanted_is : {X : Type 0} (found : Option X) (x : X) → wanted found ≡ Ok 
 wanted_is (Some y) x e = cc
 wanted_is None x e = absurd cc
 
--- each word from which a value is read is the one that is written for it
+-- each word from which a value is read is the word that is written for it
 abbrev pub IsWrittenBack : (X : Type 0) → (Word → Result X RowFault) → (X → Word) → Type 0
 IsWrittenBack X value_in word_of = (word : Word) (x : X) → value_in word ≡ Ok x → word ≡ word_of x
 
--- and so are the words from which a value of several words is read, before others
+-- the words from which a value of several words is read, before others, are those written for it
 abbrev pub AreWrittenBack : (X : Type 0) → (Word → Row → Read X) → (X → Row → Row) → Type 0
 AreWrittenBack X item_from words_of = (word : Word) (words : Row) (x : X) (rest : Row) → item_from word words ≡ Ok (x, rest) → word ∷ words ≡ words_of x rest
 
@@ -55,7 +55,7 @@ bytes_back word bytes e = (bytes_only word bytes (wanted_is (bytes_of word) byte
 pub bytes_are : (word : Word) (bytes : List ℕ) → bytes_in word ≡ Ok bytes → IsBytes bytes
 bytes_are word bytes e = (bytes_only word bytes (wanted_is (bytes_of word) bytes e)).1
 
--- two lists that pass the test are one
+-- two lists that pass the test are equal
 pub same_is : (one other : List ℕ) → pointwise nat_eq one other ≡ true → one ≡ other
 same_is one other e = (slice_eq-Decides Decides-eqb one other (pointwise nat_eq one other) refl).0 e
 
@@ -81,7 +81,7 @@ next_back X value_in word_of back (word ∷ words) rest x e =
 pub next_number_back : (limit : ℕ) → limit < 2 ^ 64 → (words rest : Row) (n : ℕ) → next_as (number_in limit) words ≡ Ok (n, rest) → words ≡ decimal n ∷ rest
 next_number_back limit small words rest n e = next_back ℕ (number_in limit) decimal (number_back limit small) words rest n e
 
--- a value behind which no word is left
+-- a value after which no word is left
 pub ended_back : (X : Type 0) (words : Row) (x y : X) → ended words x ≡ Ok y → (words ≡ []) × (x ≡ y)
 ended_back X [] x y e = (refl, ok_is x y e)
 ended_back X (word ∷ words) x y e = absurd cc

@@ -1,5 +1,5 @@
--- Lines that begin with a word that names them.
---     behind          the words behind the first one
+-- Lines that begin with a fixed word.
+--     behind          the words after the first one
 --     labelled        a line of a first word and one value
 --     IsWordReader    what code reads from a word, compared with a definition
 --     number_row      the line that is written of a first word and a number
@@ -13,23 +13,23 @@ use Rattle.trace_words.specs.Rows.{Word, Row, Read, word_at}
 use Rattle.trace_words.specs.declared.fault.RowFault.{RowFault}
 use Rattle.trace_words.specs.declared.fault.RowFault.TheVariants.{Wrong, Memory}
 
--- the words behind the first one, which has to be this
+-- the words after the first one, which must be this word
 unfoldable pub behind : Word → Row → Read (Unit {0})
 behind label row = do
   first ← word_at row
   guard (pointwise nat_eq first.0 label) Wrong
   Ok (tt, first.1)
 
--- a line of a first word and one value
+-- the value of a line of two words, this first word and one for the value
 abbrev pub labelled : {X : Type 0} → Word → (Word → Result X RowFault) → Row → Result X RowFault
 labelled label value_in row = do
   words ← behind label row
   last_as value_in words.1
 
--- each answer that this code can give about a word is that of the definition
+-- whatever this code can return for a word is what the definition says
 abbrev pub IsWordReader : {F X : Type 0} → Once F (Bor Word × Unit {0}) (Result X RowFault) → F → (Word → Result X RowFault) → Type 0
 IsWordReader {F} {X} calls read value_in = (word : Word) (given : Result X RowFault) → FnOnceReturnsAt calls read word given → Gives Memory (λ x. x) given (value_in word)
 
--- a line of a first word and a number
+-- the line of a first word and a number
 abbrev pub number_row : Word → ℕ → Row
 number_row name number = name ∷ decimal number ∷ []

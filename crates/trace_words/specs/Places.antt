@@ -1,13 +1,14 @@
 -- The lines of a trace, read one after the other.
 --     Place            the lines that are left, and the number of the first
---     ReadLines        what a reader of lines answers: a value and the place behind it, or a fault
---     ReadsLines       what code that moves on through the lines answers, compared with a definition
+--     ReadLines        the result of a reader of lines: a value and the place after it, or a fault
+--     ReadsLines       what code that reads lines returns, compared with a definition
 --     line_as          the next line, read as a value
---     IsRowReader, IsLineReader   what code reads from the words of a line, or from the line, compared with a definition
---     at_line          the fault of a line, by its number
---     ended_at         a value behind which nothing is left
+--     IsRowReader      what code reads from the words of a line, compared with a definition
+--     IsLineReader     what code reads from a line, compared with a definition
+--     at_line          the fault of a line, with its number
+--     ended_at         a value after which nothing is left
 --     place_at         the place at the start of a text whose first line has this number
---     place_of         the same, where lines are counted from 1
+--     place_of         the place at the start of a text whose lines are counted from 1
 use Rattle.std.specs.Prelude.{◌≡◌, ℕ, suc, List, [], ◌∷◌, Result, Ok, Err}
 use Rattle.std.specs.Fn.{Once, FnOnceReturnsAt, FnOnceReturnsAtMut}
 use denote.Ref.{Bor, MutBor}
@@ -21,7 +22,8 @@ use Rattle.trace_words.specs.declared.fault.RowFault.TheVariants.{Wrong}
 use Rattle.trace_words.specs.declared.fault.TraceFault.{TraceFault}
 use Rattle.trace_words.specs.declared.fault.TraceFault.TheVariants.{Line, Memory}
 
--- the words of each line that is left, the number of the first of them, and what stands behind the last byte 0A
+-- the words of each line that is left, the number of the first of them, and the text after the last
+-- byte 0A
 pub record Place : Type 0 where
   pub number : ℕ
   pub rows : List Row
@@ -30,17 +32,17 @@ pub record Place : Type 0 where
 abbrev pub ReadLines : Type 0 → Type 0
 ReadLines X = Result (X × Place) TraceFault
 
--- code answers as the definition does, and leaves the lines behind what it took
+-- code returns what the definition says, and leaves the lines after those that it read
 abbrev pub ReadsLines : {X Y : Type 0} → (X → Y) → Result X TraceFault → Place → ReadLines Y → Type 0
 ReadsLines view (Ok x) new given = given ≡ Ok (view x, new)
 ReadsLines view (Err fault) new given = Fails Memory fault given
 
--- a line that was read, and the place behind it
+-- a line that was read, and the place after it
 abbrev pub passed : {X : Type 0} → Result X RowFault → ℕ → List Row → List ℕ → ReadLines X
 passed (Ok x) number rows unended = Ok (x, record { number = suc number; rows = rows; unended = unended })
 passed (Err fault) number rows unended = Err (Line number)
 
--- the first of these lines; a line that is missing, or not ended, is wrong
+-- the first of these lines as such a value; a line that is missing, or not ended, is a fault
 abbrev pub first_as : {X : Type 0} → (Row → Result X RowFault) → ℕ → List Row → List ℕ → ReadLines X
 first_as value_in number [] unended = Err (Line number)
 first_as value_in number (row ∷ rows) unended = passed (value_in row) number rows unended
@@ -49,34 +51,34 @@ first_as value_in number (row ∷ rows) unended = passed (value_in row) number r
 unfoldable pub line_as : {X : Type 0} → (Row → Result X RowFault) → Place → ReadLines X
 line_as value_in place = first_as value_in place.number place.rows place.unended
 
--- each answer that this code can give about the words of a line is that of the definition
+-- whatever this code can return for the words of a line is what the definition gives
 abbrev pub IsRowReader : {F X : Type 0} → Once F (MutBor Row × Unit {0}) (Result X RowFault × (MutBor Row × Unit {0})) → F → (Row → Result X RowFault) → Type 0
 IsRowReader {F} {X} calls row value_from = (words after : Row) (read : Result X RowFault) → FnOnceReturnsAtMut calls row words read after → Gives row_fault.Memory (λ x. x) read (value_from words)
 
--- the same of a line, whose words the definition is about
+-- whatever this code can return for a line is what the definition gives for the words of the line
 abbrev pub IsLineReader : {F X : Type 0} → Once F (Bor (List ℕ) × Unit {0}) (Result X RowFault) → F → (Row → Result X RowFault) → Type 0
 IsLineReader {F} {X} calls read value_from = (line : List ℕ) (given : Result X RowFault) → FnOnceReturnsAt calls read line given → Gives row_fault.Memory (λ x. x) given (value_from (words_of line))
 
--- what the words of a line gave, a fault by the number of the line
+-- the result of reading the words of a line, a fault with the number of the line
 abbrev pub at_line : {X : Type 0} → ℕ → Result X RowFault → Result X TraceFault
 at_line number (Ok x) = Ok x
 at_line number (Err Wrong) = Err (Line number)
 at_line number (Err row_fault.Memory) = Err Memory
 
--- a line that is left is wrong, ended or not
+-- a value if nothing is left; any text that is left, ended or not, is a fault
 abbrev pub nothing_left : {X : Type 0} → ℕ → List Row → List ℕ → X → Result X TraceFault
 nothing_left number [] [] x = Ok x
 nothing_left number [] (byte ∷ bytes) x = Err (Line number)
 nothing_left number (row ∷ rows) unended x = Err (Line number)
 
--- a value behind which nothing is left
+-- a value after which nothing is left
 unfoldable pub ended_at : {X : Type 0} → Place → X → Result X TraceFault
 ended_at place x = nothing_left place.number place.rows place.unended x
 
--- all of a text, whose first line has this number
+-- the place at the start of a text whose first line has this number
 abbrev pub place_at : ℕ → List ℕ → Place
 place_at number text = record { number = number; rows = rows_of text; unended = unended_of text }
 
--- all of a text: its lines are counted from 1
+-- the place at the start of a text whose lines are counted from 1
 abbrev pub place_of : List ℕ → Place
 place_of text = place_at 1 text

@@ -1,6 +1,6 @@
--- What single words stand for.
---     number_in, flag_in, bytes_in, data_in, value_in    a word
---     next_as, last_as                                   the next word, or the last, as such a value
+-- The values of single words.
+--     number_in, flag_in, bytes_in, data_in, value_in    the value of a word
+--     next_as, last_as                                   the value of the next word, or of the last
 use Rattle.std.specs.Prelude.{ℕ, Bool, ◌==◌, nat_eq, List, Result, Ok}
 use Rattle.std.specs.Cmp.Lexicographic.{pointwise}
 use Rattle.std.specs.Result.{result_ok}
@@ -15,11 +15,11 @@ use Rattle.trace_words.specs.Rows.{Word, Row, Read, wanted, word_at, last_word}
 use Rattle.trace_words.specs.declared.fault.RowFault.{RowFault}
 use Rattle.trace_words.specs.declared.fault.RowFault.TheVariants.{Wrong}
 
--- a number up to a limit
+-- a decimal number up to a limit
 abbrev pub number_in : ℕ → Word → Result ℕ RowFault
 number_in limit word = wanted (number_of limit word)
 
--- 0 for no, 1 for yes
+-- 0 for false, 1 for true
 abbrev pub flag_in : Word → Result Bool RowFault
 flag_in word = do
   number ← number_in 1 word
@@ -29,27 +29,27 @@ flag_in word = do
 abbrev pub bytes_in : Word → Result (List ℕ) RowFault
 bytes_in word = wanted (bytes_of word)
 
--- a Data read from bytes that are the spelling that is written for it
+-- a Data that was read from bytes, if these are the encoding that is written for it
 abbrev pub spelled : List ℕ → Data → Result Data RowFault
 spelled bytes value = do
   guard (pointwise nat_eq (text (tree_of value)) bytes) Wrong
   Ok value
 
--- a Data in hexadecimal: all of the bytes, in that spelling
+-- a Data in hexadecimal: the word holds all of its bytes, in the encoding that is written
 unfoldable pub data_in : Word → Result Data RowFault
 data_in word = do
   bytes ← bytes_in word
   read ← wanted (result_ok (first_data bytes))
   spelled bytes read.0
 
--- the next word, as such a value
+-- the value of the next word
 abbrev pub next_as : {X : Type 0} → (Word → Result X RowFault) → Row → Read X
 next_as value_in words = do
   word ← word_at words
   value ← value_in word.0
   Ok (value, word.1)
 
--- the last word, as such a value
+-- the value of the next word, which must be the last
 abbrev pub last_as : {X : Type 0} → (Word → Result X RowFault) → Row → Result X RowFault
 last_as value_in words = do
   word ← last_word words

@@ -1,8 +1,8 @@
 -- The words that are written for values.
---     blanked                   words, each behind a blank
+--     blanked                   words, each after a blank
 --     flag_number, data_word    values as words
 --     all_words                 several values, one after the other
---     IsHeld                    a Data that fits the limits of its text
+--     IsHeld                    a Data within the limits of its text
 use Rattle.std.specs.Prelude.{ℕ, Bool, true, false, decimal, List, [], ◌∷◌, ◌++◌}
 use Rattle.hex.specs.Hex.{encode_upper}
 use Rattle.cosem_axdr.specs.Spelling.{text, IsFit}
@@ -10,12 +10,12 @@ use Rattle.cosem_axdr.specs.View.{tree_of}
 use Rattle.cosem_axdr.specs.declared.value.Data.{Data}
 use Rattle.trace_words.specs.Rows.{Word, Row}
 
--- words, each behind a blank
+-- words, each after a blank
 abbrev pub blanked : Row → List ℕ
 blanked [] = []
 blanked (word ∷ words) = 32 ∷ word ++ blanked words
 
--- 1 for yes, 0 for no
+-- 1 for true, 0 for false
 abbrev pub flag_number : Bool → ℕ
 flag_number true = 1
 flag_number false = 0
@@ -25,7 +25,7 @@ unfoldable pub all_words : {X : Type 0} → (X → Row → Row) → List X → R
 all_words words [] = []
 all_words words (x ∷ xs) = words x (all_words words xs)
 
--- a Data as its written text
+-- a Data as the word that is written for it
 abbrev pub data_word : Data → Word
 data_word value = encode_upper (text (tree_of value))
 
@@ -33,6 +33,6 @@ data_word value = encode_upper (text (tree_of value))
 abbrev pub value_words : ℕ → Row → Row
 value_words value words = decimal value ∷ words
 
--- a Data that fits the limits of a reader, so that its text is read again
+-- a Data within the limits of a reader, so that its text is read back
 pub record IsHeld (value : Data) : Type 0 where
   pub fits : IsFit (tree_of value)

@@ -6,13 +6,13 @@ ghost use Rattle.trace_words.specs.declared.fault.TraceFault.TheVariants as trac
 use std::alloc::{AllocError, AllocFailed};
 use thiserror::Error;
 
-/// Why a line is not read.
+/// Why a line cannot be read.
 #[derive(Clone, Copy, Debug, PartialEq, Eq, Error)]
 pub enum RowFault {
-    /// The words are none that are written for a value.
+    /// The words are not the written form of a value.
     #[error("a line of other words")]
     Wrong = 1,
-    /// Memory ran out.
+    /// Out of memory.
     #[error("out of memory")]
     Memory = 2,
 }
@@ -33,21 +33,22 @@ impl<T: Drop> From<AllocFailed<T>> for RowFault {
     }
 }
 
-/// Why a trace is not read.
+/// Why a trace cannot be read.
 #[derive(Clone, Copy, Debug, PartialEq, Eq, Error)]
 pub enum TraceFault {
-    /// The first line, counted from 1, that is not as a trace has it there, or whose value no meter has. A line that is missing counts too.
+    /// The number, counted from 1, of the first line that is missing, malformed, or has a value
+    /// that no meter has.
     #[error("line {0} of the trace is wrong")]
     Line(u64),
     /// The text has more than 33,554,432 bytes.
     #[error("a trace of more than 33,554,432 bytes")]
     TooLong,
-    /// Memory ran out.
+    /// Out of memory.
     #[error("out of memory")]
     Memory,
 }
 
-/// The number of the fault, 1 to 3.
+/// Returns the number of the fault, 1 to 3.
 impl From<TraceFault> for u8 {
     ghost from_gives = { λ fault number. number ≡ fault_number fault };
 

@@ -8,11 +8,12 @@ use crate::place::{TraceLines, at_line};
 use std::marker::Model;
 use trace_text::split_line;
 
-/// The lines of a trace that are still to be read, with their text, of which what was read is let go. Contracts see what they see of `TraceLines`.
+/// The lines of a trace that are still to be read, with their text; text that has been read is
+/// dropped. Contracts see the same as for `TraceLines`.
 #[derive(Drop)]
 pub struct HeldLines {
     text: Vec<u8>,
-    // How many bytes at the front of the text were read.
+    // The number of bytes at the front of the text that have been read.
     taken: usize,
     number: u64,
 }
@@ -30,7 +31,8 @@ impl Model for HeldLines {
 }
 
 impl HeldLines {
-    /// The lines of a text behind its first bytes, so many, counted from this number.
+    /// Returns the lines of `text` after its first `taken` bytes. The first of them has the number
+    /// `number`.
     #[tactic(auto, using(crate::proofs::PlaceLemmas::few_rows))]
     pub fn new(text: Vec<u8>, taken: usize, number: u64) -> Self
         requires within { taken ≤ length text.items }
@@ -44,7 +46,7 @@ impl HeldLines {
         }
     }
 
-    /// Lets go of what was read, where that is half of the text.
+    /// Drops the text that has been read if it is at least half of the whole text.
     fn let_go(&mut self)
         ensures { self.new ≡ self.old }
     {
@@ -54,7 +56,8 @@ impl HeldLines {
         }
     }
 
-    /// Reads the next line, a value by `value_in`. Errors: `Line` with its number where it is missing, not ended or `value_in` finds it wrong, and `Memory`.
+    /// Reads the next line, a value by `value_in`. Errors: `Line` with the number of the line if it
+    /// is missing, not ended or refused by `value_in`; `Memory`.
     pub fn read<X: Drop, F: FnOnce(&[u8]) -> Result<X, RowFault>>(
         &mut self,
         value_in: F,
@@ -76,7 +79,8 @@ impl HeldLines {
         }
     }
 
-    /// Whether nothing is left. Errors: `Line` where a line is left, ended or not.
+    /// Checks that nothing is left. Errors: `Line` with the number of the next line if any text is
+    /// left, ended or not.
     pub fn end(&self) -> Result<(), TraceFault>
         ensures { result ≡ ended_at self.now tt }
     {
@@ -88,7 +92,7 @@ impl HeldLines {
     }
 }
 
-/// Takes bytes away from the front of a text, so many, and lets go of the memory that they had.
+/// Removes the first `count` bytes of a text and frees their memory.
 fn remove_front(text: &mut Vec<u8>, count: usize)
     requires { count ≤ length text.old.items }
     ensures { text.new.items ≡ drop count text.old.items }

@@ -10,7 +10,7 @@ use crate::fault::RowFault;
 use crate::words::{last_word, next_word};
 use trace_text::Words;
 
-/// Passes the first word of a line, which has to be this one.
+/// Reads the next word, which must be `label`. Errors: `Wrong` if it is missing or another word.
 #[tactic(auto, unfolding(crate::specs::Labels::behind))]
 pub fn behind(label: &[u8], words: &mut Words) -> Result<(), RowFault>
     ensures { Reads (λ done. done) result words.new (behind label.now words.old) }
@@ -22,7 +22,8 @@ pub fn behind(label: &[u8], words: &mut Words) -> Result<(), RowFault>
     }
 }
 
-/// Reads a line of a first word, which has to be this one, and one word more, by `value_in`.
+/// Reads a line of two words: `label`, and a value that `value_in` reads. Errors: `Wrong` if the
+/// words are others, else the error of `value_in`.
 pub fn labelled<X: Drop, F: FnOnce(&[u8]) -> Result<X, RowFault>>(
     label: &[u8],
     words: &mut Words,

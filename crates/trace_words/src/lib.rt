@@ -1,10 +1,12 @@
-//! What the lines of a trace share: the words of a line taken one after the other, the values that single words stand for, lines that begin with a word that
-//! names them, the faults of a line and of a trace, and the lines of a trace by their numbers.
+//! The vocabulary that all lines of a trace share: reading the words of a line one by one, the
+//! values of single words, lines that begin with a fixed word, the faults of a line and of a trace,
+//! and the lines of a trace with their numbers.
 //!
-//! `TraceLines` are the lines that are still to be read; `read` reads the next one, a value from its words. `HeldLines` hold their text themselves, and let go of
-//! what was read. What reads these takes words by `next_word` and
-//! `last_word`, and their values by `number_in`, `flag_in`, `bytes_in` and `data_in`; `labelled` reads a line of a first word and one value. `add_flag`, `add_data`
-//! and `write_number_line` write.
+//! `TraceLines` holds the lines that are still to be read; its `read` reads the next line, a value
+//! from its words. `HeldLines` owns its text and drops what has been read. Readers of a line take
+//! its words with `next_word` and `last_word`, and the values of words with `number_in`, `flag_in`,
+//! `bytes_in` and `data_in`; `labelled` reads a line of a first word and one value. `add_flag`,
+//! `add_data` and `write_number_line` write.
 #![tactic(auto)]
 
 mod fault;

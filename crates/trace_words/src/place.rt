@@ -8,7 +8,8 @@ use crate::fault::{RowFault, TraceFault};
 use std::marker::Model;
 use trace_text::{Lines, Words};
 
-/// The lines of a trace that are still to be read. Contracts see the words of each line, the number of the first, and what stands behind the last byte 0A.
+/// The lines of a trace that are still to be read. Contracts see the words of each line, the number
+/// of the first, and the text after the last byte 0A.
 #[derive(Drop)]
 pub struct TraceLines<'a> {
     lines: Lines<'a>,
@@ -28,7 +29,7 @@ impl<'a> Model for TraceLines<'a> {
 }
 
 impl<'a> TraceLines<'a> {
-    /// All lines of a text, which are counted from 1.
+    /// Returns all lines of a text, counted from 1.
     #[tactic(auto, using(crate::proofs::PlaceLemmas::few_rows))]
     pub fn new(text: &'a [u8]) -> Self
         ensures { result ≡ place_of text.now }
@@ -39,21 +40,22 @@ impl<'a> TraceLines<'a> {
         }
     }
 
-    /// The number of the next line.
+    /// Returns the number of the next line.
     pub fn number(&self) -> u64
         ensures { result ≡ self.now.number }
     {
         self.number
     }
 
-    /// The text of the lines that are left.
+    /// Returns the text of the lines that are left.
     pub fn rest(&self) -> &'a [u8]
         ensures { place_at self.now.number result.now ≡ self.now }
     {
         self.lines.rest()
     }
 
-    /// The words of the next line. Errors: `Line` where no line is left, or the last is not ended.
+    /// Returns the words of the next line. Errors: `Line` if no line is left, or the last is not
+    /// ended.
     #[tactic(auto, unfolding(crate::specs::Places::line_as), using(crate::proofs::PlaceLemmas::row_taken, crate::proofs::PlaceLemmas::none_taken))]
     fn next_words(&mut self) -> Result<Words<'a>, TraceFault>
         ensures { ReadsLines (λ words. words) result self.new (line_as (λ row. Ok row) self.old) }
@@ -67,7 +69,8 @@ impl<'a> TraceLines<'a> {
         }
     }
 
-    /// Reads the next line, a value from its words by `row`. Errors: `Line` with its number where it is missing or `row` finds it wrong, and `Memory`.
+    /// Reads the next line, a value from its words by `row`. Errors: `Line` with the number of the
+    /// line if it is missing or refused by `row`; `Memory`.
     pub fn read<X: Drop, F: FnOnce(&mut Words<'a>) -> Result<X, RowFault>>(
         &mut self,
         row: F,
@@ -81,7 +84,8 @@ impl<'a> TraceLines<'a> {
         at_line(number, row(&mut words))
     }
 
-    /// Whether nothing is left. Errors: `Line` where a line is left, ended or not.
+    /// Checks that nothing is left. Errors: `Line` with the number of the next line if any text is
+    /// left, ended or not.
     pub fn end(&self) -> Result<(), TraceFault>
         ensures { result ≡ ended_at self.now tt }
     {
@@ -93,7 +97,7 @@ impl<'a> TraceLines<'a> {
     }
 }
 
-/// The fault of a line, by its number.
+/// Returns the fault of a line as a fault of the trace, with the line's number.
 pub(crate) fn at_line<X: Drop>(number: u64, read: Result<X, RowFault>) -> Result<X, TraceFault>
     ensures { result ≡ at_line number read }
 {

@@ -12,7 +12,7 @@ use crate::words::bytes_in;
 use cosem_axdr::{Data, DataFault, Octets, read, write};
 use std::alloc::{AllocError, Global};
 
-/// Whether bytes are the spelling that is written for a value.
+/// Returns whether `bytes` is the encoding that is written for a value.
 fn is_written(alloc: Global, value: &Data, bytes: &[u8]) -> Result<bool, AllocError>
     ensures { IfOk result (λ is. is ≡ pointwise nat_eq (text (tree_of value.now)) bytes.now) }
 {
@@ -21,7 +21,8 @@ fn is_written(alloc: Global, value: &Data, bytes: &[u8]) -> Result<bool, AllocEr
     Ok(text.as_slice() == bytes)
 }
 
-/// A value that was read from these bytes, if it is written as they are.
+/// Returns `value` if its written encoding is `bytes`, from which it was read. Errors: `Wrong` if
+/// not; `Memory`.
 fn as_written(alloc: Global, value: Data, bytes: &[u8]) -> Result<Data, RowFault>
     ensures { Gives Memory (λ value. value) result (spelled bytes.now value) }
 {
@@ -38,7 +39,8 @@ fn as_written(alloc: Global, value: Data, bytes: &[u8]) -> Result<Data, RowFault
     }
 }
 
-/// A Data in hexadecimal.
+/// Reads a Data in A-XDR, written in hexadecimal. Errors: `Wrong` if the bytes are not the encoding
+/// that is written for a Data; `Memory`.
 #[tactic(auto, unfolding(crate::specs::Reading::data_in))]
 pub fn data_in(alloc: Global, word: &[u8]) -> Result<Data, RowFault>
     ensures { Gives Memory (λ value. value) result (data_in word.now) }

@@ -1,8 +1,8 @@
-/// A version of the text of a trace.
+/// A version of the text format of traces.
 #[derive(Clone, Copy, Debug, PartialEq, Eq)]
 pub enum Version {
-    /// The first: without pairs of samples.
+    /// Version 1, which has no pairs of samples and no export limiter. It is only read.
     One,
-    /// The second, which is written.
+    /// Version 2, which is read and written.
     Two,
 }

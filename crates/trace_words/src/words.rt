@@ -9,14 +9,14 @@ use cosem_axdr::Octets;
 use std::alloc::Global;
 use trace_text::{Words, read_hex, read_number};
 
-/// The next word.
+/// Returns the next word. Errors: `Wrong` if no word is left.
 pub fn next_word<'a>(words: &mut Words<'a>) -> Result<&'a [u8], RowFault>
     ensures { Reads (λ word. word.now) result words.new (word_at words.old) }
 {
     words.next().ok_or(RowFault::Wrong)
 }
 
-/// Whether no word is left.
+/// Checks that no word is left. Errors: `Wrong` if one is.
 pub fn ended(words: &mut Words) -> Result<(), RowFault>
     ensures { result ≡ ended words.old tt }
 {
@@ -26,7 +26,8 @@ pub fn ended(words: &mut Words) -> Result<(), RowFault>
     }
 }
 
-/// The next word, behind which no other is left.
+/// Returns the next word, which must be the last. Errors: `Wrong` if no word is left, or more than
+/// one.
 pub fn last_word<'a>(words: &mut Words<'a>) -> Result<&'a [u8], RowFault>
     ensures { Gives Memory (λ word. word.now) result (last_word words.old) }
 {
@@ -35,7 +36,7 @@ pub fn last_word<'a>(words: &mut Words<'a>) -> Result<&'a [u8], RowFault>
     Ok(word)
 }
 
-/// A number of up to 32 bits.
+/// Returns the decimal number of a word, at most `limit`. Errors: `Wrong` for any other word.
 pub fn number_in(word: &[u8], limit: u32) -> Result<u32, RowFault>
     ensures value { result ≡ number_in limit word.now }
     ensures within { IfOk result (λ number. number ≤ limit) }
@@ -46,14 +47,14 @@ pub fn number_in(word: &[u8], limit: u32) -> Result<u32, RowFault>
     }
 }
 
-/// Whether a word is 1, and not 0.
+/// Returns true for the word `1`, false for `0`. Errors: `Wrong` for any other word.
 pub fn flag_in(word: &[u8]) -> Result<bool, RowFault>
     ensures { result ≡ flag_in word.now }
 {
     Ok(number_in(word, 1)? == 1)
 }
 
-/// The bytes of a word in hexadecimal.
+/// Returns the bytes of a word in hexadecimal. Errors: `Wrong` for any other word; `Memory`.
 pub fn bytes_in(alloc: Global, word: &[u8]) -> Result<Octets, RowFault>
     ensures { Gives Memory (λ bytes. bytes) result (bytes_in word.now) }
 {
@@ -63,14 +64,15 @@ pub fn bytes_in(alloc: Global, word: &[u8]) -> Result<Octets, RowFault>
     }
 }
 
-/// A number of up to 16 bits.
+/// Returns the decimal number of a word, at most 65,535. Errors: `Wrong` for any other word.
 pub fn long_in(word: &[u8]) -> Result<u16, RowFault>
     ensures { result ≡ number_in 65535 word.now }
 {
     Ok(number_in(word, 65_535)? as u16)
 }
 
-/// The next word as a number of up to 16 bits.
+/// Reads the next word as a decimal number of at most 65,535. Errors: `Wrong` if the word is
+/// missing or any other.
 pub fn next_long(words: &mut Words) -> Result<u16, RowFault>
     ensures { Reads (λ number. number) result words.new (next_as (number_in 65535) words.old) }
 {

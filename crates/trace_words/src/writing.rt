@@ -7,14 +7,14 @@ use cosem_axdr::{Data, Octets, write};
 use std::alloc::{AllocError, Global};
 use trace_text::{add_hex, add_number, end_line};
 
-/// Adds 1 for yes, 0 for no.
+/// Appends the word `1` for true, `0` for false.
 pub fn add_flag(out: &mut Vec<u8>, flag: bool) -> Result<(), AllocError>
     ensures { OnOk result (out.new.items ≡ out.old.items ++ blanked (decimal (flag_number flag) ∷ [])) }
 {
     add_number(out, if flag { 1 } else { 0 })
 }
 
-/// Adds the written text of a Data.
+/// Appends a Data as a word: its A-XDR encoding in hexadecimal.
 pub fn add_data(alloc: Global, out: &mut Vec<u8>, value: &Data) -> Result<(), AllocError>
     ensures { OnOk result (out.new.items ≡ out.old.items ++ blanked (data_word value.now ∷ [])) }
 {
@@ -23,7 +23,8 @@ pub fn add_data(alloc: Global, out: &mut Vec<u8>, value: &Data) -> Result<(), Al
     add_hex(alloc, out, text.as_slice())
 }
 
-/// Writes a line of a first word and a number behind what is there, with the byte 0A that ends it. Where memory runs out a part of it may be written.
+/// Appends a line of a first word and a number, with the byte 0A that ends it. On an error a part
+/// of it may have been appended.
 #[tactic(auto, unfolding(trace_text::specs::Lines::rows_text, trace_text::specs::Lines::text_of, trace_text::specs::Words::line_of))]
 pub fn write_number_line(out: &mut Vec<u8>, name: &[u8], number: u64) -> Result<(), AllocError>
     ensures { OnOk result (out.new.items ≡ out.old.items ++ rows_text (number_row name.now number ∷ [])) }

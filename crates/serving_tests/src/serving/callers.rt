@@ -1,4 +1,4 @@
-//! Clients and a listener in memory, which wait for one another.
+//! Clients and a listener in memory, which wait for each other.
 use meter_server::{ListenFault, Listener, Observer, ServeFault, SessionEnd};
 use std::alloc::Global;
 use std::io::{Read, Write};
@@ -6,10 +6,10 @@ use std::sync::Arc;
 use std::sync::atomic::{AtomicBool, AtomicU64, Ordering};
 use std::{io, thread};
 
-/// How often a wait asks.
+/// The number of attempts of a wait.
 const ASKED: u64 = 1_000_000;
 
-/// What came of a client, or of several, for other threads to see.
+/// The results of one client or several, shared with other threads.
 #[derive(Drop)]
 pub(super) struct Line {
     sent: AtomicU64,
@@ -28,8 +28,9 @@ impl Line {
         }
     }
 
-    /// How many bytes it was sent, and of how many sessions it was told that their input ended between two frames. None where it was sent a byte that is no
-    /// part of its answers, or waited in vain.
+    /// Returns the number of bytes that were received, and the number of sessions whose end was
+    /// reported as their input's end between two frames. Returns `None` if a byte was received that
+    /// is not in the expected responses, or a wait gave up.
     pub(super) fn outcome(&self) -> Option<(u64, u64)> {
         if self.went_wrong.load(Ordering::SeqCst) {
             return None;
@@ -40,7 +41,8 @@ impl Line {
         ))
     }
 
-    /// Waits until another line was sent so many bytes or is closed.
+    /// Waits until another line has received `sent` bytes or is closed. Returns false if neither
+    /// happens.
     fn wait_for(&self, other: &Line, sent: u64) -> bool {
         for _ in 0..ASKED {
             if other.is_closed.load(Ordering::SeqCst) || other.sent.load(Ordering::SeqCst) >= sent {
@@ -53,7 +55,8 @@ impl Line {
     }
 }
 
-/// A client. It waits at a place of what it sends, or at its end, until another line was sent so many bytes or is closed.
+/// A client. At one place of what it sends, or at the end, it waits until another line has received
+/// `other_sent` bytes or is closed.
 #[derive(Drop)]
 pub(super) struct Caller {
     pub(super) line: Arc<Line, Global>,
@@ -94,7 +97,7 @@ impl Read for Asking {
     }
 }
 
-/// What a client is to be sent. Its line is closed where it is dropped.
+/// The responses that a client expects. Its line is closed when this is dropped.
 pub(super) struct Answered {
     line: Arc<Line, Global>,
     expected: Vec<u8>,
@@ -167,8 +170,9 @@ impl Caller {
     }
 }
 
-/// Gives its callers, the last one first, and then fails. Before the only one left it waits until
-/// its line was sent so many bytes. Before all of them come clients whose streams can't be set up.
+/// Returns its clients, the last one first, and then fails. Before it returns the only one left, it
+/// waits until its line has received `sent` bytes. First come clients whose streams cannot be set
+/// up.
 #[derive(Drop)]
 pub(super) struct Door {
     pub(super) without_stream: u64,

@@ -35,7 +35,7 @@ fn sent_by(client: usize) -> Option<(&'static [u8], bool)> {
     }
 }
 
-/// Returns a number for each end: 1 to 4, or 10 more than that of a fault. 0 stands for no end.
+/// Returns a number for each end: 1 to 4, or 10 more than that of a fault. 0 means no end.
 fn number_of(end: &Result<SessionEnd, ServeFault>) -> u8 {
     match end {
         Ok(SessionEnd::Closed) => 1,
@@ -151,7 +151,7 @@ fn an_observer_receives_the_end_of_its_session(rt: HostRuntime) -> Result<(), Fa
     };
     let (served, _) = serve(&rt, alloc, &mut queue, NOTHING, 5)?;
     assert!(rt; served == told(5, 0));
-    // Closed, cut, of another version, too long, and the fault of a read.
+    // Closed, cut, another version, too long, and the fault of a read.
     for (client, number) in [1, 2, 3, 4, 11].iter().enumerate() {
         assert!(rt; ends.number(client) == *number, "client {client}");
     }

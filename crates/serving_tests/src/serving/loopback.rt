@@ -2,7 +2,7 @@
 use meter_server::{ListenFault, Listener};
 use std::net::{TcpListener, TcpStream};
 
-/// Gives the connections of a TCP listener.
+/// Accepts the connections of a TCP listener.
 #[derive(Drop)]
 pub(super) struct Loopback(pub(super) TcpListener);
 

@@ -1,4 +1,4 @@
--- A read that was interrupted took nothing.
+-- A read that was interrupted consumed nothing.
 use Rattle.std.proofs.Common.{◌≡◌, length}
 use Rattle.std.specs.Io.KnownBytes.{Keeps}
 use Rattle.meter_console.proofs.lines.next_byte.Given as goal

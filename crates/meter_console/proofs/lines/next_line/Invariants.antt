@@ -1,4 +1,4 @@
--- The bytes that were read since have no 0A, and are kept as far as there is room.
+-- The bytes that were read so far have no 0A, and are kept as far as they fit.
 use Rattle.std.proofs.Common.{◌≤◌}
 use Rattle.std.specs.Prelude.{vec_capacity}
 use Rattle.meter_console.proofs.LineLemmas.{Partial}

@@ -1,4 +1,4 @@
--- The events of the lines so far were handed on, and at most one line in each turn was lost.
+-- The events of the lines so far were passed on, and at most one line was lost in each iteration.
 use Rattle.std.proofs.Common.{◌<◌, ◌≤◌}
 use Rattle.std.specs.Prelude.{vec_capacity}
 use Rattle.meter_console.specs.Ends.{Hands}

@@ -1,4 +1,4 @@
--- The first events were taken.
+-- The first events were applied.
 use Rattle.std.proofs.Common.{take}
 use Rattle.meter_serving.proofs.Taking.{Took}
 use Rattle.meter_serving.proofs.resuming.take_events.Given as goal

@@ -6,7 +6,7 @@ use Rattle.trace_words.proofs.Blanks.{one_more, all_written}
 use Rattle.trace_lines.proofs.ItemsWritten.{selection_stands}
 use Rattle.trace_lines.proofs.writing.add_selections.Goals as goal
 
--- what stands where no item does
+-- the default of a look-up past the end of the items
 abbrev no_item : AttributeSelection
 no_item = record { attr = record { class = record { 0 = 0 }; name = record { 0 = [] }; number = 0 }; selected = false }
 

@@ -1,4 +1,4 @@
--- It is so of those before.
+-- The steps before the index have numbers in their ranges.
 use Rattle.std.proofs.Common.{All, take}
 use Rattle.trace_openings.specs.OpeningTraced.{IsTracedStep}
 use Rattle.trace_openings.proofs.ranges.steps_are_traced.Given as goal

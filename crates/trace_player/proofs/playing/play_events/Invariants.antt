@@ -1,4 +1,4 @@
--- So many events were read, taken and answered.
+-- The first events were read and applied, and their lines written.
 use Rattle.trace_player.proofs.EventsPlayed.{Underway}
 use Rattle.trace_player.proofs.playing.play_events.Given as goal
 

@@ -1,4 +1,4 @@
--- It is so of those before.
+-- The events before the index are in their ranges.
 use Rattle.std.proofs.Common.{All, take}
 use Rattle.trace_lines.specs.Traced.{FitsLine, IsTraced}
 use Rattle.trace_player.proofs.ranges.events_are_traced.Given as goal

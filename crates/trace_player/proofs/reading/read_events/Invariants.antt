@@ -1,4 +1,4 @@
--- So many events were read.
+-- The first events were read.
 use Rattle.trace_player.proofs.EventsRead.{EventsRead}
 use Rattle.trace_player.specs.Traces.{events_at}
 use Rattle.trace_player.proofs.reading.read_events.Given as goal

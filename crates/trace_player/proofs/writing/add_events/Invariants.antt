@@ -1,4 +1,4 @@
--- The lines of so many events were written.
+-- The lines of the first events were written.
 use Rattle.std.proofs.Common.{◌++◌, map}
 use Rattle.trace_lines.specs.Writing.{event_row}
 use Rattle.trace_player.proofs.EventsLeft.{EventsLeft}

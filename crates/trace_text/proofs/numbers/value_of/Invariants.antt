@@ -1,4 +1,4 @@
--- So many digits were taken.
+-- The first digits were read.
 use Rattle.trace_text.proofs.NumbersLemmas.{Taken}
 use Rattle.trace_text.proofs.numbers.value_of.Given as goal
 

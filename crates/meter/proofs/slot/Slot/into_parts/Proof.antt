@@ -1,4 +1,4 @@
--- `into_parts` moves two fields, and what they own goes with them.
+-- `into_parts` moves two fields, together with what they own.
 use mathlib.Core.Path.{refl, sym, subst}
 use mathlib.Core.List.{List, [], ◌∷◌, ◌++◌}
 use Rattle.std.specs.Prelude.{◌≡◌, Option, Some}

@@ -1,4 +1,4 @@
--- `of_null` puts a pointer and an allocator together, which own nothing.
+-- `of_null` combines a pointer and an allocator, which own nothing.
 use mathlib.Core.Path.{refl, sym, subst}
 use mathlib.Core.List.{List, [], ◌∷◌, ◌++◌}
 use Rattle.std.specs.Prelude.{None}

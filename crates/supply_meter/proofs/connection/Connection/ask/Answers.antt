@@ -14,7 +14,7 @@ over_silent : (s : Session) (end : SessionEnd) (b : Bool) → is_asking s ≡ b 
 over_silent s end true asks over = absurd (asks_or_ends s end asks over.over)
 over_silent s end false asks over = asks
 
--- nothing is under way
+-- nothing is pending
 nothing_awaited : (u : UnderWay) (d : Dialogue) (s : Session) → record { session = s; under_way = u } ≡ d → d.under_way ≡ Nothing → awaits_reply u ≡ false
 nothing_awaited u d s e nothing = ap (λ (x : Dialogue). awaits_reply x.under_way) e ∙ ap awaits_reply nothing
 

@@ -1,4 +1,5 @@
--- The meter took some of what was asked, and the rest is still to come. Each step is work done.
+-- The meter applied some of the requests, and the rest remains. Each step reduces the work that is
+-- left.
 use Rattle.std.proofs.Common.{[]}
 use Rattle.supply_meter.specs.Progress.{Advances}
 use Rattle.supply_meter.specs.Working.{weight}
