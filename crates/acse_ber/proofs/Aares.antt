@@ -1,4 +1,4 @@
--- The reader of an AARE says the same as the relation.
+-- The reader of an AARE agrees with the spelling relation.
 use Rattle.std.proofs.Common.{◌≡◌, ◌⊎◌, ℕ, Bool, true, false, not, ◌==◌, ◌||◌, cond, Option, Some, None, List, [], ◌∷◌, ◌++◌, length, Ok, Err, Result, refl, sym, ap, subst, ◌∙◌, inl, inr}
 use Rattle.std.specs.Int.{w32, from_be_bytes}
 use Rattle.std.proofs.lemmas.Bool.{eqb-true, ne_eqb}
@@ -17,9 +17,9 @@ use Rattle.acse_ber.proofs.Joined.{IsThen, IsGuarded, IsChosen, then_agrees, gua
 use Rattle.acse_ber.proofs.Parts.{byte_before, IsSize, size_agrees, IsLiteral, literal_agrees, one_found, one_again, inner_found, inner_again, needed_ok}
 use Rattle.acse_ber.proofs.Aarqs.{fields_known, apdu_found, apdu_again}
 
--- ---- bytes behind others
+-- ---- bytes after others
 
--- these very bytes, and one byte more
+-- the expected bytes, followed by one byte
 abbrev IsBehind : List ℕ → ℕ → List ℕ → Type 0
 IsBehind expected byte text = text ≡ expected ++ byte ∷ []
 
@@ -38,7 +38,7 @@ result_agrees = behind_agrees (0x02 ∷ 0x01 ∷ [])
 abbrev is_source : ℕ → Bool
 is_source source = source == 0xA1 || source == 0xA2
 
--- which of two tests held
+-- one of two tests holds if their disjunction does
 either : (a b : Bool) → (a || b) ≡ true → (a ≡ true) ⊎ (b ≡ true)
 either true b e = inl refl
 either false b e = inr e
@@ -117,7 +117,7 @@ block_agrees =
     (j.others, j.parts ∙ ap (λ (f : List ℕ). f ++ j.others) j.is_first, m.2.0, sym m.1 ∙ ap bits_of m.2.1))
     (λ n text s. (tt, record { first = block_head; others = s.0; parts = s.1; is_first = refl; are_others = (s.0, sym s.3, (s.2, refl)) }))
 
--- a response, and nothing else
+-- a response and nothing after it
 abbrev IsReply : Info → List ℕ → Type 0
 IsReply Absent text = ⊥
 IsReply (Response bits limit) text = IsResponse bits limit text
@@ -252,7 +252,7 @@ reply_from (Response bits limit) text s = (
 reply_agrees : Agrees Info response_at IsReply
 reply_agrees = seen_as response_at Replied IsReply replied_agrees reply_to reply_from
 
--- an error, and nothing else
+-- an error and nothing after it
 abbrev IsError : Info → List ℕ → Type 0
 IsError Absent text = ⊥
 IsError (Response bits limit) text = ⊥
@@ -271,12 +271,12 @@ error_agrees =
     seen_as initiate_error_at (IsMade InitiateError (IsBehind (0x0E ∷ 0x01 ∷ 0x06 ∷ []))) IsError
     (made_agrees InitiateError (byte_behind (0x0E ∷ 0x01 ∷ 0x06 ∷ [])) (IsBehind (0x0E ∷ 0x01 ∷ 0x06 ∷ [])) (behind_agrees (0x0E ∷ 0x01 ∷ 0x06 ∷ []))) error_to error_from
 
--- a value or a fault
+-- a result is a value or a fault
 told : {X : Type 0} (r : Result X AcseFault) → ((x : X) × (r ≡ Ok x)) ⊎ ((fault : AcseFault) × (r ≡ Err fault))
 told (Ok x) = inl (x, refl)
 told (Err fault) = inr (fault, refl)
 
--- a fault is no value
+-- a result is not both a fault and a value
 not_both : {X : Type 0} (r : Result X AcseFault) (fault : AcseFault) (x : X) → r ≡ Err fault → r ≡ Ok x → ⊥
 not_both (Ok y) fault x e f = absurd cc
 not_both (Err y) fault x e f = absurd cc
@@ -291,7 +291,7 @@ error_is_info Absent text s = absurd s
 error_is_info (Response bits limit) text s = absurd s
 error_is_info (InitiateError error) text s = s
 
--- user information as it is read
+-- the user information that is read is spelled
 pub info_found : (text : List ℕ) → IsInfo (info_in text) text
 unfolding info_in
 info_found text =

@@ -1,4 +1,4 @@
--- The reader of an AARQ says the same as the relation.
+-- The reader of an AARQ agrees with the spelling relation.
 use Rattle.std.proofs.Common.{◌≡◌, ℕ, Option, Some, None, List, [], length, Ok, refl, sym, ap, subst, arith, inl, inr}
 use Rattle.std.specs.Prelude.{unwrap_or}
 use Rattle.byte_reading.specs.Outcome.{◌>>=◌}
@@ -9,12 +9,12 @@ use Rattle.acse_ber.specs.declared.aarq.Aarq.{Aarq}
 use Rattle.acse_ber.specs.declared.fault.AcseFault.{AcseFault}
 use Rattle.acse_ber.proofs.Parts.{tagged_found, tagged_again, fields_found, fields_again, none_found, one_found, none_again, one_again, inner_found, inner_again, needed_ok}
 
--- a field that was looked for, so the fields are known
+-- if the field of a tag was searched successfully, all fields are known
 pub fields_known : (tag : ℕ) (body : List ℕ) (o : Option (List ℕ)) → field_of tag body ≡ Ok o → (fields : List Field) × (fields_of body ≡ Ok fields)
 unfolding field_of
 fields_known tag body o e = let b = bind_ok (fields_of body) _ o e in (b.0, b.1)
 
--- an APDU by its parts
+-- an APDU from its parts
 pub apdu_found : (tag : ℕ) (bytes body : List ℕ) (fields : List Field) → tagged tag bytes ≡ Ok body → fields_of body ≡ Ok fields → IsApdu tag fields bytes
 apdu_found tag bytes body fields t f = record { body = body; is_tagged = tagged_found tag bytes body t; are_fields = fields_found (length body) body fields f }
 

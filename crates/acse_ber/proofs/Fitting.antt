@@ -16,7 +16,7 @@ use Rattle.acse_ber.proofs.Texts.{tagged_long}
 
 -- ---- bytes
 
--- the first of two texts has bytes alone
+-- the elements of the first of two joined texts are bytes
 front_at : (a b : List ℕ) → IsBytes (a ++ b) → (i : ℕ) → slice_index a i < 256
 front_at [] b bytes i = omega arith
 front_at (x ∷ a) b bytes zero = bytes 0
@@ -25,7 +25,7 @@ front_at (x ∷ a) b bytes (suc i) = front_at a b (λ j. bytes (suc j)) i
 front_bytes : (a b whole : List ℕ) → whole ≡ a ++ b → IsBytes whole → IsBytes a
 front_bytes a b whole parts bytes = λ i. front_at a b (subst IsBytes parts bytes) i
 
--- and so has the second
+-- and so are those of the second
 back_bytes : (a b whole : List ℕ) → whole ≡ a ++ b → IsBytes whole → IsBytes b
 back_bytes a b whole parts bytes = λ i.
     let given : slice_index (a ++ b) (length a + i) < 256 = subst IsBytes parts bytes (length a + i) in
@@ -33,7 +33,7 @@ back_bytes a b whole parts bytes = λ i.
 
 -- ---- lengths
 
--- a number of so few bits has a form of so few bytes
+-- the length of a length's text, by the number of bits of the length
 short_form : (n : ℕ) → ((n < 2 ^ 8) → length (length_text n) ≤ 2) × ((n < 2 ^ 16) → length (length_text n) ≤ 3)
 short_form n =
     elim (cases_lt n 0x80) [
@@ -50,7 +50,7 @@ below_16 s bytes = omega (arith, bytes 0, bytes 1)
 below_24 : (s : List ℕ) → IsBytes s → from_be_bytes w32 (0x00 ∷ s) < 2 ^ 24
 below_24 s bytes = omega (arith, bytes 0, bytes 1, bytes 2)
 
--- any form of a length is at least as long as the shortest, and the length is below 2 ^ 16
+-- any form of a length below 2 ^ 16 is at least as long as the shortest
 pub length_is_short : (text : List ℕ) (n : ℕ) → IsBytes text → IsLength text n → (n < 2 ^ 16) × (length (length_text n) ≤ length text)
 length_is_short text n bytes (inl h) =
     let len : length text ≡ 1 = ap (λ (s : List ℕ). length s) h.1 in
@@ -64,7 +64,7 @@ length_is_short text n bytes (inr (inr (two, e, is))) =
     let below : n < 2 ^ 16 = rw is.1 (below_16 two (back_bytes (0x82 ∷ []) two text e bytes)) in
     (below, omega (arith, len, is.0, (short_form n).1 below))
 
--- a longer length has no shorter form
+-- a greater length has no shorter form
 form_grows : (m n : ℕ) → m ≤ n → length (length_text m) ≤ length (length_text n)
 form_grows m n le =
     elim (cases_lt m 0x80) [
@@ -107,14 +107,14 @@ form_grows m n le =
 
 -- ---- tags
 
--- how many bytes a tag, a length and such contents take at least
+-- the minimum number of bytes of a tag, a length and these contents
 abbrev least : List ℕ → ℕ
 least contents = 1 + length (length_text (length contents)) + length contents
 
 least_grows : (a b : List ℕ) → length a ≤ length b → least a ≤ least b
 least_grows a b le = omega (arith, le, form_grows (length a) (length b) le)
 
--- the contents of a tag are bytes, and are long enough
+-- the contents of a tag are bytes, and the text has at least the minimum length
 pub tagged_fits : (tag : ℕ) (contents bytes : List ℕ) → IsBytes bytes → IsTagged tag contents bytes → IsBytes contents × (least contents ≤ length bytes)
 tagged_fits tag contents bytes are is =
     let behind : IsBytes (is.length_text ++ contents) = back_bytes (tag ∷ []) (is.length_text ++ contents) bytes is.parts are in
@@ -139,7 +139,7 @@ contents_are_bytes tag (f ∷ fs) body contents bytes are one =
           contents_are_bytes tag fs are.others contents (back_bytes are.first are.others body are.parts bytes) are.are_others later
     ]
 
--- how many bytes the fields of a tag take at least
+-- the minimum number of bytes of the fields of a tag
 abbrev leasts : List (List ℕ) → ℕ
 leasts [] = 0
 leasts (contents ∷ more) = least contents + leasts more
@@ -151,7 +151,7 @@ leasts_more tag f fs =
       | inr e ↦ rw e (omega arith)
     ]
 
--- a field is of one tag at most
+-- a field has at most one of the four tags
 one_share : (t w : ℕ) → cond (t == 0xA1) w 0 + cond (t == 0x8B) w 0 + cond (t == 0xAC) w 0 + cond (t == 0xBE) w 0 ≤ w
 one_share t w =
     elim (cases_eq t 0xA1) [
@@ -165,7 +165,7 @@ one_share t w =
       ])
     ]
 
--- all the fields are at least as long as those of the four tags
+-- all the fields together are at least as long as those of the four tags
 fields_long : (fields : List Field) (body : List ℕ) → IsBytes body → AreFields fields body
     → leasts (contents_of 0xA1 fields) + leasts (contents_of 0x8B fields) + leasts (contents_of 0xAC fields) + leasts (contents_of 0xBE fields) ≤ length body
 fields_long [] body bytes are = omega arith
@@ -187,7 +187,7 @@ fields_long (f ∷ fs) body bytes are =
 
 -- ---- AARQ
 
--- a tag within a tag takes no more than a field that it fills
+-- an inner tag is no longer than the field that it fills
 inner_long : (tag inner outer : ℕ) (fields : List Field) (body text : List ℕ) → IsBytes body → AreFields fields body → HasInner tag inner fields (Some text) → length (tagged_text outer (tagged_text inner text)) ≤ leasts (contents_of tag fields)
 inner_long tag inner outer fields body text bytes are has =
     let fits = tagged_fits inner text has.contents (contents_are_bytes tag fields body has.contents bytes are has.one) has.holds in
@@ -199,7 +199,7 @@ password_long : (fields : List Field) (body : List ℕ) (password : Option (List
 password_long fields body None bytes are has = omega arith
 password_long fields body (Some password) bytes are has = inner_long 0xAC 0x80 0xAC fields body password bytes are has
 
--- the ACSE requirements take four bytes more
+-- the ACSE requirements add four bytes
 mechanism_long : (fields : List Field) (mechanism : List ℕ) → HasMechanism fields mechanism → length (mechanism_text mechanism) ≤ 4 + leasts (contents_of 0x8B fields)
 mechanism_long fields [] has = omega arith
 mechanism_long fields (byte ∷ bytes) (inl h) = let wrong : byte ∷ bytes ≡ [] = h.1 in absurd cc
@@ -207,7 +207,7 @@ mechanism_long fields (byte ∷ bytes) (inr h) =
     let all : leasts (contents_of 0x8B fields) ≡ least (byte ∷ bytes) + 0 = ap leasts h.one ∙ ap (λ (c : List ℕ). least c + 0) h.holds in
     omega (arith, all, tagged_long 0x8B (byte ∷ bytes))
 
--- what the whole leaves for its fields
+-- the number of bytes that an APDU leaves for its fields
 body_short : (tag : ℕ) (body bytes : List ℕ) → IsBytes bytes → IsTagged tag body bytes → length bytes ≤ 65535 → length body ≤ 65531
 body_short tag body bytes are is short =
     let behind : IsBytes (is.length_text ++ body) = back_bytes (tag ∷ []) (is.length_text ++ body) bytes is.parts are in

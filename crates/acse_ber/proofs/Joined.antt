@@ -1,5 +1,5 @@
--- Readers and relations that say the same, and how those of BER are put together.
---     then_agrees .. never_agrees     a step and then others, a test, a choice, no reading at all
+-- Readers that agree with spelling relations, and how those of BER are combined.
+--     then_agrees .. never_agrees     a step followed by others, a test, a choice, a reading that always fails
 use Rattle.std.proofs.Common.{◌≡◌, ◌⊎◌, ℕ, Bool, true, false, cond, List, Err, refl, inl, inr}
 use Rattle.byte_reading.specs.Outcome.{◌>>=◌, ◌>>◌, guard}
 use Rattle.byte_reading.proofs.Agreeing as agreeing
@@ -10,7 +10,7 @@ use Rattle.acse_ber.specs.Reading.{Read}
 use Rattle.acse_ber.specs.declared.fault.AcseFault.{AcseFault}
 use Rattle.acse_ber.specs.declared.fault.AcseFault.TheVariants.{Unreadable}
 
--- a step, and then others that depend on what it read
+-- a step, followed by others that depend on its value
 abbrev pub IsThen : {X Z : Type 0} → (X → List ℕ → Type 0) → (X → Z → List ℕ → Type 0) → Z → List ℕ → Type 0
 IsThen {X = X} P Q z text = (x : X) × IsJoined (P x) (Q x z) text
 
@@ -51,6 +51,6 @@ choice_agrees {X = X} b one other P Q whole_one whole_other = record {
       ];
 }
 
--- no reading at all
+-- a reading that always fails
 pub never_agrees : {X : Type 0} → Agrees X (λ bytes. Err Unreadable) (λ x text. ⊥)
 never_agrees = record { takes = λ bytes x e. absurd cc; again = λ x text rest s. absurd s }

@@ -1,4 +1,5 @@
--- No spelling of an APDU begins another one, and bytes are an RLRQ exactly where they are read as one.
+-- No spelling of an APDU is a proper prefix of another, and bytes are an RLRQ exactly if they are
+-- read as one.
 use Rattle.std.proofs.Common.{◌≡◌, ◌↔◌, ℕ, Bool, true, List, [], ◌++◌, Result, Ok, Err, refl, sym, ap, ◌∙◌, append-nil}
 use Rattle.std.specs.Prelude.{is_ok}
 use Rattle.byte_reading.specs.Outcome.{◌>>=◌}
@@ -12,7 +13,7 @@ use Rattle.acse_ber.proofs.Parts.{tagged_agrees}
 use Rattle.acse_ber.proofs.Aarqs.{apdu_found, apdu_again, aarq_again}
 use Rattle.acse_ber.proofs.Aares.{aare_again}
 
--- the length of a tag says where it ends
+-- the length after a tag determines where the contents end
 ends : (tag : ℕ) (bytes rest one other : List ℕ) → IsTagged tag one bytes → IsTagged tag other (bytes ++ rest) → rest ≡ []
 ends tag bytes rest one other s t =
     let here : tagged_at tag (bytes ++ rest) ≡ Ok (one, rest) = (tagged_agrees tag).again one bytes rest s in
@@ -21,7 +22,7 @@ ends tag bytes rest one other s t =
     let b : List ℕ × List ℕ = (other, []) in
     ap (λ (x : List ℕ × List ℕ). x.1) (ok_is {F = AcseFault} a b (sym here ∙ there))
 
--- bytes with nothing behind them are the same bytes
+-- bytes followed by nothing are the same bytes
 same_bytes : (bytes rest : List ℕ) → rest ≡ [] → bytes ++ rest ≡ bytes
 same_bytes bytes rest none = ap (λ (r : List ℕ). bytes ++ r) none ∙ append-nil bytes
 

@@ -1,4 +1,4 @@
--- The readers of bytes, lengths, tags and fields say the same as the relations.
+-- The readers of bytes, lengths, tags and fields agree with the spelling relations.
 use Rattle.std.proofs.Common.{◌≡◌, ℕ, Bool, zero, suc, ◌≤◌, ◌<◌, ◌==◌, ◌&&◌, nat_lt, nat_le, cond, Option, Some, None, List, [], ◌∷◌, ◌++◌, length, Ok, Err, Result, refl, sym, ap, subst, ◌∙◌, append-nil, arith, inl, inr}
 use Rattle.std.specs.Prelude.{unwrap_or, bytes_eq}
 use Rattle.std.specs.Int.{w16, from_be_bytes}
@@ -18,7 +18,7 @@ use Rattle.acse_ber.proofs.Steps.{after, unrolled}
 
 -- ---- bytes
 
--- a byte before others
+-- a byte followed by others
 pub byte_before : {Q : List ℕ → Type 0} (byte : ℕ) (text : List ℕ) (j : IsJoined (IsByte byte) Q text) → text ≡ byte ∷ j.others
 byte_before byte text j = j.parts ∙ ap (λ (f : List ℕ). f ++ j.others) j.is_first
 
@@ -31,7 +31,7 @@ size_agrees =
     seen_as size_at (IsMade (from_be_bytes w16) (AreBytes 2)) IsSize (made_agrees (from_be_bytes w16) (bytes_at 2) (AreBytes 2) (bytes_agrees Unreadable 2))
     (λ n text s. (s.2.0, sym s.1 ∙ ap (from_be_bytes w16) s.2.1)) (λ n text s. (text, sym s.1, (s.0, refl)))
 
--- these very bytes
+-- the expected bytes
 abbrev pub IsLiteral : List ℕ → Unit {0} → List ℕ → Type 0
 IsLiteral expected u text = text ≡ expected
 
@@ -86,7 +86,7 @@ length_agrees =
     (choice_agrees (first == 0x82) size_at (λ rest. Err Unreadable) _ _ size_agrees never_agrees))))
     (λ n text s. length_to n text s.0 s.1.others (byte_before s.0 text s.1) s.1.are_others) length_from
 
--- contents behind their length
+-- a length followed by the contents
 abbrev pub IsContents : List ℕ → List ℕ → Type 0
 IsContents contents text = (length_text : List ℕ) × (text ≡ length_text ++ contents) × IsLength length_text (length contents)
 
@@ -192,12 +192,12 @@ one_is [] x e = absurd cc
 one_is (y ∷ []) x e = ap (λ (z : Option _). unwrap_or z y ∷ []) (ok_is {F = AcseFault} (Some y) (Some x) e)
 one_is (y ∷ z ∷ more) x e = absurd cc
 
--- where the fields are known
+-- the field of a tag, with the fields known
 pub field_is : (tag : ℕ) (body : List ℕ) (fields : List Field) → fields_of body ≡ Ok fields → field_of tag body ≡ at_most_one (contents_of tag fields)
 unfolding field_of
 field_is tag body fields e = rw e refl
 
--- a field that is not there, and one that is
+-- a field that is absent, and one that is present
 pub none_found : (tag : ℕ) (body : List ℕ) (fields : List Field) → fields_of body ≡ Ok fields → field_of tag body ≡ Ok None → HasNone tag fields
 none_found tag body fields e f = none_is (contents_of tag fields) (sym (field_is tag body fields e) ∙ f)
 
@@ -210,7 +210,7 @@ none_again tag body fields e none = field_is tag body fields e ∙ rw none refl
 pub one_again : (tag : ℕ) (body : List ℕ) (fields : List Field) (contents : List ℕ) → fields_of body ≡ Ok fields → contents_of tag fields ≡ contents ∷ [] → field_of tag body ≡ Ok (Some contents)
 one_again tag body fields contents e one = field_is tag body fields e ∙ rw one refl
 
--- the inner tag of a field
+-- the contents of the inner tag of a field
 inner_case : (tag inner : ℕ) (body : List ℕ) (fields : List Field) (given o : Option (List ℕ)) → fields_of body ≡ Ok fields → field_of tag body ≡ Ok given → optional (tagged inner) given ≡ Ok o → HasInner tag inner fields o
 inner_case tag inner body fields None None e f g = none_found tag body fields e f
 inner_case tag inner body fields None (Some text) e f g = absurd cc
@@ -234,7 +234,7 @@ unfolding inner_of
 inner_again tag inner body fields None e h = rw (none_again tag body fields e h) refl
 inner_again tag inner body fields (Some text) e h = rw (one_again tag body fields h.contents e h.one, tagged_again inner h.contents text h.holds) refl
 
--- what is needed is there
+-- a needed value that was read is present
 pub needed_ok : {X : Type 0} (r : Result (Option X) AcseFault) (x : X) → (r >>= needed) ≡ Ok x → r ≡ Ok (Some x)
 needed_ok (Ok None) x e = absurd cc
 needed_ok {X = X} (Ok (Some y)) x e = ap (λ (z : X). done AcseFault (Some z)) (ok_is {F = AcseFault} y x e)

@@ -1,13 +1,13 @@
--- The RLRQ that is sent.
+-- The RLRQ that a client sends.
 use Rattle.std.proofs.Common.{ℕ, ◌<◌, inl, [], ◌∷◌, refl, arith}
 use Rattle.acse_ber.specs.Spelling.{IsLength, SpellsRelease}
 use Rattle.acse_ber.specs.Text.{release_request}
 
--- a length below 80 is itself
+-- a length below 80 hex is its own form
 short : (n : ℕ) → n < 0x80 → IsLength (n ∷ []) n
 short n h = inl (h, refl)
 
--- it is one: its field is the reason
+-- it is an RLRQ, whose only field is the reason
 pub request_spelled : SpellsRelease release_request
 request_spelled = (
   record { tag = 0x80; contents = 0x00 ∷ [] } ∷ [],

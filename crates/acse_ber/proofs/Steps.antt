@@ -1,4 +1,4 @@
--- The fields of an APDU read one after the other, as a loop reads them.
+-- Consecutive fields of an APDU, read by a loop.
 use Rattle.std.proofs.Common.{◌≡◌, ℕ, zero, suc, ◌≤◌, ◌<◌, Bool, true, false, cond, Option, Some, None, List, [], ◌∷◌, ◌++◌, length, drop, take, Result, Ok, Err, ◌==◌, ◌&&◌, nat_le, nat_lt, refl, sym, ap, ◌∙◌, arith, inl, inr}
 use Rattle.std.specs.Prelude.{is_ok, is_some, option_map}
 use Rattle.std.specs.Int.{w16, from_be_bytes}
@@ -9,16 +9,16 @@ use Rattle.acse_ber.specs.Reading.{Read, Field, byte_at, bytes_at, length_at, co
 use Rattle.acse_ber.specs.declared.fault.AcseFault.{AcseFault}
 use Rattle.acse_ber.specs.declared.fault.AcseFault.TheVariants.{Unreadable}
 
--- the one that was found so far, as a list
+-- the field found so far, as a list of at most one
 abbrev pub seen : Option (List ℕ) → List (List ℕ)
 seen None = []
 seen (Some contents) = contents ∷ []
 
--- what the fields of a tag will have been, some of them found and others still to be read
+-- all fields of a tag: those found so far and those still to be read
 abbrev pub still : ℕ → Option (List ℕ) → Result (List Field) AcseFault → Result (Option (List ℕ)) AcseFault
 still tag found read = read >>= λ fields. at_most_one (seen found ++ contents_of tag fields)
 
--- ---- every fault is that the bytes are unreadable
+-- ---- the only fault is `Unreadable`
 
 abbrev pub IsPlain : {X : Type 0} → Result X AcseFault → Type 0
 IsPlain (Ok x) = Unit {0}
@@ -68,9 +68,9 @@ fields_plain zero (byte ∷ rest) = refl
 fields_plain (suc limit) (byte ∷ rest) =
     bind_plain (field_at (byte ∷ rest)) _ (field_plain (byte ∷ rest)) (λ first. bind_plain (fields_within limit first.1) _ (fields_plain limit first.1) (λ others. tt))
 
--- ---- every field takes a byte at least
+-- ---- every field has at least one byte
 
--- no more bytes are left than there were
+-- a reader leaves no more bytes than it was given
 abbrev Shrinks : {X : Type 0} → (List ℕ → Read X) → Type 0
 Shrinks {X = X} read = (bytes : List ℕ) (x : X × List ℕ) → read bytes ≡ Ok x → length x.1 ≤ length bytes
 
@@ -129,13 +129,13 @@ field_shorter bytes x e =
     let same : c.0.1 ≡ x.1 = ap (λ (z : Field × List ℕ). z.1) (ok_is {F = AcseFault} made x c.2) in
     omega (arith, ap (λ (s : List ℕ). length s) same)
 
--- ---- one field more
+-- ---- one more field
 
--- one field, and then others
+-- a field followed by others
 abbrev pub after : Field → Result (List Field) AcseFault → Result (List Field) AcseFault
 after field read = read >>= λ others. Ok (field ∷ others)
 
--- where a byte is left, a field is read
+-- a field is read while bytes remain
 pub unrolled : (limit : ℕ) (bytes : List ℕ) (field : Field) (rest : List ℕ) → field_at bytes ≡ Ok (field, rest) → length bytes ≤ limit → (n : ℕ) × (length rest ≤ n) × (fields_within limit bytes ≡ after field (fields_within n rest))
 unfolding fields_within
 unrolled limit [] field rest e le = let less : length rest < 0 = field_shorter [] (field, rest) e in absurd (omega arith)
@@ -163,18 +163,18 @@ twice_in : (tag : ℕ) (contents : List ℕ) (field : Field) (r : Result (List F
 twice_in tag contents field (Ok others) e p = rw e refl
 twice_in tag contents field (Err fault) e p = rw p refl
 
--- what is still to be read, and how it will end
+-- the fields still to be read, and the final result
 abbrev pub Remaining : ℕ → Option (List ℕ) → List ℕ → Result (Option (List ℕ)) AcseFault → Type 0
 Remaining tag found rest total = (limit : ℕ) × (length rest ≤ limit) × (still tag found (fields_within limit rest) ≡ total)
 
--- a field of another tag
+-- the next field has another tag
 pub skips : (tag : ℕ) (found : Option (List ℕ)) (bytes : List ℕ) (field : Field) (rest : List ℕ) (total : Result (Option (List ℕ)) AcseFault)
     → Remaining tag found bytes total → field_at bytes ≡ Ok (field, rest) → (field.tag == tag) ≡ false → Remaining tag found rest total
 skips tag found bytes field rest total left e other =
     let u = unrolled left.0 bytes field rest e left.1 in
     (u.0, u.1, sym (skipped_in tag found field (fields_within u.0 rest) other) ∙ sym (ap (still tag found) u.2) ∙ left.2)
 
--- the first field of the tag
+-- the next field is the first with the tag
 pub finds : {X : Type 0} (view : X → List ℕ) (tag : ℕ) (found : Option X) (bytes : List ℕ) (field : Field) (rest : List ℕ) (total : Result (Option (List ℕ)) AcseFault)
     → Remaining tag (option_map view found) bytes total → field_at bytes ≡ Ok (field, rest) → (field.tag == tag) ≡ true → false ≡ is_some found → Remaining tag (Some field.contents) rest total
 finds view tag None bytes field rest total left e same none =
@@ -182,7 +182,7 @@ finds view tag None bytes field rest total left e same none =
     (u.0, u.1, sym (found_in tag field (fields_within u.0 rest) same) ∙ sym (ap (still tag None) u.2) ∙ left.2)
 finds view tag (Some x) bytes field rest total left e same none = absurd cc
 
--- a second one
+-- the next field is a second one with the tag
 pub is_twice : {X : Type 0} (view : X → List ℕ) (tag : ℕ) (found : Option X) (bytes : List ℕ) (field : Field) (rest : List ℕ) (total : Result (Option (List ℕ)) AcseFault)
     → Remaining tag (option_map view found) bytes total → field_at bytes ≡ Ok (field, rest) → (field.tag == tag) ≡ true → true ≡ is_some found → total ≡ Err Unreadable
 is_twice view tag None bytes field rest total left e same some = absurd cc
@@ -190,18 +190,18 @@ is_twice view tag (Some x) bytes field rest total left e same some =
     let u = unrolled left.0 bytes field rest e left.1 in
     sym left.2 ∙ ap (still tag (Some (view x))) u.2 ∙ twice_in tag (view x) field (fields_within u.0 rest) same (fields_plain u.0 rest)
 
--- no field
+-- the next bytes are not a field
 pub is_refused : (tag : ℕ) (found : Option (List ℕ)) (bytes : List ℕ) (fault : AcseFault) (total : Result (Option (List ℕ)) AcseFault)
     → Remaining tag found bytes total → (bytes ≡ [] → ⊥) → field_at bytes ≡ Err fault → total ≡ Err fault
 is_refused tag found bytes fault total left some e = sym left.2 ∙ ap (still tag found) (refused left.0 bytes fault some left.1 e)
 
--- nothing is left
+-- no bytes remain
 pub is_found : (tag : ℕ) (found : Option (List ℕ)) (bytes : List ℕ) (total : Result (Option (List ℕ)) AcseFault) → Remaining tag found bytes total → bytes ≡ [] → total ≡ Ok found
 unfolding fields_within
 is_found tag None bytes total left none = sym left.2 ∙ rw none refl
 is_found tag (Some contents) bytes total left none = sym left.2 ∙ rw none refl
 
--- ---- whether there are fields at all
+-- ---- whether the bytes are fields
 
 abbrev pub Readable : List ℕ → Bool → Type 0
 Readable rest total = (limit : ℕ) × (length rest ≤ limit) × (is_ok (fields_within limit rest) ≡ total)

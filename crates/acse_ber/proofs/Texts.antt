@@ -33,7 +33,7 @@ length_spells n below =
 pub tagged_spells : (tag : ℕ) (contents : List ℕ) → length contents < 2 ^ 16 → IsTagged tag contents (tagged_text tag contents)
 tagged_spells tag contents below = record { length_text = length_text (length contents); parts = refl; is_length = length_spells (length contents) below }
 
--- how long a text is, and one within another
+-- the length of the text of a tag, and of one within another
 pub tagged_long : (tag : ℕ) (contents : List ℕ) → length (tagged_text tag contents) ≡ 1 + length (length_text (length contents)) + length contents
 tagged_long tag contents = omega (arith, length-append (length_text (length contents)) contents)
 
@@ -45,11 +45,11 @@ field tag contents = record { tag = tag; contents = contents }
 field_spells : (tag : ℕ) (contents : List ℕ) → 0x80 ≤ tag → tag ≤ 0xBF → length contents < 2 ^ 16 → IsField (field tag contents) (tagged_text tag contents)
 field_spells tag contents low high below = record { low = low; high = high; is_tagged = tagged_spells tag contents below }
 
--- one field, and then others
+-- a field followed by others
 before : (f : Field) (fs : List Field) (text others : List ℕ) → IsField f text → AreFields fs others → AreFields (f ∷ fs) (text ++ others)
 before f fs text others is are = record { first = text; others = others; parts = refl; is_first = is; are_others = are }
 
--- one field alone
+-- a single field
 alone : (f : Field) (text : List ℕ) → IsField f text → AreFields (f ∷ []) text
 alone f text is = record { first = text; others = []; parts = sym (append-nil text); is_first = is; are_others = refl }
 
@@ -94,7 +94,7 @@ mechanism_are (byte ∷ bytes) fs others below are =
     (field_spells 0x8A (0x07 ∷ 0x80 ∷ []) (omega arith) (omega arith) (omega arith))
     (before (field 0x8B (byte ∷ bytes)) fs (tagged_text 0x8B (byte ∷ bytes)) others (field_spells 0x8B (byte ∷ bytes) (omega arith) (omega arith) (outer_short 0x8B (byte ∷ bytes) (2 ^ 16) short)) are)
 
--- which fields there are
+-- the fields with each tag
 one_context : (context mechanism : List ℕ) (password : Option (List ℕ)) (user : List ℕ) → contents_of 0xA1 (aarq_fields (record { context = context; mechanism = mechanism; password = password; user = user })) ≡ tagged_text 0x06 context ∷ []
 one_context context [] None user = refl
 one_context context [] (Some password) user = refl
@@ -122,7 +122,7 @@ has_password context [] (Some password) user below =
 has_password context (byte ∷ bytes) (Some password) user below =
     record { contents = tagged_text 0x80 password; one = refl; holds = tagged_spells 0x80 password (outer_short 0x80 password (2 ^ 16) (outer_short 0xAC (tagged_text 0x80 password) (2 ^ 16) below)) }
 
--- the parts are shorter than the whole
+-- the parts are no longer than the whole
 parts_short : (a b c d : List ℕ) (limit : ℕ) → length (a ++ (b ++ (c ++ d))) < limit → (length a < limit) × (length b < limit) × (length c < limit) × (length d < limit)
 parts_short a b c d limit below =
     let e = length-append a (b ++ (c ++ d)) in
@@ -157,7 +157,7 @@ aarq_spells aarq fit =
 
 -- ---- the conformance block
 
--- the lowest 24 bits alone count
+-- only the lowest 24 bits are written
 pub low_24_bits : (bits : ℕ) → bytes_high_first 3 (bits % 2 ^ 24) ≡ bytes_high_first 3 bits
 low_24_bits bits =
     let high : bits % 2 ^ 24 / 65536 % 256 ≡ bits / 65536 % 256 = omega arith in
@@ -201,7 +201,7 @@ first_are outcome diagnostic fs others are =
     before (field 0xA1 (tagged_text 0x06 ln_context)) (result_field ∷ diagnostic_field ∷ fs) (context_text ln_context) (result_text outcome ++ (diagnostic_text diagnostic ++ others))
     (field_spells 0xA1 (tagged_text 0x06 ln_context) (omega arith) (omega arith) (omega arith)) both
 
--- an AARE by its numbers and its user information
+-- an AARE from its numbers and its user information
 info_spells : (outcome diagnostic : ℕ) (info : Info) → IsFitInfo info → (outcome ≡ 0 → is_response info ≡ true) → SpellsAare (aare_text (record { result = outcome; diagnostic = diagnostic; info = info })) (record { result = outcome; diagnostic = diagnostic; info = info })
 unfolding aare_text
 info_spells outcome diagnostic Absent fit responds = record {

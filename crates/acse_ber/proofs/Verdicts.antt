@@ -1,4 +1,4 @@
--- Who is accepted: management with the password alone, and with it always.
+-- Which clients are accepted: a management client only with the password, and always with it.
 use Rattle.std.proofs.Common.{◌≡◌, ◌≢◌, ◌⊎◌, ℕ, ◌^◌, ◌<◌, ◌≤◌, Bool, true, false, not, ◌&&◌, ◌||◌, ◌==◌, nat_le, cond, Option, Some, None, List, Result, Ok, Err, refl, sym, ap, ap₂, subst, ◌∙◌, inl, inr}
 use Rattle.std.specs.Prelude.{bytes_eq, bit_and}
 use Rattle.std.proofs.lemmas.Bool.{eqb-true, eq-eqb, ne_eqb, le-leb, not-true}
@@ -18,7 +18,7 @@ use Rattle.acse_ber.specs.declared.verdict.Verdict.{Verdict}
 use Rattle.acse_ber.specs.declared.verdict.Verdict.TheVariants.{Accepted, Rejected, InitiateError}
 use Rattle.acse_ber.proofs.Texts.{three_back}
 
--- ---- a refusal accepts nothing
+-- ---- a refusal accepts no client
 
 abbrev IsRefusal : Verdict → Type 0
 IsRefusal (Accepted level bits limit) = ⊥
@@ -78,12 +78,12 @@ judged_refuses aarq sap password =
     (then_refuses (authenticated level aarq password) (λ u. proposal >>= λ p. agreed level p) (authenticated_refuses level aarq password) (λ u.
     then_refuses proposal (agreed level) (proposal_refuses (proposal_of aarq.user)) (agreed_refuses level))))
 
--- so what is accepted came through all the checks
+-- an accepted client passed all the checks
 settled_ok : (r : Result Verdict Verdict) (level : Level) (bits limit : ℕ) → Refuses r → settled r ≡ Accepted level bits limit → r ≡ Ok (Accepted level bits limit)
 settled_ok (Ok verdict) level bits limit is e = ap (done Verdict) e
 settled_ok (Err verdict) level bits limit is e = absurd (subst IsRefusal e is)
 
--- ---- what is accepted
+-- ---- which clients are accepted
 
 abbrev level_in : Verdict → Level
 level_in (Accepted level bits limit) = level
@@ -98,7 +98,7 @@ agreed_level level proposal verdict e =
     let c = guard_ok (proposal.size == 0 || nat_le 64 proposal.size) (InitiateError 3) _ verdict b.1 in
     ap level_in (ok_is {F = Verdict} (Accepted level (bit_and offered proposal.conformance.0) proposal.size) verdict c.1)
 
--- the checks that an accepted one passed
+-- the checks that an accepted client passed
 passed : (aarq : Aarq) (sap : ℕ) (password : List ℕ) (level : Level) (bits limit : ℕ) → verdict_of aarq sap password ≡ Accepted level bits limit → (level_of sap ≡ Ok level) × (authenticated level aarq password ≡ Ok tt)
 unfolding verdict_of judged
 passed aarq sap password level bits limit e =

@@ -1,7 +1,7 @@
--- The conformance block (IEC 62056-5-3): 24 bits, each of a service. Bit 0 is the highest.
+-- The conformance block (IEC 62056-5-3): 24 bits, one for each service. Bit 0 is the highest.
 use Rattle.std.specs.Prelude.{ℕ, ◌-◌, ◌^◌}
 
--- the block with this bit alone
+-- the block with only this bit set
 abbrev pub conformance_bit : ℕ → ℕ
 conformance_bit n = 2 ^ (23 - n)
 

@@ -1,5 +1,5 @@
--- Which APDUs have a text that is read back.
---     IsFitAarq, IsFitAare            an AARQ that is not too long, and an AARE of its numbers' ranges
+-- The APDUs whose text is read back.
+--     IsFitAarq, IsFitAare            an AARQ that is not too long, and an AARE whose numbers are in range
 use Rattle.std.specs.Prelude.{◌≡◌, ◌^◌, ◌<◌, true, length}
 use Rattle.acse_ber.specs.Reading.{is_response}
 use Rattle.acse_ber.specs.Text.{aarq_body}
@@ -8,17 +8,17 @@ use Rattle.acse_ber.specs.declared.aare.Aare.{Aare}
 use Rattle.acse_ber.specs.declared.aare.Info.{Info}
 use Rattle.acse_ber.specs.declared.aare.Info.TheVariants.{Absent, Response, InitiateError}
 
--- an AARQ whose fields have a length that two bytes hold
+-- an AARQ whose fields have a length that fits in two bytes
 abbrev pub IsFitAarq : Aarq → Type 0
 IsFitAarq aarq = length (aarq_body aarq) < 2 ^ 16
 
--- 24 bits, and a size that two bytes hold (IEC 62056-5-3, InitiateResponse)
+-- 24 bits, and a size that fits in two bytes (IEC 62056-5-3, InitiateResponse)
 abbrev pub IsFitInfo : Info → Type 0
 IsFitInfo Absent = Unit {0}
 IsFitInfo (Response bits limit) = (bits < 2 ^ 24) × (limit < 2 ^ 16)
 IsFitInfo (InitiateError error) = Unit {0}
 
--- an AARE with such user information, and with a response where it accepts
+-- an AARE with such user information, which is an InitiateResponse if the AARE accepts
 pub record IsFitAare (aare : Aare) : Type 0 where
   pub info : IsFitInfo aare.info
   pub responds : aare.result ≡ 0 → is_response aare.info ≡ true

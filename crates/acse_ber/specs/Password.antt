@@ -1,4 +1,5 @@
--- The password of low-level security (IEC 62056-5-3): the authentication value of an AARQ, which the server compares with its own.
+-- The password of low-level security (IEC 62056-5-3): the authentication value of an AARQ, which
+-- the server compares with its own password.
 use Rattle.std.specs.Prelude.{ℕ, ◌≤◌, List, length}
 
 -- a password has 1 to 32 bytes

@@ -1,10 +1,11 @@
--- Reading the APDUs of the Association Control Service Element (IEC 62056-5-3, AARQ, AARE and RLRQ), in BER (ISO/IEC 8825-1).
---     Read, Yields                    what a step answers; how code is compared with it where it reads all of its bytes
---     whole                           a reading that takes all the bytes
---     byte_at .. contents_at          a byte, bytes, these very bytes, a length, contents behind their length
+-- Reading the APDUs of the Association Control Service Element (IEC 62056-5-3, AARQ, AARE and
+-- RLRQ), in BER (ISO/IEC 8825-1).
+--     Read, Yields                    the outcome of a step, and how it relates to that of code that reads all of its bytes
+--     whole                           a reading of all the bytes
+--     byte_at .. contents_at          a byte, bytes, expected bytes, a length, contents after their length
 --     tagged                          the contents of one tag that fill the bytes
---     Field, fields_of, field_of      the fields of an APDU, in any order, and the one of a tag
---     proposal_of, info_in            what the user information of an AARQ and of an AARE holds
+--     Field, fields_of, field_of      the fields of an APDU, in any order, and the field with a tag
+--     proposal_of, info_in            the contents of the user information of an AARQ and of an AARE
 --     aarq_of, aare_of                whole APDUs
 --     is_release_text                 whether bytes are an RLRQ
 use Rattle.std.specs.Prelude.{◌≡◌, ℕ, zero, suc, not, ◌&&◌, ◌||◌, ◌==◌, nat_lt, nat_le, if◌then◌else◌, Bool, true, false, Option, Some, None, unwrap_or, List, [], ◌∷◌, length, bytes_eq, Result, Ok, Err, is_ok}
@@ -19,16 +20,16 @@ use Rattle.acse_ber.specs.declared.fault.AcseFault.{AcseFault}
 use Rattle.acse_ber.specs.declared.fault.AcseFault.TheVariants.{Unreadable}
 use Rattle.acse_ber.specs.declared.initiate.Proposal.{Proposal}
 
--- what a reader of X answers: the value and the bytes behind it, or that they are unreadable
+-- the outcome of a reader of X: the value and the bytes after it, or `Unreadable`
 abbrev pub Read : Type 0 → Type 0
 Read X = Result (X × List ℕ) AcseFault
 
--- a step of code that reads all of its bytes answers as the definition does
+-- a step of the code that reads all of its bytes has the outcome of the definition
 abbrev pub Yields : {X Y : Type 0} → (X → Y) → Result X AcseFault → Result Y AcseFault → Type 0
 Yields view (Ok x) given = given ≡ Ok (view x)
 Yields view (Err fault) given = given ≡ Err fault
 
--- what was read, if nothing stands behind it
+-- the value read, if no bytes follow it
 abbrev pub whole : {X : Type 0} → Read X → Result X AcseFault
 whole read = whole_or Unreadable read
 
@@ -46,7 +47,7 @@ bytes_at n bytes = first_bytes Unreadable n bytes
 abbrev pub size_at : List ℕ → Read ℕ
 size_at bytes = read_as (from_be_bytes w16) (bytes_at 2 bytes)
 
--- these very bytes
+-- bytes that must be the expected ones
 abbrev pub literal_at : List ℕ → List ℕ → Read (Unit {0})
 literal_at expected bytes = do
   there ← bytes_at (length expected) bytes
@@ -55,7 +56,7 @@ literal_at expected bytes = do
 
 -- ---- lengths and tags
 
--- a length: itself below 80, or 81 or 82 and one or two bytes of it, needed or not
+-- a length: one byte below 80 hex, or 81 or 82 hex and one or two bytes, even if fewer would do
 unfoldable pub length_at : List ℕ → Read ℕ
 length_at bytes = do
   first ← byte_at bytes
@@ -64,7 +65,7 @@ length_at bytes = do
       if first.0 == 0x82 then size_at first.1 else
       Err Unreadable
 
--- contents behind their length
+-- a length followed by that number of bytes
 unfoldable pub contents_at : List ℕ → Read (List ℕ)
 contents_at bytes = do
   n ← length_at bytes
@@ -77,7 +78,7 @@ tagged_at tag bytes = do
   guard (first.0 == tag) Unreadable
   contents_at first.1
 
--- the contents of this tag, which fill the bytes
+-- the contents of this tag, which must fill the bytes
 unfoldable pub tagged : ℕ → List ℕ → Result (List ℕ) AcseFault
 tagged tag bytes = whole (tagged_at tag bytes)
 
@@ -95,7 +96,7 @@ field_at bytes = do
   guard (nat_le 0x80 tag.0 && nat_le tag.0 0xBF) Unreadable
   read_as (λ contents. record { tag = tag.0; contents = contents }) (contents_at tag.1)
 
--- the fields that fill bytes, at most so many
+-- the fields that fill the bytes, at most this many
 unfoldable pub fields_within : ℕ → List ℕ → Result (List Field) AcseFault
 fields_within limit [] = Ok []
 fields_within zero (byte ∷ rest) = Err Unreadable
@@ -104,56 +105,58 @@ fields_within (suc limit) (byte ∷ rest) = do
   others ← fields_within limit first.1
   Ok (first.0 ∷ others)
 
--- the fields that fill bytes, however many
+-- the fields that fill the bytes, however many
 abbrev pub fields_of : List ℕ → Result (List Field) AcseFault
 fields_of bytes = fields_within (length bytes) bytes
 
--- what the fields of a tag hold, in order
+-- the contents of the fields with a tag, in order
 abbrev pub contents_of : ℕ → List Field → List (List ℕ)
 contents_of tag [] = []
 contents_of tag (field ∷ fields) = if field.tag == tag then field.contents ∷ contents_of tag fields else contents_of tag fields
 
--- the only one, if there is one
+-- the only element, if there is one
 abbrev pub at_most_one : {X : Type 0} → List X → Result (Option X) AcseFault
 at_most_one [] = Ok None
 at_most_one (x ∷ []) = Ok (Some x)
 at_most_one (x ∷ y ∷ more) = Err Unreadable
 
--- what the field of a tag holds, if it is there; it may not be there twice
+-- the contents of the field with a tag, if it is present; it may not occur twice
 unfoldable pub field_of : ℕ → List ℕ → Result (Option (List ℕ)) AcseFault
 field_of tag body = do
   fields ← fields_of body
   at_most_one (contents_of tag fields)
 
--- what has to be there
+-- a value that must be present
 abbrev pub needed : {X : Type 0} → Option X → Result X AcseFault
 needed None = Err Unreadable
 needed (Some x) = Ok x
 
--- what is read of something, if it is there
+-- a reading of an optional part
 abbrev pub optional : {X Y : Type 0} → (X → Result Y AcseFault) → Option X → Result (Option Y) AcseFault
 optional read None = Ok None
 optional read (Some x) = do
   y ← read x
   Ok (Some y)
 
--- the contents of an inner tag, which fill the field of a tag, if that is there
+-- the contents of an inner tag, which must fill the field with the outer tag, if that field is
+-- present
 unfoldable pub inner_of : ℕ → ℕ → List ℕ → Result (Option (List ℕ)) AcseFault
 inner_of tag inner body = do
   contents ← field_of tag body
   optional (tagged inner) contents
 
--- what the field of a tag holds, which has to be there
+-- the contents of the field with a tag, which must be present
 abbrev pub needed_field : ℕ → List ℕ → Result (List ℕ) AcseFault
 needed_field tag body = field_of tag body >>= needed
 
--- the contents of an inner tag, which fill the field of a tag, which has to be there
+-- the contents of an inner tag, which must fill the field with the outer tag, which must be present
 abbrev pub needed_inner : ℕ → ℕ → List ℕ → Result (List ℕ) AcseFault
 needed_inner tag inner body = inner_of tag inner body >>= needed
 
--- ---- user information (IEC 62056-5-3, InitiateRequest, InitiateResponse and ConfirmedServiceError)
+-- ---- user information (IEC 62056-5-3, InitiateRequest, InitiateResponse and
+-- ConfirmedServiceError)
 
--- a byte that says whether one more stands behind it, which is skipped
+-- a byte that marks the next byte as absent or present, and that byte, which is skipped
 unfoldable pub optional_byte_at : List ℕ → Read (Unit {0})
 optional_byte_at bytes = do
   present ← byte_at bytes
@@ -183,11 +186,11 @@ proposal_at bytes = do
   quality ← optional_byte_at response_allowed.1
   proposed_at quality.1
 
--- the InitiateRequest that bytes are
+-- the InitiateRequest that the bytes are
 unfoldable pub proposal_of : List ℕ → Result Proposal AcseFault
 proposal_of bytes = whole (proposal_at bytes)
 
--- an InitiateResponse: its version and the name of the virtual application entity are not kept
+-- an InitiateResponse, whose version and VAA name are discarded
 unfoldable pub response_at : List ℕ → Read Info
 response_at bytes = do
   head ← literal_at (0x08 ∷ []) bytes
@@ -198,7 +201,7 @@ response_at bytes = do
   name ← bytes_at 2 size.1
   Ok (Response conformance.0 size.0, name.1)
 
--- these very bytes, and one byte more
+-- the expected bytes, followed by one byte
 unfoldable pub byte_behind : List ℕ → List ℕ → Read ℕ
 byte_behind expected bytes = do
   head ← literal_at expected bytes
@@ -208,16 +211,16 @@ byte_behind expected bytes = do
 abbrev pub initiate_error_at : List ℕ → Read Info
 initiate_error_at bytes = read_as InitiateError (byte_behind (0x0E ∷ 0x01 ∷ 0x06 ∷ []) bytes)
 
--- a reading, or where it fails another value
+-- the value of a reading, or another value if it fails
 abbrev pub or_else : {X : Type 0} → Result X AcseFault → X → X
 or_else (Ok x) other = x
 or_else (Err fault) other = other
 
--- the user information of an AARE: what is neither a response nor an error is taken as absent
+-- the user information of an AARE; anything but a response or an error is read as absent
 unfoldable pub info_in : List ℕ → Info
 info_in bytes = or_else (whole (response_at bytes)) (or_else (whole (initiate_error_at bytes)) Absent)
 
--- user information, if it is there
+-- user information, if it is present
 abbrev pub info_of : Option (List ℕ) → Info
 info_of None = Absent
 info_of (Some bytes) = info_in bytes
@@ -228,7 +231,7 @@ is_response _ = false
 
 -- ---- whole APDUs
 
--- the fields of an AARQ: the application context and user information are needed
+-- the fields of an AARQ; the application context and the user information must be present
 unfoldable pub aarq_in : List ℕ → Result Aarq AcseFault
 aarq_in body = do
   context ← inner_of 0xA1 0x06 body >>= needed
@@ -252,21 +255,22 @@ diagnostic_at bytes = do
   guard (source.0 == 0xA1 || source.0 == 0xA2) Unreadable
   byte_behind (0x03 ∷ 0x02 ∷ 0x01 ∷ []) source.1
 
--- the user information of an AARE, behind its result and its diagnostic
+-- the user information of an AARE with this result and diagnostic
 unfoldable pub aare_told : ℕ → ℕ → List ℕ → Result Aare AcseFault
 aare_told outcome diagnostic body = do
   user ← inner_of 0xBE 0x04 body
   guard (not (outcome == 0) || is_response (info_of user)) Unreadable
   Ok (record { result = outcome; diagnostic = diagnostic; info = info_of user })
 
--- the diagnostic of an AARE and what follows it, behind its result
+-- the diagnostic and the user information of an AARE with this result
 unfoldable pub aare_judged : ℕ → List ℕ → Result Aare AcseFault
 aare_judged outcome body = do
   diagnostic_field ← field_of 0xA3 body >>= needed
   diagnostic ← whole (diagnostic_at diagnostic_field)
   aare_told outcome diagnostic body
 
--- the fields of an AARE: the result and the diagnostic are needed, and where it accepts a response too
+-- the fields of an AARE; the result and the diagnostic must be present, and an InitiateResponse too
+-- if the result accepts
 unfoldable pub aare_in : List ℕ → Result Aare AcseFault
 aare_in body = do
   result_field ← field_of 0xA2 body >>= needed

@@ -1,8 +1,9 @@
--- What is written (IEC 62056-5-3, AARQ, AARE, RLRQ and RLRE; BER: ISO/IEC 8825-1): of each APDU one text, with the shortest lengths.
+-- The written text of each APDU (IEC 62056-5-3, AARQ, AARE, RLRQ and RLRE; BER: ISO/IEC 8825-1),
+-- with the shortest lengths.
 --     tagged_text                     a tag, the length and the contents
 --     aarq_body, aare_body            the fields
 --     aarq_text, aare_text            whole APDUs
---     low_level_aarq                  the AARQ of a client that gives a password
+--     low_level_aarq                  the AARQ of a client that authenticates with a password
 --     release_request, release_response    the RLRQ and the RLRE that are sent
 use Rattle.std.specs.Prelude.{ℕ, Option, Some, None, List, [], ◌∷◌, ◌++◌}
 use Rattle.std.specs.Int.{w16, to_be_bytes, bytes_high_first}
@@ -23,7 +24,7 @@ context_text context = tagged_text 0xA1 (tagged_text 0x06 context)
 abbrev pub user_text : List ℕ → List ℕ
 user_text user = tagged_text 0xBE (tagged_text 0x04 user)
 
--- the mechanism, if there is one, behind the ACSE requirements that it needs
+-- the ACSE requirements and the mechanism, if there is one
 abbrev pub mechanism_text : List ℕ → List ℕ
 mechanism_text [] = []
 mechanism_text (byte ∷ bytes) = (0x8A ∷ 0x02 ∷ 0x07 ∷ 0x80 ∷ []) ++ tagged_text 0x8B (byte ∷ bytes)
@@ -48,7 +49,7 @@ result_text outcome = 0xA2 ∷ 0x03 ∷ 0x02 ∷ 0x01 ∷ outcome ∷ []
 abbrev pub diagnostic_text : ℕ → List ℕ
 diagnostic_text diagnostic = 0xA3 ∷ 0x05 ∷ 0xA1 ∷ 0x03 ∷ 0x02 ∷ 0x01 ∷ diagnostic ∷ []
 
--- an InitiateResponse: no quality of service, version 6, the bits, the size and the name of the virtual application entity, 0007
+-- an InitiateResponse: no quality of service, version 6, the bits, the size and the VAA name 0007
 abbrev pub response_text : ℕ → ℕ → List ℕ
 response_text bits limit = (0x08 ∷ 0x00 ∷ 0x06 ∷ 0x5F ∷ 0x1F ∷ 0x04 ∷ 0x00 ∷ []) ++ (bytes_high_first 3 bits ++ (to_be_bytes w16 limit ++ 0x00 ∷ 0x07 ∷ []))
 
@@ -58,7 +59,8 @@ info_text Absent = []
 info_text (Response bits limit) = user_text (response_text bits limit)
 info_text (InitiateError e) = user_text (0x0E ∷ 0x01 ∷ 0x06 ∷ e ∷ [])
 
--- the application context without ciphering, by logical names (Green Book, application context names)
+-- the application context of logical names without ciphering (Green Book, application context
+-- names)
 abbrev pub ln_context : List ℕ
 ln_context = 0x60 ∷ 0x85 ∷ 0x74 ∷ 0x05 ∷ 0x08 ∷ 0x01 ∷ 0x01 ∷ []
 
@@ -66,7 +68,8 @@ ln_context = 0x60 ∷ 0x85 ∷ 0x74 ∷ 0x05 ∷ 0x08 ∷ 0x01 ∷ 0x01 ∷ []
 abbrev pub low_level : List ℕ
 low_level = 0x60 ∷ 0x85 ∷ 0x74 ∷ 0x05 ∷ 0x08 ∷ 0x02 ∷ 0x01 ∷ []
 
--- an InitiateRequest: no dedicated key, nothing of response-allowed and of quality of service, version 6, the bits and the size
+-- an InitiateRequest: no dedicated key, neither response-allowed nor quality of service, version 6,
+-- the bits and the size
 abbrev pub request_text : ℕ → ℕ → List ℕ
 request_text bits limit = (0x01 ∷ 0x00 ∷ 0x00 ∷ 0x00 ∷ 0x06 ∷ 0x5F ∷ 0x1F ∷ 0x04 ∷ 0x00 ∷ []) ++ (bytes_high_first 3 bits ++ to_be_bytes w16 limit)
 
@@ -82,11 +85,11 @@ aare_body aare = context_text ln_context ++ (result_text aare.result ++ (diagnos
 unfoldable pub aare_text : Aare → List ℕ
 aare_text aare = tagged_text 0x61 (aare_body aare)
 
--- the reason of a release: an integer of one byte, of which 0 is normal
+-- the reason of a release: an integer of one byte; 0 is normal
 abbrev pub reason_text : ℕ → List ℕ
 reason_text reason = tagged_text 0x80 (reason ∷ [])
 
--- an RLRQ and an RLRE, each of the reason normal
+-- the RLRQ and the RLRE that are sent, with the reason normal
 abbrev pub release_request : List ℕ
 release_request = tagged_text 0x62 (reason_text 0)
 

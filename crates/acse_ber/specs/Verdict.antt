@@ -1,4 +1,5 @@
--- What a meter answers to an AARQ (IEC 62056-5-3, AARE): the first of the checks that fails decides. Their order is this meter's.
+-- A meter's decision on an AARQ (IEC 62056-5-3, AARE): the first check that fails decides. The
+-- order of the checks is this meter's choice.
 --     level_of                        the level of a client's port
 --     judged                          the checks in their order
 --     verdict_of                      the verdict
@@ -15,38 +16,42 @@ use Rattle.acse_ber.specs.declared.initiate.Proposal.{Proposal}
 use Rattle.acse_ber.specs.declared.verdict.Verdict.{Verdict}
 use Rattle.acse_ber.specs.declared.verdict.Verdict.TheVariants.{Accepted, Rejected, InitiateError}
 
--- the name of the authentication mechanism of lowest level (Green Book, authentication mechanism names)
+-- the name of the authentication mechanism of lowest level (Green Book, authentication mechanism
+-- names)
 abbrev pub lowest_level : List ℕ
 lowest_level = 0x60 ∷ 0x85 ∷ 0x74 ∷ 0x05 ∷ 0x08 ∷ 0x02 ∷ 0x00 ∷ []
 
--- no mechanism, or the lowest level, which is none
+-- no mechanism, or that of the lowest level, which is no authentication
 abbrev pub is_no_mechanism : List ℕ → Bool
 is_no_mechanism mechanism = bytes_eq mechanism [] || bytes_eq mechanism lowest_level
 
--- the level of a client's port: 1 is the management client, 16 the public one (IEC 62056-4-7, wPort)
+-- the level of a client's port: 1 is the management client, 16 the public client (IEC 62056-4-7,
+-- wPort)
 abbrev pub level_of : ℕ → Result Level Verdict
 level_of sap = if sap == 1 then Ok Management else if sap == 16 then Ok Public else Err (Rejected 1)
 
--- whether a client of this level has to authenticate itself
+-- whether a client of this level must authenticate
 abbrev pub must_authenticate : Level → Bool
 must_authenticate Management = true
 must_authenticate Public = false
 
--- whether a password came, and is this one
+-- whether a password was given and is this one
 abbrev pub is_password : List ℕ → Option (List ℕ) → Bool
 is_password password None = false
 is_password password (Some given) = bytes_eq given password
 
--- the InitiateRequest, or where it is unreadable the diagnostic for no reason given
+-- the InitiateRequest, or the diagnostic for no reason given if it is unreadable
 abbrev pub proposal_or_refusal : Result Proposal AcseFault → Result Proposal Verdict
 proposal_or_refusal (Ok proposal) = Ok proposal
 proposal_or_refusal (Err fault) = Err (Rejected 1)
 
--- the services that the meter offers: block transfer with GET, SET and ACTION, multiple references, GET, SET and ACTION
+-- the services that the meter offers: block transfer with GET, SET and ACTION, multiple references,
+-- GET, SET and ACTION
 abbrev pub offered : ℕ
 offered = get_in_blocks + set_in_blocks + action_in_blocks + multiple_references + get_service + set_service + action_service
 
--- the checks of an InitiateRequest (IEC 62056-5-3, InitiateRequest; the refusals: ConfirmedServiceError)
+-- the checks of an InitiateRequest (IEC 62056-5-3, InitiateRequest; the refusals:
+-- ConfirmedServiceError)
 unfoldable pub agreed : Level → Proposal → Result Verdict Verdict
 agreed level proposal = do
   guard (nat_le 6 proposal.version) (InitiateError 1)
@@ -54,14 +59,14 @@ agreed level proposal = do
   guard (proposal.size == 0 || nat_le 64 proposal.size) (InitiateError 3)
   Ok (Accepted level (bit_and offered proposal.conformance.0) proposal.size)
 
--- the checks of a client's authentication
+-- the checks of the client's authentication
 unfoldable pub authenticated : Level → Aarq → List ℕ → Result (Unit {0}) Verdict
 authenticated level aarq password = do
   guard (is_no_mechanism aarq.mechanism || bytes_eq aarq.mechanism low_level) (Rejected 11)
   guard (not (must_authenticate level && is_no_mechanism aarq.mechanism)) (Rejected 14)
   guard (not (must_authenticate level) || is_password password aarq.password) (Rejected 13)
 
--- all the checks: the refusal of the first that fails, or what is accepted
+-- all the checks: the refusal of the first that fails, or the accepted association
 unfoldable pub judged : Aarq → ℕ → List ℕ → Result Verdict Verdict
 judged aarq sap password = do
   level ← level_of sap
@@ -70,11 +75,11 @@ judged aarq sap password = do
   proposal ← proposal_or_refusal (proposal_of aarq.user)
   agreed level proposal
 
--- the verdict, whichever way it came
+-- the verdict, from an acceptance or a refusal
 abbrev pub settled : Result Verdict Verdict → Verdict
 settled (Ok accepted) = accepted
 settled (Err refusal) = refusal
 
--- the verdict on an AARQ that came from a client's port, where this is the password
+-- the verdict on an AARQ from a client's port, with this password
 unfoldable pub verdict_of : Aarq → ℕ → List ℕ → Verdict
 verdict_of aarq sap password = settled (judged aarq sap password)

@@ -1,9 +1,9 @@
-/// The answer to a request for an association (IEC 62056-5-3, AARE).
+/// The response to an association request (IEC 62056-5-3, AARE).
 #[derive(Clone, Copy, Debug, PartialEq, Eq)]
 pub struct Aare {
-    /// The association result: 0 accepts, any other refuses.
+    /// The association result: 0 accepts, any other value rejects.
     pub result: u8,
-    /// The diagnostic, of the service user or the service provider.
+    /// The diagnostic, of the ACSE service user or service provider.
     pub diagnostic: u8,
     /// The user information.
     pub info: Info,
@@ -12,10 +12,11 @@ pub struct Aare {
 /// The user information of an AARE.
 #[derive(Clone, Copy, Debug, PartialEq, Eq)]
 pub enum Info {
-    /// None, or none that is known.
+    /// No user information, or user information of an unknown kind.
     Absent,
-    /// An InitiateResponse: the negotiated conformance, its first bit the highest of 24, and the longest APDU that the meter takes, in bytes.
+    /// An InitiateResponse: the negotiated conformance (24 bits, bit 0 being the highest) and the
+    /// maximum APDU size that the meter receives, in bytes.
     Response { bits: u32, limit: u16 },
-    /// A ConfirmedServiceError of Initiate, and its number.
+    /// A ConfirmedServiceError of Initiate, with its number.
     InitiateError(u8),
 }

@@ -14,24 +14,28 @@ use bitflags::Flags;
 use byte_reading::Reader;
 use std::alloc::Global;
 
-/// Reads an AARE: a length that ends where the bytes end, and fields, in any order, that fill it.
+/// Reads an AARE: a length that ends at the last byte, filled by fields in any order.
 ///
-/// The result and the diagnostic have to be there, and with result 0 an InitiateResponse. Those two and the user information may not be there twice. All other fields are skipped.
-/// With another result, user information that is neither a response nor an error is taken as absent. It takes no memory.
+/// The result and the diagnostic must be present, and with result 0 an InitiateResponse too. None
+/// of these fields may occur twice. All other fields are skipped. With another result, user
+/// information that is neither an InitiateResponse nor a ConfirmedServiceError of Initiate is read
+/// as absent.
+///
+/// Returns `Unreadable` for any other bytes. Does not allocate.
 pub fn read_aare(_alloc: Global, bytes: &[u8]) -> Result<Aare, AcseFault>
-    // What is read is spelled by the bytes, all of them.
+    // An AARE that is read is spelled by all of the bytes.
     ensures found { IfOk result (SpellsAare bytes.now) }
 
-    // What the bytes spell is read.
+    // If the bytes spell an AARE, that AARE is read.
     ensures only { (aare : Aare) → SpellsAare bytes.now aare → result ≡ Ok aare }
 
-    // The fault is never want of memory.
+    // The fault is never out of memory.
     ensures exact { result ≡ aare_of bytes.now }
 {
     read_whole(bytes)
 }
 
-// As `read_aare`, by the definition alone.
+// Reads an AARE as `read_aare` does; its contract refers to the definition `aare_of` alone.
 #[tactic(auto, unfolding(crate::specs::Reading::aare_of, crate::specs::Reading::aare_in, crate::specs::Reading::aare_judged, crate::specs::Reading::aare_told))]
 fn read_whole(bytes: &[u8]) -> Result<Aare, AcseFault>
     ensures { result ≡ aare_of bytes.now }
@@ -39,7 +43,7 @@ fn read_whole(bytes: &[u8]) -> Result<Aare, AcseFault>
     read_fields(read_tagged(tag::AARE, bytes)?)
 }
 
-// The fields of an AARE.
+// Reads the fields of an AARE.
 #[tactic(auto, unfolding(crate::specs::Reading::aare_in))]
 fn read_fields(body: &[u8]) -> Result<Aare, AcseFault>
     ensures { result ≡ aare_in body.now }
@@ -48,7 +52,7 @@ fn read_fields(body: &[u8]) -> Result<Aare, AcseFault>
     read_judged(outcome, body)
 }
 
-// The diagnostic and what follows it, behind this result.
+// Reads the diagnostic and the user information of an AARE with this result.
 #[tactic(auto, unfolding(crate::specs::Reading::aare_judged))]
 fn read_judged(outcome: u8, body: &[u8]) -> Result<Aare, AcseFault>
     ensures { result ≡ aare_judged outcome body.now }
@@ -57,7 +61,7 @@ fn read_judged(outcome: u8, body: &[u8]) -> Result<Aare, AcseFault>
     read_told(outcome, diagnostic, body)
 }
 
-// The user information, behind this result and this diagnostic.
+// Reads the user information of an AARE with this result and diagnostic.
 #[tactic(auto, unfolding(crate::specs::Reading::aare_told))]
 fn read_told(outcome: u8, diagnostic: u8, body: &[u8]) -> Result<Aare, AcseFault>
     ensures { result ≡ aare_told outcome diagnostic body.now }
@@ -74,10 +78,10 @@ fn read_told(outcome: u8, diagnostic: u8, body: &[u8]) -> Result<Aare, AcseFault
     })
 }
 
-/// The association result of an association that is open.
+/// The association result that accepts.
 const ACCEPTED: u8 = 0;
 
-// The association result: an integer of one byte.
+// Reads the association result: an integer of one byte.
 #[tactic(auto, unfolding(crate::specs::Reading::result_at))]
 fn read_result(contents: &[u8]) -> Result<u8, AcseFault>
     ensures { result ≡ whole (result_at contents.now) }
@@ -87,7 +91,7 @@ fn read_result(contents: &[u8]) -> Result<u8, AcseFault>
     reader.finish(outcome, AcseFault::Unreadable)
 }
 
-// The diagnostic, of the service user or of the service provider: an integer of one byte.
+// Reads the diagnostic, of the service user or the service provider: an integer of one byte.
 #[tactic(auto, unfolding(crate::specs::Reading::diagnostic_at))]
 fn read_diagnostic(contents: &[u8]) -> Result<u8, AcseFault>
     ensures { result ≡ whole (diagnostic_at contents.now) }
@@ -100,7 +104,7 @@ fn read_diagnostic(contents: &[u8]) -> Result<u8, AcseFault>
     reader.finish(diagnostic, AcseFault::Unreadable)
 }
 
-// These very bytes, and one byte more.
+// Reads the expected bytes and returns the byte after them.
 #[tactic(auto, unfolding(crate::specs::Reading::byte_behind))]
 fn read_byte_behind(expected: &[u8], reader: &mut Reader) -> Result<u8, AcseFault>
     ensures { Reads (λ byte. byte) result reader.new (byte_behind expected.now reader.old) }
@@ -109,7 +113,7 @@ fn read_byte_behind(expected: &[u8], reader: &mut Reader) -> Result<u8, AcseFaul
     reader.byte(AcseFault::Unreadable)
 }
 
-// User information, if it is there.
+// Reads user information, if it is present.
 #[tactic(auto, unfolding(crate::specs::Reading::info_in))]
 fn read_info(user: Option<&[u8]>) -> Info
     ensures { result ≡ info_of (option_map (λ bytes. bytes.now) user.entry) }
@@ -126,14 +130,14 @@ fn read_info(user: Option<&[u8]>) -> Info
     }
 }
 
-// Whether user information is an InitiateResponse.
+// Returns whether user information is an InitiateResponse.
 fn is_response(info: Info) -> bool
     ensures { result ≡ is_response info }
 {
     matches!(info, Info::Response { .. })
 }
 
-// An InitiateResponse: its version and the name of the virtual application entity are not looked at.
+// Reads an InitiateResponse. Its version and VAA name are ignored.
 #[tactic(auto, unfolding(crate::specs::Reading::response_at))]
 fn read_response(bytes: &[u8]) -> Result<Info, AcseFault>
     ensures { result ≡ whole (response_at bytes.now) }
@@ -149,7 +153,7 @@ fn read_response(bytes: &[u8]) -> Result<Info, AcseFault>
     reader.finish(Info::Response { bits, limit }, AcseFault::Unreadable)
 }
 
-// A ConfirmedServiceError of Initiate.
+// Reads a ConfirmedServiceError of Initiate.
 fn read_initiate_error(bytes: &[u8]) -> Result<Info, AcseFault>
     ensures { result ≡ whole (initiate_error_at bytes.now) }
 {

@@ -11,9 +11,10 @@ use crate::tag;
 use cosem_axdr::Octets;
 use std::alloc::{AllocError, Global};
 
-/// Writes an AARE of the application context of logical names without ciphering, each length in its shortest form. The diagnostic is written as one of the service user.
+/// Returns the bytes of an AARE with the application context of logical names without ciphering,
+/// and each length in its shortest form. The diagnostic is written as that of the service user.
 ///
-/// Of the bits of a response the lowest 24 are written.
+/// Only the lowest 24 bits of a response's conformance are written.
 #[tactic(auto, unfolding(crate::specs::Text::aare_text))]
 pub fn write_aare(alloc: Global, aare: &Aare) -> Result<Octets, AllocError>
     ensures { IfOk result (λ text. text ≡ aare_text aare.now) }
@@ -28,14 +29,14 @@ pub fn write_aare(alloc: Global, aare: &Aare) -> Result<Octets, AllocError>
     Ok(text)
 }
 
-// The association result: an integer of one byte.
+// Appends the association result: an integer of one byte.
 fn put_result(outcome: u8, out: &mut Octets) -> Result<(), AllocError>
     ensures { OnOk result (out.new ≡ out.old ++ result_text outcome) }
 {
     out.extend_from_slice(&[tag::aare::RESULT, 3, tag::INTEGER, 1, outcome])
 }
 
-// The diagnostic, as one of the service user: an integer of one byte.
+// Appends the diagnostic as that of the service user: an integer of one byte.
 fn put_diagnostic(diagnostic: u8, out: &mut Octets) -> Result<(), AllocError>
     ensures { OnOk result (out.new ≡ out.old ++ diagnostic_text diagnostic) }
 {
@@ -50,7 +51,7 @@ fn put_diagnostic(diagnostic: u8, out: &mut Octets) -> Result<(), AllocError>
     ])
 }
 
-// User information, if there is any.
+// Appends the user information, if there is any.
 fn put_info(alloc: Global, info: Info, out: &mut Octets) -> Result<(), AllocError>
     ensures { OnOk result (out.new ≡ out.old ++ info_text info) }
 {
@@ -61,7 +62,8 @@ fn put_info(alloc: Global, info: Info, out: &mut Octets) -> Result<(), AllocErro
     }
 }
 
-// An InitiateResponse: no quality of service, the version, the conformance, the size and the name of the virtual application entity.
+// Appends an InitiateResponse: no quality of service, the version, the conformance, the size and
+// the VAA name.
 fn put_response(alloc: Global, bits: u32, limit: u16, out: &mut Octets) -> Result<(), AllocError>
     ensures { OnOk result (out.new ≡ out.old ++ user_text (response_text bits limit)) }
 {
@@ -72,7 +74,7 @@ fn put_response(alloc: Global, bits: u32, limit: u16, out: &mut Octets) -> Resul
     put_user(alloc, response.as_slice(), out)
 }
 
-// A ConfirmedServiceError of Initiate.
+// Appends a ConfirmedServiceError of Initiate.
 fn put_initiate_error(alloc: Global, error: u8, out: &mut Octets) -> Result<(), AllocError>
     ensures { OnOk result (out.new ≡ out.old ++ user_text (0x0E ∷ 0x01 ∷ 0x06 ∷ error ∷ [])) }
 {

@@ -1,4 +1,4 @@
-//! The AARQ of a client that gives a password.
+//! The AARQ of a client that authenticates with a password.
 ghost use Rattle.std.specs.Prelude.{◌≡◌, IfOk};
 ghost use Rattle.acse_ber.specs.Password.{IsPassword};
 ghost use Rattle.acse_ber.specs.Text.{request_text, low_level_aarq};
@@ -9,9 +9,12 @@ use crate::initiate::{ABSENT, REQUEST_HEAD, VERSION, put_negotiated};
 use cosem_axdr::Octets;
 use std::alloc::{AllocError, Global};
 
-/// Makes the AARQ of a client with low-level security: with this password, 1 to 32 bytes, of the application context of logical names without ciphering, and with an InitiateRequest of version 6.
+/// Returns the AARQ of a client with low-level security: this password of 1 to 32 bytes, the
+/// application context of logical names without ciphering, and an InitiateRequest of version 6.
 ///
-/// It proposes the conformance `bits`, of which the lowest 24 are taken, the first bit the highest of them, and says that the client takes APDUs of at most `limit` bytes; 0 is no limit.
+/// It proposes the conformance `bits`, of which only the lowest 24 are used (bit 0 being the
+/// highest of these), and states that the client receives APDUs of at most `limit` bytes; 0 means
+/// no limit.
 #[tactic(auto, unfolding(crate::specs::Text::low_level_aarq))]
 pub fn low_level_aarq(
     alloc: Global,
@@ -30,7 +33,8 @@ pub fn low_level_aarq(
     })
 }
 
-// An InitiateRequest: no dedicated key, nothing of response-allowed and of quality of service, the version, the conformance and the size.
+// Returns an InitiateRequest: no dedicated key, neither response-allowed nor quality of service,
+// the version, the conformance and the size.
 fn initiate_request(alloc: Global, bits: u32, limit: u16) -> Result<Octets, AllocError>
     ensures { IfOk result (λ request. request ≡ request_text bits limit) }
 {

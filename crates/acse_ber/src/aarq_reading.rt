@@ -11,23 +11,26 @@ use crate::tag;
 use cosem_axdr::Octets;
 use std::alloc::{AllocError, Global};
 
-/// Reads an AARQ: a length that ends where the bytes end, and fields, in any order, that fill it.
+/// Reads an AARQ: a length that ends at the last byte, filled by fields in any order.
 ///
-/// The application context and the user information have to be there. Those two, the mechanism and the authentication value may not be there twice. All other fields are skipped.
+/// The application context and the user information must be present. Neither they nor the mechanism
+/// nor the authentication value may occur twice. All other fields are skipped.
+///
+/// Returns `Unreadable` for any other bytes, or `Memory` if out of memory.
 pub fn read_aarq(alloc: Global, bytes: &[u8]) -> Result<Aarq, AcseFault>
-    // What is read is spelled by the bytes, all of them.
+    // An AARQ that is read is spelled by all of the bytes.
     ensures found { IfOk result (SpellsAarq bytes.now) }
 
-    // What the bytes spell is read.
+    // If the bytes spell an AARQ, that AARQ is read, unless out of memory.
     ensures only { (aarq : Aarq) → SpellsAarq bytes.now aarq → MatchResult result (λ read. read ≡ aarq) (λ fault. fault ≡ AcseFault.Memory) }
 
-    // Which fault is the answer, too.
+    // The fault is the one that the definition gives, or out of memory.
     ensures exact { Gives AcseFault.Memory (λ aarq. aarq) result (aarq_of bytes.now) }
 {
     read_whole(alloc, bytes)
 }
 
-// As `read_aarq`, by the definition alone.
+// Reads an AARQ as `read_aarq` does; its contract refers to the definition `aarq_of` alone.
 #[tactic(auto, unfolding(crate::specs::Reading::aarq_of, crate::specs::Reading::aarq_in))]
 fn read_whole(alloc: Global, bytes: &[u8]) -> Result<Aarq, AcseFault>
     ensures { Gives AcseFault.Memory (λ aarq. aarq) result (aarq_of bytes.now) }
@@ -35,7 +38,7 @@ fn read_whole(alloc: Global, bytes: &[u8]) -> Result<Aarq, AcseFault>
     read_fields(alloc, read_tagged(tag::AARQ, bytes)?)
 }
 
-// The fields of an AARQ.
+// Reads the fields of an AARQ.
 #[tactic(auto, unfolding(crate::specs::Reading::aarq_in))]
 fn read_fields(alloc: Global, body: &[u8]) -> Result<Aarq, AcseFault>
     ensures { Gives AcseFault.Memory (λ aarq. aarq) result (aarq_in body.now) }
@@ -51,7 +54,7 @@ fn read_fields(alloc: Global, body: &[u8]) -> Result<Aarq, AcseFault>
     Ok(copy_aarq(alloc, context, mechanism, password, user)?)
 }
 
-// An AARQ of these contents.
+// Returns an AARQ with copies of these contents.
 fn copy_aarq(
     alloc: Global,
     context: &[u8],
@@ -69,7 +72,7 @@ fn copy_aarq(
     })
 }
 
-// A copy of bytes, if there are any.
+// Returns a copy of the bytes, if there are any.
 fn copy_of(alloc: Global, bytes: Option<&[u8]>) -> Result<Option<Octets>, AllocError>
     ensures { IfOk result (λ copy. copy ≡ option_map (λ bytes. bytes.now) bytes.entry) }
 {

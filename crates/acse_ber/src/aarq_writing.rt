@@ -7,9 +7,10 @@ use crate::tag;
 use cosem_axdr::Octets;
 use std::alloc::{AllocError, Global};
 
-/// Writes an AARQ, each length in its shortest form. Where there is a mechanism, the ACSE requirements say before it that there is authentication.
+/// Returns the bytes of an AARQ, with each length in its shortest form. A mechanism is preceded by
+/// ACSE requirements that announce authentication.
 ///
-/// An AARQ whose fields have more than 65,535 bytes is written too, and not read back.
+/// An AARQ whose fields exceed 65,535 bytes is written in full, but is not read back.
 #[tactic(auto, unfolding(crate::specs::Text::aarq_text))]
 pub fn write_aarq(alloc: Global, aarq: &Aarq) -> Result<Octets, AllocError>
     ensures { IfOk result (λ text. text ≡ aarq_text aarq.now) }
@@ -21,7 +22,7 @@ pub fn write_aarq(alloc: Global, aarq: &Aarq) -> Result<Octets, AllocError>
     Ok(text)
 }
 
-// The fields of an AARQ.
+// Appends the fields of an AARQ.
 fn put_fields(alloc: Global, aarq: &Aarq, out: &mut Octets) -> Result<(), AllocError>
     ensures { OnOk result (out.new ≡ out.old ++ aarq_body aarq.now) }
 {
@@ -31,10 +32,10 @@ fn put_fields(alloc: Global, aarq: &Aarq, out: &mut Octets) -> Result<(), AllocE
     put_user(alloc, aarq.user.as_slice(), out)
 }
 
-/// The ACSE requirements: the bit-string of which the first bit, authentication, is set.
+/// The ACSE requirements: a bit-string whose first bit, authentication, is set.
 const AUTHENTICATION_REQUIRED: [u8; 4] = [tag::aarq::SENDER_ACSE_REQUIREMENTS, 0x02, 0x07, 0x80];
 
-// The mechanism, if there is one, behind the ACSE requirements.
+// Appends the ACSE requirements and the mechanism, if there is one.
 fn put_mechanism(mechanism: &Octets, out: &mut Octets) -> Result<(), AllocError>
     ensures { OnOk result (out.new ≡ out.old ++ mechanism_text mechanism.now) }
 {
@@ -45,7 +46,7 @@ fn put_mechanism(mechanism: &Octets, out: &mut Octets) -> Result<(), AllocError>
     put_tagged(tag::aarq::MECHANISM_NAME, mechanism.as_slice(), out)
 }
 
-// The password, if there is one.
+// Appends the password, if there is one.
 fn put_password(
     alloc: Global,
     password: &Option<Octets>,

@@ -1,20 +1,21 @@
-//! The conformance block (IEC 62056-5-3): the services of an association, each of which has a bit.
+//! The conformance block (IEC 62056-5-3): one bit for each service of an association.
 ghost use Rattle.std.specs.Prelude.{⊤, [], ◌∷◌, codes};
 ghost use Rattle.acse_ber.specs.Conformance.{get_in_blocks, set_in_blocks, action_in_blocks, multiple_references, get_service, set_service, action_service};
 
 use bitflags::{Flag, Flags, bitflag_items};
 
-/// A conformance block: 24 bits, of which bit 0 is the highest. Bits without a name are kept.
+/// A conformance block of 24 bits, of which bit 0 is the highest. Bits without a name are
+/// preserved.
 #[derive(Clone, Copy, Debug, PartialEq, Eq)]
 pub struct Conformance(pub u32);
 
 bitflag_items! {
     impl Conformance: u32 {
-        /// GET in blocks: bit 11, block-transfer-with-get-or-read.
+        /// Block transfer with GET: bit 11, block-transfer-with-get-or-read.
         const BLOCK_TRANSFER_WITH_GET_OR_READ = 1 << (23 - 11);
-        /// SET in blocks: bit 12, block-transfer-with-set-or-write.
+        /// Block transfer with SET: bit 12, block-transfer-with-set-or-write.
         const BLOCK_TRANSFER_WITH_SET_OR_WRITE = 1 << (23 - 12);
-        /// ACTION in blocks: bit 13, block-transfer-with-action.
+        /// Block transfer with ACTION: bit 13, block-transfer-with-action.
         const BLOCK_TRANSFER_WITH_ACTION = 1 << (23 - 13);
         /// Lists of attributes or methods: bit 14, multiple-references.
         const MULTIPLE_REFERENCES = 1 << (23 - 14);

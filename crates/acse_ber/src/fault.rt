@@ -5,18 +5,18 @@ ghost use Rattle.acse_ber.specs.declared.fault.AcseFault.TheVariants.{Memory};
 use std::alloc::AllocError;
 use thiserror::Error;
 
-/// Why bytes are no APDU of the kind that is read.
+/// Why bytes could not be read as an APDU.
 #[derive(Clone, Copy, Debug, PartialEq, Eq, Error)]
 pub enum AcseFault {
-    /// A length, a tag or a field is not as it has to be.
+    /// A length, a tag or a field is not valid.
     #[error("the bytes are not those of the APDU")]
     Unreadable = 1,
-    /// Memory ran out.
+    /// Out of memory.
     #[error("out of memory")]
     Memory = 2,
 }
 
-/// The number of the fault, 1 to 2.
+/// Returns the number of the fault, 1 or 2.
 impl From<AcseFault> for u8 {
     ghost from_gives = { λ fault number. number ≡ fault_number fault };
 

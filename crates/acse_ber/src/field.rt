@@ -1,4 +1,4 @@
-//! The fields of an APDU: they come in any order.
+//! The fields of an APDU, which may be in any order.
 ghost use Rattle.std.specs.Prelude.{◌≡◌, option_map, is_ok};
 ghost use Rattle.byte_reading.specs.Reading.{Reads};
 ghost use Rattle.acse_ber.specs.Reading.{Yields, field_at, tagged, fields_of, field_of, inner_of, needed_field, needed_inner};
@@ -15,7 +15,7 @@ pub(crate) struct Field<'a> {
     pub(crate) contents: &'a [u8],
 }
 
-/// The next field: a context-specific tag, the length and the contents.
+/// Reads the next field: a context-specific tag, the length and the contents.
 #[tactic(auto, unfolding(crate::specs::Reading::field_at))]
 fn read_field<'a>(reader: &mut Reader<'a>) -> Result<Field<'a>, AcseFault>
     ensures { Reads (λ field. record { tag = field.tag; contents = field.contents.now }) result reader.new (field_at reader.old) }
@@ -29,7 +29,7 @@ fn read_field<'a>(reader: &mut Reader<'a>) -> Result<Field<'a>, AcseFault>
     }
 }
 
-/// The contents of a tag, which fill the bytes.
+/// Returns the contents of a tag, which must fill the bytes.
 #[tactic(auto, unfolding(crate::specs::Reading::tagged, crate::specs::Reading::tagged_at))]
 pub(crate) fn read_tagged(tag: u8, bytes: &[u8]) -> Result<&[u8], AcseFault>
     ensures { Yields (λ contents. contents.now) result (tagged tag bytes.now) }
@@ -42,7 +42,7 @@ pub(crate) fn read_tagged(tag: u8, bytes: &[u8]) -> Result<&[u8], AcseFault>
     reader.finish(contents, AcseFault::Unreadable)
 }
 
-/// Whether fields fill the bytes.
+/// Returns whether the bytes are a sequence of fields.
 pub(crate) fn are_fields(body: &[u8]) -> bool
     ensures { result ≡ is_ok (fields_of body.now) }
 {
@@ -55,7 +55,8 @@ pub(crate) fn are_fields(body: &[u8]) -> bool
     true
 }
 
-/// What the field of a tag holds, if it is there. It may not be there twice, and all the fields have to fill the bytes.
+/// Returns the contents of the field with a tag, or `None` if it is absent. It may not occur twice,
+/// and the bytes must be a sequence of fields.
 #[tactic(auto, unfolding(crate::specs::Reading::field_of))]
 pub(crate) fn find_field(tag: u8, body: &[u8]) -> Result<Option<&[u8]>, AcseFault>
     ensures { Yields (λ found. option_map (λ contents. contents.now) found) result (field_of tag body.now) }
@@ -74,7 +75,8 @@ pub(crate) fn find_field(tag: u8, body: &[u8]) -> Result<Option<&[u8]>, AcseFaul
     Ok(found)
 }
 
-/// The contents of an inner tag, which fill the field of a tag, if that is there.
+/// Returns the contents of an inner tag, which must fill the field with the outer tag, or `None` if
+/// that field is absent.
 #[tactic(auto, unfolding(crate::specs::Reading::inner_of))]
 pub(crate) fn find_inner(tag: u8, inner: u8, body: &[u8]) -> Result<Option<&[u8]>, AcseFault>
     ensures { Yields (λ found. option_map (λ contents. contents.now) found) result (inner_of tag inner body.now) }
@@ -85,14 +87,15 @@ pub(crate) fn find_inner(tag: u8, inner: u8, body: &[u8]) -> Result<Option<&[u8]
     }
 }
 
-/// The field of a tag, which has to be there.
+/// Returns the contents of the field with a tag, which must be present.
 pub(crate) fn find_needed(tag: u8, body: &[u8]) -> Result<&[u8], AcseFault>
     ensures { Yields (λ contents. contents.now) result (needed_field tag body.now) }
 {
     find_field(tag, body)?.ok_or(AcseFault::Unreadable)
 }
 
-/// The contents of an inner tag, which fill the field of a tag. That has to be there.
+/// Returns the contents of an inner tag, which must fill the field with the outer tag. That field
+/// must be present.
 pub(crate) fn find_needed_inner(tag: u8, inner: u8, body: &[u8]) -> Result<&[u8], AcseFault>
     ensures { Yields (λ contents. contents.now) result (needed_inner tag inner body.now) }
 {

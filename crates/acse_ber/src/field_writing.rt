@@ -1,4 +1,4 @@
-//! Writing fields: each length in its shortest form.
+//! Writers of fields, with each length in its shortest form.
 ghost use Rattle.std.specs.Prelude.{◌≡◌, ◌++◌, OnOk};
 ghost use Rattle.acse_ber.specs.Text.{tagged_text, context_text, user_text};
 
@@ -6,7 +6,7 @@ use crate::tag;
 use cosem_axdr::{Octets, append_length};
 use std::alloc::{AllocError, Global};
 
-/// An application context name.
+/// Appends an application context name.
 pub(crate) fn put_context(alloc: Global, context: &[u8], out: &mut Octets) -> Result<(), AllocError>
     ensures { OnOk result (out.new ≡ out.old ++ context_text context.now) }
 {
@@ -19,14 +19,14 @@ pub(crate) fn put_context(alloc: Global, context: &[u8], out: &mut Octets) -> Re
     )
 }
 
-/// User information.
+/// Appends user information.
 pub(crate) fn put_user(alloc: Global, user: &[u8], out: &mut Octets) -> Result<(), AllocError>
     ensures { OnOk result (out.new ≡ out.old ++ user_text user.now) }
 {
     put_nested(alloc, tag::USER_INFORMATION, tag::OCTET_STRING, user, out)
 }
 
-/// A tag within a tag.
+/// Appends an outer tag that contains an inner tag with contents.
 pub(crate) fn put_nested(
     alloc: Global,
     outer: u8,
@@ -41,7 +41,7 @@ pub(crate) fn put_nested(
     put_tagged(outer, field.as_slice(), out)
 }
 
-/// A tag, the length and the contents.
+/// Appends a tag, the length and the contents.
 pub(crate) fn put_tagged(tag: u8, contents: &[u8], out: &mut Octets) -> Result<(), AllocError>
     ensures { OnOk result (out.new ≡ out.old ++ tagged_text tag contents.now) }
 {

@@ -1,4 +1,5 @@
-//! The user information of an AARQ, an InitiateRequest, and its parts that an InitiateResponse has too (IEC 62056-5-3).
+//! The InitiateRequest, which is the user information of an AARQ, and the parts that it has in
+//! common with an InitiateResponse (IEC 62056-5-3).
 ghost use Rattle.std.specs.Prelude.{◌≡◌, [], ◌∷◌, ◌++◌, OnOk};
 ghost use Rattle.std.specs.Int.{w16, to_be_bytes, bytes_high_first};
 ghost use Rattle.byte_reading.specs.Reading.{Reads};
@@ -13,44 +14,46 @@ use byteorder::{BigEndian, ByteOrder};
 use cosem_axdr::Octets;
 use std::alloc::AllocError;
 
-/// The tag of an InitiateRequest, and no dedicated key.
+/// The tag of an InitiateRequest, followed by the absence of a dedicated key.
 pub(crate) const REQUEST_HEAD: [u8; 2] = [0x01, 0x00];
 
 /// The tag of an InitiateResponse.
 pub(crate) const RESPONSE_TAG: u8 = 0x08;
 
-/// A ConfirmedServiceError of Initiate: its tag, the choice initiate-error, and within that the choice initiate. The error follows.
+/// The first bytes of a ConfirmedServiceError of Initiate: its tag, the choice initiate-error and
+/// within it the choice initiate. The error follows.
 pub(crate) const INITIATE_ERROR_HEAD: [u8; 3] = [0x0E, 0x01, 0x06];
 
-/// The tag of a conformance block, the length of what follows and the number of its unused bits.
+/// The tag of a conformance block, the length of its contents and the number of unused bits.
 const CONFORMANCE_HEAD: [u8; 4] = [0x5F, 0x1F, 0x04, 0x00];
 
-/// How many values the 24 bits of a conformance block have.
+/// The number of values of a conformance block's 24 bits.
 const CONFORMANCE_VALUES: u32 = 1 << 24;
 
 /// The DLMS version.
 pub(crate) const VERSION: u8 = 6;
 
-/// The name of the virtual application entity, for logical names.
+/// The name of the virtual application entity (VAA) for logical names.
 pub(crate) const VAA_NAME: [u8; 2] = [0x00, 0x07];
 
-/// Whether an optional part stands behind it.
+/// Marks an optional part as absent.
 pub(crate) const ABSENT: u8 = 0;
 
 const PRESENT: u8 = 1;
 
-/// What a client proposes in an InitiateRequest.
+/// The proposal of a client in an InitiateRequest.
 #[derive(Clone, Copy)]
 pub(crate) struct Proposal {
     /// The DLMS version.
     pub(crate) version: u8,
     /// The conformance.
     pub(crate) conformance: Conformance,
-    /// The longest APDU that the client takes, in bytes; 0 is no limit.
+    /// The maximum APDU size that the client receives, in bytes; 0 means no limit.
     pub(crate) size: u16,
 }
 
-/// Reads an InitiateRequest without a dedicated key; what response-allowed and the quality of service say is not looked at.
+/// Reads an InitiateRequest without a dedicated key. Its response-allowed and quality of service
+/// are ignored.
 #[tactic(auto, unfolding(crate::specs::Reading::proposal_of, crate::specs::Reading::proposal_at, crate::specs::Reading::proposed_at))]
 pub(crate) fn read_proposal(bytes: &[u8]) -> Result<Proposal, AcseFault>
     ensures { Yields (λ proposal. proposal) result (proposal_of bytes.now) }
@@ -63,7 +66,7 @@ pub(crate) fn read_proposal(bytes: &[u8]) -> Result<Proposal, AcseFault>
     reader.finish(proposal, AcseFault::Unreadable)
 }
 
-// The version, the conformance and the size.
+// Reads the version, the conformance and the size.
 #[tactic(auto, unfolding(crate::specs::Reading::proposed_at))]
 fn read_proposed(reader: &mut Reader) -> Result<Proposal, AcseFault>
     ensures { Reads (λ proposal. proposal) result reader.new (proposed_at reader.old) }
@@ -78,7 +81,8 @@ fn read_proposed(reader: &mut Reader) -> Result<Proposal, AcseFault>
     })
 }
 
-/// Skips a byte that says whether one more stands behind it, and that.
+/// Skips an optional byte: a byte that marks it as absent or present, and the byte itself if
+/// present.
 #[tactic(auto, unfolding(crate::specs::Reading::optional_byte_at))]
 pub(crate) fn skip_optional_byte(reader: &mut Reader) -> Result<(), AcseFault>
     ensures { Reads (λ unit. unit) result reader.new (optional_byte_at reader.old) }
@@ -103,7 +107,7 @@ pub(crate) fn read_conformance(reader: &mut Reader) -> Result<Conformance, AcseF
     Ok(Conformance::from_bits_retain(bits))
 }
 
-/// Appends a conformance block and a PDU size. Of the bits the lowest 24 are written.
+/// Appends a conformance block and a PDU size. Only the lowest 24 bits are written.
 #[tactic(auto, using(crate::proofs::Texts::low_24_bits))]
 pub(crate) fn put_negotiated(bits: u32, limit: u16, out: &mut Octets) -> Result<(), AllocError>
     ensures { OnOk result (out.new ≡ out.old ++ (0x5F ∷ 0x1F ∷ 0x04 ∷ 0x00 ∷ []) ++ (bytes_high_first 3 bits ++ to_be_bytes w16 limit)) }

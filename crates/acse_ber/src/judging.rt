@@ -1,4 +1,4 @@
-//! The judgement of a request for an association (IEC 62056-5-3).
+//! The decision on an association request (IEC 62056-5-3).
 ghost use Rattle.std.specs.Prelude.{◌≡◌, bytes_eq};
 ghost use Rattle.acse_ber.specs.Password.{IsPassword};
 ghost use Rattle.acse_ber.specs.Verdict.{is_no_mechanism, is_password, agreed, authenticated, judged, verdict_of};
@@ -12,7 +12,7 @@ use bitflags::Flags;
 use cosem_axdr::Octets;
 use cosem_names::Level;
 
-/// The ports of clients that may open an association.
+/// The ports of the clients that may open an association.
 const MANAGEMENT_CLIENT: u16 = 1;
 
 const PUBLIC_CLIENT: u16 = 16;
@@ -41,7 +41,8 @@ mod initiate_error {
 
 const LOWEST_VERSION: u8 = 6;
 
-/// Block transfer with GET, SET and ACTION, multiple references, GET, SET and ACTION.
+/// The services that the meter offers: GET, SET and ACTION, each with block transfer, and multiple
+/// references.
 pub const OFFERED_CONFORMANCE: Conformance = Conformance(
     Conformance::BLOCK_TRANSFER_WITH_GET_OR_READ.0
         | Conformance::BLOCK_TRANSFER_WITH_SET_OR_WRITE.0
@@ -52,18 +53,20 @@ pub const OFFERED_CONFORMANCE: Conformance = Conformance(
         | Conformance::ACTION.0,
 );
 
-/// The most bytes that a password, the secret of low-level security, has here.
+/// The maximum length of a password, the secret of low-level security, in bytes.
 pub const MAX_PASSWORD: usize = 32;
 
 const NO_SIZE_LIMIT: u16 = 0;
 
 const SHORTEST_PDU_SIZE: u16 = 64;
 
-/// Judges an AARQ that came from the client port `sap`: the refusal of the first check that it fails, or what is negotiated. The management client has this password,
-/// 1 to 32 bytes.
+/// Decides on an AARQ from the client port `sap`. Returns the refusal of the first failed check, or
+/// the negotiated parameters. `password` is that of the management client, 1 to 32 bytes.
 ///
-/// The checks, in this order: the port, the application context, the mechanism, and on the management client's port that there is one and the password;
-/// that the user information is an InitiateRequest, its version, that a service that the meter offers is proposed, and the size.
+/// The checks are, in this order: the port; the application context; the mechanism; on the
+/// management client's port, that a mechanism is named, and the password; that the user information
+/// is an InitiateRequest; its version; that it proposes at least one service that the meter offers;
+/// and the size.
 #[tactic(auto, unfolding(crate::specs::Verdict::verdict_of))]
 pub fn judge(aarq: &Aarq, sap: u16, password: &Octets) -> Verdict
     requires { IsPassword password.now }
@@ -74,7 +77,7 @@ pub fn judge(aarq: &Aarq, sap: u16, password: &Octets) -> Verdict
     }
 }
 
-// The checks: an error is a refusal.
+// Performs the checks. An `Err` is a refusal.
 #[tactic(auto, unfolding(crate::specs::Verdict::judged))]
 fn associate(aarq: &Aarq, sap: u16, password: &Octets) -> Result<Verdict, Verdict>
     ensures { result ≡ judged aarq.now sap password.now }
@@ -94,7 +97,7 @@ fn associate(aarq: &Aarq, sap: u16, password: &Octets) -> Result<Verdict, Verdic
     agree(level, proposal)
 }
 
-// The checks of the client's authentication. Only the management client has to give the password.
+// Checks the client's authentication. Only the management client must give the password.
 #[tactic(auto, unfolding(crate::specs::Verdict::authenticated))]
 fn authenticate(level: Level, aarq: &Aarq, password: &Octets) -> Result<(), Verdict>
     ensures { result ≡ authenticated level aarq.now password.now }
@@ -115,14 +118,14 @@ fn authenticate(level: Level, aarq: &Aarq, password: &Octets) -> Result<(), Verd
     }
 }
 
-// Whether a mechanism is absent, or is the one of no authentication.
+// Returns whether a mechanism is absent, or is that of no authentication.
 fn is_no_mechanism(mechanism: &Octets) -> bool
     ensures { result ≡ is_no_mechanism mechanism.now }
 {
     mechanism.is_empty() || mechanism.as_slice() == LOWEST_LEVEL_SECURITY.as_slice()
 }
 
-// Whether a password came, and is this one.
+// Returns whether a password was given and equals `password`.
 fn is_password(password: &Octets, given: &Option<Octets>) -> bool
     ensures { result ≡ is_password password.now given.now }
 {
@@ -132,7 +135,8 @@ fn is_password(password: &Octets, given: &Option<Octets>) -> bool
     }
 }
 
-// Whether these are the same bytes. All of them are looked at, so that the time taken doesn't tell how far they agree.
+// Returns whether two byte strings are equal. All bytes are compared, so that the time taken does
+// not reveal the length of a common prefix.
 fn is_same(given: &[u8], password: &[u8]) -> bool
     ensures { result ≡ bytes_eq given.now password.now }
 {
@@ -146,7 +150,7 @@ fn is_same(given: &[u8], password: &[u8]) -> bool
     differing == 0
 }
 
-// The checks of what the client proposes.
+// Checks the client's proposal.
 #[tactic(auto, unfolding(crate::specs::Verdict::agreed))]
 fn agree(level: Level, proposal: Proposal) -> Result<Verdict, Verdict>
     ensures { result ≡ agreed level proposal }

@@ -1,4 +1,5 @@
-//! What holds of spellings and written texts as such: each function is a law, which its contract states and a call of it makes known.
+//! Laws of spellings and written texts. The contract of each function states a law; calling the
+//! function makes it known to the caller's proof.
 ghost use Rattle.std.specs.Prelude.{◌≡◌, ◌≢◌, ◌⊎◌, ℕ, ◌^◌, ◌<◌, ◌≤◌, Some, List, [], ◌++◌, length, bit_and, Ok};
 ghost use Rattle.cosem_axdr.specs.Spelling.{IsBytes, length_text};
 ghost use Rattle.acse_ber.specs.Fit.{IsFitAarq, IsFitAare};
@@ -13,47 +14,53 @@ ghost use Rattle.cosem_names.specs.declared.level.Level.TheVariants.{Public, Man
 
 use crate::release::{RELEASE_REQUEST, RELEASE_RESPONSE};
 
-/// The written text of an AARQ that fits spells it, and is read back. An AARQ fits if its fields have at most 65,535 bytes.
+/// The written text of an AARQ that fits spells it and is read back. An AARQ fits if its fields
+/// have at most 65,535 bytes.
 pub fn text_of_fit_aarq_spells()
     ensures fit { (aarq : Aarq) → IsFitAarq aarq → SpellsAarq (aarq_text aarq) aarq }
     ensures read_back { (aarq : Aarq) → IsFitAarq aarq → aarq_of (aarq_text aarq) ≡ Ok aarq }
 {}
 
-/// Whatever AARQ is spelled by at most 65,535 bytes, as many as the header of a frame can announce, fits: so its written text spells it.
+/// Every AARQ spelled by at most 65,535 bytes fits, so its written text spells it. A frame's header
+/// can announce no more bytes.
 ///
-/// Of a longer one that names a mechanism without the ACSE requirements, the written text may be too long by the four bytes of these.
+/// If a longer AARQ names a mechanism without the ACSE requirements, its written text may be too
+/// long by the four bytes of these requirements.
 pub fn spelled_aarq_is_fit()
     ensures fit { (bytes : List ℕ) (aarq : Aarq) → IsBytes bytes → length bytes ≤ 65535 → SpellsAarq bytes aarq → IsFitAarq aarq }
     ensures spelled { (bytes : List ℕ) (aarq : Aarq) → IsBytes bytes → length bytes ≤ 65535 → SpellsAarq bytes aarq → SpellsAarq (aarq_text aarq) aarq }
 {}
 
-/// The written text of an AARE that fits spells it, and is read back. An AARE fits if its numbers are of their fields' ranges, and if it has a response where it accepts.
+/// The written text of an AARE that fits spells it and is read back. An AARE fits if its numbers
+/// are in the ranges of their fields and, if it accepts, it has an InitiateResponse.
 pub fn text_of_fit_aare_spells()
     ensures fit { (aare : Aare) → IsFitAare aare → SpellsAare (aare_text aare) aare }
     ensures read_back { (aare : Aare) → IsFitAare aare → aare_of (aare_text aare) ≡ Ok aare }
 {}
 
-/// Whatever AARE bytes spell fits: so its written text spells it.
+/// Every AARE spelled by bytes fits, so its written text spells it.
 pub fn spelled_aare_is_fit()
     ensures fit { (bytes : List ℕ) (aare : Aare) → IsBytes bytes → SpellsAare bytes aare → IsFitAare aare }
     ensures spelled { (bytes : List ℕ) (aare : Aare) → IsBytes bytes → SpellsAare bytes aare → SpellsAare (aare_text aare) aare }
 {}
 
-/// No spelling begins another one, and no bytes spell two values.
+/// No spelling is a proper prefix of another, and no bytes spell two values.
 pub fn no_spelling_begins_another()
     ensures aarq { (bytes rest : List ℕ) (one other : Aarq) → SpellsAarq bytes one → SpellsAarq (bytes ++ rest) other → (rest ≡ []) × (one ≡ other) }
     ensures aare { (bytes rest : List ℕ) (one other : Aare) → SpellsAare bytes one → SpellsAare (bytes ++ rest) other → (rest ≡ []) × (one ≡ other) }
     ensures release { (bytes rest : List ℕ) → SpellsRelease bytes → SpellsRelease (bytes ++ rest) → rest ≡ [] }
 {}
 
-/// Of the forms of a length none is shorter than the written one.
+/// No form of a length is shorter than the written one.
 pub fn written_length_is_shortest()
     ensures { (bytes : List ℕ) (n : ℕ) → IsBytes bytes → IsLength bytes n → length (length_text n) ≤ length bytes }
 {}
 
-/// Management is opened from port 1, to low-level security and to the password alone; the public client's association from port 16 alone.
+/// A management association is opened only from port 1, with low-level security and the password; a
+/// public client's association only from port 16.
 ///
-/// And the AARQ of a management client that has the password is accepted, if a service that the meter offers is proposed and if the size is no limit or long enough.
+/// The AARQ of a management client with the password is accepted if it proposes a service that the
+/// meter offers and a size that is large enough or unlimited.
 pub fn management_needs_the_password()
     ensures management { (aarq : Aarq) (sap : ℕ) (password : List ℕ) (bits limit : ℕ) → verdict_of aarq sap password ≡ Accepted Management bits limit
         → (sap ≡ 1) × (aarq.mechanism ≡ low_level) × (aarq.password ≡ Some password) }
@@ -62,7 +69,8 @@ pub fn management_needs_the_password()
         → verdict_of (low_level_aarq password bits limit) 1 password ≡ Accepted Management (bit_and offered bits) limit }
 {}
 
-/// The RLRQ that a client sends and the RLRE that answers it have the reason normal, and the RLRQ is one.
+/// The RLRQ that a client sends and the RLRE that answers it have the reason normal, and the former
+/// is a valid RLRQ.
 pub fn release_is_normal()
     ensures request { RELEASE_REQUEST ≡ release_request }
     ensures response { RELEASE_RESPONSE ≡ release_response }

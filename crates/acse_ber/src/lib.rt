@@ -1,4 +1,5 @@
-//! The APDUs that open and release an association: AARQ, AARE and RLRQ of the ACSE, in BER, and the judgement of an AARQ (IEC 62056-5-3, Green Book of the DLMS UA).
+//! The APDUs that open and release an association, AARQ, AARE, RLRQ and RLRE of the ACSE in BER,
+//! and the decision on an AARQ (IEC 62056-5-3; DLMS UA Green Book).
 #![tactic(auto)]
 
 mod aare;

@@ -1,4 +1,5 @@
-//! The tags of the APDUs, of their fields and of what these hold (IEC 62056-5-3, ACSE APDUs in BER).
+//! The tags of APDUs, of their fields and of the contents of these (IEC 62056-5-3, ACSE APDUs in
+//! BER).
 
 pub(crate) const AARQ: u8 = 0x60;
 
@@ -6,7 +7,7 @@ pub(crate) const AARE: u8 = 0x61;
 
 pub(crate) const RLRQ: u8 = 0x62;
 
-/// The lowest and the highest tag of a field: context-specific ones.
+/// The lowest and the highest tag of a field; the tags of fields are context-specific.
 pub(crate) const FIRST_FIELD: u8 = 0x80;
 
 pub(crate) const LAST_FIELD: u8 = 0xBF;
@@ -15,7 +16,7 @@ pub(crate) const APPLICATION_CONTEXT_NAME: u8 = 0xA1;
 
 pub(crate) const USER_INFORMATION: u8 = 0xBE;
 
-/// Fields of an AARQ.
+/// The fields of an AARQ.
 pub(crate) mod aarq {
     pub(crate) const SENDER_ACSE_REQUIREMENTS: u8 = 0x8A;
 
@@ -24,14 +25,14 @@ pub(crate) mod aarq {
     pub(crate) const CALLING_AUTHENTICATION_VALUE: u8 = 0xAC;
 }
 
-/// Fields of an AARE.
+/// The fields of an AARE.
 pub(crate) mod aare {
     pub(crate) const RESULT: u8 = 0xA2;
 
     pub(crate) const RESULT_SOURCE_DIAGNOSTIC: u8 = 0xA3;
 }
 
-/// What a field of bytes holds.
+/// The tags of the contents of a field.
 pub(crate) const INTEGER: u8 = 0x02;
 
 pub(crate) const OCTET_STRING: u8 = 0x04;

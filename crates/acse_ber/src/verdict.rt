@@ -1,18 +1,20 @@
 use cosem_names::Level;
 
-/// What a meter answers to an AARQ.
+/// A meter's decision on an AARQ.
 #[derive(Clone, Copy, Debug, PartialEq, Eq)]
 pub enum Verdict {
-    /// The association is open.
+    /// The association is accepted.
     Accepted {
         level: Level,
-        /// The negotiated conformance: the services that the meter offers and the client proposes, the first bit the highest of 24.
+        /// The negotiated conformance: the services that both the meter offers and the client
+        /// proposes, 24 bits with bit 0 the highest.
         bits: u32,
-        /// The longest APDU that the client takes, in bytes, as it proposed it; 0 is no limit.
+        /// The maximum APDU size that the client receives, in bytes, as it proposed it; 0 means no
+        /// limit.
         limit: u16,
     },
-    /// It is refused, with this diagnostic of the service user.
+    /// The association is rejected, with this diagnostic of the service user.
     Rejected(u8),
-    /// It is refused, with this error of Initiate.
+    /// The association is rejected, with this error of Initiate.
     InitiateError(u8),
 }

@@ -1,4 +1,4 @@
--- Once the association is open, it stays so however the bytes go on.
+-- An open association remains open, whatever bytes follow.
 use Rattle.std.proofs.Common.{◌≡◌, ℕ, Bool, true, List, [], ◌∷◌, ◌++◌, Some, None, refl, ◌∙◌, ap, subst, sym}
 use Rattle.std.specs.Prelude.{Option}
 use Rattle.wrapper_frame.specs.Header.{head_of}

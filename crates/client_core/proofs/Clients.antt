@@ -1,4 +1,4 @@
--- What a client stands for after each call.
+-- The state of a client after each call.
 use Rattle.std.proofs.Common.{◌≡◌, ℕ, Bool, true, false, List, [], ◌++◌, Some, None, refl, sym, ◌∙◌, ap, append-nil, append_assoc, subst}
 use Rattle.std.specs.Prelude.{unwrap_or, is_some, if◌then◌else◌, Option}
 use Rattle.client_core.specs.declared.client.Client.{Client}
@@ -24,7 +24,7 @@ starts verb password c verb_is progress_is deframer_is ended_is left = record {
   over_is = ended_is;
 }
 
--- bytes that are heard come behind those fed before
+-- bytes that are processed follow those fed before
 heard_stands : (verb : Verb) (password fed bytes : List ℕ) (given : ℕ) (old new : Client) → Stands verb password fed given false old
     → Hears verb old.progress (old.deframer ++ bytes) new.progress new.deframer
     → new.verb ≡ old.verb → new.is_ended ≡ old.is_ended → new.aarq ≡ old.aarq → new.request ≡ old.request → new.release ≡ old.release
@@ -54,7 +54,7 @@ settled_stands verb password fed bytes given over c outcome s is = record {
   over_is = s.over_is;
 }
 
--- what is settled stays settled however the bytes go on
+-- a settled outcome remains, whatever bytes follow
 stays_settled : (verb : Verb) (password fed : List ℕ) (given : ℕ) (over : Bool) (c : Client) → Stands verb password fed given over c
     → (outcome : Outcome) → decided verb fed ≡ Some outcome → (more : List ℕ) → outcome_of verb (fed ++ more) ≡ outcome
 unfolding outcome_of
@@ -74,7 +74,7 @@ feeds_over c bytes over = record {
   stands = λ verb password fed given ended s. fed_over verb password fed bytes given ended c (sym s.over_is ∙ over) s;
 }
 
--- and on one whose outcome is settled
+-- a call of feed on a client whose outcome is settled
 some_outcome : (o : Option Outcome) → is_some o ≡ true → (outcome : Outcome) × (o ≡ Some outcome)
 some_outcome (Some outcome) is = (outcome, refl)
 some_outcome None is = absurd cc
@@ -89,7 +89,7 @@ feeds_settled c bytes some = record {
   stands = λ verb password fed given ended s. let is = some_outcome c.progress.outcome some in fed_settled verb password fed bytes given ended c is.0 s is.1;
 }
 
--- a call of feed that heard the bytes
+-- a call of feed that processed the bytes
 fed_heard : (verb : Verb) (password fed bytes : List ℕ) (given : ℕ) (over : Bool) (old : Client) (progress : Progress) (deframer : List ℕ)
     → Hears old.verb old.progress (old.deframer ++ bytes) progress deframer → over ≡ false → Stands verb password fed given over old
     → Stands verb password (if over then fed else fed ++ bytes) given over (record old { progress = progress; deframer = deframer })
@@ -104,7 +104,7 @@ feeds_heard old bytes progress deframer hears open_still = record {
   stands = λ verb password fed given ended s. fed_heard verb password fed bytes given ended old progress deframer hears (sym s.over_is ∙ open_still) s;
 }
 
--- the outcome where the connection is over
+-- the outcome if the connection is over
 told_ended : (verb : Verb) (fed : List ℕ) (over : Bool) (p : Progress) → over ≡ true → p ≡ progress_of verb fed
     → Some (unwrap_or p.outcome Unknown) ≡ (if over then Some (outcome_of verb fed) else decided verb fed)
 unfolding outcome_of
@@ -118,7 +118,7 @@ tells_ended c over = record {
   stays = λ verb password fed given ended s. stays_settled verb password fed given ended c s;
 }
 
--- and where it is not
+-- the outcome if the connection is open
 told_open : (verb : Verb) (fed : List ℕ) (over : Bool) (p : Progress) → over ≡ false → p ≡ progress_of verb fed
     → p.outcome ≡ (if over then Some (outcome_of verb fed) else decided verb fed)
 told_open verb fed true p is now = absurd cc

@@ -1,4 +1,4 @@
--- What the first two payloads say is what the payloads say one after the other.
+-- Interpreting the first two payloads is interpreting all payloads in order.
 use Rattle.std.proofs.Common.{◌≡◌, ◌⊎◌, ℕ, Bool, true, false, List, [], ◌∷◌, Ok, Err, refl, sym, ◌∙◌, ap, inl, inr}
 use Rattle.std.specs.Prelude.{Result, ◌==◌, if◌then◌else◌}
 use Rattle.wrapper_frame.specs.Header.{head_of}
@@ -15,7 +15,7 @@ use Rattle.client_core.specs.Outcomes.{heard, answered, said, ended_by, progress
 use Rattle.client_core.specs.Steps.{after_all, goes}
 use Rattle.client_core.proofs.Moving.{all_settled}
 
--- the association is open, or all is settled
+-- the association is open, or the outcome is settled
 abbrev IsOpening : Progress → Type 0
 IsOpening p = (p ≡ asking) ⊎ ((outcome : Outcome) × (p ≡ settled outcome))
 
@@ -45,17 +45,17 @@ opening_answered verb p later (inl is) = ap (λ (q : Progress). answered verb q 
 opening_answered verb p later (inr (outcome, is)) =
     ap (λ (q : Progress). answered verb q later) is ∙ settled_answered verb outcome later ∙ sym (ap (λ (q : Progress). after_all verb q later) is)
 
--- looked up or one after the other
+-- the two interpretations are equal
 pub said_all : (verb : Verb) (payloads : List (List ℕ)) → said verb payloads ≡ after_all verb fresh payloads
 said_all verb [] = refl
 said_all verb (aare ∷ later) = opening_answered verb (opened verb aare) later (opening verb aare)
 
--- what all bytes say is what they do to a client that was fed nothing
+-- the progress of all bytes is their effect on a client that was fed nothing
 pub progress_goes : (verb : Verb) (bytes : List ℕ) → progress_of verb bytes ≡ goes verb fresh bytes
 unfolding progress_of goes
 progress_goes verb bytes = ap (λ (p : Progress). ended_by p (head_of (rest_of bytes))) (said_all verb (heard (frames_of bytes)))
 
--- no bytes say nothing
+-- the progress of no bytes
 pub nothing_said : (verb : Verb) → progress_of verb [] ≡ fresh
 unfolding progress_of frames_of rest_of head_of cut_in
 nothing_said verb = refl

@@ -1,4 +1,4 @@
--- Bytes that are heard frame by frame.
+-- Bytes that are processed frame by frame.
 use Rattle.std.proofs.Common.{◌≡◌, ℕ, Bool, true, false, List, [], ◌∷◌, ◌++◌, Some, refl, sym, ◌∙◌, ap, subst, append_assoc, length, ◌<◌}
 use Rattle.std.specs.Prelude.{unwrap_or, if◌then◌else◌, ◌&&◌, ◌==◌, Option}
 use Rattle.wrapper_frame.specs.Header.{head_of}
@@ -15,7 +15,7 @@ use Rattle.client_core.specs.declared.progress.Progress.{Progress}
 use Rattle.client_core.specs.Outcomes.{heard, or_unknown, ended_by}
 use Rattle.client_core.specs.Steps.{after, after_all, after_frame, goes, Moves, Hears}
 
--- what frames and the bytes behind them do
+-- the effect of frames and of the front of the bytes after them
 abbrev does : Verb → Progress → List Frame → Head → Progress
 does verb p frames front = ended_by (after_all verb p (heard frames)) front
 
@@ -23,7 +23,7 @@ goes_does : (verb : Verb) (p : Progress) (bytes : List ℕ) → goes verb p byte
 unfolding goes
 goes_does verb p bytes = refl
 
--- ---- a settled outcome stays
+-- ---- a settled outcome remains
 
 -- a progress whose outcome is settled
 abbrev pub with_outcome : Bool → Outcome → Progress
@@ -50,7 +50,7 @@ settled_goes verb accepted outcome bytes =
 abbrev outcome_as : Progress → Option Outcome → Progress
 outcome_as p o = record p { outcome = o }
 
--- whatever comes, what is settled stays
+-- a settled outcome remains, whatever bytes follow
 pub goes_settled : (verb : Verb) (p : Progress) (outcome : Outcome) (bytes : List ℕ) → p.outcome ≡ Some outcome → goes verb p bytes ≡ p
 goes_settled verb p outcome bytes is =
     let same : with_outcome p.accepted outcome ≡ p = ap (λ (o : Option Outcome). outcome_as p o) (sym is) in
@@ -63,7 +63,7 @@ frame_cases : (ours : Bool) (verb : Verb) (p : Progress) (payload : List ℕ) (l
 frame_cases true verb p payload later = refl
 frame_cases false verb p payload later = refl
 
--- a frame that is taken does what it does, and the others go on
+-- a frame that is removed has its effect, followed by that of the others
 pub moves_frame : (verb : Verb) (p : Progress) (old : List ℕ) (frame : Frame) (new : List ℕ) → GoesOn old (Some frame) new → Moves verb p old (after_frame verb p frame) new
 moves_frame verb p old frame new goes_on = record {
   on = λ more.
@@ -75,18 +75,18 @@ moves_frame verb p old frame new goes_on = record {
       ∙ sym (goes_does verb (after_frame verb p frame) (new ++ more));
 }
 
--- nothing is taken yet
+-- no frame is removed yet
 pub moves_none : (verb : Verb) (p : Progress) (bytes : List ℕ) → Moves verb p bytes p bytes
 moves_none verb p bytes = record { on = λ more. refl }
 
--- one move after the other
+-- two consecutive moves
 pub moves_twice : (verb : Verb) (first : Progress) (old : List ℕ) (p : Progress) (bytes : List ℕ) (q : Progress) (new : List ℕ)
     → Moves verb first old p bytes → Moves verb p bytes q new → Moves verb first old q new
 moves_twice verb first old p bytes q new a b = record { on = λ more. a.on more ∙ b.on more }
 
--- ---- the end of what can be taken
+-- ---- the end of the frames that can be removed
 
--- part of a frame says nothing
+-- part of a frame has no effect
 pub part_says : (verb : Verb) (p : Progress) (bytes : List ℕ) → IsPart bytes → goes verb p bytes ≡ p
 part_says verb p bytes part =
     goes_does verb p bytes
@@ -97,7 +97,7 @@ part_says verb p bytes part =
 pub hears_part : (verb : Verb) (first : Progress) (old : List ℕ) (p : Progress) (bytes : List ℕ) → Moves verb first old p bytes → IsPart bytes → Hears verb first old p bytes
 hears_part verb first old p bytes moves part = record { moves = moves; here = part_says verb p bytes part }
 
--- a header that no frame has ends all
+-- a wrong header ends the reading
 stops_goes : (verb : Verb) (p : Progress) (front : Head) (bytes more : List ℕ) → Stops front bytes → goes verb p (bytes ++ more) ≡ ended_by p front
 stops_goes verb p front bytes more stops =
     goes_does verb p (bytes ++ more)
@@ -105,11 +105,11 @@ stops_goes verb p front bytes more stops =
     ∙ ap (λ (rest : List ℕ). does verb p [] (head_of rest)) (stops.rest more)
     ∙ ap (λ (at : Head). does verb p [] at) (stops.heads more)
 
--- what is unknown stays unknown
+-- an unknown outcome remains
 unknown_goes : (verb : Verb) (p : Progress) (bytes : List ℕ) → goes verb (or_unknown p) bytes ≡ or_unknown p
 unknown_goes verb p bytes = goes_settled verb (or_unknown p) (unwrap_or p.outcome Unknown) bytes refl
 
--- bytes that begin with such a header, however they are kept
+-- bytes that begin with a wrong header, whatever is kept of them
 hears_front : (verb : Verb) (p : Progress) (front : Head) (bytes kept : List ℕ) → Stops front bytes → ended_by p front ≡ or_unknown p → Hears verb p bytes (or_unknown p) kept
 hears_front verb p front bytes kept stops ends = record {
   moves = record { on = λ more. stops_goes verb p front bytes more stops ∙ ends ∙ sym (unknown_goes verb p (kept ++ more)) };
@@ -130,7 +130,7 @@ pub hears_long : (verb : Verb) (first : Progress) (old : List ℕ) (p : Progress
 hears_long verb first old p bytes kept moves stops =
     hears_after verb first old p bytes (or_unknown p) kept moves (hears_front verb p TooLong bytes kept stops refl)
 
--- and more bytes behind them change nothing
+-- bytes after a wrong header change nothing
 more_stops : (front : Head) (bytes more : List ℕ) → Stops front bytes → Stops front (bytes ++ more)
 more_stops front bytes more stops = record {
   frames = λ others. ap frames_of (append_assoc bytes more others) ∙ stops.frames (more ++ others);
@@ -144,6 +144,6 @@ skips_version verb p bytes more kept stops = hears_front verb p BadVersion (byte
 pub skips_long : (verb : Verb) (p : Progress) (bytes more kept : List ℕ) → Stops TooLong bytes → Hears verb p (bytes ++ more) (or_unknown p) kept
 skips_long verb p bytes more kept stops = hears_front verb p TooLong (bytes ++ more) kept (more_stops TooLong bytes more stops) refl
 
--- behind a frame that is taken fewer bytes are left
+-- after a frame is removed fewer bytes are left
 pub fewer : (old : List ℕ) (frame : Frame) (new : List ℕ) → IsFirst old frame new → length new < length old
 fewer old frame new first = rw first.after (after_shorter old (length frame.payload) first.front)

@@ -1,4 +1,4 @@
--- The AARQ that is written is the one of the standard's bytes.
+-- The AARQ that is written consists of the bytes of the standard.
 use Rattle.std.proofs.Common.{◌≡◌, ℕ, ◌+◌, ◌<◌, ◌≤◌, List, [], ◌∷◌, ◌++◌, Some, length, refl, ◌∙◌, ap, arith}
 use Rattle.std.proofs.lemmas.Bool.{lt-ltb}
 use Rattle.std.proofs.lemmas.List.{length-append}
@@ -6,11 +6,11 @@ use Rattle.cosem_axdr.specs.Spelling.{length_text}
 use Rattle.acse_ber.specs.Text.{tagged_text, context_text, mechanism_text, password_text, user_text, request_text, ln_context, low_level, aarq_body, aarq_text, low_level_aarq}
 use Rattle.client_core.specs.Texts.{opening_fields, initiate_field, aarq_payload}
 
--- a short length is one byte
+-- a length below 80 hex is one byte
 short_length : (n : ℕ) → n < 0x80 → length_text n ≡ n ∷ []
 short_length n below = rw (lt-ltb n 0x80 below) refl
 
--- a tag, a short length and contents
+-- a tag, a length below 80 hex, and the contents
 short_tagged : (tag n : ℕ) (contents : List ℕ) → length contents ≡ n → n < 0x80 → tagged_text tag contents ≡ tag ∷ n ∷ contents
 short_tagged tag n contents is below = rw (is, lt-ltb n 0x80 below) refl
 
@@ -25,11 +25,11 @@ unfolding low_level_aarq
 body_written password short =
     ap (λ (text : List ℕ). context_text ln_context ++ (mechanism_text low_level ++ (text ++ user_text (request_text 0x1C19 1024)))) (password_written password short)
 
--- the longest AARQ has 80 bytes
+-- an AARQ has at most 80 bytes
 pub aarq_short : (password : List ℕ) → length password ≤ 32 → length (aarq_payload password) ≤ 1024
 aarq_short password short = omega (arith, length-append password initiate_field)
 
--- what is written is that text
+-- the text that is written is that AARQ
 pub aarq_written : (password : List ℕ) → length password ≤ 32 → aarq_text (low_level_aarq password 0x1C19 1024) ≡ aarq_payload password
 unfolding aarq_text
 aarq_written password short =

@@ -1,9 +1,9 @@
--- The outcome of a job, as a function of the bytes that a connection gave.
+-- The outcome of a job, as a function of the bytes received on its connection.
 --     heard             the payloads that came from port 1 to port 1
---     progress_of       what the first two of them say, and what a wrong header behind all whole frames does
---     decided           the outcome that the bytes settle, if they do
---     outcome_of        the outcome where the connection gave no more than these bytes
---     due               the texts that are due, in order
+--     progress_of       the progress by the first two of them, and by a wrong header after all whole frames
+--     decided           the outcome, if the bytes settle it
+--     outcome_of        the outcome if the connection is over after these bytes
+--     due               the messages to send, in order
 use Rattle.std.specs.Prelude.{ℕ, Bool, true, false, ◌&&◌, ◌==◌, if◌then◌else◌, Option, Some, None, is_none, unwrap_or, List, [], ◌∷◌}
 use Rattle.wrapper_frame.specs.Header.{head_of}
 use Rattle.wrapper_frame.specs.Messages.{frames_of, rest_of}
@@ -17,30 +17,31 @@ use Rattle.client_core.specs.declared.progress.Progress.{Progress}
 use Rattle.client_core.specs.Replies.{fresh, opened, replied}
 use Rattle.client_core.specs.Texts.{aarq_frame, request_frame, release_frame}
 
--- the payloads of the frames from port 1 to port 1 (IEC 62056-4-7, wPort), in order; the others are skipped
+-- the payloads of the frames from port 1 to port 1 (IEC 62056-4-7, wPort), in order; the others are
+-- skipped
 abbrev pub heard : List Frame → List (List ℕ)
 heard [] = []
 heard (frame ∷ frames) = if frame.src == 1 && frame.dst == 1 then frame.payload ∷ heard frames else heard frames
 
--- the request is due, and its answer has not come
+-- the request may be sent, and its response has not come
 abbrev pub is_asking : Progress → Bool
 is_asking progress = progress.accepted && is_none progress.outcome
 
--- the request's answer, the first of these payloads, settles the outcome
+-- the response to the request, which is the first of these payloads, settles the outcome
 abbrev pub answered : Verb → Progress → List (List ℕ) → Progress
 answered verb progress [] = progress
 answered verb progress (answer ∷ later) = if is_asking progress then record progress { outcome = Some (replied verb answer) } else progress
 
--- what all payloads say: the first is the AARE, the second the answer to the request
+-- the progress by all payloads: the first is the AARE, the second the response to the request
 abbrev pub said : Verb → List (List ℕ) → Progress
 said verb [] = fresh
 said verb (aare ∷ later) = answered verb (opened verb aare) later
 
--- an outcome that is not settled yet is unknown
+-- an outcome that is not settled becomes unknown
 abbrev pub or_unknown : Progress → Progress
 or_unknown progress = record progress { outcome = Some (unwrap_or progress.outcome Unknown) }
 
--- a header that no frame has ends all
+-- a wrong header ends the reading
 abbrev pub ended_by : Progress → Head → Progress
 ended_by progress Part = progress
 ended_by progress (Whole n) = progress
@@ -56,7 +57,7 @@ decided verb bytes = (progress_of verb bytes).outcome
 unfoldable pub outcome_of : Verb → List ℕ → Outcome
 outcome_of verb bytes = unwrap_or (decided verb bytes) Unknown
 
--- the meter has answered the request
+-- the meter has responded to the request
 abbrev pub is_served : Option Outcome → Bool
 is_served (Some (Done code)) = true
 is_served (Some (Refused code)) = true
@@ -64,7 +65,8 @@ is_served (Some (Rejected diagnostic)) = false
 is_served (Some Unknown) = false
 is_served None = false
 
--- the AARQ, the request once the association is open, and the release once the meter has answered the request (IEC 62056-5-3, AARQ, ACTION and GET, RLRQ)
+-- the AARQ, the request if the association is open, and the release if the meter has responded to
+-- the request (IEC 62056-5-3, AARQ, ACTION and GET, RLRQ)
 abbrev pub due : Verb → List ℕ → Progress → List (List ℕ)
 due verb password progress =
     aarq_frame password ∷ (if progress.accepted then request_frame verb ∷ (if is_served progress.outcome then release_frame ∷ [] else []) else [])

@@ -1,7 +1,7 @@
--- What a meter's answers mean for a job.
---     Progress          a Rust struct: whether the request is due, and the outcome once it is settled
---     opened            what the first answer, to the AARQ, means
---     replied           what the second, to the request, means
+-- The meaning of a meter's responses for a job.
+--     Progress          a Rust struct: whether the request may be sent, and the outcome if it is settled
+--     opened            the meaning of the first response, to the AARQ
+--     replied           the meaning of the second response, to the request
 use Rattle.std.specs.Prelude.{ℕ, Bool, false, true, not, ◌&&◌, ◌==◌, nat_le, if◌then◌else◌, bit_and, Some, None, List, [], ◌∷◌, Result, Ok, Err}
 use Rattle.acse_ber.specs.Reading.{aare_of}
 use Rattle.acse_ber.specs.declared.aare.Aare.{Aare}
@@ -14,9 +14,10 @@ use Rattle.client_core.specs.declared.job.Outcome.{Outcome}
 use Rattle.client_core.specs.declared.job.Outcome.TheVariants.{Done, Refused, Rejected, Unknown}
 use Rattle.client_core.specs.declared.progress.Progress.{Progress}
 
--- ---- the answer to the AARQ (IEC 62056-5-3, AARE)
+-- ---- the response to the AARQ (IEC 62056-5-3, AARE)
 
--- no answer yet; the association is open and the request due; all is settled before the request was due
+-- no response yet; the association is open and the request may be sent; the outcome is settled
+-- before the request is sent
 abbrev pub fresh : Progress
 fresh = record { accepted = false; outcome = None }
 
@@ -26,19 +27,20 @@ asking = record { accepted = true; outcome = None }
 abbrev pub settled : Outcome → Progress
 settled outcome = record { accepted = false; outcome = Some outcome }
 
--- the bit of the request's service in the conformance block, whose first bit is the highest of 24 (IEC 62056-5-3): get is bit 19, action bit 23
+-- the bit of the request's service in the conformance block, whose bit 0 is the highest of 24 (IEC
+-- 62056-5-3): GET is bit 19, ACTION bit 23
 abbrev pub service_bit : Verb → ℕ
 service_bit Disconnect = 0x000001
 service_bit Reconnect = 0x000001
 service_bit ReadState = 0x000010
 
--- the negotiated services have the request's
+-- the negotiated services include that of the request
 abbrev pub grants : Verb → Info → Bool
 grants verb (Response bits limit) = not (bit_and bits (service_bit verb) == 0)
 grants verb Absent = false
 grants verb (InitiateError code) = false
 
--- an AARE opens the association, or settles all; so does what is none
+-- an AARE opens the association or settles the outcome; any other bytes settle it as unknown
 abbrev pub opened_by : Verb → Result Aare AcseFault → Progress
 opened_by verb (Ok aare) =
     if aare.result == 0 then (if grants verb aare.info then asking else settled (Rejected 0)) else settled (Rejected aare.diagnostic)
@@ -47,15 +49,17 @@ opened_by verb (Err fault) = settled Unknown
 unfoldable pub opened : Verb → List ℕ → Progress
 opened verb payload = opened_by verb (aare_of payload)
 
--- ---- the answer to the request (IEC 62056-5-3, ACTION and GET; IEC 62056-6-2, class 70, control_state)
+-- ---- the response to the request (IEC 62056-5-3, ACTION and GET; IEC 62056-6-2, class 70,
+-- control_state)
 
--- Action-Response-Normal with the request's invoke-id C1: a result, and any tail
+-- Action-Response-Normal with invoke-id C1, that of the request: a result, and any further bytes
 abbrev pub action_reply : List ℕ → Outcome
 action_reply (tag ∷ form ∷ id ∷ code ∷ tail) =
     if tag == 0xC7 && form == 0x01 && id == 0xC1 then (if code == 0 then Done 0 else Refused code) else Unknown
 action_reply _ = Unknown
 
--- Get-Response-Normal with invoke-id C1, and nothing behind it: a result that is not 0, or the control state as an enum
+-- Get-Response-Normal with invoke-id C1 and no further bytes: a result other than 0, or the control
+-- state as an enum
 abbrev pub state_reply : List ℕ → Outcome
 state_reply (tag ∷ form ∷ id ∷ choice ∷ code ∷ []) =
     if tag == 0xC4 && form == 0x01 && id == 0xC1 && choice == 0x01 && not (code == 0) then Refused code else Unknown

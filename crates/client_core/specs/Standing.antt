@@ -1,7 +1,7 @@
--- What a client stands for, and what each call does to that.
---     Stands            a client of this verb and password, fed these bytes, that gave so many texts, whose connection is over or not
---     Gives             to_send: the first text that is due and was not given, or none
---     Feeds             feed: the bytes come behind those fed before, unless the connection is over
+-- The state of a client, and the effect of each call on it.
+--     Stands            a client with this verb and password, the bytes fed, the number of messages returned, and whether the connection is over
+--     Gives             to_send: the next message to send, or none
+--     Feeds             feed: the bytes follow those fed before, unless the connection is over
 --     Ends              ended: the connection is over
 --     Tells             outcome: the outcome, once it is settled or the connection is over
 use Rattle.std.specs.Prelude.{◌≡◌, ℕ, zero, suc, Bool, true, is_some, if◌then◌else◌, Option, Some, None, List, ◌++◌}
@@ -12,7 +12,7 @@ use Rattle.client_core.specs.Texts.{aarq_frame, request_frame, release_frame, te
 use Rattle.client_core.specs.Outcomes.{progress_of, decided, outcome_of, due}
 use Rattle.client_core.specs.Steps.{goes}
 
--- the texts that are left once so many were given
+-- the messages that are left after this number of them was returned
 abbrev pub AreLeft : Verb → List ℕ → ℕ → Option (List ℕ) → Option (List ℕ) → Option (List ℕ) → Type 0
 AreLeft verb password zero aarq request release =
     (aarq ≡ Some (aarq_frame password)) × (request ≡ Some (request_frame verb)) × (release ≡ Some release_frame)
@@ -20,7 +20,8 @@ AreLeft verb password (suc zero) aarq request release = (aarq ≡ None) × (requ
 AreLeft verb password (suc (suc zero)) aarq request release = (aarq ≡ None) × (request ≡ None) × (release ≡ Some release_frame)
 AreLeft verb password (suc (suc (suc given))) aarq request release = (aarq ≡ None) × (request ≡ None) × (release ≡ None)
 
--- a client of this verb and password, fed these bytes, that gave so many texts
+-- a client with this verb and password that was fed these bytes and returned this number of
+-- messages
 pub record Stands (verb : Verb) (password fed : List ℕ) (given : ℕ) (over : Bool) (c : Client) : Type 0 where
   pub verb_is : c.verb ≡ verb
   pub now : c.progress ≡ progress_of verb fed
@@ -28,14 +29,14 @@ pub record Stands (verb : Verb) (password fed : List ℕ) (given : ℕ) (over : 
   pub left : AreLeft verb password given c.aarq c.request c.release
   pub over_is : c.is_ended ≡ over
 
--- the first text that is due and was not given, and none where each was
+-- the next message to send that was not returned, or none if each was
 pub record Gives (old : Client) (result : Option (List ℕ)) (new : Client) : Type 0 where
   pub text : (verb : Verb) (password fed : List ℕ) (given : ℕ) (over : Bool) → Stands verb password fed given over old
       → result ≡ text_at (due verb password (progress_of verb fed)) given
   pub stands : (verb : Verb) (password fed : List ℕ) (given : ℕ) (over : Bool) → Stands verb password fed given over old
       → Stands verb password fed (if is_some result then suc given else given) over new
 
--- the bytes come behind those fed before, unless the connection is over
+-- the bytes follow those fed before, unless the connection is over
 pub record Feeds (old : Client) (bytes : List ℕ) (new : Client) : Type 0 where
   pub stands : (verb : Verb) (password fed : List ℕ) (given : ℕ) (over : Bool) → Stands verb password fed given over old
       → Stands verb password (if over then fed else fed ++ bytes) given over new
@@ -45,7 +46,8 @@ pub record Ends (old new : Client) : Type 0 where
   pub stands : (verb : Verb) (password fed : List ℕ) (given : ℕ) (over : Bool) → Stands verb password fed given over old
       → Stands verb password fed given true new
 
--- the outcome of the bytes fed: once the connection is over that of all, and before it that which they settle, if they do; what is settled stays so
+-- the outcome by the bytes fed: if the connection is over that of all bytes, otherwise the one that
+-- they settle, if any; a settled outcome remains
 pub record Tells (c : Client) (result : Option Outcome) : Type 0 where
   pub told : (verb : Verb) (password fed : List ℕ) (given : ℕ) (over : Bool) → Stands verb password fed given over c
       → result ≡ (if over then Some (outcome_of verb fed) else decided verb fed)

@@ -1,8 +1,8 @@
--- Payload by payload: how what has come goes on.
---     after             what one more payload does, and after_frame what one more frame does
---     goes              what more bytes do to what has come so far
---     Moves             frames are taken from the front of bytes, and what they say is kept
---     Hears             and no whole frame is left
+-- The progress payload by payload.
+--     after             the effect of one more payload;  after_frame: of one more frame
+--     goes              the effect of more bytes on the progress so far
+--     Moves             frames are removed from the front of bytes and have their effect
+--     Hears             what Moves says, with no whole frame left
 use Rattle.std.specs.Prelude.{◌≡◌, ℕ, ◌&&◌, ◌==◌, if◌then◌else◌, Some, is_none, List, [], ◌∷◌, ◌++◌}
 use Rattle.wrapper_frame.specs.Header.{head_of}
 use Rattle.wrapper_frame.specs.Messages.{frames_of, rest_of}
@@ -12,31 +12,32 @@ use Rattle.client_core.specs.declared.progress.Progress.{Progress}
 use Rattle.client_core.specs.Replies.{opened, replied}
 use Rattle.client_core.specs.Outcomes.{heard, ended_by}
 
--- one more payload: the AARE, then the answer to the request, then none that counts
+-- one more payload: the AARE, then the response to the request; any later one is ignored
 abbrev pub after : Verb → Progress → List ℕ → Progress
 after verb progress payload =
     if is_none progress.outcome then
     (if progress.accepted then record progress { outcome = Some (replied verb payload) } else opened verb payload)
     else progress
 
--- one more frame, which counts where it is from port 1 to port 1
+-- one more frame, which has an effect only from port 1 to port 1
 abbrev pub after_frame : Verb → Progress → Frame → Progress
 after_frame verb progress frame = if frame.src == 1 && frame.dst == 1 then after verb progress frame.payload else progress
 
--- payloads one after the other
+-- consecutive payloads
 abbrev pub after_all : Verb → Progress → List (List ℕ) → Progress
 after_all verb progress [] = progress
 after_all verb progress (payload ∷ later) = after_all verb (after verb progress payload) later
 
--- more bytes: their frames, and then what is no frame
+-- more bytes: their frames, followed by their rest
 unfoldable pub goes : Verb → Progress → List ℕ → Progress
 goes verb progress bytes = ended_by (after_all verb progress (heard (frames_of bytes))) (head_of (rest_of bytes))
 
--- however the bytes go on, they do to the old progress what those that are kept do to the new one
+-- whatever bytes follow, the old bytes have the same effect on the old progress as the kept bytes
+-- on the new one
 pub record Moves (verb : Verb) (old : Progress) (bytes : List ℕ) (new : Progress) (kept : List ℕ) : Type 0 where
   pub on : (more : List ℕ) → goes verb old (bytes ++ more) ≡ goes verb new (kept ++ more)
 
--- and what is kept says nothing by itself
+-- and the kept bytes have no effect by themselves
 pub record Hears (verb : Verb) (old : Progress) (bytes : List ℕ) (new : Progress) (kept : List ℕ) : Type 0 where
   pub moves : Moves verb old bytes new kept
   pub here : goes verb new kept ≡ new

@@ -1,21 +1,23 @@
--- The texts that a client sends, each in a frame from port 1 to port 1.
---     aarq_payload        the request for an association (IEC 62056-5-3, AARQ, low-level security)
+-- The messages that a client sends, each in a frame from port 1 to port 1.
+--     aarq_payload        the association request (IEC 62056-5-3, AARQ, low-level security)
 --     request_payload     the one request of a job (IEC 62056-5-3, ACTION and GET; IEC 62056-6-2, class 70)
---     release_payload     the end of the association (IEC 62056-5-3, RLRQ)
---     text_at             the text at a place of a list of texts
+--     release_payload     the release of the association (IEC 62056-5-3, RLRQ)
+--     text_at             the message at an index of a list
 use Rattle.std.specs.Prelude.{ℕ, zero, suc, ◌+◌, Option, Some, None, List, [], ◌∷◌, ◌++◌, length}
 use Rattle.wrapper_frame.specs.Text.{frame_text}
 use Rattle.client_core.specs.declared.job.Verb.{Verb}
 use Rattle.client_core.specs.declared.job.Verb.TheVariants.{Disconnect, Reconnect, ReadState}
 
--- the fields of the AARQ before the password: the context of logical names without ciphering, that there is authentication, and low-level security
+-- the fields of the AARQ before the password: the context of logical names without ciphering, the
+-- ACSE requirements with authentication, and low-level security
 abbrev pub opening_fields : List ℕ
 opening_fields =
     0xA1 ∷ 0x09 ∷ 0x06 ∷ 0x07 ∷ 0x60 ∷ 0x85 ∷ 0x74 ∷ 0x05 ∷ 0x08 ∷ 0x01 ∷ 0x01
     ∷ 0x8A ∷ 0x02 ∷ 0x07 ∷ 0x80
     ∷ 0x8B ∷ 0x07 ∷ 0x60 ∷ 0x85 ∷ 0x74 ∷ 0x05 ∷ 0x08 ∷ 0x02 ∷ 0x01 ∷ []
 
--- the field behind it: an InitiateRequest of version 6 that proposes the services 001C19 and takes APDUs of at most 1,024 bytes
+-- the field after the password: an InitiateRequest of version 6 that proposes the services 001C19
+-- hex and a maximum APDU size of 1,024 bytes
 abbrev pub initiate_field : List ℕ
 initiate_field =
     0xBE ∷ 0x10 ∷ 0x04 ∷ 0x0E ∷ 0x01 ∷ 0x00 ∷ 0x00 ∷ 0x00 ∷ 0x06
@@ -27,7 +29,8 @@ aarq_payload password =
     0x60 ∷ (46 + length password)
     ∷ (opening_fields ++ (0xAC ∷ (2 + length password) ∷ 0x80 ∷ length password ∷ (password ++ initiate_field)))
 
--- the ACTION on a method of the disconnect control 0.0.96.3.10.255, with the integer 0 as its parameter
+-- the ACTION that invokes a method of the disconnect control 0.0.96.3.10.255 with the parameter
+-- integer 0
 abbrev pub action_payload : ℕ → List ℕ
 action_payload method = 0xC3 ∷ 0x01 ∷ 0xC1 ∷ 0x00 ∷ 0x46 ∷ 0x00 ∷ 0x00 ∷ 0x60 ∷ 0x03 ∷ 0x0A ∷ 0xFF ∷ method ∷ 0x01 ∷ 0x0F ∷ 0x00 ∷ []
 
@@ -45,7 +48,7 @@ release_payload = 0x62 ∷ 0x03 ∷ 0x80 ∷ 0x01 ∷ 0x00 ∷ []
 abbrev pub framed : List ℕ → List ℕ
 framed payload = frame_text (record { src = 1; dst = 1; payload = payload })
 
--- the three texts of a job
+-- the three messages of a job
 unfoldable pub aarq_frame : List ℕ → List ℕ
 aarq_frame password = framed (aarq_payload password)
 
@@ -55,7 +58,7 @@ request_frame verb = framed (request_payload verb)
 unfoldable pub release_frame : List ℕ
 release_frame = framed release_payload
 
--- the text at a place, and none behind the last
+-- the message at an index, or none after the last
 abbrev pub text_at : List (List ℕ) → ℕ → Option (List ℕ)
 text_at [] place = None
 text_at (text ∷ texts) zero = Some text

@@ -13,9 +13,11 @@ use std::alloc::{AllocError, Global};
 use std::fmt::{self, Debug, Formatter};
 use wrapper_frame::Deframer;
 
-/// One job at one meter: what is to be sent, and what the answers mean.
+/// A client that runs one job at one meter: it provides the messages to send and interprets the
+/// meter's responses. It performs no I/O.
 ///
-/// Contracts say by `Stands` of which verb and password it is, which bytes it was fed, how many texts it gave, and whether the connection is over.
+/// In contracts, `Stands` relates a client to its verb and password, the bytes fed, the number of
+/// messages returned, and whether the connection is over.
 #[derive(Drop)]
 pub struct Client {
     verb: Verb,
@@ -27,7 +29,8 @@ pub struct Client {
     release: Option<Octets>,
 }
 
-// It tells nothing of the texts, of which one holds the password, nor of bytes that came.
+// Formats the client without its messages, one of which holds the password, and without the bytes
+// received.
 impl Debug for Client {
     fn fmt<W: fmt::Write>(&self, f: &mut Formatter<W>) -> fmt::Result {
         f.debug_struct("Client")
@@ -38,8 +41,8 @@ impl Debug for Client {
 }
 
 impl Client {
-    /// A client that has given no text and was fed nothing. It makes all three texts: the AARQ with the password, which has 1 to 32 bytes, the request of the
-    /// job's verb, and the release.
+    /// Creates a client and its three messages: the AARQ with the password of 1 to 32 bytes, the
+    /// request of the job's verb, and the release. Nothing has been sent or received yet.
     pub fn start(alloc: Global, job: &Job, password: &Octets) -> Result<Client, AllocError>
         requires { IsPassword password.now }
         ensures { IfOk result (Stands job.now.verb password.now [] 0 false) }
@@ -55,8 +58,9 @@ impl Client {
         })
     }
 
-    /// The first text that is due and was not given: the AARQ, the request once an AARE has opened the association, the release once the meter has answered the
-    /// request. `None` where each due text was given. It takes no memory.
+    /// Returns the next message to send: the AARQ, the request once an AARE has opened the
+    /// association, the release once the meter has responded to the request. Returns each at most
+    /// once, and `None` if there is nothing to send for now. Does not allocate.
     pub fn to_send(&mut self) -> Option<Octets>
         ensures { Gives self.old result self.new }
     {
@@ -74,7 +78,8 @@ impl Client {
         None
     }
 
-    /// More bytes of the meter's connection, in any cut. After the end they are not taken. Where memory runs out all stands as before.
+    /// Processes the next bytes of the meter's connection, which may be split anywhere. Bytes after
+    /// the end are ignored. If out of memory, the client is unchanged.
     pub fn feed(&mut self, alloc: Global, bytes: &[u8]) -> Result<(), AllocError>
         ensures ok { OnOk result (Feeds self.old bytes.now self.new) }
         ensures err { OnErr result (self.new ≡ self.old) }
@@ -92,14 +97,15 @@ impl Client {
         Ok(())
     }
 
-    /// The connection gives no more: it ended, it failed, or it is left.
+    /// Records that no more bytes will come: the connection ended, failed or was abandoned.
     pub fn ended(&mut self)
         ensures { Ends self.old self.new }
     {
         self.is_ended = true;
     }
 
-    /// The outcome, once the bytes fed settle it or the connection is over. What the bytes do not settle by then is unknown.
+    /// Returns the outcome, if the bytes fed settle it or the connection is over. If the connection
+    /// is over and they do not settle it, the outcome is `Unknown`.
     pub fn outcome(&self) -> Option<Outcome>
         ensures { Tells self.now result }
     {
@@ -110,7 +116,7 @@ impl Client {
     }
 }
 
-/// Whether the meter has answered the request.
+/// Returns whether the meter has responded to the request.
 fn is_served(outcome: Option<Outcome>) -> bool
     ensures { result ≡ is_served outcome }
 {

@@ -1,13 +1,14 @@
 use cosem_axdr::Octets;
 
-/// What a meter is asked for, of its disconnect control 0.0.96.3.10.255 (IEC 62056-6-2, class 70).
+/// A request to a meter's disconnect control, logical name 0.0.96.3.10.255 (IEC 62056-6-2, class
+/// 70).
 #[derive(Clone, Copy, Debug, PartialEq, Eq)]
 pub enum Verb {
-    /// The method remote_disconnect.
+    /// Invokes the method remote_disconnect.
     Disconnect,
-    /// The method remote_reconnect.
+    /// Invokes the method remote_reconnect.
     Reconnect,
-    /// The attribute control_state.
+    /// Reads the attribute control_state.
     ReadState,
 }
 
@@ -16,21 +17,22 @@ pub enum Verb {
 pub struct Job {
     /// The name of the job in a report.
     pub id: Octets,
-    /// Where the meter is reached.
+    /// The address of the meter.
     pub address: Octets,
     pub verb: Verb,
 }
 
-/// How a job ended.
+/// The result of a job.
 #[derive(Clone, Copy, Debug, PartialEq, Eq)]
 pub enum Outcome {
-    /// The meter did it: 0, or the control state that was read, from 0 to 2.
+    /// The meter carried out the request: 0, or the control state that was read, 0 to 2.
     Done(u8),
-    /// The meter answered the request with this result code, which is not 0.
+    /// The meter responded with this result code, which is not 0.
     Refused(u8),
-    /// The meter opened no association that serves the request. The request was not sent. This is the diagnostic of the AARE; 0 where the AARE accepts without the
-    /// service of the request.
+    /// The meter opened no association that provides the service of the request, and the request
+    /// was not sent. Holds the diagnostic of the AARE, or 0 if the AARE accepts without that
+    /// service.
     Rejected(u8),
-    /// Anything else: whether the meter did it is not known.
+    /// Any other result: whether the meter carried out the request is not known.
     Unknown,
 }

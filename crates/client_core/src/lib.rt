@@ -1,8 +1,10 @@
-//! The client's side of one job at a meter: it opens an association, asks once, and closes the association (IEC 62056-5-3, IEC 62056-4-7).
+//! The client's side of one job at a meter: it opens an association, sends one request, and
+//! releases the association (IEC 62056-5-3, IEC 62056-4-7).
 //!
-//! A [`Client`] reads and writes nothing itself. The program around it sends what [`Client::to_send`] gives, feeds what the meter's connection gives, and reads the
-//! outcome. Its one request goes out at most once, whatever the meter answers. `specs/Outcomes.antt` says what the outcome of a connection's bytes is, and which
-//! texts are due; `specs/Standing.antt` what each call does.
+//! A [`Client`] performs no I/O. The program around it sends what [`Client::to_send`] returns,
+//! feeds it the bytes of the meter's connection, and reads the outcome. The request is returned for
+//! sending at most once, whatever the meter responds. `specs/Outcomes.antt` defines the outcome of
+//! a connection's bytes and the messages to send; `specs/Standing.antt` the effect of each call.
 #![tactic(auto)]
 
 mod client;

@@ -1,4 +1,4 @@
-//! What comes from the meter, frame by frame.
+//! Processing of the bytes from the meter, frame by frame.
 ghost use Rattle.std.specs.Prelude.{◌≡◌, ◌++◌, IfOk};
 ghost use Rattle.client_core.specs.Steps.{after_frame, Hears};
 
@@ -8,10 +8,10 @@ use crate::replying::{after, or_unknown};
 use std::alloc::{AllocError, Global};
 use wrapper_frame::{Deframer, Frame, WrapperFault};
 
-/// The port of the meter's management logical device, and that of the management client.
+/// The port of the meter's management logical device and of the management client.
 const PORT: u16 = 1;
 
-/// More bytes from the meter. All whole frames are taken.
+/// Processes more bytes from the meter: all whole frames are removed and processed.
 pub fn hear_more(
     alloc: Global,
     verb: Verb,
@@ -29,7 +29,7 @@ pub fn hear_more(
     }
 }
 
-/// Takes all whole frames.
+/// Removes and processes all whole frames.
 fn hear(
     alloc: Global,
     verb: Verb,
@@ -52,7 +52,7 @@ fn hear(
     }
 }
 
-/// One more frame. Those of other ports are skipped.
+/// Returns the progress after one more frame. Frames of other ports are skipped.
 fn after_frame(alloc: Global, verb: Verb, progress: Progress, frame: &Frame) -> Progress
     ensures { result ≡ after_frame verb progress frame.now }
 {

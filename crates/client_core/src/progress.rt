@@ -1,10 +1,10 @@
 use crate::job::Outcome;
 
-/// What the answers that have come say.
+/// The progress of a job according to the responses received.
 #[derive(Clone, Copy, Debug, PartialEq, Eq)]
 pub struct Progress {
-    /// The association is open, and so the request is due.
+    /// Whether the association is open, so that the request may be sent.
     pub accepted: bool,
-    /// The outcome, once it is settled.
+    /// The outcome, if it is settled.
     pub outcome: Option<Outcome>,
 }

@@ -1,4 +1,4 @@
-//! What an answer of the meter means.
+//! The interpretation of the meter's responses.
 ghost use Rattle.std.specs.Prelude.{◌≡◌};
 ghost use Rattle.client_core.specs.Replies.{fresh, settled, grants, opened, action_reply, state_reply, replied};
 ghost use Rattle.client_core.specs.Outcomes.{or_unknown};
@@ -9,12 +9,13 @@ use crate::progress::Progress;
 use acse_ber::{Info, read_aare};
 use std::alloc::Global;
 
-/// The bit of the action service in the conformance block, bit 23 of 24, the first the highest (IEC 62056-5-3).
+/// The bit of the ACTION service in the conformance block: bit 23 of 24, bit 0 being the highest
+/// (IEC 62056-5-3).
 const ACTION_SERVICE: u32 = 0x000001;
-/// The bit of the get service, bit 19.
+/// The bit of the GET service: bit 19.
 const GET_SERVICE: u32 = 0x000010;
 
-/// Nothing has come.
+/// Returns the progress before any response.
 pub fn fresh() -> Progress
     ensures { result ≡ fresh }
 {
@@ -24,7 +25,7 @@ pub fn fresh() -> Progress
     }
 }
 
-/// An outcome that was settled before the request was due.
+/// Returns the progress with an outcome that is settled before the request is sent.
 fn settled(outcome: Outcome) -> Progress
     ensures { result ≡ settled outcome }
 {
@@ -34,7 +35,7 @@ fn settled(outcome: Outcome) -> Progress
     }
 }
 
-/// One more payload from the meter.
+/// Returns the progress after one more payload from the meter.
 pub fn after(alloc: Global, verb: Verb, progress: Progress, payload: &[u8]) -> Progress
     ensures { result ≡ after verb progress payload.now }
 {
@@ -50,7 +51,8 @@ pub fn after(alloc: Global, verb: Verb, progress: Progress, payload: &[u8]) -> P
     }
 }
 
-/// A header that no frame has: nothing more can be read.
+/// Returns the progress after a wrong header, after which nothing can be read: an outcome not yet
+/// settled is unknown.
 pub fn or_unknown(progress: Progress) -> Progress
     ensures { result ≡ or_unknown progress }
 {
@@ -60,7 +62,7 @@ pub fn or_unknown(progress: Progress) -> Progress
     }
 }
 
-/// What the answer to the AARQ means.
+/// Returns the progress after the response to the AARQ.
 #[tactic(auto, unfolding(crate::specs::Replies::opened))]
 fn opened(alloc: Global, verb: Verb, payload: &[u8]) -> Progress
     ensures { result ≡ opened verb payload.now }
@@ -80,7 +82,7 @@ fn opened(alloc: Global, verb: Verb, payload: &[u8]) -> Progress
     }
 }
 
-/// Whether the negotiated services have the request's.
+/// Returns whether the negotiated services include that of the request.
 fn grants(verb: Verb, info: Info) -> bool
     ensures { result ≡ grants verb info }
 {
@@ -94,7 +96,7 @@ fn grants(verb: Verb, info: Info) -> bool
     }
 }
 
-/// What the answer to the request means.
+/// Returns the outcome according to the response to the request.
 #[tactic(auto, unfolding(crate::specs::Replies::replied))]
 fn replied(verb: Verb, payload: &[u8]) -> Outcome
     ensures { result ≡ replied verb payload.now }
@@ -105,7 +107,8 @@ fn replied(verb: Verb, payload: &[u8]) -> Outcome
     }
 }
 
-/// Action-Response-Normal with invoke-id C1: a result, and any tail.
+/// Returns the outcome of an Action-Response-Normal with invoke-id C1: its result. Further bytes
+/// are ignored.
 fn action_reply(payload: &[u8]) -> Outcome
     ensures { result ≡ action_reply payload.now }
 {
@@ -116,7 +119,8 @@ fn action_reply(payload: &[u8]) -> Outcome
     }
 }
 
-/// Get-Response-Normal with invoke-id C1, and nothing behind it: a result that is not 0, or a control state from 0 to 2 as an enum.
+/// Returns the outcome of a Get-Response-Normal with invoke-id C1 and no further bytes: a result
+/// other than 0, or a control state from 0 to 2 as an enum.
 fn state_reply(payload: &[u8]) -> Outcome
     ensures { result ≡ state_reply payload.now }
 {

@@ -1,4 +1,4 @@
-//! The texts that a client sends.
+//! The messages that a client sends.
 ghost use Rattle.std.specs.Prelude.{◌≡◌, ◌≤◌, length, IfOk};
 ghost use Rattle.acse_ber.specs.Password.{IsPassword};
 ghost use Rattle.xdlms_apdu.specs.Text.{request_text};
@@ -12,20 +12,21 @@ use std::alloc::{AllocError, Global};
 use wrapper_frame::{WrapperFault, frame};
 use xdlms_apdu::{InvokeId, Request, write_request};
 
-/// The port of the management client, and that of the meter's management logical device.
+/// The port of the management client and of the meter's management logical device.
 const PORT: u16 = 1;
-/// The services that the client proposes: get, set and action, each also in blocks (IEC 62056-5-3, conformance).
+/// The services that the client proposes: GET, SET and ACTION, each with block transfer (IEC
+/// 62056-5-3, conformance).
 const SERVICES: u32 = 0x001C19;
-/// The longest APDU that the client takes, in bytes.
+/// The maximum size of an APDU that the client receives, in bytes.
 const MOST_BYTES: u16 = 1024;
-/// The invoke-id-and-priority of the request: the number 1, confirmed, of high priority.
+/// The invoke-id-and-priority of the request: invoke-id 1, confirmed, high priority.
 const INVOKE_ID: InvokeId = InvokeId(0xC1);
-/// Disconnect control (IEC 62056-6-2, class 70).
+/// The class of the disconnect control (IEC 62056-6-2, class 70).
 const DISCONNECT_CONTROL: ClassId = ClassId(70);
 /// The logical name of the meter's disconnect control.
 const SUPPLY: Obis = Obis([0, 0, 96, 3, 10, 255]);
 
-/// The request for an association, with a password of 1 to 32 bytes.
+/// Returns the frame of the AARQ, with a password of 1 to 32 bytes.
 #[tactic(auto, using(crate::proofs::Passwords::aarq_short), unfolding(crate::specs::Texts::aarq_frame))]
 pub fn aarq_frame(alloc: Global, password: &Octets) -> Result<Octets, AllocError>
     requires { IsPassword password.now }
@@ -35,7 +36,7 @@ pub fn aarq_frame(alloc: Global, password: &Octets) -> Result<Octets, AllocError
     framed(alloc, payload.as_slice())
 }
 
-/// The AARQ, with a password of 1 to 32 bytes.
+/// Returns the AARQ, with a password of 1 to 32 bytes.
 #[tactic(auto, using(crate::proofs::Passwords::aarq_written))]
 fn aarq_payload(alloc: Global, password: &Octets) -> Result<Octets, AllocError>
     requires { IsPassword password.now }
@@ -45,7 +46,7 @@ fn aarq_payload(alloc: Global, password: &Octets) -> Result<Octets, AllocError>
     write_aarq(alloc, &aarq)
 }
 
-/// The request of a verb.
+/// Returns the frame of a verb's request.
 #[tactic(auto, unfolding(crate::specs::Texts::request_frame))]
 pub fn request_frame(alloc: Global, verb: Verb) -> Result<Octets, AllocError>
     ensures { IfOk result (λ text. text ≡ request_frame verb) }
@@ -54,7 +55,7 @@ pub fn request_frame(alloc: Global, verb: Verb) -> Result<Octets, AllocError>
     framed(alloc, payload.as_slice())
 }
 
-/// The end of the association.
+/// Returns the frame that releases the association.
 #[tactic(auto, unfolding(crate::specs::Texts::release_frame))]
 pub fn release_frame(alloc: Global) -> Result<Octets, AllocError>
     ensures { IfOk result (λ text. text ≡ release_frame) }
@@ -62,7 +63,7 @@ pub fn release_frame(alloc: Global) -> Result<Octets, AllocError>
     framed(alloc, &RELEASE_REQUEST)
 }
 
-/// A payload in a frame from port 1 to port 1.
+/// Returns a payload in a frame from port 1 to port 1.
 fn framed(alloc: Global, payload: &[u8]) -> Result<Octets, AllocError>
     requires { length payload.now ≤ 1024 }
     ensures { IfOk result (λ text. text ≡ framed payload.now) }
@@ -75,7 +76,7 @@ fn framed(alloc: Global, payload: &[u8]) -> Result<Octets, AllocError>
     }
 }
 
-/// The request of a verb.
+/// Returns the request of a verb.
 #[tactic(auto, unfolding(xdlms_apdu::specs::Text::request_text))]
 fn request(verb: Verb) -> Request
     ensures { request_text result ≡ request_payload verb }
@@ -97,7 +98,7 @@ fn request(verb: Verb) -> Request
     }
 }
 
-/// A method of the disconnect control, with parameter 0.
+/// Returns the invocation of a method of the disconnect control, with the parameter integer 0.
 #[tactic(auto, unfolding(xdlms_apdu::specs::Text::request_text))]
 fn action(number: u8) -> Request
     ensures { request_text result ≡ action_payload number }

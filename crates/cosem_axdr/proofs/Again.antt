@@ -1,4 +1,4 @@
--- What is spelled is read, whatever stands behind it.
+-- What is spelled is read, whatever bytes follow.
 use Rattle.std.proofs.Common.{◌≡◌, ℕ, zero, suc, ◌+◌, ◌-◌, ◌≤◌, Bool, true, false, cond, eqb, ◌&&◌, nat_lt, nat_le, List, [], ◌∷◌, ◌++◌, length, take, drop, Ok, refl, sym, ap, ap₂, subst, zero-add, ℤ, ◌∙◌, append_assoc, arith, add-one, inl, inr}
 use Rattle.std.specs.Int.{Width, w8, w16, w32, w64, byte_len, from_be_bytes, cast_signed}
 use Rattle.std.proofs.lemmas.Bool.{and_from, lt-ltb, le-ltb, le-leb}
@@ -15,29 +15,29 @@ use Rattle.cosem_axdr.specs.declared.value.Data.TheVariants.{Null, Array, Struct
 use Rattle.cosem_axdr.proofs.OneTree.{trees_of_list}
 use Rattle.cosem_axdr.proofs.Taken.{Takes}
 
--- ---- one text as two
+-- ---- one text in two parts
 
--- the place from which a text is taken
+-- the place before the second part of a text
 abbrev between : List ℕ → Place → Place
 between text new = record { bytes = text ++ new.bytes; room = length text + new.room }
 
--- the place of these bytes and this room
+-- the place with these bytes and this number of bytes left to a Data
 abbrev place_of : List ℕ → ℕ → Place
 place_of bytes room = record { bytes = bytes; room = room }
 
--- the first of two texts is taken
+-- the first part of a text is taken
 Takes-first : (old : Place) (x y : List ℕ) (new : Place) → Takes old (x ++ y) new → Takes old x (between y new)
 Takes-first old x y new t = record { bytes = t.bytes ∙ append_assoc x y new.bytes; room = omega (arith, t.room, length-append x y) }
 
--- and then the second
+-- then the second part is taken
 Takes-second : (y : List ℕ) (new : Place) → Takes (between y new) y new
 Takes-second y new = record { bytes = refl; room = refl }
 
--- where nothing is taken, the place is the same
+-- taking no bytes does not change the place
 same_place : (old new : Place) → Takes old [] new → old ≡ new
 same_place old new t = ap₂ (λ (bytes : List ℕ) (room : ℕ). place_of bytes room) t.bytes (t.room ∙ zero-add new.room)
 
--- an answer with the value and the place
+-- a successful outcome: the value and the next place
 abbrev read : {X : Type 0} → X → Place → Read X
 read x place = done DataFault (x, place)
 
@@ -92,15 +92,15 @@ bits_again text bits bytes old new t f =
 signed_again : (w : Width) (make : ℤ → Data) (text : List ℕ) (z : ℤ) (old new : Place) → Takes old text new → IsSigned w text z → read_as (λ n. make (cast_signed w n)) (unsigned_at w old) ≡ Ok (make z, new)
 signed_again w make text z old new t f = rw (unsigned_again w text (from_be_bytes w text) old new t (f.0, refl)) (ap (λ (y : ℤ). read (make y) new) (sym f.1))
 
--- a leaf that is some bytes as they are
+-- a leaf that is a fixed number of bytes
 fixed_again : (n : ℕ) (make : List ℕ → Data) (text bytes : List ℕ) (old new : Place) → Takes old text new → IsFixed n text bytes → read_as make (bytes_at n old) ≡ Ok (make bytes, new)
 fixed_again n make text bytes old new t f = rw (bytes_again n text old new t f.0) (ap (λ (bs : List ℕ). read (make bs) new) (sym f.1))
 
--- a reader reads items that are counted and nested less deep
+-- a reader reads counted items of less depth
 abbrev IsCountedAgain : ℕ → (Place → Read Trees) → Type 0
 IsCountedAgain levels counted = (ts : Trees) (text : List ℕ) (old new : Place) → Takes old text new → IsCounted (λ items. AreSpelled items ts) text (count_of ts) → nests ts + 1 ≤ levels → counted old ≡ Ok (ts, new)
 
--- what stands behind the tag of a value
+-- a value after its tag
 abbrev body_at : (Place → Read Trees) → ℕ → Place → Read Data
 body_at counted tag place = cond (eqb tag 0x01) (read_as Array (counted place)) (cond (eqb tag 0x02) (read_as Structure (counted place)) (leaf_at tag place))
 
@@ -131,7 +131,7 @@ body_again levels counted again (date_time bytes) text old new t f flat = fixed_
 body_again levels counted again (date bytes) text old new t f flat = fixed_again 5 Date text bytes old new t f
 body_again levels counted again (time bytes) text old new t f flat = fixed_again 4 Time text bytes old new t f
 
--- a reader reads values that are nested at most so deep
+-- a reader reads values nested at most to this depth
 abbrev IsValueAgain : ℕ → (Place → Read Data) → Type 0
 IsValueAgain levels item_at = (t : Tree) (text : List ℕ) (old new : Place) → Takes old text new → Spells text t → nesting t ≤ levels → item_at old ≡ Ok (data_of t, new)
 

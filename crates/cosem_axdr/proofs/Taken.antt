@@ -1,5 +1,6 @@
--- The two laws that join reading and spelling: what is read is spelled by the bytes that it takes, and what is spelled is read, whatever stands behind it.
---     Takes                       the bytes that a step takes, and the room
+-- The two laws that connect reading and spelling: what is read is spelled by the bytes taken, and
+-- what is spelled is read, whatever bytes follow.
+--     Takes                       the bytes that a step takes, also from those left to a Data
 --     bytes_takes .. leaf_takes   what each step reads is spelled by what it takes
 use Rattle.std.proofs.Common.{◌≡◌, ℕ, zero, suc, ◌+◌, ◌-◌, ◌<◌, ◌≤◌, cond, not, eqb, ◌&&◌, ◌==◌, nat_lt, nat_le, List, [], ◌∷◌, ◌++◌, length, take, drop, Ok, refl, sym, ap, subst, ◌∙◌, append_assoc, arith, inl, inr, slice_index}
 use Rattle.std.specs.Int.{Width, w8, w16, w32, w64, byte_len, from_be_bytes, cast_signed}
@@ -17,24 +18,24 @@ use Rattle.cosem_axdr.specs.declared.fault.DataFault.TheVariants.{Truncated, Unk
 use Rattle.cosem_axdr.specs.declared.value.Data.{Data}
 use Rattle.cosem_axdr.specs.declared.value.Data.TheVariants.{Null, Array, Structure, Boolean, DoubleLong, DoubleLongUnsigned, OctetString, VisibleString, Utf8String, Integer, Long, Unsigned, LongUnsigned, Long64, Long64Unsigned, Enum, DateTime, Date, Time, BitString}
 
--- a step took these bytes, and as much of the room
+-- a step took these bytes, and as many from those left to a Data
 pub record Takes (old : Place) (text : List ℕ) (new : Place) : Type 0 where
   pub bytes : old.bytes ≡ text ++ new.bytes
   pub room : old.room ≡ length text + new.room
 
--- zero is below every number
+-- zero is the least number
 least : (n : ℕ) → 0 ≤ n
 least n = omega arith
 
--- what is left is no longer than what there was
+-- the rest is no longer than the bytes before
 pub length-Takes : (old : Place) (text : List ℕ) (new : Place) → Takes old text new → length new.bytes ≤ length old.bytes
 length-Takes old text new t = omega (arith, ap (λ (bytes : List ℕ). length bytes) t.bytes, length-append text new.bytes)
 
--- no step takes nothing
+-- a step that takes no bytes
 pub Takes-none : (place : Place) → Takes place [] place
 Takes-none place = record { bytes = refl; room = omega arith }
 
--- two steps, one after the other
+-- two consecutive steps
 pub Takes-then : (a : Place) (x : List ℕ) (b : Place) (y : List ℕ) (c : Place) → Takes a x b → Takes b y c → Takes a (x ++ y) c
 Takes-then a x b y c p q = record {
   bytes = p.bytes ∙ ap (λ (t : List ℕ). x ++ t) q.bytes ∙ sym (append_assoc x y c.bytes);
@@ -47,7 +48,7 @@ pub record Took (X : Type 0) (IsSpelled : List ℕ → X → Type 0) (old : Plac
   pub takes : Takes old text read.1
   pub spelled : IsSpelled text read.0
 
--- a step that is seen as another value
+-- a step whose value is converted
 pub read_as_takes : {X Y : Type 0} (IsX : List ℕ → X → Type 0) (IsY : List ℕ → Y → Type 0) (make : X → Y) → ((text : List ℕ) (x : X) → IsX text x → IsY text (make x)) → (old : Place) (read : Read X) (y : Y × Place)
     → ((x : X × Place) → read ≡ Ok x → Took X IsX old x) → read_as make read ≡ Ok y → Took Y IsY old y
 read_as_takes {Y = Y} IsX IsY make seen old read y takes e =
@@ -71,13 +72,13 @@ bytes_takes n place x e =
 
 -- ---- lengths, strings, numbers
 
--- one byte is a list of one
+-- a list of length one is its only byte
 only_byte : (bytes : List ℕ) → length bytes ≡ 1 → bytes ≡ slice_index bytes 0 ∷ []
 only_byte [] len = absurd (omega arith)
 only_byte (b ∷ []) len = refl
 only_byte (b ∷ c ∷ bytes) len = absurd (omega arith)
 
--- a byte as a text
+-- a text of one byte
 abbrev pub IsByte : List ℕ → ℕ → Type 0
 IsByte text byte = text ≡ byte ∷ []
 
@@ -130,7 +131,7 @@ unsigned_takes w place x e =
 
 -- ---- values
 
--- what stands behind a tag spells a Data of this type, nested at most so deep
+-- the bytes after a tag spell a Data of this type, nested at most to this depth
 abbrev pub IsBody : ℕ → ℕ → List ℕ → Data → Type 0
 IsBody levels tag contents d = (tag ≡ tag_of (tree_of d)) × AreContents contents (tree_of d) × (nesting (tree_of d) ≤ levels)
 
@@ -146,7 +147,7 @@ bits_takes levels place x e =
     subst (λ (z : Data × Place). Took Data (IsBody levels 0x04) place z) (ok_is made x c.2)
     (record { text = t.text ++ u.text; takes = Takes-then place t.text b.0.1 u.text c.0.1 t.takes u.takes; spelled = (refl, bits, least levels) })
 
--- a leaf that is one unsigned number, or one signed
+-- a leaf that is an unsigned number, or a signed one
 unsigned_leaf : (levels tag : ℕ) (w : Width) (make : ℕ → Data) → ((text : List ℕ) (n : ℕ) → IsUnsigned w text n → IsBody levels tag text (make n)) → (place : Place) (x : Data × Place) → read_as make (unsigned_at w place) ≡ Ok x → Took Data (IsBody levels tag) place x
 unsigned_leaf levels tag w make body place x e = read_as_takes (IsUnsigned w) (IsBody levels tag) make body place (unsigned_at w place) x (unsigned_takes w place) e
 
@@ -239,18 +240,18 @@ leaf_takes levels tag place x e =
           ]
     ]
 
--- bytes spell a Data that is nested at most so deep, and Datas in a row
+-- bytes spell a Data nested at most to this depth, and consecutive Datas
 abbrev pub IsValue : ℕ → List ℕ → Data → Type 0
 IsValue levels text d = Spells text (tree_of d) × (nesting (tree_of d) ≤ levels)
 
 abbrev pub AreValues : ℕ → ℕ → List ℕ → List Data → Type 0
 AreValues levels n text ds = AreSpelled text (trees_of (all_trees ds)) × (nests (trees_of (all_trees ds)) ≤ levels) × (count_of (trees_of (all_trees ds)) ≡ n)
 
--- what stands behind the tag of an array or structure that may have so many levels, itself among them
+-- the contents of an array or structure of at most this many levels, its own included
 abbrev pub AreCountedBelow : ℕ → List ℕ → Trees → Type 0
 AreCountedBelow levels text ts = IsCounted (λ items. AreSpelled items ts) text (count_of ts) × (nests ts + 1 ≤ levels)
 
--- a reader of which each value is spelled by what it takes
+-- each value that a reader reads is spelled by the bytes that it takes
 abbrev pub IsTaking : (X : Type 0) → (List ℕ → X → Type 0) → (Place → Read X) → Type 0
 IsTaking X IsX read_at = (place : Place) (x : X × Place) → read_at place ≡ Ok x → Took X IsX place x
 
@@ -290,7 +291,7 @@ counted_takes levels item_at takes place x e =
     } in
     record { text = t.text ++ u.text; takes = Takes-then place t.text b.0.1 u.text x.1 t.takes u.takes; spelled = (counted, omega (arith, u.spelled.1)) }
 
--- what stands behind the tag, whatever the tag
+-- the bytes after any tag
 body_takes : (levels tag : ℕ) (counted : Place → Read Trees) → IsTaking Trees (AreCountedBelow levels) counted → (place : Place) (x : Data × Place)
     → cond (eqb tag 0x01) (read_as Array (counted place)) (cond (eqb tag 0x02) (read_as Structure (counted place)) (leaf_at tag place)) ≡ Ok x → Took Data (IsBody levels tag) place x
 body_takes levels tag counted takes place x e =
@@ -316,7 +317,7 @@ value_takes levels counted takes place x e =
       spelled = (record { contents = u.text; parts = parts; are_contents = u.spelled.1 }, u.spelled.2);
     }
 
--- what stands behind the tag of an array or structure is spelled by what is taken
+-- the contents of an array or structure are spelled by the bytes taken
 pub nested_takes : (levels : ℕ) → IsTaking Trees (AreCountedBelow levels) (nested_at levels)
 unfolding nested_at
 nested_takes zero place x e = absurd (too_deep x e)
@@ -325,7 +326,7 @@ nested_takes zero place x e = absurd (too_deep x e)
     too_deep y same = absurd cc
 nested_takes (suc levels) place x e = counted_takes levels (value_at (nested_at levels)) (value_takes levels (nested_at levels) (nested_takes levels)) place x e
 
--- what is left behind a value is no longer than what there was
+-- the bytes after a value are no longer than those before it
 pub rest_is_shorter : (levels : ℕ) (place : Place) (d : Data) (new : Place) → value_at (nested_at levels) place ≡ Ok (d, new) → length new.bytes ≤ length place.bytes
 rest_is_shorter levels place d new e =
     let t = value_takes levels (nested_at levels) (nested_takes levels) place (d, new) e in

@@ -12,7 +12,7 @@ use Rattle.cosem_axdr.specs.Tree.{Tree, Trees, count_of, null, array, structure,
 
 -- ---- lengths
 
--- the bytes of a length of one to four bytes give it back
+-- a length of one to four bytes is the number that its bytes hold
 back_1 : (n : ℕ) → n < 2 ^ 8 → n ≡ big_endian (bytes_high_first 1 n)
 back_1 n below = omega arith
 
@@ -49,7 +49,7 @@ string_spells bytes short =
 
 -- ---- numbers
 
--- the bytes of a number of this width are as many as they are to be, and give it back
+-- the bytes of a number of this width: their number, and that they hold it
 record IsWide (w : Width) (limit : ℕ) : Type 0 where
   long : (n : ℕ) → length (to_be_bytes w n) ≡ byte_len w
   back : (n : ℕ) → n < limit → n ≡ from_be_bytes w (to_be_bytes w n)
@@ -73,14 +73,14 @@ unsigned_spells w limit wide n below = (wide.long n, wide.back n below)
 signed_spells : (w : Width) (limit : ℕ) → IsWide w limit → (z : ℤ) → FitsSigned w z → IsSigned w (to_be_bytes w (cast_unsigned w z)) z
 signed_spells w limit wide z fits = (wide.long (cast_unsigned w z), sym (to_z-of_z fits) ∙ ap (cast_signed w) (wide.back (cast_unsigned w z) (wide.below z fits)))
 
--- a truth value as one byte
+-- a boolean as one byte
 boolean_spells : (b : Bool) → IsBoolean (contents_text (boolean b)) b
 boolean_spells true = (1, refl, refl)
 boolean_spells false = (0, refl, refl)
 
 -- ---- values
 
--- what is written behind a tag, and items one after the other
+-- the contents of a value, and consecutive items
 mutual
   contents_spell : (t : Tree) → IsWithin t → IsFine t → length (contents_text t) ≤ max_text → AreContents (contents_text t) t
   contents_spell null within fine short = refl

@@ -1,8 +1,9 @@
--- The two laws of reading a Data from the front of bytes, as crates above use them.
+-- The two laws of reading a Data from the front of bytes, in the form that crates depending on this
+-- one use.
 --     data_found      what is read is spelled by the bytes that it takes
---     data_again      what is spelled is read, whatever stands behind it
---     text_again      what is written of a value that fits is read again
---     read_only, begins_no_other      what follows for code that reads, and for spellings
+--     data_again      what is spelled is read, whatever bytes follow
+--     text_again      the text of a value that fits is read back
+--     read_only, begins_no_other      consequences for code that reads, and for spellings
 use Rattle.std.proofs.Common.{◌≡◌, ℕ, ◌+◌, ◌-◌, ◌≤◌, List, [], ◌++◌, length, take, drop, Result, Ok, Err, MatchResult, inl, inr, append-nil, refl, sym, ap, subst, ◌∙◌, arith}
 use Rattle.std.proofs.lemmas.List.{take_at, take-append-drop, length-append, length-take, nil_from_length}
 use Rattle.byte_reading.specs.Outcome.{Gives}
@@ -20,7 +21,7 @@ use Rattle.cosem_axdr.proofs.OneTree.{data_of-tree_of, tree_of-data_of}
 use Rattle.cosem_axdr.proofs.Taken.{Takes, value_takes, nested_takes}
 use Rattle.cosem_axdr.proofs.Texts.{text_spells}
 
--- a Data and how many bytes it takes: so many there are, and they spell it
+-- a Data and its number of bytes, which spell it and are at most all the bytes
 abbrev pub IsFound : List ℕ → Data × ℕ → Type 0
 IsFound bytes found = (found.1 ≤ length bytes) × IsSpelling (take found.1 bytes) (tree_of found.0)
 
@@ -51,11 +52,11 @@ data_only bytes d n within spelling =
     let len : length (take n bytes) ≡ n = omega (arith, length-take n bytes) in
     ap first_data (sym whole) ∙ data_again (take n bytes) (drop n bytes) d spelling ∙ ap (λ (m : ℕ). done DataFault (d, m)) len
 
--- what is written of a value that fits is read again, whatever stands behind it
+-- the text of a value that fits is read back, whatever bytes follow
 pub text_again : (d : Data) (rest : List ℕ) → IsFit (tree_of d) → first_data (text (tree_of d) ++ rest) ≡ Ok (d, length (text (tree_of d)))
 text_again d rest fit = data_again (text (tree_of d)) rest d (text_spells (tree_of d) fit)
 
--- code that answers as the definition does reads a Data that is spelled
+-- code with the outcome of the definition reads a Data that is spelled
 pub read_only : (bytes : List ℕ) (read : Result (Data × ℕ) DataFault) → Gives Memory (λ x. x) read (first_data bytes) → (d : Data) (n : ℕ) → n ≤ length bytes → IsSpelling (take n bytes) (tree_of d)
     → MatchResult read (λ x. (x.0 ≡ d) × (x.1 ≡ n)) (λ fault. fault ≡ Memory)
 read_only bytes (Ok x) gives d n within spelling =
@@ -67,7 +68,7 @@ read_only bytes (Err fault) (inr gives) d n within spelling = absurd (no_value (
     no_value : (y : Data × ℕ) (f : DataFault) → done DataFault y ≡ failed (Data × ℕ) f → ⊥
     no_value y f e = cc
 
--- no spelling begins another, and no bytes spell two values
+-- no spelling is a proper prefix of another, and no bytes spell two values
 pub begins_no_other : (bytes rest : List ℕ) (s t : Tree) → IsSpelling bytes s → IsSpelling (bytes ++ rest) t → (rest ≡ []) × (s ≡ t)
 begins_no_other bytes rest s t first second =
     let d = data_of s in

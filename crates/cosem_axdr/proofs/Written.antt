@@ -1,4 +1,4 @@
--- What a loop over items has written at its end.
+-- The state at the end of a loop over items.
 use Rattle.std.proofs.Common.{◌≡◌, ℕ, ◌+◌, ◌≤◌, min, arith, List, ◌++◌, length, drop, sym, ap, ◌∙◌, append_assoc, append-nil, drop_of_length-le}
 use Rattle.cosem_axdr.specs.Spelling.{length_text, texts}
 use Rattle.cosem_axdr.specs.Tree.{trees_of, count_of}
@@ -6,11 +6,11 @@ use Rattle.cosem_axdr.specs.View.{all_trees}
 use Rattle.cosem_axdr.specs.declared.value.Data.{Data}
 use Rattle.cosem_axdr.proofs.OneTree.{count_of-trees_of}
 
--- the texts of Datas, one after the other
+-- the texts of consecutive Datas
 abbrev all_texts : List Data → List ℕ
 all_texts ds = texts (trees_of (all_trees ds))
 
--- with no item left, the count and the items are written
+-- with no item left, the count and all items are written
 pub counted_is_written : (old behind_count new : List ℕ) (ds : List Data) (i : ℕ) → length ds ≤ i → behind_count ≡ old ++ length_text (length ds) → new ++ all_texts (drop i ds) ≡ behind_count ++ all_texts ds
     → new ≡ old ++ (length_text (count_of (trees_of (all_trees ds))) ++ all_texts ds)
 counted_is_written old behind_count new ds i past count so_far =

@@ -1,4 +1,4 @@
--- What `==` says of values: it holds exactly where they are one. They are compared by the numbers that tell values apart, part by part.
+-- `==` of values is equality: it compares the numeric codes of two values part by part.
 use Rattle.std.specs.Prelude.{Bool, true, false, ◌&&◌, ◌==◌}
 use base.Stored.{Gv, gnil, gnum, gcons}
 use Rattle.cosem_axdr.specs.Tree.{Trees}
@@ -13,10 +13,10 @@ is_same_code (gnum m) (gnum n) = m == n
 is_same_code (gcons a b) (gcons c d) = is_same_code a c && is_same_code b d
 is_same_code _ _ = false
 
--- whether two Datas are one
+-- whether two Datas are equal
 abbrev pub is_same : Data → Data → Bool
 is_same d e = is_same_code (stored (tree_of d)) (stored (tree_of e))
 
--- whether items are the same
+-- whether items are equal
 abbrev pub are_same : Trees → Trees → Bool
 are_same ts us = is_same_code (stored_all ts) (stored_all us)

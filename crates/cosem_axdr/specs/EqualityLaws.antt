@@ -1,4 +1,4 @@
--- `==` of Datas, and of items, holds exactly where they are one, so it is an equivalence.
+-- `==` of Datas, and of items, is equality, and so an equivalence relation.
 use Rattle.std.proofs.Common.{◌≡◌, ◌↔◌, IsTrue, Bool, true, refl, sym, ap, ap₂, ◌∙◌, subst}
 use Rattle.std.specs.Cmp.{IsEquivalence}
 use Rattle.std.proofs.lemmas.Bool.Decides.{same_from_decides}
@@ -11,7 +11,7 @@ use Rattle.cosem_axdr.specs.View.{tree_of}
 use Rattle.cosem_axdr.specs.declared.value.Data.{Data}
 use Rattle.cosem_axdr.specs.ViewLaws.{one_tree}
 
--- codes that are the same are one
+-- codes that compare as the same are equal
 same_code : (x y : Gv) → is_same_code x y ≡ true → x ≡ y
 unfolding is_same_code
 same_code gnil gnil e = refl
@@ -24,18 +24,18 @@ same_code (gnum m) (gcons c d) e = absurd cc
 same_code (gcons a b) gnil e = absurd cc
 same_code (gcons a b) (gnum n) e = absurd cc
 
--- each code is the same as itself
+-- each code compares as the same as itself
 code_itself : (x : Gv) → is_same_code x x ≡ true
 unfolding is_same_code
 code_itself gnil = refl
 code_itself (gnum m) = eq-eqb m m refl
 code_itself (gcons a b) = and_from _ _ (code_itself a) (code_itself b)
 
--- two truth values are one where each is true with the other
+-- two booleans are equal if each is true when the other is
 as_true : (a b : Bool) → (a ≡ true → b ≡ true) → (b ≡ true → a ≡ true) → a ≡ b
 as_true a b to from = same_from_decides a b (λ e. e, λ e. e) (from, to)
 
--- what holds exactly of one value each is an equivalence
+-- a test of equality is an equivalence relation
 equivalence : {K : Type 0} (same : K → K → Bool) → ((x y : K) → same x y ≡ true → x ≡ y) → ((x : K) → same x x ≡ true) → IsEquivalence same
 equivalence same one itself = record {
   refl = itself;
@@ -43,24 +43,24 @@ equivalence same one itself = record {
   congr = λ x y z e. ap (λ w. same w z) (one x y e);
 }
 
--- Datas that are the same are one
+-- Datas that compare as the same are equal
 pub is_same-true : (d e : Data) → is_same d e ≡ true → d ≡ e
 is_same-true d e same =
     one_tree d e (sym (stored_back (tree_of d)) ∙ ap (λ g. (back g).0) (same_code (stored (tree_of d)) (stored (tree_of e)) same) ∙ stored_back (tree_of e))
 
--- items that are the same are one
+-- items that compare as the same are equal
 pub are_same-true : (ts us : Trees) → are_same ts us ≡ true → ts ≡ us
 are_same-true ts us same =
     sym (stored_all_back ts) ∙ ap (λ g. (back g).1) (same_code (stored_all ts) (stored_all us) same) ∙ stored_all_back us
 
--- each Data is the same as itself, and so are items
+-- each Data compares as the same as itself, and so do items
 pub is_same-itself : (d : Data) → is_same d d ≡ true
 is_same-itself d = code_itself (stored (tree_of d))
 
 pub are_same-itself : (ts : Trees) → are_same ts ts ≡ true
 are_same-itself ts = code_itself (stored_all ts)
 
--- a test that holds exactly of one value each is `==`
+-- a test of equality is `==`
 pub is_same-is : (r : Bool) (d e : Data) → IsTrue r ↔ (d ≡ e) → r ≡ is_same d e
 is_same-is r d e tells =
     same_from_decides r (is_same d e) tells (is_same-true d e, λ one. subst (λ x. is_same d x ≡ true) one (is_same-itself d))
@@ -69,7 +69,7 @@ pub are_same-is : (r : Bool) (ts us : Trees) → IsTrue r ↔ (ts ≡ us) → r 
 are_same-is r ts us tells =
     same_from_decides r (are_same ts us) tells (are_same-true ts us, λ one. subst (λ x. are_same ts x ≡ true) one (are_same-itself ts))
 
--- `==` is an equivalence
+-- `==` is an equivalence relation
 pub is_same-equivalence : IsEquivalence is_same
 is_same-equivalence = equivalence is_same is_same-true is_same-itself
 

@@ -1,4 +1,5 @@
--- Each item of an array or structure is nested less deep than the whole, so a recursion over a Data ends.
+-- Each item of an array or structure has a smaller depth than the whole, so a recursion over a Data
+-- terminates.
 use Rattle.std.specs.Prelude.{◌≤◌, max, List, [], ◌∷◌}
 use Rattle.std.proofs.Common.{arith}
 use denote.Param.Weighed.{most}
@@ -8,7 +9,7 @@ use Rattle.cosem_axdr.specs.declared.value.Data.{Data}
 use Rattle.cosem_axdr.specs.declared.value.Data.TheVariants as variants
 use Rattle.cosem_axdr.specs.declared.value.Items.TheDeep.{deep-Data}
 
--- the deepest of the items is as deep as the items are said to be
+-- the greatest depth of the items is at most their declared depth
 pub falls : (items : List Data) → max (most deep-Data items) 0 ≤ nests (trees_of (all_trees items))
 falls [] = omega arith
 falls (variants.Null ∷ ds) = omega (arith, falls ds)

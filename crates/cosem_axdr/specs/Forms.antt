@@ -1,4 +1,5 @@
--- What a Data of one type holds (IEC 62056-6-2, common data types), and nothing for any other type: one level each, so that forms of several levels are made of them.
+-- The value of a Data as one type (IEC 62056-6-2, common data types), or none if it has another
+-- type. Each is one level deep; forms of several levels are composed of them.
 use Rattle.std.specs.Prelude.{ℕ, ℤ, Bool, List, Option, Some, None}
 use Rattle.cosem_axdr.specs.View.{list_of}
 use Rattle.cosem_axdr.specs.declared.value.Data.{Data}

@@ -1,26 +1,27 @@
--- The limits of a Data that is read or written, and the rule for a bit-string's unused bits.
+-- The limits of a Data that is read or written, and the unused bits of a bit-string.
 use Rattle.std.specs.Prelude.{ℕ, ◌+◌, ◌-◌, ◌*◌, ◌/◌, ◌%◌, ◌^◌, List, slice_index, slice_set}
 
--- how many bytes the text of a Data may have
+-- the maximum number of bytes of the text of a Data
 abbrev pub max_text : ℕ
 max_text = 8192
 
--- how many items an array or structure may have
+-- the maximum number of items of an array or structure
 abbrev pub max_items : ℕ
 max_items = 255
 
--- how many arrays and structures may lie one within the other
+-- the maximum number of arrays and structures nested in each other
 abbrev pub max_nesting : ℕ
 max_nesting = 8
 
--- how many bytes hold that many bits
+-- the number of bytes that hold this number of bits
 abbrev pub bytes_for : ℕ → ℕ
 bytes_for bits = (bits + 7) / 8
 
--- a byte's highest bits, the lower ones as 0
+-- a byte with all but its highest bits set to 0
 abbrev pub highest_bits : ℕ → ℕ → ℕ
 highest_bits bits byte = byte / 2 ^ (8 - bits) * 2 ^ (8 - bits)
 
--- the bytes of a bit-string with the bits past its count as 0: they are in the byte in which the count ends, if it ends within one
+-- the bytes of a bit-string with the bits past its count set to 0; these are in the byte in which
+-- the count ends, if it ends within one
 abbrev pub cleared : ℕ → List ℕ → List ℕ
 cleared bits bytes = slice_set bytes (bits / 8) (highest_bits (bits % 8) (slice_index bytes (bits / 8)))

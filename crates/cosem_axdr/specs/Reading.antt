@@ -1,9 +1,10 @@
--- Reading a Data from the front of bytes (A-XDR: IEC 61334-6, IEC 62056-5-3), with the fault that is met first. The order of faults is this meter's.
---     Place                    what is left of the bytes, and how many of them may still be wanted
---     bytes_at                 the one rule of wanting: all of them at once, TooLong before Truncated
+-- Reading a Data from the front of bytes (A-XDR: IEC 61334-6, IEC 62056-5-3), with the first fault
+-- found. The order of the faults is this meter's choice.
+--     Place                    the remaining bytes, and how many of them a Data may still use
+--     bytes_at                 the next bytes, requested at once: TooLong before Truncated
 --     length_at .. leaf_at     a length, a string, a number, a bit-string, a value of a fixed length, a value with no items
---     items_at .. value_at     items one after the other, a counted list of them, a value
---     first_data               the Data at the front of bytes, and how many of them it takes
+--     items_at .. value_at     consecutive items, a counted list of items, a value
+--     first_data               the Data at the front of bytes, and its number of bytes
 use Rattle.std.specs.Prelude.{◌≡◌, ℕ, zero, suc, ◌+◌, ◌-◌, ◌*◌, not, ◌&&◌, List, [], ◌∷◌, length, take, drop, fold, Result, Ok, Err, nat_lt, nat_le, ◌==◌, slice_index, if◌then◌else◌}
 use Rattle.std.specs.Int.{Width, w8, w16, w32, w64, byte_len, from_be_bytes, cast_signed}
 use Rattle.byte_reading.specs.Outcome.{◌>>=◌, ◌>>◌, guard, Fails}
@@ -15,31 +16,32 @@ use Rattle.cosem_axdr.specs.declared.fault.DataFault.TheVariants.{Truncated, Unk
 use Rattle.cosem_axdr.specs.declared.value.Data.{Data}
 use Rattle.cosem_axdr.specs.declared.value.Data.TheVariants.{Null, Array, Structure, Boolean, DoubleLong, DoubleLongUnsigned, OctetString, VisibleString, Utf8String, Integer, Long, Unsigned, LongUnsigned, Long64, Long64Unsigned, Enum, DateTime, Date, Time, BitString}
 
--- a place in the bytes: those from there on, and how many of them a Data may still take
+-- a place in the bytes: the remaining bytes, and how many of them a Data may still use
 pub record Place : Type 0 where
   pub bytes : List ℕ
   pub room : ℕ
 
--- the front of bytes
+-- the place at the front of bytes
 abbrev pub start : List ℕ → Place
 start bytes = record { bytes = bytes; room = max_text }
 
--- what a reader of X answers: the value and the place behind it, or the first fault
+-- the outcome of a reader of X: the value and the place after it, or the first fault
 abbrev pub Read : Type 0 → Type 0
 Read X = Result (X × Place) DataFault
 
--- a step of code that moves on through the bytes answers as the definition does
+-- a step of the code that advances through the bytes has the outcome of the definition
 abbrev pub Reads : {X Y : Type 0} → (X → Y) → Result X DataFault → Place → Read Y → Type 0
 Reads view (Ok x) new given = given ≡ Ok (view x, new)
 Reads view (Err fault) new given = Fails Memory fault given
 
--- what was read, seen as something else
+-- a reading whose value is converted
 abbrev pub read_as : {X Y : Type 0} → (X → Y) → Read X → Read Y
 read_as make read = do
   x ← read
   Ok (make x.0, x.1)
 
--- the next bytes, wanted all at once: first those past the last that a Data may take are judged, then those past the end
+-- the next bytes, requested at once: first those past the limit of a Data are refused, then those
+-- past the end
 abbrev pub bytes_at : ℕ → Place → Read (List ℕ)
 bytes_at n place = do
   guard (nat_le n place.room) TooLong
@@ -50,11 +52,11 @@ bytes_at n place = do
 abbrev pub byte_at : Place → Read ℕ
 byte_at place = read_as (λ bytes. slice_index bytes 0) (bytes_at 1 place)
 
--- the number whose bytes these are, the highest first
+-- the number that bytes hold, the highest first
 abbrev pub big_endian : List ℕ → ℕ
 big_endian bytes = fold (λ n byte. n * 256 + byte) 0 bytes
 
--- a length: itself below 80, or 81 to 84 and the one to four bytes of the length
+-- a length: one byte below 80 hex, or 81 to 84 hex followed by one to four bytes
 unfoldable pub length_at : Place → Read ℕ
 length_at place = do
   first ← byte_at place
@@ -62,7 +64,7 @@ length_at place = do
     guard (nat_lt 0x80 first.0 && nat_le first.0 0x84) TooLong
     read_as big_endian (bytes_at (first.0 - 0x80) first.1)
 
--- a string: its length and its bytes
+-- a string: its length, followed by its bytes
 unfoldable pub string_at : Place → Read (List ℕ)
 string_at place = do
   n ← length_at place
@@ -72,14 +74,14 @@ string_at place = do
 abbrev pub unsigned_at : Width → Place → Read ℕ
 unsigned_at w place = read_as (from_be_bytes w) (bytes_at (byte_len w) place)
 
--- a bit-string: the count of its bits and the bytes that hold them, unused bits as 0
+-- a bit-string: the number of its bits, and the bytes that hold them with unused bits set to 0
 unfoldable pub bits_at : Place → Read Data
 bits_at place = do
   bits ← length_at place
   bytes ← bytes_at (bytes_for bits.0) bits.1
   Ok (BitString bits.0 (cleared bits.0 bytes.0), bytes.1)
 
--- a value of a fixed length, by its tag
+-- a value of fixed length, by its tag
 unfoldable pub fixed_at : ℕ → Place → Read Data
 fixed_at tag place =
     if tag == 0x00 then Ok (Null, place) else
@@ -107,7 +109,7 @@ leaf_at tag place =
     if tag == 0x0C then read_as Utf8String (string_at place) else
     fixed_at tag place
 
--- so many items one after the other, each read by the given reader
+-- the given number of consecutive items, each read by the given reader
 unfoldable pub items_at : (Place → Read Data) → ℕ → Place → Read (List Data)
 items_at item_at zero place = Ok ([], place)
 items_at item_at (suc n) place = do
@@ -115,14 +117,14 @@ items_at item_at (suc n) place = do
   others ← items_at item_at n first.1
   Ok (first.0 ∷ others.0, others.1)
 
--- the count of items and the items
+-- the number of items, followed by the items
 unfoldable pub counted_at : (Place → Read Data) → Place → Read Trees
 counted_at item_at place = do
   count ← length_at place
   guard (nat_le count.0 max_items) TooLong
   read_as (λ items. trees_of (all_trees items)) (items_at item_at count.0 count.1)
 
--- a value, its items read by the given reader of what stands behind the tag of an array or structure
+-- a value, whose items after the tag of an array or structure are read by the given reader
 unfoldable pub value_at : (Place → Read Trees) → Place → Read Data
 value_at counted place = do
   tag ← byte_at place
@@ -130,12 +132,13 @@ value_at counted place = do
       if tag.0 == 0x02 then read_as Structure (counted tag.1) else
       leaf_at tag.0 tag.1
 
--- what stands behind the tag of an array or structure that may have so many levels: refused before the count is read where it may have none
+-- the contents of an array or structure of at most this many levels; with none allowed, refused
+-- before the count is read
 unfoldable pub nested_at : ℕ → Place → Read Trees
 nested_at zero place = Err TooDeep
 nested_at (suc levels) place = counted_at (value_at (nested_at levels)) place
 
--- the Data at the front of bytes, and how many of them it takes
+-- the Data at the front of bytes, and its number of bytes
 unfoldable pub first_data : List ℕ → Result (Data × ℕ) DataFault
 first_data bytes = do
   value ← value_at (nested_at max_nesting) (start bytes)

@@ -1,9 +1,10 @@
--- What bytes spell which value (A-XDR: IEC 61334-6, IEC 62056-5-3), by cases on the value, and the one spelling that is written.
+-- Which bytes spell which value (A-XDR: IEC 61334-6, IEC 62056-5-3), by cases on the value, and the
+-- one spelling that is written.
 --     IsLength, IsString, IsBits      a length in any of its forms, a string, a bit-string
---     Spells                          the tag of a value and then its contents
+--     Spells                          the tag of a value, followed by its contents
 --     IsSpelling                      a spelling within the limits of nesting and of bytes
 --     text                            the written spelling, with the shortest lengths
---     IsWithin, IsFine                numbers and bytes of their types' ranges; no more items or bits than may be
+--     IsWithin, IsFine                numbers and bytes in the ranges of their types; items and bits within the limits
 --     IsFit                           a value whose text is within the limits
 use Rattle.std.specs.Prelude.{◌≡◌, ◌⊎◌, ℕ, ◌+◌, ◌^◌, ◌<◌, ◌≤◌, Bool, not, ◌==◌, nat_lt, if◌then◌else◌, ℤ, FitsSigned, List, [], ◌∷◌, ◌++◌, length, slice_index}
 use Rattle.std.specs.Int.{Width, w8, w16, w32, w64, byte_len, from_be_bytes, to_be_bytes, cast_signed, cast_unsigned, bytes_high_first}
@@ -36,19 +37,20 @@ tag_of (time bytes) = 0x1B
 
 -- ---- what bytes spell
 
--- a length or count: itself below 80, or 81 to 84 and that many bytes of it, needed or not
+-- a length or count: one byte below 80 hex, or 81 to 84 hex and one to four bytes, even if fewer
+-- would do
 abbrev pub IsLength : List ℕ → ℕ → Type 0
 IsLength [] n = ⊥
 IsLength (first ∷ bytes) n = ((first < 0x80) × (bytes ≡ []) × (n ≡ first))
     ⊎ ((0x81 ≤ first) × (first ≤ 0x84) × (first ≡ 0x80 + length bytes) × (n ≡ big_endian bytes))
 
--- the length of a string, and its bytes
+-- the length of a string, followed by its bytes
 pub record IsString (contents string : List ℕ) : Type 0 where
   pub length_text : List ℕ
   pub parts : contents ≡ length_text ++ string
   pub is_length : IsLength length_text (length string)
 
--- the count of bits, and as many bytes as hold them, of which unused bits are read as 0
+-- the number of bits, followed by the bytes that hold them, whose unused bits are read as 0
 pub record IsBits (contents : List ℕ) (bits : ℕ) (bytes : List ℕ) : Type 0 where
   pub length_text : List ℕ
   pub raw : List ℕ
@@ -57,7 +59,7 @@ pub record IsBits (contents : List ℕ) (bits : ℕ) (bytes : List ℕ) : Type 0
   pub long : length raw ≡ bytes_for bits
   pub value : bytes ≡ cleared bits raw
 
--- the count of items, which is not too high, and the items
+-- the number of items, within the limit, followed by the items
 pub record IsCounted (AreItems : List ℕ → Type 0) (contents : List ℕ) (count : ℕ) : Type 0 where
   pub length_text : List ℕ
   pub items : List ℕ
@@ -66,13 +68,13 @@ pub record IsCounted (AreItems : List ℕ → Type 0) (contents : List ℕ) (cou
   pub few : count ≤ max_items
   pub are_items : AreItems items
 
--- a tag and then contents
+-- a tag, followed by contents
 pub record IsTagged (tag : ℕ) (IsContents : List ℕ → Type 0) (bytes : List ℕ) : Type 0 where
   pub contents : List ℕ
   pub parts : bytes ≡ tag ∷ contents
   pub are_contents : IsContents contents
 
--- one spelling and then others
+-- a first spelling, followed by others
 pub record IsJoined (IsFirst AreOthers : List ℕ → Type 0) (bytes : List ℕ) : Type 0 where
   pub first : List ℕ
   pub others : List ℕ
@@ -87,7 +89,7 @@ IsUnsigned w contents n = (length contents ≡ byte_len w) × (n ≡ from_be_byt
 abbrev pub IsSigned : Width → List ℕ → ℤ → Type 0
 IsSigned w contents z = (length contents ≡ byte_len w) × (z ≡ cast_signed w (from_be_bytes w contents))
 
--- so many bytes as they are
+-- a fixed number of bytes, unchanged
 abbrev pub IsFixed : ℕ → List ℕ → List ℕ → Type 0
 IsFixed n contents bytes = (length contents ≡ n) × (bytes ≡ contents)
 
@@ -95,7 +97,7 @@ IsFixed n contents bytes = (length contents ≡ n) × (bytes ≡ contents)
 abbrev pub IsBoolean : List ℕ → Bool → Type 0
 IsBoolean contents b = (byte : ℕ) × (contents ≡ byte ∷ []) × (b ≡ not (byte == 0))
 
--- what stands behind the tag of a value, and items one after the other
+-- the contents of a value, and consecutive items
 abbrev mutual
   pub AreContents : List ℕ → Tree → Type 0
   AreContents contents null = contents ≡ []
@@ -123,11 +125,11 @@ abbrev mutual
   AreSpelled bytes no_trees = bytes ≡ []
   AreSpelled bytes (tree t ts) = IsJoined (IsTagged (tag_of t) (λ contents. AreContents contents t)) (λ others. AreSpelled others ts) bytes
 
--- these bytes spell the value: its tag and its contents
+-- bytes that spell the value: its tag and its contents
 abbrev pub Spells : List ℕ → Tree → Type 0
 Spells bytes t = IsTagged (tag_of t) (λ contents. AreContents contents t) bytes
 
--- a spelling that a reader takes: not nested too deep, and not too long
+-- a spelling that a reader accepts: neither nested too deep nor too long
 pub record IsSpelling (bytes : List ℕ) (t : Tree) : Type 0 where
   pub spells : Spells bytes t
   pub flat : nesting t ≤ max_nesting
@@ -135,7 +137,7 @@ pub record IsSpelling (bytes : List ℕ) (t : Tree) : Type 0 where
 
 -- ---- what is written
 
--- the shortest form of a length; of one of 2 ^ 32 or more the lowest four bytes
+-- the shortest form of a length; the lowest four bytes of one of 2 ^ 32 or more
 abbrev pub length_text : ℕ → List ℕ
 length_text n =
     if nat_lt n 0x80 then n ∷ [] else
@@ -144,11 +146,11 @@ length_text n =
     if nat_lt n (2 ^ 24) then 0x83 ∷ bytes_high_first 3 n else
     0x84 ∷ bytes_high_first 4 n
 
--- a string behind its length
+-- the length of a string, followed by its bytes
 abbrev pub string_text : List ℕ → List ℕ
 string_text bytes = length_text (length bytes) ++ bytes
 
--- what is written behind the tag of a value, and items one after the other
+-- the written contents of a value, and of consecutive items
 abbrev mutual
   pub contents_text : Tree → List ℕ
   contents_text null = []
@@ -182,11 +184,12 @@ text t = tag_of t ∷ contents_text t
 
 -- ---- which values fit
 
--- bytes, and not just numbers
+-- numbers that are bytes
 abbrev pub IsBytes : List ℕ → Type 0
 IsBytes bytes = (i : ℕ) → slice_index bytes i < 256
 
--- each number, and each byte, is of its type's range: so it is of each Data that a program holds
+-- each number and each byte is in the range of its type: this holds of every Data that a program
+-- can hold
 abbrev mutual
   pub IsWithin : Tree → Type 0
   IsWithin null = Unit {0}
@@ -214,7 +217,8 @@ abbrev mutual
   AreWithin no_trees = Unit {0}
   AreWithin (tree t ts) = IsWithin t × AreWithin ts
 
--- no array or structure has too many items, and each bit-string has the bytes for its bits, unused ones as 0
+-- no array or structure has more items than allowed, and each bit-string has exactly the bytes of
+-- its bits, unused ones 0
 abbrev mutual
   pub IsFine : Tree → Type 0
   IsFine null = Unit {0}
@@ -242,7 +246,7 @@ abbrev mutual
   AreFine no_trees = Unit {0}
   AreFine (tree t ts) = IsFine t × AreFine ts
 
--- a value that is within all the limits of a reader
+-- a value within all the limits of a reader
 pub record IsFit (t : Tree) : Type 0 where
   pub within : IsWithin t
   pub fine : IsFine t

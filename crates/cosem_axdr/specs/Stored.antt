@@ -1,4 +1,5 @@
--- The code by which a proof tells items apart: each tree as a tree of numbers, its tag first, and the way back.
+-- The code by which proofs distinguish items: each tree as a tree of numbers with its tag first,
+-- and the inverse.
 use Rattle.std.specs.Prelude.{◌≡◌, ℕ, ℤ, pos, negsuc, Bool, true, false, List, [], ◌∷◌, ◌==◌, if◌then◌else◌, refl}
 use Rattle.std.proofs.Common.{sym, ap, ap₂, ◌∙◌}
 use base.Stored.{Gv, gnil, gnum, gcons, num, Coded}
@@ -16,7 +17,7 @@ tail gnil = gnil
 tail (gnum n) = gnil
 tail (gcons a b) = b
 
--- a truth value as a number, and back
+-- a boolean as a number, and the inverse
 abbrev boolean_code : Bool → Gv
 boolean_code true = gnum 1
 boolean_code false = gnum 0
@@ -28,7 +29,7 @@ boolean_back-code : (b : Bool) → boolean_back (boolean_code b) ≡ b
 boolean_back-code true = refl
 boolean_back-code false = refl
 
--- a signed number as its sign and a number, and back
+-- a signed number as its sign and its magnitude, and the inverse
 abbrev integer_code : ℤ → Gv
 integer_code (pos n) = gcons (gnum 0) (gnum n)
 integer_code (negsuc n) = gcons (gnum 1) (gnum n)
@@ -40,7 +41,7 @@ integer_back-code : (z : ℤ) → integer_back (integer_code z) ≡ z
 integer_back-code (pos n) = refl
 integer_back-code (negsuc n) = refl
 
--- bytes one after the other, and back
+-- bytes as a chain of pairs, and the inverse
 abbrev octets_code : List ℕ → Gv
 octets_code [] = gnil
 octets_code (b ∷ bytes) = gcons (gnum b) (octets_code bytes)
@@ -54,7 +55,7 @@ octets_back-code : (bytes : List ℕ) → octets_back (octets_code bytes) ≡ by
 octets_back-code [] = refl
 octets_back-code (b ∷ bytes) = ap (λ (rest : List ℕ). b ∷ rest) (octets_back-code bytes)
 
--- a tree as its tag and what it holds, items one after the other
+-- a tree as its tag and its contents, and consecutive items
 abbrev mutual
   pub stored : Tree → Gv
   stored null = gcons (gnum 0x00) gnil
@@ -82,7 +83,7 @@ abbrev mutual
   stored_all no_trees = gnil
   stored_all (tree t ts) = gcons (stored t) (stored_all ts)
 
--- the tree of a tag, what is kept beside it, and the items that are read from that
+-- the tree of a tag, its stored contents, and the items read from these
 abbrev by_tag : ℕ → Gv → Trees → Tree
 by_tag tag fields items =
     if tag == 0x01 then array items else
@@ -106,13 +107,13 @@ by_tag tag fields items =
     if tag == 0x1B then time (octets_back fields) else
     null
 
--- a cell read as a tree and as items at once
+-- a cell decoded as a tree and as items at once
 abbrev pub back : Gv → Tree × Trees
 back gnil = (null, no_trees)
 back (gnum n) = (null, no_trees)
 back (gcons a b) = (by_tag (num a) b (back b).1, tree (back a).0 (back b).1)
 
--- nothing is lost
+-- decoding a stored tree returns the tree
 mutual
   pub stored_back : (t : Tree) → (back (stored t)).0 ≡ t
   stored_back null = refl
@@ -140,6 +141,6 @@ mutual
   stored_all_back no_trees = refl
   stored_all_back (tree t ts) = ap₂ tree (stored_back t) (stored_all_back ts)
 
--- the code of items, for a model whose value holds some
+-- the code of items, for models whose values contain items
 abbrev pub coded_trees : Coded Trees
 coded_trees = record { code = stored_all; inj = λ x y e. sym (stored_all_back x) ∙ ap (λ g. (back g).1) e ∙ stored_all_back y }

@@ -1,10 +1,11 @@
--- A value of DLMS/COSEM Data (IEC 62056-6-2, common data types) as a finite tree, without the memory that holds it.
+-- A value of DLMS/COSEM Data (IEC 62056-6-2, common data types) as a finite tree, independent of
+-- the memory that holds it.
 --     Tree, Trees     a value by its type, and the items of an array or structure
---     trees_of        items from a list;  count_of: how many
---     nesting         how many arrays and structures lie within one another in a value;  nests: in items
+--     trees_of        items from a list;  count_of: their number
+--     nesting         the depth of arrays and structures in a value;  nests: in items
 use Rattle.std.specs.Prelude.{ℕ, ◌+◌, max, ℤ, Bool, List, [], ◌∷◌}
 
--- a value: numbers and truth values as such, strings and times as their bytes
+-- a value: numbers and booleans as they are, strings and times as their bytes
 mutual
   pub data Tree : Type 0 where
     null : Tree
@@ -37,12 +38,12 @@ abbrev pub trees_of : List Tree → Trees
 trees_of [] = no_trees
 trees_of (t ∷ ts) = tree t (trees_of ts)
 
--- how many items there are
+-- the number of items
 abbrev pub count_of : Trees → ℕ
 count_of no_trees = 0
 count_of (tree t ts) = count_of ts + 1
 
--- the most arrays and structures that lie one within the other
+-- the maximum number of arrays and structures nested in each other
 abbrev mutual
   pub nesting : Tree → ℕ
   nesting null = 0

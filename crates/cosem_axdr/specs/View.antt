@@ -1,4 +1,4 @@
--- A Data as its tree, and back: the two say the same.
+-- A Data as its tree, and the inverse.
 --     tree_of, data_of         a Data's tree, and the Data of a tree
 --     all_trees, list_of       the trees of a list of Datas, and the Datas of items
 use Rattle.std.specs.Prelude.{List, [], ◌∷◌, map}

@@ -1,4 +1,4 @@
--- A Data and its tree say the same: there and back is where one was.
+-- Converting a Data to its tree and back, or a tree to its Data and back, changes nothing.
 use Rattle.std.proofs.Common.{◌≡◌, refl, sym, ap, ◌∙◌}
 use Rattle.cosem_axdr.specs.Tree.{Tree, null, array, structure, boolean, bit_string, double_long, double_long_unsigned, octet_string, visible_string, utf8_string, integer, long, unsigned, long_unsigned, long64, long64_unsigned, enumerated, date_time, date, time}
 use Rattle.cosem_axdr.specs.View.{tree_of, data_of}
@@ -51,6 +51,6 @@ tree_of-data_of (date_time bytes) = refl
 tree_of-data_of (date bytes) = refl
 tree_of-data_of (time bytes) = refl
 
--- Datas of one tree are equal
+-- Datas with equal trees are equal
 pub one_tree : (d e : Data) → tree_of d ≡ tree_of e → d ≡ e
 one_tree d e same = sym (data_of-tree_of d) ∙ ap data_of same ∙ data_of-tree_of e

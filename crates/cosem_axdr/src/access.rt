@@ -3,9 +3,9 @@ ghost use Rattle.cosem_axdr.specs.Forms.{array_of, structure_of, octets_of, bool
 
 use crate::value::Data;
 
-/// What a Data of one type holds. A Data of any other type gives `None`.
+/// Accessors that return a Data's value as one type, or `None` if the Data is of another type.
 impl Data {
-    /// The items of an array.
+    /// Returns the items of an array.
     pub fn array(&self) -> Option<&[Data]>
         ensures { option_map (λ s. s.now) result ≡ array_of self.now }
     {
@@ -15,7 +15,7 @@ impl Data {
         }
     }
 
-    /// The items of a structure.
+    /// Returns the items of a structure.
     pub fn structure(&self) -> Option<&[Data]>
         ensures { option_map (λ s. s.now) result ≡ structure_of self.now }
     {
@@ -25,7 +25,7 @@ impl Data {
         }
     }
 
-    /// The bytes of an octet-string.
+    /// Returns the bytes of an octet-string.
     pub fn octets(&self) -> Option<&[u8]>
         ensures { option_map (λ s. s.now) result ≡ octets_of self.now }
     {
@@ -35,7 +35,7 @@ impl Data {
         }
     }
 
-    /// The value of a boolean.
+    /// Returns the value of a boolean.
     pub fn boolean(&self) -> Option<bool>
         ensures { result ≡ boolean_of self.now }
     {
@@ -45,7 +45,7 @@ impl Data {
         }
     }
 
-    /// The number of a double-long-unsigned.
+    /// Returns the number of a double-long-unsigned.
     pub fn double_long_unsigned(&self) -> Option<u32>
         ensures { result ≡ double_long_unsigned_of self.now }
     {
@@ -55,7 +55,7 @@ impl Data {
         }
     }
 
-    /// The number of a long-unsigned.
+    /// Returns the number of a long-unsigned.
     pub fn long_unsigned(&self) -> Option<u16>
         ensures { result ≡ long_unsigned_of self.now }
     {
@@ -65,7 +65,7 @@ impl Data {
         }
     }
 
-    /// The number of an unsigned.
+    /// Returns the number of an unsigned.
     pub fn unsigned(&self) -> Option<u8>
         ensures { result ≡ unsigned_of self.now }
     {
@@ -75,7 +75,7 @@ impl Data {
         }
     }
 
-    /// The number of an enum.
+    /// Returns the number of an enum.
     pub fn enumerated(&self) -> Option<u8>
         ensures { result ≡ enumerated_of self.now }
     {
@@ -85,7 +85,7 @@ impl Data {
         }
     }
 
-    /// The number of an integer.
+    /// Returns the number of an integer.
     pub fn integer(&self) -> Option<i8>
         ensures { result ≡ integer_of self.now }
     {
@@ -95,7 +95,7 @@ impl Data {
         }
     }
 
-    /// The twelve bytes of a date-time.
+    /// Returns the twelve bytes of a date-time.
     pub fn date_time(&self) -> Option<&[u8]>
         ensures { option_map (λ s. s.now) result ≡ date_time_of self.now }
     {
@@ -105,7 +105,7 @@ impl Data {
         }
     }
 
-    /// The five bytes of a date.
+    /// Returns the five bytes of a date.
     pub fn date(&self) -> Option<&[u8]>
         ensures { option_map (λ s. s.now) result ≡ date_of self.now }
     {
@@ -115,7 +115,7 @@ impl Data {
         }
     }
 
-    /// The four bytes of a time.
+    /// Returns the four bytes of a time.
     pub fn time(&self) -> Option<&[u8]>
         ensures { option_map (λ s. s.now) result ≡ time_of self.now }
     {

@@ -43,7 +43,7 @@ impl Eq for Items {
     ghost laws = { are_same-equivalence };
 }
 
-// Whether two Datas are one.
+// Returns whether two Datas are equal.
 #[cycle(comparing)]
 fn is_same(value: &Data, other: &Data) -> bool
     ensures { IsTrue result ↔ (value.now ≡ other.now) }
@@ -73,7 +73,7 @@ fn is_same(value: &Data, other: &Data) -> bool
     }
 }
 
-// Whether items are the same.
+// Returns whether two sequences of items are equal.
 #[cycle(comparing)]
 fn items_are_same(items: &Items, others: &Items) -> bool
     ensures { IsTrue result ↔ (items.now ≡ others.now) }
@@ -81,7 +81,7 @@ fn items_are_same(items: &Items, others: &Items) -> bool
     all_are_same(&items.items, &others.items)
 }
 
-// Whether Datas are, one by one.
+// Returns whether two lists have the same length and equal Datas at each index.
 #[cycle(comparing)]
 fn all_are_same(values: &[Data], others: &[Data]) -> bool
     ensures { IsTrue result ↔ (values.now ≡ others.now) }

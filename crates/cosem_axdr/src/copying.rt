@@ -6,7 +6,7 @@ use crate::value::{Data, Items};
 use std::alloc::{AllocError, Global};
 
 impl Data {
-    /// A copy of the value, in memory of its own.
+    /// Returns a newly allocated copy of the value.
     #[cycle(copying)]
     pub fn try_clone(&self, alloc: Global) -> Result<Data, AllocError>
         ensures { IfOk result (λ copy. copy ≡ self.now) }
@@ -39,7 +39,7 @@ impl Data {
     }
 }
 
-// A copy of items.
+// Returns a newly allocated copy of items.
 #[cycle(copying)]
 fn items_clone(alloc: Global, items: &[Data]) -> Result<Items, AllocError>
     ensures { IfOk result (λ copies. copies ≡ trees_of (all_trees items.now)) }

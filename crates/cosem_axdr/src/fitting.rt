@@ -8,15 +8,16 @@ use crate::limits::{BITS_OF_BYTE, MAX_ITEMS, MAX_NESTING, MAX_TEXT, bytes_for};
 use crate::measuring::text_len;
 use crate::value::Data;
 
-/// Whether a value is within the limits of a reader: at most 255 items in an array or structure, at most eight of these one within the other, the bytes of each
-/// bit-string as many as its bits need and the unused ones 0, and at most 8,192 bytes of text.
+/// Returns whether a value is within the limits of a reader: at most 255 items in an array or
+/// structure, at most eight arrays and structures nested in each other, exactly the bytes that each
+/// bit-string needs with the unused bits 0, and a text of at most 8,192 bytes.
 pub fn fits(value: &Data) -> bool
     ensures { IsTrue result ↔ IsFit (tree_of value.now) }
 {
     is_flat(value, MAX_NESTING) && is_fine(value) && text_len(value) <= MAX_TEXT as u64
 }
 
-// Whether at most so many arrays and structures lie one within the other.
+// Returns whether at most `levels` arrays and structures are nested in each other.
 #[cycle(flatness)]
 fn is_flat(value: &Data, levels: usize) -> bool
     ensures { IsTrue result ↔ (nesting (tree_of value.now) ≤ levels) }
@@ -28,7 +29,7 @@ fn is_flat(value: &Data, levels: usize) -> bool
     }
 }
 
-// Whether that is so of each item.
+// Returns whether `is_flat` holds for each item.
 #[cycle(flatness)]
 fn are_flat(items: &[Data], levels: usize) -> bool
     ensures { IsTrue result ↔ (nests (trees_of (all_trees items.now)) ≤ levels) }
@@ -41,7 +42,8 @@ fn are_flat(items: &[Data], levels: usize) -> bool
     true
 }
 
-// Whether no array or structure has too many items, and each bit-string has the bytes of its bits.
+// Returns whether no array or structure has more than 255 items and each bit-string has the bytes
+// of its bits.
 #[cycle(fineness)]
 fn is_fine(value: &Data) -> bool
     ensures fine { IsTrue result ↔ IsFine (tree_of value.now) }
@@ -71,7 +73,7 @@ fn is_fine(value: &Data) -> bool
     }
 }
 
-// Whether that is so of each item.
+// Returns whether `is_fine` holds for each item.
 #[cycle(fineness)]
 fn are_fine(items: &[Data]) -> bool
     ensures fine { IsTrue result ↔ AreFine (trees_of (all_trees items.now)) }
@@ -85,7 +87,7 @@ fn are_fine(items: &[Data]) -> bool
     true
 }
 
-// Whether a bit-string has as many bytes as its bits need, the unused bits 0.
+// Returns whether a bit-string has exactly the bytes that its bits need, with the unused bits 0.
 fn is_clear(bits: usize, bytes: &[u8]) -> bool
     ensures clear { IsTrue result ↔ (length bytes.now ≡ bytes_for bits) × (cleared bits bytes.now ≡ bytes.now) }
     ensures within { IsBytes bytes.now }
@@ -102,14 +104,15 @@ fn is_clear(bits: usize, bytes: &[u8]) -> bool
     last >> unused << unused == last
 }
 
-// A number is one of its type, whichever it is: the range of a number behind a reference is known once it is read.
+// Returns true. Reading a number through a reference makes the range of its type known to the
+// proof.
 fn is_number<T: Drop>(_number: T) -> bool
     ensures { IsTrue result }
 {
     true
 }
 
-// Bytes are bytes, whichever they are.
+// Returns true. Its contract makes known that the elements of a byte slice are below 256.
 fn are_bytes(_bytes: &[u8]) -> bool
     ensures yes { IsTrue result }
     ensures within { IsBytes _bytes.now }
@@ -117,7 +120,7 @@ fn are_bytes(_bytes: &[u8]) -> bool
     true
 }
 
-// An array has as many bytes as its type says.
+// Returns true. Its contract makes known that an array has the length of its type.
 fn is_array<const N: usize>(bytes: [u8; N]) -> bool
     ensures yes { IsTrue result }
     ensures len { length bytes.entry ≡ N }

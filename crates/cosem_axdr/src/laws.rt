@@ -1,9 +1,10 @@
-//! What holds of spellings as such: each function is a law, which its contract states and a call of it makes known.
+//! Laws of spellings. The contract of each function states a law; calling the function makes it
+//! known to the caller's proof.
 ghost use Rattle.std.specs.Prelude.{◌≡◌, ℕ, List, [], ◌++◌};
 ghost use Rattle.cosem_axdr.specs.Tree.{Tree};
 ghost use Rattle.cosem_axdr.specs.Spelling.{IsSpelling, IsFit, text};
 
-/// No spelling begins another one, and no bytes spell two values.
+/// No spelling is a proper prefix of another, and no bytes spell two values.
 pub fn no_spelling_begins_another()
     ensures { (bytes rest : List ℕ) (s t : Tree) → IsSpelling bytes s → IsSpelling (bytes ++ rest) t → (rest ≡ []) × (s ≡ t) }
 {}

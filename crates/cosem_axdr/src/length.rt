@@ -1,4 +1,5 @@
-//! Lengths and counts (IEC 62056-5-3, A-XDR encoding; for the association's APDUs ISO/IEC 8825-1): below 80 as they are, else 81 to 84 and that many bytes.
+//! Lengths and counts: one byte below 80 hex, else 81 to 84 hex followed by one to four bytes (IEC
+//! 62056-5-3, A-XDR encoding; for the APDUs of the association ISO/IEC 8825-1).
 ghost use Rattle.std.specs.Prelude.{◌≡◌, ◌≤◌, ◌++◌, length, OnOk, OnErr};
 ghost use Rattle.cosem_axdr.specs.Reading.{big_endian};
 ghost use Rattle.cosem_axdr.specs.Spelling.{length_text};
@@ -7,7 +8,7 @@ use byteorder::{BigEndian, ByteOrder};
 use octets::Octets;
 use std::alloc::AllocError;
 
-/// The number whose bytes these are, at most four of them, the highest first.
+/// Returns the number that at most four bytes hold, highest byte first.
 #[tactic(auto, using(crate::proofs::BigEndian::all_bytes))]
 pub fn number_of(bytes: &[u8]) -> usize
     requires { length bytes.now ≤ 4 }
@@ -19,8 +20,8 @@ pub fn number_of(bytes: &[u8]) -> usize
     BigEndian::read_uint(bytes, bytes.len()) as usize
 }
 
-/// Appends a length or count in its shortest form; of one of 2^32 or more its lowest four bytes. Out of
-/// memory nothing is appended.
+/// Appends a length or count in its shortest form; one of 2^32 or more as its lowest four bytes. If
+/// out of memory, appends nothing.
 pub fn append_length(length: usize, out: &mut Octets) -> Result<(), AllocError>
     ensures ok { OnOk result (out.new ≡ out.old ++ length_text length) }
     ensures unchanged_on_error { OnErr result (out.new ≡ out.old) }

@@ -1,7 +1,10 @@
-//! The values of DLMS/COSEM, type Data (IEC 62056-6-2, common data types), and their A-XDR texts (IEC 62056-5-3; IEC 61334-6).
+//! Values of the DLMS/COSEM type Data (IEC 62056-6-2, common data types) and their A-XDR encoding
+//! (IEC 62056-5-3; IEC 61334-6).
 //!
-//! `read` takes a Data from the front of bytes, `write` writes its one text with the shortest lengths, `fits` tells whether a value is within the limits of `read`,
-//! and `text_len` how long its text is. The limits, of 8,192 bytes, 255 items and eight levels, and the order of the faults are this product's own.
+//! `read` reads a Data from the front of bytes, `write` writes its one encoding with the shortest
+//! lengths, `fits` returns whether a value is within the limits of `read`, and `text_len` the
+//! length of its encoding. The limits (8,192 bytes, 255 items, eight levels) and the order of the
+//! faults are this product's own.
 #![tactic(auto)]
 
 mod access;

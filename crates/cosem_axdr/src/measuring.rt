@@ -6,7 +6,7 @@ ghost use Rattle.cosem_axdr.specs.Spelling.{text, texts, contents_text, length_t
 use crate::value::Data;
 use octets::Octets;
 
-/// How many bytes the text of a value has, or `u64::MAX` where that is more.
+/// Returns the length of a value's text in bytes, at most `u64::MAX` (saturating).
 #[cycle(measuring)]
 pub fn text_len(value: &Data) -> u64
     ensures { result ≡ min (length (text (tree_of value.now))) u64.MAX }
@@ -14,7 +14,7 @@ pub fn text_len(value: &Data) -> u64
     contents_len(value).saturating_add(1)
 }
 
-// How many bytes stand behind the tag of a value.
+// Returns the number of bytes after the tag of a value.
 #[cycle(measuring)]
 fn contents_len(value: &Data) -> u64
     ensures { result ≡ min (length (contents_text (tree_of value.now))) u64.MAX }
@@ -43,7 +43,7 @@ fn contents_len(value: &Data) -> u64
     }
 }
 
-// How many bytes items have, one after the other.
+// Returns the number of bytes of consecutive items.
 #[cycle(measuring)]
 fn items_len(items: &[Data]) -> u64
     ensures { result ≡ min (length (texts (trees_of (all_trees items.now)))) u64.MAX }
@@ -55,14 +55,14 @@ fn items_len(items: &[Data]) -> u64
     len
 }
 
-// How many bytes a string has behind its tag.
+// Returns the number of bytes of a string after its tag.
 fn string_len(bytes: &Octets) -> u64
     ensures { result ≡ min (length (string_text bytes.now)) u64.MAX }
 {
     length_len(bytes.len()).saturating_add(bytes.len() as u64)
 }
 
-// How many bytes the shortest form of a length has.
+// Returns the number of bytes of the shortest form of a length.
 fn length_len(count: usize) -> u64
     ensures { result ≡ length (length_text count) }
 {

@@ -9,7 +9,8 @@ use crate::limits::MAX_TEXT;
 use byteorder::{BigEndian, ByteOrder};
 use std::marker::Model;
 
-/// A place in bytes that are read from left to right: what is left of them, and how many of them a Data may still take.
+/// A position in bytes that are read from left to right: the remaining bytes, and how many of them
+/// the Data may still use.
 #[derive(Drop)]
 pub(crate) struct Reader<'a> {
     rest: &'a [u8],
@@ -25,7 +26,7 @@ impl<'a> Model for Reader<'a> {
 }
 
 impl<'a> Reader<'a> {
-    /// At the front of bytes.
+    /// Creates a reader at the front of bytes.
     pub(crate) fn new(bytes: &'a [u8]) -> Self
         ensures { result ≡ start bytes.now }
     {
@@ -35,14 +36,14 @@ impl<'a> Reader<'a> {
         }
     }
 
-    /// How many bytes are left.
+    /// Returns the number of remaining bytes.
     pub(crate) fn remaining(&self) -> usize
         ensures { result ≡ length self.now.bytes }
     {
         self.rest.len()
     }
 
-    /// The next bytes, wanted all at once.
+    /// Reads the next `count` bytes. All of them must be there; otherwise none is read.
     pub(crate) fn bytes(&mut self, count: usize) -> Result<&'a [u8], DataFault>
         ensures read { Reads (λ bytes. bytes.now) result self.new (bytes_at count self.old) }
         ensures len { IfOk result (λ bytes. length bytes.now ≡ count) }
@@ -59,14 +60,14 @@ impl<'a> Reader<'a> {
         Ok(bytes)
     }
 
-    /// The next byte.
+    /// Reads the next byte.
     pub(crate) fn byte(&mut self) -> Result<u8, DataFault>
         ensures { Reads (λ byte. byte) result self.new (byte_at self.old) }
     {
         Ok(self.bytes(1)?[0])
     }
 
-    /// The next `N` bytes.
+    /// Reads the next `N` bytes.
     pub(crate) fn array<const N: usize>(&mut self) -> Result<[u8; N], DataFault>
         ensures { Reads (λ bytes. bytes) result self.new (bytes_at N self.old) }
     {
@@ -75,7 +76,7 @@ impl<'a> Reader<'a> {
         Ok(array)
     }
 
-    /// The next number of two bytes, the highest first.
+    /// Reads a number of two bytes, the highest first.
     #[tactic(auto, using(crate::proofs::BigEndian::two_bytes))]
     pub(crate) fn read_u16(&mut self) -> Result<u16, DataFault>
         ensures { Reads (λ number. number) result self.new (unsigned_at w16 self.old) }
@@ -83,7 +84,7 @@ impl<'a> Reader<'a> {
         Ok(BigEndian::read_u16(self.bytes(2)?))
     }
 
-    /// The next number of four bytes, the highest first.
+    /// Reads a number of four bytes, the highest first.
     #[tactic(auto, using(crate::proofs::BigEndian::four_bytes))]
     pub(crate) fn read_u32(&mut self) -> Result<u32, DataFault>
         ensures { Reads (λ number. number) result self.new (unsigned_at w32 self.old) }
@@ -91,7 +92,7 @@ impl<'a> Reader<'a> {
         Ok(BigEndian::read_u32(self.bytes(4)?))
     }
 
-    /// The next number of eight bytes, the highest first.
+    /// Reads a number of eight bytes, the highest first.
     #[tactic(auto, using(crate::proofs::BigEndian::eight_bytes))]
     pub(crate) fn read_u64(&mut self) -> Result<u64, DataFault>
         ensures { Reads (λ number. number) result self.new (unsigned_at w64 self.old) }
@@ -99,7 +100,8 @@ impl<'a> Reader<'a> {
         Ok(BigEndian::read_u64(self.bytes(8)?))
     }
 
-    /// A length or count: below 80 as it is, or 81 to 84 and that many bytes of it.
+    /// Reads a length or count: one byte below 80 hex, or 81 to 84 hex followed by one to four
+    /// bytes.
     #[tactic(auto, unfolding(crate::specs::Reading::length_at))]
     pub(crate) fn length(&mut self) -> Result<usize, DataFault>
         ensures { Reads (λ n. n) result self.new (length_at self.old) }
@@ -111,7 +113,7 @@ impl<'a> Reader<'a> {
         }
     }
 
-    /// The bytes of a string, behind their length.
+    /// Reads a string: its length, followed by its bytes.
     #[tactic(auto, unfolding(crate::specs::Reading::string_at))]
     pub(crate) fn string(&mut self) -> Result<&'a [u8], DataFault>
         ensures { Reads (λ bytes. bytes.now) result self.new (string_at self.old) }

@@ -13,23 +13,25 @@ use crate::value::{Data, Items};
 use octets::Octets;
 use std::alloc::Global;
 
-/// Reads the Data at the front of bytes, and says how many bytes it takes.
+/// Reads the Data at the front of bytes and returns it with the number of bytes it occupies.
 ///
-/// Bytes are wanted from left to right, and the first fault that is met is the answer: TooLong where a byte past the 8,192nd is wanted, Truncated past the end.
-/// A number's bytes, a string's length and its contents are each wanted all at once.
+/// Bytes are read from left to right, and the first fault found is returned: `TooLong` if a byte
+/// past the 8,192nd is needed, then `Truncated` if one past the end is. All the bytes of a number,
+/// of a string's length or of its contents are requested at once. Returns `Memory` if out of
+/// memory.
 pub fn read(alloc: Global, bytes: &[u8]) -> Result<(Data, usize), DataFault>
-    // The bytes that a Data takes spell it.
+    // The bytes that a Data occupies spell it.
     ensures found { IfOk result (λ read. (read.1 ≤ length bytes.now) × IsSpelling (take read.1 bytes.now) (tree_of read.0)) }
-    // Where the bytes begin with a spelling, what it spells is read.
+    // If the bytes begin with a spelling of a value, that value is read, unless out of memory.
     ensures only { (d : Data) (n : ℕ) → n ≤ length bytes.now → IsSpelling (take n bytes.now) (tree_of d)
         → MatchResult result (λ read. (read.0 ≡ d) × (read.1 ≡ n)) (λ fault. fault ≡ DataFault.Memory) }
-    // Which fault is the answer, too.
+    // The fault is the one that the definition gives, or out of memory.
     ensures exact { Gives DataFault.Memory (λ read. read) result (first_data bytes.now) }
 {
     read_first(alloc, bytes)
 }
 
-// As `read`, by the definition alone.
+// Reads a Data as `read` does; its contract refers to the definition `first_data` alone.
 #[tactic(auto, unfolding(crate::specs::Reading::first_data))]
 fn read_first(alloc: Global, bytes: &[u8]) -> Result<(Data, usize), DataFault>
     ensures { Gives DataFault.Memory (λ read. read) result (first_data bytes.now) }
@@ -39,7 +41,7 @@ fn read_first(alloc: Global, bytes: &[u8]) -> Result<(Data, usize), DataFault>
     Ok((value, bytes.len() - reader.remaining()))
 }
 
-// A value that lies within arrays and structures that leave so many levels.
+// Reads a value in which at most `levels` arrays and structures may still be nested.
 #[cycle(reading)]
 #[tactic(auto, unfolding(crate::specs::Reading::value_at))]
 fn read_value(alloc: Global, levels: usize, reader: &mut Reader) -> Result<Data, DataFault>
@@ -52,7 +54,8 @@ fn read_value(alloc: Global, levels: usize, reader: &mut Reader) -> Result<Data,
     }
 }
 
-// The count of items and the items. Where no level is left they are refused before the count is read.
+// Reads the number of items and the items. If no level is left, returns `TooDeep` before the count
+// is read.
 #[cycle(reading)]
 #[tactic(auto, unfolding(crate::specs::Reading::nested_at, crate::specs::Reading::counted_at))]
 fn read_counted(alloc: Global, levels: usize, reader: &mut Reader) -> Result<Items, DataFault>
@@ -68,7 +71,7 @@ fn read_counted(alloc: Global, levels: usize, reader: &mut Reader) -> Result<Ite
     Ok(Items::from_vec(read_items(alloc, levels - 1, count, reader)?))
 }
 
-// So many values one after the other.
+// Reads `count` consecutive values.
 #[cycle(reading)]
 fn read_items(
     alloc: Global,
@@ -85,7 +88,7 @@ fn read_items(
     Ok(items)
 }
 
-// The value of a tag that has no items.
+// Reads the value of a tag that has no items.
 #[tactic(auto, unfolding(crate::specs::Reading::leaf_at))]
 fn read_leaf(alloc: Global, tag: u8, reader: &mut Reader) -> Result<Data, DataFault>
     ensures { Reads (λ value. value) result reader.new (leaf_at tag reader.old) }
@@ -99,7 +102,7 @@ fn read_leaf(alloc: Global, tag: u8, reader: &mut Reader) -> Result<Data, DataFa
     }
 }
 
-// A value of a fixed length, by its tag.
+// Reads a value of fixed length, by its tag.
 #[tactic(auto, unfolding(crate::specs::Reading::fixed_at))]
 fn read_fixed(tag: u8, reader: &mut Reader) -> Result<Data, DataFault>
     ensures { Reads (λ value. value) result reader.new (fixed_at tag reader.old) }
@@ -123,14 +126,14 @@ fn read_fixed(tag: u8, reader: &mut Reader) -> Result<Data, DataFault>
     })
 }
 
-// A string's bytes in memory of their own.
+// Reads a string into a newly allocated buffer.
 fn read_string(alloc: Global, reader: &mut Reader) -> Result<Octets, DataFault>
     ensures { Reads (λ octets. octets) result reader.new (string_at reader.old) }
 {
     Ok(Octets::from_slice(alloc, reader.string()?)?)
 }
 
-// A bit-string, its unused bits as 0.
+// Reads a bit-string and sets its unused bits to 0.
 #[tactic(auto, unfolding(crate::specs::Reading::bits_at))]
 fn read_bits(alloc: Global, reader: &mut Reader) -> Result<Data, DataFault>
     ensures { Reads (λ value. value) result reader.new (bits_at reader.old) }

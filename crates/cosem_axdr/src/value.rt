@@ -5,7 +5,8 @@ ghost use Rattle.cosem_axdr.specs.View.{all_trees, list_of};
 use octets::Octets;
 use std::marker::Model;
 
-/// A value of the DLMS/COSEM type Data, by its type (IEC 62056-6-2, common data types). Two are equal where their trees are.
+/// A value of the DLMS/COSEM type Data (IEC 62056-6-2, common data types). Two values are equal if
+/// their trees are equal.
 #[cycle(value)]
 #[derive(Debug, Drop)]
 pub enum Data {
@@ -17,7 +18,8 @@ pub enum Data {
     Structure(Items),
     /// boolean, tag 03
     Boolean(bool),
-    /// bit-string, tag 04: how many bits, and the bytes that hold them, the first bit the highest of the first byte
+    /// bit-string, tag 04: the number of bits, and the bytes that hold them; the first bit is the
+    /// highest bit of the first byte
     BitString { bits: usize, bytes: Octets },
     /// double-long, tag 05
     DoubleLong(i32),
@@ -51,7 +53,8 @@ pub enum Data {
     Time([u8; 4]),
 }
 
-/// The items of an array or structure, in order. Contracts see their trees, so equal Datas are those of one tree, whatever memory holds them.
+/// The items of an array or structure, in order. Contracts refer to their trees, so that equal
+/// Datas have equal trees wherever they are stored.
 #[cycle(value)]
 #[derive(Debug, Drop)]
 pub struct Items {
@@ -78,7 +81,7 @@ impl Model for Items {
 }
 
 impl Items {
-    /// The items of a `Vec`. It takes no memory.
+    /// Creates items from a `Vec`. Does not allocate.
     #[tactic(auto, using(crate::proofs::OneTree::list_of_trees))]
     pub fn from_vec(items: Vec<Data>) -> Items
         ensures trees { result ≡ trees_of (all_trees items.items) }
@@ -87,7 +90,7 @@ impl Items {
         Items { items }
     }
 
-    /// The items as a `Vec`. It takes no memory.
+    /// Returns the items as a `Vec`. Does not allocate.
     #[tactic(auto, using(crate::proofs::OneTree::list_of_trees))]
     pub fn into_vec(self) -> Vec<Data>
         ensures trees { trees_of (all_trees result.items) ≡ self }
@@ -97,7 +100,7 @@ impl Items {
         items
     }
 
-    /// The items.
+    /// Returns the items as a slice.
     #[tactic(auto, using(crate::proofs::OneTree::list_of_trees))]
     pub fn as_slice(&self) -> &[Data]
         ensures trees { trees_of (all_trees result.now) ≡ self.now }
@@ -106,7 +109,7 @@ impl Items {
         self.items.as_slice()
     }
 
-    /// How many items there are.
+    /// Returns the number of items.
     #[tactic(auto, using(crate::proofs::OneTree::counted))]
     pub fn len(&self) -> usize
         ensures { result ≡ count_of self.now }
@@ -114,7 +117,7 @@ impl Items {
         self.items.len()
     }
 
-    /// Whether there are none.
+    /// Returns whether there are no items.
     #[tactic(auto, using(crate::proofs::OneTree::counted))]
     pub fn is_empty(&self) -> bool
         ensures { IsTrue result ↔ (self.now ≡ no_trees) }

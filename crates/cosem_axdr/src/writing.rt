@@ -12,9 +12,11 @@ use byteorder::{BigEndian, ByteOrder};
 use octets::Octets;
 use std::alloc::{AllocError, Global};
 
-/// Writes the text of a value behind what is there, each length in its shortest form. Where memory runs out nothing is written.
+/// Appends the text of a value to `out`, with each length in its shortest form. If out of memory,
+/// appends nothing.
 ///
-/// A value that does not fit the limits of a reader is written too; of a length or count of 2^32 or more its lowest four bytes are.
+/// A value that exceeds the limits of a reader is written in full; a length or count of 2^32 or
+/// more is written as its lowest four bytes.
 pub fn write(alloc: Global, value: &Data, out: &mut Octets) -> Result<(), AllocError>
     ensures ok { OnOk result (out.new ≡ out.old ++ text (tree_of value.now)) }
     ensures err { OnErr result (out.new ≡ out.old) }
@@ -24,8 +26,8 @@ pub fn write(alloc: Global, value: &Data, out: &mut Octets) -> Result<(), AllocE
     out.extend_from_slice(text.as_slice())
 }
 
-/// Appends the text that [`write`] writes, in place: it allocates nothing but the growth of `out`. Out of
-/// memory nothing is appended.
+/// Appends the text that [`write`] appends, in place: only the growth of `out` allocates. If out of
+/// memory, appends nothing.
 #[tactic(auto, using(crate::proofs::Appending::earlier_again))]
 pub fn append(value: &Data, out: &mut Octets) -> Result<(), AllocError>
     ensures ok { OnOk result (out.new ≡ out.old ++ text (tree_of value.now)) }
@@ -39,7 +41,7 @@ pub fn append(value: &Data, out: &mut Octets) -> Result<(), AllocError>
     done
 }
 
-// Writes a value: its tag and what stands behind it.
+// Appends a value: its tag, followed by its contents.
 #[cycle(writing)]
 #[tactic(auto, using(crate::proofs::Appending::extends_same, crate::proofs::Appending::extends_more))]
 fn put_value(value: &Data, out: &mut Octets) -> Result<(), AllocError>
@@ -50,7 +52,7 @@ fn put_value(value: &Data, out: &mut Octets) -> Result<(), AllocError>
     put_contents(value, out)
 }
 
-// Writes what stands behind the tag of a value.
+// Appends the contents of a value, which follow its tag.
 #[cycle(writing)]
 #[tactic(auto, using(crate::proofs::Appending::extends_same, crate::proofs::Appending::extends_more))]
 fn put_contents(value: &Data, out: &mut Octets) -> Result<(), AllocError>
@@ -84,7 +86,7 @@ fn put_contents(value: &Data, out: &mut Octets) -> Result<(), AllocError>
     }
 }
 
-// Writes the count of items and the items.
+// Appends the number of items, followed by the items.
 #[cycle(writing)]
 #[tactic(auto, using(crate::proofs::Appending::extends_same, crate::proofs::Appending::extends_more))]
 fn put_counted(items: &[Data], out: &mut Octets) -> Result<(), AllocError>
@@ -98,7 +100,7 @@ fn put_counted(items: &[Data], out: &mut Octets) -> Result<(), AllocError>
     Ok(())
 }
 
-// Writes a string behind its length.
+// Appends the length of a string, followed by its bytes.
 #[tactic(auto, using(crate::proofs::Appending::extends_same, crate::proofs::Appending::extends_more))]
 fn put_string(bytes: &Octets, out: &mut Octets) -> Result<(), AllocError>
     ensures ok { OnOk result (out.new ≡ out.old ++ string_text bytes.now) }

@@ -1,4 +1,4 @@
--- Lines that get their rows one by one, and the lines of all jobs.
+-- Lines that are filled with their rows one by one, and the lines of all jobs.
 use Rattle.std.proofs.Common.{◌≡◌, ◌+◌, ◌<◌, ◌*◌, ℕ, zero, suc, List, [], ◌∷◌, ◌++◌, length, take, map, slice_index_or, Option, refl, sym, ap, subst, ◌∙◌, ◌≤◌, arith}
 use Rattle.std.proofs.lemmas.List.{take_at, length-map}
 use Rattle.std.proofs.lemmas.List.{get_or-map}
@@ -14,13 +14,13 @@ use Rattle.head_end.specs.Attempts.{State, unused, IsTried}
 use Rattle.head_end.specs.Campaigns.{place_at, slot_at, IsRun, EachChange, AreTried}
 use Rattle.head_end.specs.Rows.{IsRow, IsLine, AreLines}
 
--- the first so many lines have the rows of their slots, and all keep their names
+-- the first lines have the rows of their slots, and all keep their names
 pub record Gathers (turns workers : ℕ) (old : List Line) (slots : List Row) (done : ℕ) (new : List Line) : Type 0 where
   pub rows : (i : ℕ) (line : Line) (row : Row) → i < done → (slice_index_or new i line).row ≡ slice_index_or slots (slot_at turns workers i) row
   pub ids : (i : ℕ) (line : Line) → i < length old → (slice_index_or new i line).id ≡ (slice_index_or old i line).id
   pub len : length new ≡ length old
 
--- lines that are as they should be, place by place
+-- lines that are correct at each index
 pub are_lines : (tells : List ℕ → Option Told) (jobs : List Job) (lines : List Line) → length lines ≡ length jobs
     → ((i : ℕ) (job : Job) (line : Line) → i < length jobs → IsLine tells (slice_index_or jobs i job) (slice_index_or lines i line)) → AreLines tells jobs lines
 are_lines tells [] [] same each = tt
@@ -45,7 +45,7 @@ same_ids (j ∷ jobs) [] same i job line below = absurd cc
 same_ids (j ∷ jobs) (l ∷ lines) same zero job line below = cc
 same_ids (j ∷ jobs) (l ∷ lines) same (suc i) job line below = same_ids jobs lines (let tails : map (λ (l : Line). l.id) lines ≡ map (λ (j : Job). j.id) jobs = cc in tails) i job line (omega arith)
 
--- the lines of a campaign
+-- the lines of a campaign are correct
 pub campaign_lines : (tells : List ℕ → Option Told) (turns workers : ℕ) (jobs : List Job) (blank lines : List Line) (slots : List Row)
     → 0 < workers → length jobs < turns * workers → map (λ (l : Line). l.id) blank ≡ map (λ (j : Job). j.id) jobs
     → ((slot : ℕ) (job : Job) (row : Row) → slot < turns * workers → place_at turns workers slot < length jobs
@@ -71,7 +71,7 @@ an_element : {X : Type 0} (xs : List X) (i : ℕ) → i < length xs → X
 an_element [] i below = absurd (omega arith)
 an_element (x ∷ xs) i below = x
 
--- the row of a slot by its place
+-- the row of a slot, by its index
 pub row_at : {X : Type 0} (old new : List X) (tells_of : X → List ℕ → Option Told) (stage_of : X
     → State) (row_of : X → Row) (tells : List ℕ → Option Told)
     (turns workers : ℕ) (jobs : List Job) (password : List ℕ) → length old ≡ turns * workers
@@ -99,7 +99,7 @@ row_at {X} old new tells_of stage_of row_of tells turns workers jobs password co
     subst (λ (r : Row). IsRow tells (slice_index_or jobs (place_at turns workers slot) job) r)
     (sym mapped) is
 
--- what the job of a slot did with its attempt
+-- the use of its attempt by the job of a slot
 tried_at : {X : Type 0} (old new : List X) (tells_of : X → List ℕ → Option Told) (stage_of : X
     → State) (row_of : X → Row)
     (turns workers : ℕ) (jobs : List Job) (password : List ℕ) → length old ≡ turns * workers
@@ -127,7 +127,7 @@ tried_at old new tells_of stage_of row_of turns workers jobs password count same
     (sym stages)
     (run.tried job there))
 
--- a slot without a job
+-- the attempt of a slot without a job is unused
 unused_at : {X : Type 0} (old new : List X) (tells_of : X → List ℕ → Option Told) (stage_of : X
     → State) (row_of : X → Row)
     (turns workers : ℕ) (jobs : List Job) (password : List ℕ) → length old ≡ turns * workers
@@ -141,7 +141,7 @@ unused_at old new tells_of stage_of row_of turns workers jobs password count sam
     let x = an_element old slot within in
     get_or-map stage_of new slot x stage (omega arith) ∙ (each slot x within).others free
 
--- what all jobs did
+-- the use of their attempts by all jobs
 pub are_tried : {X : Type 0} (old new : List X) (tells_of : X → List ℕ
     → Option Told) (stage_of : X → State) (row_of : X → Row)
     (turns workers : ℕ) (jobs : List Job) (password : List ℕ) (blank lines : List Line)
@@ -171,7 +171,7 @@ are_tried old new tells_of stage_of row_of turns workers jobs password blank lin
           (let within : slot < length old = omega (arith, length-map new stage_of) in within) free;
     }
 
--- what comes of a slot, by values that are equal
+-- the result of a slot, moved along equal values
 pub run_moved : {X : Type 0} (old here new there : X) (tells_of : X → List ℕ
     → Option Told) (stage_of : X → State) (row_of : X → Row)
     (turns workers : ℕ) (jobs : List Job) (password : List ℕ) (slot : ℕ) → here ≡ old → there ≡ new
@@ -184,6 +184,6 @@ run_moved {X} old here new there tells_of stage_of row_of turns workers jobs pas
     (subst (λ (o : X). IsRun turns workers jobs password slot (tells_of o) (stage_of there)
     (row_of there)) before run)
 
--- what is written into all places of a list is there
+-- the elements written to all indexes of a list are its elements
 pub written : {T : Type 0} (n : ℕ) (xs ys : List T) → n ≡ length xs → take n (xs ++ ys) ≡ xs
 written n xs ys is = rw is (take_at xs ys (length xs) refl)

@@ -1,4 +1,4 @@
--- The outcome of a job is that of what its meter's connection tells.
+-- The outcome of a job is that of the predicted reads of its meter's connection.
 use Rattle.std.proofs.Common.{◌≡◌, ℕ, List, [], Option, Some, None, Ok, Err, refl, ap, ◌∙◌, false}
 use Rattle.std.specs.Prelude.{Result, IfOk, unwrap_or}
 use Rattle.client_core.specs.declared.client.Client.{Client}
@@ -57,7 +57,7 @@ connected told told_of connection verb password client (Err error) tells stands 
 
 -- ---- the attempt
 
--- nothing was heard
+-- the outcome of no bytes is unknown
 nothing_unknown : (verb : Verb) → outcome_of verb [] ≡ Unknown
 unfolding outcome_of
 nothing_unknown verb = ap (λ (p : Progress). unwrap_or p.outcome Unknown) (nothing_said verb)

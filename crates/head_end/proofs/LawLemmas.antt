@@ -1,4 +1,4 @@
--- A campaign in parts.
+-- A campaign split into parts.
 use Rattle.std.proofs.Common.{◌≡◌, ◌≢◌, ℕ, suc, List, [], ◌∷◌, ◌++◌, map, Option, Some, None, Ok, Err, refl, sym, ap, ◌∙◌, append_assoc}
 use Rattle.std.specs.Prelude.{IsSome, Result}
 use Rattle.std.proofs.lemmas.List.Concat.{flat_map-append}
@@ -25,7 +25,7 @@ lines_join tells [] rest (line ∷ lines) others first second = absurd first
 lines_join tells (job ∷ jobs) rest [] others first second = absurd first
 lines_join tells (job ∷ jobs) rest (line ∷ lines) others first second = (first.0, lines_join tells jobs rest lines others first.1 second)
 
--- a line whose connection is told
+-- a line whose connection's reads are predicted
 row_told : (job : Job) (told : Option Told) (tells : List ℕ → Option Told) (row : Row) → tells job.address ≡ told → IsSome told → IsRow tells job row → row ≢ Memory
     → row ≡ (line_by job told).row
 row_told job (Some told) tells (Came outcome) is some row_is memory = ap Came (rw is at row_is)
@@ -56,13 +56,13 @@ is_the_report tells jobs lines are told memory = ap report_text (lines_told tell
 
 -- ---- the jobs of a text
 
--- where all lines have jobs, their numbers do not count
+-- if all lines are jobs, the numbers of the lines do not matter
 by_job : (number other : ℕ) (line : List ℕ) (job : Option Job) (jobs : List Job) → jobs_at number line job ≡ Ok jobs → jobs_at other line job ≡ Ok jobs
 by_job number other [] job jobs is = is
 by_job number other (byte ∷ bytes) (Some job) jobs is = is
 by_job number other (byte ∷ bytes) None jobs is = absurd cc
 
--- what is Ok of both together is Ok of each
+-- if both together are Ok, so is each
 pub record IsBoth (first second : Result (List Job) ℕ) (jobs : List Job) : Type 0 where
   pub left : List Job
   pub right : List Job
@@ -84,7 +84,7 @@ jobs_renumbered number other (line ∷ lines) jobs is =
     jobs_in-cons other line lines ∙ ap (λ (r : Result (List Job) ℕ). joined_jobs r (jobs_in (suc other) lines)) first
     ∙ ap (joined_jobs (Ok both.left)) second ∙ ap (λ (js : List Job). let r : Result (List Job) ℕ = Ok js in r) (sym both.jobs_are)
 
--- lines and then others
+-- lines followed by others
 no_jobs : (jobs : List Job) → ◌≡◌ {A = Result (List Job) ℕ} (Ok []) (Ok jobs) → jobs ≡ []
 no_jobs jobs is = cc
 
@@ -101,7 +101,7 @@ jobs_appended number (line ∷ lines) others jobs more is later =
     ∙ ap (λ (js : List Job). let r : Result (List Job) ℕ = Ok js in r)
     (sym (append_assoc both.left both.right more) ∙ ap (λ (js : List Job). js ++ more) (sym both.jobs_are))
 
--- an empty line behind the others has no jobs
+-- an empty line after the others has no jobs
 jobs_ended : (number : ℕ) (lines : List (List ℕ)) (jobs : List Job) → jobs_in number (lines ++ [] ∷ []) ≡ Ok jobs → jobs_in number lines ≡ Ok jobs
 jobs_ended number [] jobs is = jobs_in-nil number ∙ sym (jobs_in-cons number [] [] ∙ ap (joined_jobs (Ok [])) (jobs_in-nil (suc number))) ∙ is
 jobs_ended number (line ∷ lines) jobs is =

@@ -26,12 +26,12 @@ pub jobs_in-nil : (number : ℕ) → jobs_in number [] ≡ Ok []
 unfolding jobs_in
 jobs_in-nil number = refl
 
--- jobs that were read, and what is left to read
+-- the jobs read so far, and the rest of the text
 pub record Left (text : List ℕ) (jobs : List Job) (number : ℕ) (rest : List ℕ) : Type 0 where
   pub all : jobs_in 1 (job_lines text) ≡ joined_jobs (Ok jobs) (jobs_in number (job_lines rest))
   pub count : number + length (lines_of rest) ≡ 1 + length (lines_of text)
 
--- no jobs and then others
+-- no jobs followed by others
 joined_none : (others : Result (List Job) ℕ) → others ≡ joined_jobs (Ok []) others
 joined_none (Err n) = refl
 joined_none (Ok jobs) = refl
@@ -39,7 +39,7 @@ joined_none (Ok jobs) = refl
 pub left_all : (text : List ℕ) → Left text [] 1 text
 left_all text = record { all = joined_none (jobs_in 1 (job_lines text)); count = refl }
 
--- a line is taken from the text, and its jobs come behind the others
+-- a line is removed from the text, and its jobs follow the others
 lines_taken : (rest line behind : List ℕ) → lines_of rest ≡ line ∷ lines_of behind → unended_of rest ≡ unended_of behind → job_lines rest ≡ line ∷ job_lines behind
 lines_taken rest line behind lines unended = rw (lines, unended) refl
 
@@ -63,7 +63,7 @@ left_more text old new number rest line behind left lines unended adds =
       count = omega (arith, left.count, ap length lines);
     }
 
--- a wrong line is the first
+-- the first wrong line
 wrong_by : (text : List ℕ) (old new : List Job) (number : ℕ) (rest line : List ℕ) (lines : List (List ℕ)) (f : JobsFault) → Left text old number rest
     → job_lines rest ≡ line ∷ lines → AddsJob {X = Unit {0}} number line old (Err f) new → ReadsLines 1 (job_lines text) (Err f)
 wrong_by text old new number rest line lines (fault.Line wrong) left taken adds =
@@ -90,7 +90,7 @@ read_last text old new number rest left lines unended adds =
     ∙ ap (joined_jobs (Ok (old ++ adds.0))) (jobs_in-nil (suc number))
     ∙ ap (λ (js : List Job). let r : Result (List Job) ℕ = Ok js in r) (append-nil (old ++ adds.0) ∙ sym adds.2)
 
--- a line has a byte at least, the one that ends it
+-- a line has at least one byte, the one that ends it
 but_last-length : (parts : List (List ℕ)) → length (all_but_last parts) ≤ length parts - 1
 but_last-length [] = omega arith
 but_last-length (part ∷ []) = omega arith

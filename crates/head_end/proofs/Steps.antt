@@ -1,4 +1,4 @@
--- A client follows what its connection told at first.
+-- A client follows the initially predicted reads of its connection.
 use Rattle.std.proofs.Common.{◌≡◌, ℕ, suc, Bool, true, false, List, [], ◌++◌, Option, Some, None, Ok, Err, sym, ap, subst, ◌∙◌, append-nil}
 use Rattle.std.specs.Prelude.{unwrap_or}
 use Rattle.byte_streams.specs.declared.fault.StreamFault.{StreamFault}
@@ -10,7 +10,7 @@ use Rattle.client_core.specs.Standing.{Stands, Gives, Ends, Tells}
 use Rattle.head_end.specs.Connections.{Told, WriteTells, failed}
 use Rattle.head_end.specs.Conversations.{Follows, At, AtEnd, GivesUp, SendsAll}
 
--- the outcome of a client whose connection is over is that of what it was fed
+-- the outcome of a client whose connection is over is that of the bytes it was fed
 pub gives_up : (old mid : Client) (told : Option Outcome) → Ends old mid → Tells mid told → GivesUp old (unwrap_or told Unknown)
 gives_up old mid told ends tells = record {
   outcome_is = λ start verb password end.
@@ -18,7 +18,7 @@ gives_up old mid told ends tells = record {
       (tells.told verb password start.bytes end.given true (ends.stands verb password start.bytes end.given false end.stands));
 }
 
--- where nothing is left of what was told, all was fed
+-- if no predicted bytes are left, all of them were fed
 pub all_fed : (start : Told) (verb : Verb) (password : List ℕ) (left given : ℕ) (client : Client) (now : Option Told) (fed : List ℕ) (follows : Follows start now fed left)
     → Stands verb password fed given false client → follows.rest ≡ [] → AtEnd start verb password client
 all_fed start verb password left given client now fed follows stands none =
@@ -44,7 +44,7 @@ at_cut start verb password text left old new before after fault gives writes at 
     let none : (at.follows.rest ≡ []) × (start.stop ≡ failed) = rw at.follows.now_is at writes in
     all_fed start verb password left (suc at.given) new before at.fed at.follows (gives.stands verb password at.fed at.given false at.stands) none.0
 
--- nothing was written yet
+-- no message is written yet
 pub all_none : (client : Client) (now : Option Told) → SendsAll client now true client now
 all_none client now = record { on = λ start verb password left at. at }
 

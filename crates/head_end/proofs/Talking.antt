@@ -1,4 +1,4 @@
--- A client on a connection, by the connection's log.
+-- A client's conversation, by the log of its connection.
 use Rattle.std.proofs.Common.{◌≡◌, ◌≢◌, ◌≤◌, ◌<◌, ◌+◌, ℕ, zero, suc, Bool, true, false, List, [], ◌∷◌, ◌++◌, length, take, Some, None, Ok, Err, refl, sym, ap, subst, ◌∙◌, append-nil, append_assoc, inl, inr, add-one, arith}
 use Rattle.std.specs.Prelude.{Option, Result, IsSome}
 use Rattle.std.specs.Result.{IsErr}
@@ -19,7 +19,7 @@ use Rattle.head_end.specs.Wires.{due_text, given_text, IsDueNext, Listens, GoesO
 use Rattle.head_end.specs.Conversations.{GivesUp, Talks, HasSent, Waits, IsCut, SentAfter, Sends, TurnAfter, TakesTurn, Speaks}
 use Rattle.head_end.proofs.Texts.{due_by, given_by, given_within, all_given, three_given, given_front, front_more, due_grows}
 
--- ---- one happening more
+-- ---- one more happening
 
 heard_more : (log : List Happening) (bytes : List ℕ)
     → heard_in (log ++ heard bytes ∷ []) ≡ heard_in log ++ bytes
@@ -93,7 +93,7 @@ reads_heard (heard_nothing ∷ later) bytes = reads_heard later bytes
 reads_heard (sent front ∷ later) bytes = reads_heard later bytes
 reads_heard (cut_off front ∷ later) bytes = reads_heard later bytes
 
--- without a read nothing was heard
+-- without a read no bytes were received
 heard_none : (log : List Happening) → reads_in log ≡ 0 → heard_in log ≡ []
 unfolding reads_in heard_in
 heard_none [] none = refl
@@ -102,16 +102,16 @@ heard_none (heard_nothing ∷ later) none = heard_none later none
 heard_none (sent front ∷ later) none = heard_none later none
 heard_none (cut_off front ∷ later) none = heard_none later none
 
--- ---- texts
+-- ---- messages
 
--- by what has come
+-- the messages that may be sent, by the progress
 due_is : (verb : Verb) (password bytes : List ℕ)
     → due_text verb password bytes ≡ concat (due_by verb password
     (progress_of verb bytes).accepted (is_served (progress_of verb bytes).outcome))
 unfolding due_text
 due_is verb password bytes = refl
 
--- what a client gave, and one text more
+-- one more message after those that a client returned
 next_due : (verb : Verb) (password text fed : List ℕ) (given : ℕ)
     → Some text ≡ text_at (due verb password (progress_of verb fed)) given
     → IsFront (given_text verb password given ++ text) (due_text verb password fed)
@@ -136,7 +136,7 @@ due_in verb password text log given sent_is is =
     subst (λ (t : List ℕ). IsFront (t ++ text) (due_text verb password (heard_in log)))
     (sym sent_is) (next_due verb password text (heard_in log) given is)
 
--- all that is due was given
+-- all messages that may be sent were returned
 all_sent : (verb : Verb) (password : List ℕ) (log : List Happening) (given : ℕ)
     → sent_in log ≡ given_text verb password given
     → given ≤ length (due verb password (progress_of verb (heard_in log)))
@@ -148,7 +148,7 @@ all_sent verb password log given sent_is within none =
     (progress_of verb (heard_in log)).outcome) given within none
     ∙ sym (due_is verb password (heard_in log))
 
--- after a read no fewer are due
+-- after a read no fewer messages may be sent
 still_within : (verb : Verb) (password : List ℕ) (given : ℕ) (old now : Progress)
     → old.outcome ≡ None → (old.accepted ≡ true → now.accepted ≡ true)
     → given ≤ length (due verb password old) → given ≤ length (due verb password now)
@@ -156,9 +156,9 @@ still_within verb password given old now unsettled stays within =
     let few : given ≤ length (due_by verb password old.accepted false) = rw unsettled at within in
     omega (arith, due_grows verb password old.accepted now.accepted (is_served now.outcome) stays)
 
--- ---- a client gives its texts
+-- ---- a client returns its messages
 
--- at least `count` texts were given and written
+-- at least `count` messages were returned and written
 pub record TalksFrom (count : ℕ) (verb : Verb) (password : List ℕ) (reads : ℕ) (client : Client)
     (now : Option (List Happening)) : Type 0 where
   pub talks : Talks verb password reads client now
@@ -177,7 +177,7 @@ keeps_none client now = record {
   unknown = λ is. is;
 }
 
--- a log that is not known stays so
+-- an unknown log remains unknown
 unknown_written : {X : Type 0} (text : List ℕ) (before after : Option (List Happening))
     (result : Result X StreamFault) → WriteLogs before text result after
     → before ≡ None → after ≡ None
@@ -188,7 +188,7 @@ unknown_read : (buffer : List ℕ) (before after : Option (List Happening))
     → before ≡ None → after ≡ None
 unknown_read buffer before after result reads is = rw is at reads
 
--- what the log is after a write
+-- the log after a write
 written_log : (log : List Happening) (text : List ℕ) (before after : Option (List Happening))
     → before ≡ Some log
     → WriteLogs {X = Unit {0}} before text (Ok tt) after → after ≡ Some (log ++ sent text ∷ [])
@@ -249,7 +249,7 @@ keeps_text count old mid new text first before after keeps gives writes = record
       (keeps.unknown is);
 }
 
--- no text is due
+-- no message may be sent
 talks_quiet : (verb : Verb) (password : List ℕ) (reads : ℕ) (old new : Client) (now : Option
     (List Happening)) → Gives old None new
     → Talks verb password reads old now → HasSent verb password reads new now
@@ -277,7 +277,7 @@ sends_none count old mid new first before keeps gives = record {
   unknown = keeps.unknown;
 }
 
--- three texts were written
+-- three messages were written
 pub sends_three : (count : ℕ) (old new : Client) (first before : Option (List Happening))
     → 3 ≤ count → Keeps count old first new before
     → Sends old first true new before
@@ -333,7 +333,7 @@ sends_cut count old mid new text first before after fault keeps gives writes = r
 
 -- ---- a read
 
--- the outcome of a client whose connection gives no more
+-- the outcome of a client whose connection is over
 pub gives_at : (verb : Verb) (password fed : List ℕ) (given : ℕ) (client : Client)
     (outcome : Outcome) → GivesUp client outcome
     → Stands verb password fed given false client → outcome ≡ outcome_of verb fed
@@ -357,7 +357,7 @@ heard_log : (log : List Happening) (buffer : List ℕ) (count : ℕ) (before aft
 heard_log log buffer zero before after some is reads = absurd (some refl)
 heard_log log buffer (suc count) before after some is reads = rw is at reads
 
--- a read that gave nothing is the last
+-- a read that returned no bytes is the last
 over_by : (verb : Verb) (password : List ℕ) (reads : ℕ) (old : Client) (before after : Option
     (List Happening)) (outcome : Outcome) → GivesUp old outcome
     → (w : Waits verb password reads old before) → after ≡ Some
@@ -393,7 +393,7 @@ turn_broken old new buffer before after fault outcome log gives = record {
   unknown = unknown_read buffer before after (Err fault) log;
 }
 
--- what was read could not be kept
+-- the bytes read could not be processed, out of memory
 pub turn_starved : {E : Type 0} (old new : Client) (count : ℕ) (buffer : List ℕ)
     (before after : Option (List Happening)) (result : Result (Option Outcome) E)
     → IsErr result → count ≢ 0 → ReadLogs before (Ok count) buffer after
@@ -409,7 +409,7 @@ turn_starved old new count buffer before after (Err error) fails some log = reco
   unknown = unknown_read buffer before after (Ok count) log;
 }
 
--- a client was fed one read more
+-- a client was fed the bytes of one more read
 pub record Hears (old : Client) (before : Option (List Happening)) (new : Client) (after : Option
     (List Happening)) : Type 0 where
   pub on : (verb : Verb) (password : List ℕ) (reads : ℕ) → Waits verb password reads old before
@@ -458,7 +458,7 @@ hears old new count bytes buffer before after some bytes_are log feeds = record 
   unknown = unknown_read buffer before after (Ok count) log;
 }
 
--- a text could not be written
+-- a message could not be written
 cut_by : (verb : Verb) (password : List ℕ) (client : Client) (now : Option (List Happening))
     (outcome : Outcome) → GivesUp client outcome
     → IsCut verb password client now → HasConversed verb password (Some outcome) now
@@ -480,7 +480,7 @@ turn_unsent old mid last new before between after outcome fed sends gives = reco
   unknown = λ is. sends.unknown (fed.unknown is);
 }
 
--- the outcome is settled, or the next read comes
+-- the outcome is settled, or the next read follows
 settled_by : (E : Type 0) (verb : Verb) (password : List ℕ) (reads : ℕ) (client : Client)
     (now : Option (List Happening)) (result : Option Outcome)
     → Tells client result → HasSent verb password reads client now
@@ -572,7 +572,7 @@ reaches_next old mid new begun before after reads reaches turn = record {
   unknown = λ is. turn.unknown (reaches.unknown is);
 }
 
--- no text could be written
+-- no message could be written
 pub speaks_unsent : {E : Type 0} (old client : Client) (begun after : Option (List Happening))
     (outcome : Outcome) → Sends old begun false client after
     → GivesUp client outcome → Speaks {E = E} old begun (Ok outcome) after

@@ -1,4 +1,4 @@
--- The texts that are due, and those that a client gave.
+-- The messages that may be sent, and those that a client returned.
 use Rattle.std.proofs.Common.{◌≡◌, ◌≤◌, ℕ, zero, suc, Bool, true, false, List, [], ◌∷◌, ◌++◌, length, Some, None, refl, sym, ap, ◌∙◌, append-nil, append_assoc, arith}
 use Rattle.std.specs.Prelude.{if◌then◌else◌, Option}
 use Rattle.std.specs.List.{concat}
@@ -10,13 +10,13 @@ use Rattle.client_core.specs.Outcomes.{due, is_served}
 use Rattle.head_end.specs.Logs.{IsFront}
 use Rattle.head_end.specs.Wires.{given_text}
 
--- the texts that are due, by what has come
+-- the messages that may be sent, by the progress
 abbrev pub due_by : Verb → List ℕ → (accepted served : Bool) → List (List ℕ)
 due_by verb password accepted served =
     aarq_frame password ∷ (if accepted then request_frame verb ∷
     (if served then release_frame ∷ [] else []) else [])
 
--- the text at a place comes after those before it
+-- the message at an index follows those before it
 pub given_by : (verb : Verb) (password text : List ℕ) (accepted served : Bool) (given : ℕ)
     → Some text ≡ text_at (due_by verb password accepted served) given
     → given_text verb password given ++ text ≡ given_text verb password (suc given)
@@ -34,7 +34,7 @@ given_by verb password text true true (suc (suc (suc given))) is = absurd cc
 given_by verb password text true false (suc (suc (suc given))) is = absurd cc
 given_by verb password text false served (suc (suc (suc given))) is = absurd cc
 
--- a text that is given is one of those that are due
+-- a message that is returned is one of those that may be sent
 pub given_within : (verb : Verb) (password text : List ℕ) (accepted served : Bool) (given : ℕ)
     → Some text ≡ text_at (due_by verb password accepted served) given
     → suc given ≤ length (due_by verb password accepted served)
@@ -48,7 +48,7 @@ given_within verb password text true true (suc (suc (suc given))) is = absurd cc
 given_within verb password text true false (suc (suc (suc given))) is = absurd cc
 given_within verb password text false served (suc (suc (suc given))) is = absurd cc
 
--- once none is left, what was given is all that is due
+-- if no message is left, all that may be sent were returned
 pub all_given : (verb : Verb) (password : List ℕ) (accepted served : Bool) (given : ℕ)
     → given ≤ length (due_by verb password accepted served)
     → None ≡ text_at (due_by verb password accepted served) given
@@ -69,7 +69,7 @@ all_given verb password true true (suc (suc (suc (suc given)))) within is = absu
 all_given verb password true false (suc (suc (suc (suc given)))) within is = absurd (omega arith)
 all_given verb password false served (suc (suc (suc (suc given)))) within is = absurd (omega arith)
 
--- three texts are all
+-- three messages are all
 pub three_given : (verb : Verb) (password : List ℕ) (accepted served : Bool) (given : ℕ)
     → 3 ≤ given → given ≤ length (due_by verb password accepted served)
     → None ≡ text_at (due_by verb password accepted served) given
@@ -80,7 +80,7 @@ three_given verb password true true (suc (suc (suc given))) many within = refl
 three_given verb password true false (suc (suc (suc given))) many within = refl
 three_given verb password false served (suc (suc (suc given))) many within = refl
 
--- what was given is a front of what is due
+-- the messages returned are a prefix of those that may be sent
 pub given_front : (verb : Verb) (password : List ℕ) (accepted served : Bool) (given : ℕ)
     → given ≤ length (due_by verb password accepted served)
     → IsFront (given_text verb password given) (concat (due_by verb password accepted served))
@@ -120,7 +120,7 @@ given_front verb password true true (suc (suc (suc given))) within = record {
 given_front verb password true false (suc (suc (suc given))) within = absurd (omega arith)
 given_front verb password false served (suc (suc (suc given))) within = absurd (omega arith)
 
--- and so is a front of the next text after it
+-- and so is a prefix of the next message after them
 pub front_more : (all before text front : List ℕ) → IsFront front text
     → IsFront (before ++ text) all → IsFront (before ++ front) all
 front_more all before text front within is = record {
@@ -131,7 +131,7 @@ front_more all before text front within is = record {
       ∙ append_assoc (before ++ front) within.rest is.rest;
 }
 
--- no fewer are due once more has come
+-- after more progress no fewer messages may be sent
 pub due_grows : (verb : Verb) (password : List ℕ) (old now served : Bool) → (old ≡ true
     → now ≡ true)
     → length (due_by verb password old false) ≤ length (due_by verb password now served)

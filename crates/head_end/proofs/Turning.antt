@@ -1,4 +1,4 @@
--- Turns one after the other, from the first read to the last.
+-- Consecutive turns, from the first read to the last.
 use Rattle.std.proofs.Common.{◌≡◌, ◌≢◌, ℕ, zero, suc, ◌+◌, ◌-◌, ◌<◌, ◌≤◌, arith, true, false, List, ◌++◌, length, take, Option, Some, None, Ok, Err, refl, sym, ap, subst, ◌∙◌, append_assoc}
 use Rattle.byte_streams.specs.declared.fault.StreamFault.{StreamFault}
 use Rattle.client_core.specs.declared.client.Client.{Client}
@@ -10,11 +10,11 @@ use Rattle.head_end.specs.Connections.{Told, GivesPiece, ReadTells}
 use Rattle.head_end.proofs.Steps.{all_fed}
 use Rattle.head_end.specs.Conversations.{At, AtTurn, GivesUp, SendsAll, Turns, Converses}
 
--- a client was fed one read more
+-- a client was fed the bytes of one more read
 pub record Feeding (old : Client) (before : Option Told) (new : Client) (after : Option Told) : Type 0 where
   pub on : (start : Told) (verb : Verb) (password : List ℕ) (left : ℕ) → At start verb password (suc left) old before → At start verb password left new after
 
--- a read that gave bytes
+-- a read that returned bytes
 read_now : (start : Told) (left count : ℕ) (rest buffer : List ℕ) (before after : Option Told) → before ≡ Some (record { reads = suc left; bytes = rest; stop = start.stop })
     → length buffer ≡ 1024 → count ≢ 0 → ReadTells before (Ok count) buffer after
     → GivesPiece (record { reads = suc left; bytes = rest; stop = start.stop }) left (take count buffer) after
@@ -65,14 +65,14 @@ turn_failed old new buffer before told after fault outcome size tells gives = re
       gives.outcome_is start verb password (all_fed start verb password (suc left) at.given old before at.fed at.follows at.stands (none size).0);
 }
 
--- a text could not be written
+-- a message could not be written
 pub turn_cut : (old mid last new : Client) (before between cut after : Option Told) (outcome : Outcome) → Feeding old before mid between
     → SendsAll mid between false last cut → GivesUp last outcome → Turns old before (Some outcome) new after
 turn_cut old mid last new before between cut after outcome fed sends gives = record {
   on = λ start verb password left at. gives.outcome_is start verb password (sends.on start verb password left (fed.on start verb password left at));
 }
 
--- the outcome is settled, or not
+-- the outcome is settled, or it is not
 settled_at : (start : Told) (verb : Verb) (password : List ℕ) (left : ℕ) (client : Client) (now : Option Told) (result : Option Outcome) → Tells client result
     → At start verb password left client now → AtTurn result start verb password left client now
 settled_at start verb password left client now None tells at = at
@@ -89,12 +89,12 @@ turn_on old mid new before between after result fed sends tells = record {
 
 -- ---- all turns
 
--- so many turns have not settled the outcome
+-- the given number of turns has not settled the outcome
 pub record Goes (first : Client) (before : Option Told) (turns : ℕ) (client : Client) (now : Option Told) : Type 0 where
   pub on : (start : Told) (verb : Verb) (password : List ℕ) (left : ℕ) → left + turns ≡ 65536 → At start verb password 65536 first before
       → At start verb password left client now
 
--- the texts that are due before the first turn were written
+-- the messages before the first turn were written
 pub goes_first : (old client : Client) (before now : Option Told) → SendsAll old before true client now → Goes old before 0 client now
 goes_first old client before now sends = record {
   on = λ start verb password left all at.
@@ -123,7 +123,7 @@ converses_turn first old new begun before after turns outcome few goes turn = re
       turn.on start verb password left (goes.on start verb password (suc left) (omega arith) at);
 }
 
--- no turn did
+-- no turn settled the outcome
 pub converses_last : (first old : Client) (begun before : Option Told) (turns : ℕ) (outcome : Outcome) → 65536 ≤ turns → Goes first begun turns old before → turns ≤ 65536
     → GivesUp old outcome → Converses first begun outcome
 converses_last first old begun before turns outcome many goes most gives = record {

@@ -1,6 +1,6 @@
--- What was done with an attempt to reach a meter.
---     IsTried           what a job did with its attempt
---     State             nothing; a connect that was refused; a connection that is open, or closed, with its log
+-- The states of an attempt to reach a meter.
+--     IsTried           the use of its attempt by a job
+--     State             unused; refused; with an open connection; with a closed one and its log
 use Rattle.std.specs.Prelude.{◌≡◌, ℕ, Bool, true, false, List, Option, Some, None, Result, Ok, Err, ⊤}
 use Rattle.std.specs.declared.snapshot.Snapshot.{Snapshot}
 use Rattle.client_core.specs.declared.job.Job.{Job}
@@ -13,8 +13,8 @@ use Rattle.head_end.specs.declared.row.Row.TheVariants.{Came, Memory}
 use Rattle.head_end.specs.Logs.{Happening}
 use Rattle.head_end.specs.Wires.{HasConversed}
 
--- unused; used for an address, which refused; or which gave a connection, that is open, or closed
--- with this log
+-- unused; used for an address, with a connect that was refused, a connection that is open, or one
+-- that is closed, with this log
 pub data State : Type 0 where
   unused : State
   refused : List ℕ → State
@@ -27,19 +27,19 @@ is_connected (refused address) = ⊥
 is_connected (connected address) = ⊤
 is_connected (closed address log) = ⊥
 
--- a connect to an address
+-- the state after a connect to an address
 abbrev pub connect_state : {K : Type 0} → List ℕ → Result K ConnectFault → State
 connect_state address (Ok connection) = connected address
 connect_state address (Err fault) = refused address
 
--- the open connection is closed, with this log
+-- the state after the open connection is closed, with this log
 abbrev pub close_state : Option (List Happening) → State → State
 close_state log unused = unused
 close_state log (refused address) = refused address
 close_state log (connected address) = closed address log
 close_state log (closed address before) = closed address before
 
--- the state by an attempt's parts
+-- the state from an attempt's parts
 abbrev pub used_state : {K : Type 0} → (K → Option (List Happening)) → List ℕ → Bool
     → Option (Snapshot K) → State
 used_state log_of address true connection = refused address
@@ -52,7 +52,7 @@ state_of log_of None is_refused connection = unused
 state_of log_of
     (Some address) is_refused connection = used_state log_of address.value is_refused connection
 
--- ---- what a job does with its attempt
+-- ---- the use of an attempt by a job
 
 abbrev pub row_outcome : Row → Option Outcome
 row_outcome (Came outcome) = Some outcome
@@ -63,8 +63,8 @@ abbrev pub HasRow : Verb → List ℕ → Row → Option (List Happening) → Ty
 HasRow verb password row None = ⊤
 HasRow verb password row (Some log) = HasConversed verb password (row_outcome row) (Some log)
 
--- nothing, if there was no memory for its texts; a connect to its address that was refused; or one
--- connection to its address, which was closed after a conversation of its verb with this password,
+-- unused, if memory ran out before the connect; a refused connect to the job's address; or one
+-- connection to this address, closed after a conversation with the job's verb and this password,
 -- whose outcome is the row
 abbrev pub IsTried : Job → List ℕ → Row → State → Type 0
 IsTried job password row unused = row ≡ Memory
@@ -73,7 +73,7 @@ IsTried job password row (connected address) = ⊥
 IsTried job password row (closed address log) = (address ≡ job.address)
     × HasRow job.verb password row log
 
--- the row of a job that ended so
+-- the row of a job with this result
 abbrev pub row_in : {E : Type 0} → Result Outcome E → Row
 row_in (Ok outcome) = Came outcome
 row_in (Err error) = Memory

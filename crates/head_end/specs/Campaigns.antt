@@ -1,9 +1,9 @@
--- Which worker takes which job.
---     place_at          the job of a slot: the slots of a worker stand side by side, and its jobs as many apart as there are workers
+-- The assignment of jobs to workers.
+--     place_at          the job of a slot: a worker has consecutive slots, and its jobs are as far apart as there are workers
 --     slot_at           the slot of a job
 --     turns_for         the number of slots of each worker, and slots_for of all workers
---     IsRun             what comes of a slot
---     AreTried          what all jobs did with their attempts
+--     IsRun             the result of a slot
+--     AreTried          the use of their attempts by all jobs
 use Rattle.std.specs.Prelude.{◌≡◌, ◌+◌, ◌*◌, ◌/◌, ◌%◌, ◌<◌, ◌≤◌, ℕ, List, length, slice_index_or, Option}
 use Rattle.client_core.specs.declared.job.Job.{Job}
 use Rattle.head_end.specs.declared.row.Row.{Row}
@@ -12,7 +12,7 @@ use Rattle.head_end.specs.Connections.{Told}
 use Rattle.head_end.specs.Rows.{IsRow}
 use Rattle.head_end.specs.Attempts.{State, unused, IsTried}
 
--- the job of a slot, where each worker has so many slots
+-- the job of a slot, if each worker has this number of slots
 abbrev pub place_at : (turns workers slot : ℕ) → ℕ
 place_at turns workers slot = (slot % turns) * workers + slot / turns
 
@@ -27,8 +27,8 @@ turns_for jobs workers = jobs / workers + 1
 abbrev pub slots_for : (jobs workers : ℕ) → ℕ
 slots_for jobs workers = turns_for jobs workers * workers
 
--- what comes of a slot: the row of its job, and what the job did with its attempt. Without a job
--- the attempt is unused
+-- the result of a slot: the row of its job, and the use of its attempt. Without a job the attempt
+-- is unused
 pub record IsRun (turns workers : ℕ) (jobs : List Job) (password : List ℕ) (slot : ℕ)
     (tells : List ℕ → Option Told) (stage : State) (row : Row) : Type 0 where
   pub row_is : (job : Job) → place_at turns workers slot < length jobs
@@ -37,13 +37,13 @@ pub record IsRun (turns workers : ℕ) (jobs : List Job) (password : List ℕ) (
       → IsTried (slice_index_or jobs (place_at turns workers slot) job) password row stage
   pub others : length jobs ≤ place_at turns workers slot → stage ≡ unused
 
--- a relation between the elements of two lists, place by place
+-- a relation between the elements of two lists at each index
 abbrev pub EachChange : {X : Type 0} → (ℕ → X → X → Type 0) → List X → List X → Type 0
 EachChange {X} R old new = (i : ℕ) (x : X) → i < length old
     → R i (slice_index_or old i x) (slice_index_or new i x)
 
--- what each job did with the attempt of its slot, by its line; the attempts of slots without a job
--- are unused
+-- the use of the attempt of its slot by each job, according to its line; the attempts of slots
+-- without a job are unused
 pub record AreTried (turns workers : ℕ) (jobs : List Job) (password : List ℕ) (lines : List Line)
     (stages : List State) : Type 0 where
   pub of_jobs : (i : ℕ) (job : Job) (line : Line) (stage : State) → i < length jobs

@@ -1,30 +1,32 @@
--- What a connection tells of itself, and what its calls then do.
---     Told              what so many reads of a connection will give
---     ReadTells, WriteTells, ConnectTells      what a read, a write and a connect say of that
+-- The predicted reads of a connection, and the effect of its calls on them.
+--     Told              the results of a number of reads of a connection
+--     ReadTells, WriteTells, ConnectTells      the effect of a read, a write and a connect on them
 use Rattle.std.specs.Prelude.{◌≡◌, ℕ, zero, suc, List, [], ◌++◌, length, take, Option, Some, None, Result, Ok, Err, ⊤}
 use Rattle.byte_streams.specs.declared.fault.StreamFault.{StreamFault}
 use Rattle.head_end.specs.declared.connection.ConnectFault.{ConnectFault}
 
--- how the bytes of a connection stop: at its end, at a read or a write that fails, or not yet
+-- how the bytes of a connection end: at its end, at a failed read or write, or not yet
 pub data Stop : Type 0 where
   ended : Stop
   failed : Stop
   goes_on : Stop
 
--- what so many reads of a connection, each of which asks for 1,024 bytes, will give, up to its end or to a read or a write that fails
+-- the predicted results of a number of reads of 1,024 bytes each, up to the end of the connection
+-- or a failed read or write
 pub record Told : Type 0 where
   pub reads : ℕ
   pub bytes : List ℕ
   pub stop : Stop
 
--- a read takes bytes from the front of those told; with the last of the reads it takes all that are left
+-- a read removes bytes from the front of those predicted; the last of the reads removes all that
+-- are left
 pub record GivesPiece (told : Told) (left : ℕ) (piece : List ℕ) (new : Option Told) : Type 0 where
   pub rest : List ℕ
   pub bytes_are : told.bytes ≡ piece ++ rest
   pub new_is : new ≡ Some (record { reads = left; bytes = rest; stop = told.stop })
   pub last : left ≡ 0 → rest ≡ []
 
--- a read that gave bytes, one that gave none, and one that failed
+-- a read that returned bytes, one that returned none, and one that failed
 abbrev pub ReadsTold : Told → ℕ → Result ℕ StreamFault → List ℕ → Option Told → Type 0
 ReadsTold told left (Ok (suc count)) buffer new = GivesPiece told left (take (suc count) buffer) new
 ReadsTold told left (Ok zero) buffer new = (told.bytes ≡ []) × (told.stop ≡ ended)
@@ -34,18 +36,19 @@ abbrev pub ReadsBy : Told → ℕ → Result ℕ StreamFault → List ℕ → Op
 ReadsBy told zero result buffer new = ⊤
 ReadsBy told (suc left) result buffer new = ReadsTold told left result buffer new
 
--- a read into a buffer of 1,024 bytes, while reads are told
+-- a read into a buffer of 1,024 bytes, while reads are predicted
 abbrev pub ReadTells : Option Told → Result ℕ StreamFault → List ℕ → Option Told → Type 0
 ReadTells None result buffer new = ⊤
 ReadTells (Some told) result buffer new = length buffer ≡ 1024 → ReadsBy told told.reads result buffer new
 
--- a write changes nothing of what is told; one that fails comes where no bytes are left
+-- a write leaves the prediction unchanged; one fails only if no predicted bytes are left
 abbrev pub WriteTells : {X : Type 0} → Option Told → Result X StreamFault → Option Told → Type 0
 WriteTells None result new = ⊤
 WriteTells (Some told) (Ok x) new = new ≡ Some told
 WriteTells (Some told) (Err fault) new = (told.bytes ≡ []) × (told.stop ≡ failed)
 
--- a connect gives a connection that tells this of its first 65,536 reads; one that fails stands for a connection that gives no byte and fails
+-- a connect returns a connection with this prediction of its first 65,536 reads; a connect that
+-- fails counts as a connection that fails without bytes
 abbrev pub ConnectTells : {K : Type 0} → Option Told → (K → Option Told) → Result K ConnectFault → Type 0
 ConnectTells None told_of result = ⊤
 ConnectTells (Some told) told_of (Ok connection) = (told_of connection ≡ Some told) × (told.reads ≡ 65536)

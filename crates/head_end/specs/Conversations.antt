@@ -1,8 +1,8 @@
--- A client on a connection: how far it is in what the connection told at first.
---     Follows           so much was read of what was told
---     At, AtEnd         a client that was fed what was read, and one that was fed all
---     GivesUp .. Converses      what the steps of a conversation do to that
---     Talks .. Speaks           what they do to the log of the connection
+-- A client on a connection, by its position in the initially predicted reads.
+--     Follows           the bytes read so far, and the reads that are left
+--     At, AtEnd         a client that was fed the bytes read so far, and one that was fed all
+--     GivesUp .. Converses      the effect of the steps of a conversation on that
+--     Talks .. Speaks           their effect on the log of the connection
 use Rattle.std.specs.Prelude.{◌≡◌, ◌≤◌, ℕ, suc, Bool, false, true, List, [], ◌++◌, length, Option, Some, None, Result, Ok, Err}
 use Rattle.client_core.specs.declared.client.Client.{Client}
 use Rattle.client_core.specs.declared.job.Outcome.{Outcome}
@@ -13,30 +13,30 @@ use Rattle.head_end.specs.Connections.{Told}
 use Rattle.head_end.specs.Logs.{Happening, heard_in, sent_in, reads_in}
 use Rattle.head_end.specs.Wires.{due_text, given_text, Listens, GoesOn, Conversation, HasConversed}
 
--- of what was told at first this was read, and so many reads are left
+-- of the initially predicted bytes these were read, and this number of reads is left
 pub record Follows (start : Told) (now : Option Told) (seen : List ℕ) (left : ℕ) : Type 0 where
   pub rest : List ℕ
   pub now_is : now ≡ Some (record { reads = left; bytes = rest; stop = start.stop })
   pub bytes_are : start.bytes ≡ seen ++ rest
   pub last : left ≡ 0 → rest ≡ []
 
--- a client that was fed what was read
+-- a client that was fed the bytes read so far
 pub record At (start : Told) (verb : Verb) (password : List ℕ) (left : ℕ) (client : Client) (now : Option Told) : Type 0 where
   pub fed : List ℕ
   pub given : ℕ
   pub stands : Stands verb password fed given false client
   pub follows : Follows start now fed left
 
--- a client that was fed all that was told
+-- a client that was fed all predicted bytes
 pub record AtEnd (start : Told) (verb : Verb) (password : List ℕ) (client : Client) : Type 0 where
   pub given : ℕ
   pub stands : Stands verb password start.bytes given false client
 
--- the outcome of a client that was fed all
+-- the outcome of a client that was fed all predicted bytes
 pub record GivesUp (old : Client) (outcome : Outcome) : Type 0 where
   pub outcome_is : (start : Told) (verb : Verb) (password : List ℕ) → AtEnd start verb password old → outcome ≡ outcome_of verb start.bytes
 
--- texts were written, or a write failed, and then nothing more comes
+-- the messages were written; or a write failed, and no more bytes will come
 abbrev pub AtAfter : Bool → Told → Verb → List ℕ → ℕ → Client → Option Told → Type 0
 AtAfter true start verb password left client now = At start verb password left client now
 AtAfter false start verb password left client now = AtEnd start verb password client
@@ -44,7 +44,7 @@ AtAfter false start verb password left client now = AtEnd start verb password cl
 pub record SendsAll (old : Client) (before : Option Told) (result : Bool) (new : Client) (after : Option Told) : Type 0 where
   pub on : (start : Told) (verb : Verb) (password : List ℕ) (left : ℕ) → At start verb password left old before → AtAfter result start verb password left new after
 
--- after a turn the outcome is known, or the client was fed one read more
+-- after a turn the outcome is known, or the client was fed the bytes of one more read
 abbrev pub AtTurn : Option Outcome → Told → Verb → List ℕ → ℕ → Client → Option Told → Type 0
 AtTurn None start verb password left client now = At start verb password left client now
 AtTurn (Some outcome) start verb password left client now = outcome ≡ outcome_of verb start.bytes
@@ -52,14 +52,14 @@ AtTurn (Some outcome) start verb password left client now = outcome ≡ outcome_
 pub record Turns (old : Client) (before : Option Told) (result : Option Outcome) (new : Client) (after : Option Told) : Type 0 where
   pub on : (start : Told) (verb : Verb) (password : List ℕ) (left : ℕ) → At start verb password (suc left) old before → AtTurn result start verb password left new after
 
--- a conversation from its start, of a connection that tells of 65,536 reads
+-- a conversation from its start, on a connection with 65,536 predicted reads
 pub record Converses (old : Client) (before : Option Told) (outcome : Outcome) : Type 0 where
   pub outcome_is : (start : Told) (verb : Verb) (password : List ℕ) → At start verb password 65536 old before → outcome ≡ outcome_of verb start.bytes
 
--- ---- what goes over the connection
+-- ---- the bytes read and written on a connection
 
--- a client that was fed what was heard, and gave what was sent. Whatever goes on in its turn from
--- here, the whole is a conversation
+-- a client that was fed the bytes received and returned the messages sent. If the conversation
+-- continues correctly from here, the whole is a conversation
 pub record Talks (verb : Verb) (password : List ℕ) (reads : ℕ) (client : Client) (now : Option
     (List Happening)) : Type 0 where
   pub log : List Happening
@@ -72,13 +72,13 @@ pub record Talks (verb : Verb) (password : List ℕ) (reads : ℕ) (client : Cli
   pub more : (whole : Bool) (next : List Happening) → GoesOn whole verb password log next
       → GoesOn whole verb password [] (log ++ next)
 
--- all that is due was sent
+-- all messages that may be sent were sent
 pub record HasSent (verb : Verb) (password : List ℕ) (reads : ℕ) (client : Client) (now : Option
     (List Happening)) : Type 0 where
   pub talks : Talks verb password reads client now
   pub all_is : sent_in talks.log ≡ due_text verb password (heard_in talks.log)
 
--- and the outcome is not settled: a read comes next
+-- the outcome is not settled either, so a read follows
 pub record Waits (verb : Verb) (password : List ℕ) (reads : ℕ) (client : Client) (now : Option
     (List Happening)) : Type 0 where
   pub talks : Talks verb password reads client now
@@ -93,7 +93,7 @@ pub record IsCut (verb : Verb) (password : List ℕ) (client : Client) (now : Op
   pub stands : Stands verb password (heard_in log) given false client
   pub conversation : Conversation true verb password log
 
--- what is due is sent, or a write fails
+-- the messages that may be sent are sent, or a write fails
 abbrev pub SentAfter : Bool → Verb → List ℕ → ℕ → Client → Option (List Happening) → Type 0
 SentAfter true verb password reads client now = HasSent verb password reads client now
 SentAfter false verb password reads client now = IsCut verb password client now
@@ -104,7 +104,7 @@ pub record Sends (old : Client) (before : Option (List Happening)) (result : Boo
       → SentAfter result verb password reads new after
   pub unknown : before ≡ None → after ≡ None
 
--- after a read the next one comes, or the conversation is over, or it is cut short out of memory
+-- after a read the next one follows, the conversation is over, or it is cut short out of memory
 abbrev pub TurnAfter : {E : Type 0} → Result (Option Outcome) E → Verb → List ℕ → ℕ → Client
     → Option (List Happening) → Type 0
 TurnAfter (Ok None) verb password reads client now = Waits verb password reads client now
@@ -119,12 +119,12 @@ pub record TakesTurn {E : Type 0} (old : Client) (before : Option (List Happenin
       → TurnAfter result verb password (suc reads) new after
   pub unknown : before ≡ None → after ≡ None
 
--- the outcome, if memory did not run out
+-- the outcome, unless memory ran out
 abbrev pub outcome_in : {E : Type 0} → Result Outcome E → Option Outcome
 outcome_in (Ok outcome) = Some outcome
 outcome_in (Err error) = None
 
--- what a new client and a new connection come to is a conversation
+-- the log of a new client on a new connection is a conversation
 pub record Speaks {E : Type 0} (old : Client) (before : Option (List Happening))
     (result : Result Outcome E) (after : Option (List Happening)) : Type 0 where
   pub on : (verb : Verb) (password : List ℕ) → Stands verb password [] 0 false old

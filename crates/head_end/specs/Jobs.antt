@@ -1,8 +1,8 @@
--- The jobs of a text.
---     job_lines         its lines: what stands before, between and behind the bytes 0A
+-- The jobs of a list of jobs.
+--     job_lines         its lines: the bytes before, between and after the bytes 0A
 --     job_of            the job of a line
 --     jobs_in           the jobs of lines, or the number of the first wrong line
---     jobs_of           the jobs of a text, or what is wrong with it
+--     jobs_of           the jobs of a text, or its fault
 use Rattle.std.specs.Prelude.{◌≡◌, ℕ, suc, Bool, ◌&&◌, nat_lt, nat_le, if◌then◌else◌, List, [], ◌∷◌, ◌++◌, length, codes, decimal, bytes_eq, Option, Some, None, Result, Ok, Err}
 use Rattle.std.specs.List.{list_all}
 use Rattle.trace_text.specs.Lines.{lines_of, unended_of}
@@ -13,19 +13,19 @@ use Rattle.client_core.specs.declared.job.Verb.TheVariants.{Disconnect, Reconnec
 use Rattle.head_end.specs.declared.fault.JobsFault.{JobsFault}
 use Rattle.head_end.specs.declared.fault.JobsFault.TheVariants as fault
 
--- the lines of a text, also the one that is not ended
+-- the lines of a text, including a last one that is not ended
 abbrev pub job_lines : List ℕ → List (List ℕ)
 job_lines text = lines_of text ++ unended_of text ∷ []
 
--- a byte that is seen, from 21 to 7E
+-- a visible byte, from 21 to 7E hex
 abbrev pub is_visible : ℕ → Bool
 is_visible byte = nat_le 0x21 byte && nat_le byte 0x7E
 
--- one such byte or more, and no more than so many
+-- one or more visible bytes, up to a maximum
 abbrev pub is_name : ℕ → List ℕ → Bool
 is_name most word = nat_lt 0 (length word) && nat_le (length word) most && list_all is_visible word
 
--- what a word asks for
+-- the verb of a word
 abbrev pub verb_of : List ℕ → Option Verb
 verb_of word =
     if bytes_eq word (codes "disconnect") then Some Disconnect else
@@ -38,7 +38,7 @@ abbrev pub job_with : List ℕ → List ℕ → Option Verb → Option Job
 job_with id address None = None
 job_with id address (Some verb) = if is_name 32 id && is_name 64 address then Some (record { id = id; address = address; verb = verb }) else None
 
--- the job of words: three
+-- the job of three words; none of any other number
 abbrev pub job_words : List (List ℕ) → Option Job
 job_words (id ∷ address ∷ verb ∷ []) = job_with id address (verb_of verb)
 job_words _ = None
@@ -47,33 +47,33 @@ job_words _ = None
 unfoldable pub job_of : List ℕ → Option Job
 job_of line = job_words (words_of line)
 
--- jobs and then others; what is wrong in the first stands
+-- jobs followed by others; the first fault is kept
 abbrev pub joined_jobs : Result (List Job) ℕ → Result (List Job) ℕ → Result (List Job) ℕ
 joined_jobs (Err number) others = Err number
 joined_jobs (Ok jobs) (Err number) = Err number
 joined_jobs (Ok jobs) (Ok others) = Ok (jobs ++ others)
 
--- the jobs of one line: none of an empty one
+-- the jobs of one line; an empty line has none
 abbrev pub jobs_at : ℕ → List ℕ → Option Job → Result (List Job) ℕ
 jobs_at number [] job = Ok []
 jobs_at number (byte ∷ bytes) (Some job) = Ok (job ∷ [])
 jobs_at number (byte ∷ bytes) None = Err number
 
--- the jobs of lines that are numbered from here on, or the number of the first wrong one
+-- the jobs of lines numbered from here, or the number of the first invalid line
 unfoldable pub jobs_in : ℕ → List (List ℕ) → Result (List Job) ℕ
 jobs_in number [] = Ok []
 jobs_in number (line ∷ lines) = joined_jobs (jobs_at number line (job_of line)) (jobs_in (suc number) lines)
 
--- no more than 1,000 jobs
+-- the jobs, if there are at most 1,000
 abbrev pub limited_jobs : Result (List Job) ℕ → Result (List Job) JobsFault
 limited_jobs (Err number) = Err (fault.Line number)
 limited_jobs (Ok jobs) = if nat_lt 1000 (length jobs) then Err fault.TooMany else Ok jobs
 
--- the jobs of a text: a wrong line comes before too many jobs
+-- the jobs of a text; an invalid line takes precedence over too many jobs
 unfoldable pub jobs_of : List ℕ → Result (List Job) JobsFault
 jobs_of text = limited_jobs (jobs_in 1 (job_lines text))
 
--- a text was read: its jobs, or what is wrong with it, or memory ran out
+-- a text was read: its jobs, its fault, or out of memory
 abbrev pub ReadsJobs : List ℕ → Result (List Job) JobsFault → Type 0
 ReadsJobs text (Ok jobs) = jobs_of text ≡ Ok jobs
 ReadsJobs text (Err fault.Memory) = Unit {0}
@@ -84,13 +84,13 @@ ReadsJobs text (Err fault.TooMany) = jobs_of text ≡ Err fault.TooMany
 abbrev pub count_text : ℕ → List ℕ
 count_text count = (codes "jobs " ++ decimal count) ++ 10 ∷ []
 
--- a text was counted: the number of its jobs, or what is wrong with it
+-- a text was counted: the number of its jobs, or its fault
 abbrev pub CountsJobs : List ℕ → Result (List ℕ) JobsFault → Type 0
 CountsJobs text (Ok out) = (jobs : List Job) × (jobs_of text ≡ Ok jobs)
     × (out ≡ count_text (length jobs))
 CountsJobs text (Err fault) = ReadsJobs text (Err fault)
 
--- what reading lines answers, and adding one
+-- the outcome of reading lines, and of adding one
 abbrev pub ReadsLines : ℕ → List (List ℕ) → Result (List Job) JobsFault → Type 0
 ReadsLines number lines (Ok jobs) = jobs_in number lines ≡ Ok jobs
 ReadsLines number lines (Err (fault.Line wrong)) = jobs_in number lines ≡ Err wrong

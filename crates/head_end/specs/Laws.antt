@@ -1,9 +1,10 @@
--- A campaign may be cut: its parts run anywhere, and their reports put end to end are a report of the whole.
---     line_told         the line of a job whose meter's connection is told
---     AreTold           so it is for all jobs
---     HaveMemory        no job met want of memory
+-- A campaign may be split: its parts may run anywhere, and their reports, concatenated, are a
+-- report of the whole.
+--     line_told         the line of a job whose meter's reads are predicted
+--     AreTold           the reads of all jobs' meters are predicted
+--     HaveMemory        no job ran out of memory
 --     Reports           a text is the report of jobs that were run
---     campaign_text     the report of jobs, as a function of what the connector tells
+--     campaign_text     the report of jobs, as a function of the connector's predictions
 use Rattle.std.specs.Prelude.{◌≡◌, ◌≢◌, ℕ, List, [], ◌∷◌, ◌++◌, length, map, Option, Some, None, IsSome, Ok, ⊤}
 use Rattle.std.specs.List.{All}
 use Rattle.trace_text.specs.Lines.{unended_of}
@@ -19,7 +20,7 @@ use Rattle.head_end.specs.Jobs.{job_lines, jobs_in}
 use Rattle.head_end.specs.Reports.{report_text}
 use Rattle.head_end.specs.Rows.{AreLines}
 
--- the line of a job whose meter's connection is told
+-- the line of a job whose meter's reads are predicted
 abbrev pub line_by : Job → Option Told → Line
 line_by job (Some told) = record { id = job.id; row = Came (outcome_of job.verb told.bytes) }
 line_by job None = record { id = job.id; row = Came Unknown }
@@ -27,12 +28,12 @@ line_by job None = record { id = job.id; row = Came Unknown }
 abbrev pub line_told : (List ℕ → Option Told) → Job → Line
 line_told tells job = line_by job (tells job.address)
 
--- the connections to all their meters are told
+-- the reads of the connections to all the jobs' meters are predicted
 abbrev pub AreTold : (List ℕ → Option Told) → List Job → Type 0
 AreTold tells [] = ⊤
 AreTold tells (job ∷ jobs) = IsSome (tells job.address) × AreTold tells jobs
 
--- no job met want of memory
+-- no job ran out of memory
 abbrev pub HaveMemory : List Line → Type 0
 HaveMemory [] = ⊤
 HaveMemory (line ∷ lines) = (line.row ≢ Memory) × HaveMemory lines
@@ -41,7 +42,7 @@ HaveMemory (line ∷ lines) = (line.row ≢ Memory) × HaveMemory lines
 abbrev pub campaign_text : (List ℕ → Option Told) → List Job → List ℕ
 campaign_text tells jobs = report_text (map (line_told tells) jobs)
 
--- the reports of parts, put end to end, are the report of the whole
+-- the concatenated reports of parts are the report of the whole
 abbrev pub ReportsJoin : Type 0
 ReportsJoin = (lines others : List Line) → report_text (lines ++ others) ≡ report_text lines ++ report_text others
 
@@ -50,18 +51,20 @@ abbrev pub LinesJoin : Type 0
 LinesJoin = (tells : List ℕ → Option Told) (jobs rest : List Job) (lines others : List Line) → AreLines tells jobs lines → AreLines tells rest others
     → AreLines tells (jobs ++ rest) (lines ++ others)
 
--- where all is told and memory was there, the report is a function of the jobs, whatever the workers, the machines and the cut
+-- if all reads are predicted and no job ran out of memory, the report is a function of the jobs,
+-- whatever the workers, the machines and the parts
 abbrev pub IsTheReport : Type 0
 IsTheReport = (tells : List ℕ → Option Told) (jobs : List Job) (lines : List Line) → AreLines tells jobs lines → AreTold tells jobs → HaveMemory lines
     → report_text lines ≡ campaign_text tells jobs
 
--- a text whose last line is ended, and what comes behind it: the jobs of the whole are those of both, in order
+-- the jobs of a text whose last line is ended and of another text, in order, are those of both
+-- texts concatenated
 abbrev pub JobsJoin : Type 0
 JobsJoin = (text rest : List ℕ) (jobs others : List Job) → unended_of text ≡ [] → jobs_in 1 (job_lines text) ≡ Ok jobs → jobs_in 1 (job_lines rest) ≡ Ok others
     → jobs_in 1 (job_lines (text ++ rest)) ≡ Ok (jobs ++ others)
 
--- the text is the report of lines that are those of the jobs, each of which used its attempt as it
--- should
+-- the text is the report of lines that are those of the jobs, each of which used its attempt
+-- correctly
 pub record Reports {X : Type 0} (tells_of : X → List ℕ
     → Option Told) (workers : ℕ) (jobs : List Job) (password : List ℕ) (old : List X)
     (stages : List State) (text : List ℕ) : Type 0 where

@@ -1,19 +1,19 @@
--- What went over a connection.
+-- The log of a connection.
 --     Happening             one read or one write
---     heard_in, sent_in     the bytes that were heard, and the bytes that were sent
+--     heard_in, sent_in     the bytes that were received, and the bytes that were sent
 --     ReadLogs, WriteLogs   what a read and a write add to the log of a connection
 use Rattle.std.specs.Prelude.{◌≡◌, ℕ, zero, suc, List, [], ◌∷◌, ◌++◌, take, Option, Some, None, Result, Ok, Err, ⊤}
 use Rattle.byte_streams.specs.declared.fault.StreamFault.{StreamFault}
 
--- a read that gave bytes; a read that gave none, at the end of the connection or since it failed;
--- a write; a write that failed after this front of its bytes
+-- a read that returned bytes; a read that returned none, at the end of the connection or after a
+-- failure; a write; a write that failed after this prefix of its bytes
 pub data Happening : Type 0 where
   heard : List ℕ → Happening
   heard_nothing : Happening
   sent : List ℕ → Happening
   cut_off : List ℕ → Happening
 
--- all bytes that were heard
+-- all bytes that were received
 unfoldable pub heard_in : List Happening → List ℕ
 heard_in [] = []
 heard_in (heard bytes ∷ later) = bytes ++ heard_in later
@@ -29,7 +29,7 @@ sent_in (heard_nothing ∷ later) = sent_in later
 sent_in (sent bytes ∷ later) = bytes ++ sent_in later
 sent_in (cut_off bytes ∷ later) = bytes ++ sent_in later
 
--- the number of reads that gave bytes
+-- the number of reads that returned bytes
 unfoldable pub reads_in : List Happening → ℕ
 reads_in [] = 0
 reads_in (heard bytes ∷ later) = suc (reads_in later)
@@ -37,9 +37,9 @@ reads_in (heard_nothing ∷ later) = reads_in later
 reads_in (sent bytes ∷ later) = reads_in later
 reads_in (cut_off bytes ∷ later) = reads_in later
 
--- ---- what calls add to a log; one that is not known stays so
+-- ---- the effect of calls on a log; an unknown log remains unknown
 
--- a read adds the bytes that it gave, or that it gave none
+-- a read adds the bytes that it returned, or that it returned none
 abbrev pub ReadLogs : Option (List Happening) → Result ℕ StreamFault → List ℕ
     → Option (List Happening) → Type 0
 ReadLogs None result buffer new = new ≡ None
@@ -48,12 +48,12 @@ ReadLogs (Some log) (Ok (suc count)) buffer new = new ≡ Some (log ++ heard (ta
     (suc count) buffer) ∷ [])
 ReadLogs (Some log) (Err fault) buffer new = new ≡ Some (log ++ heard_nothing ∷ [])
 
--- a front of a text
+-- a prefix of a text
 pub record IsFront (front text : List ℕ) : Type 0 where
   pub rest : List ℕ
   pub parts : text ≡ front ++ rest
 
--- a write failed after a front of its text
+-- a write failed after a prefix of its text
 pub record IsCutOff (text : List ℕ) (log : List Happening) (new : Option
     (List Happening)) : Type 0 where
   pub front : List ℕ
@@ -66,7 +66,7 @@ WriteLogs None text result new = new ≡ None
 WriteLogs (Some log) text (Ok x) new = new ≡ Some (log ++ sent text ∷ [])
 WriteLogs (Some log) text (Err fault) new = IsCutOff text log new
 
--- nothing has happened on a new connection
+-- the log of a new connection is empty
 abbrev pub IsNewLog : Option (List Happening) → Type 0
 IsNewLog None = ⊤
 IsNewLog (Some log) = log ≡ []

@@ -6,11 +6,11 @@ use Rattle.head_end.specs.declared.row.Row.{Row}
 use Rattle.head_end.specs.declared.row.Row.TheVariants.{Came, Memory}
 use Rattle.head_end.specs.declared.row.Line.{Line}
 
--- a word and a number
+-- a word followed by a number in decimal
 abbrev pub told_number : List ℕ → ℕ → List ℕ
 told_number word number = word ++ decimal number
 
--- what came of a job, in words
+-- the result of a job, in words
 abbrev pub row_text : Row → List ℕ
 row_text (Came (Done number)) = told_number (codes " done ") number
 row_text (Came (Refused number)) = told_number (codes " refused ") number
@@ -18,7 +18,7 @@ row_text (Came (Rejected number)) = told_number (codes " rejected ") number
 row_text (Came Unknown) = codes " unknown"
 row_text Memory = codes " memory"
 
--- a line: the name of the job, a blank, what came of it, and the byte 0A
+-- a line: the name of the job, a blank, its result, and the byte 0A
 abbrev pub line_text : Line → List ℕ
 line_text line = line.id ++ (row_text line.row ++ 10 ∷ [])
 

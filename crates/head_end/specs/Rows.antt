@@ -1,4 +1,4 @@
--- The rows of a report, as a function of what the connector tells.
+-- The rows of a report, as a function of the connector's predictions.
 --     IsRow             the row of a job
 --     AreLines          the lines of all jobs, in order
 use Rattle.std.specs.Prelude.{◌≡◌, ℕ, List, [], ◌∷◌, Option, Some, None, ⊤}
@@ -11,12 +11,12 @@ use Rattle.head_end.specs.declared.row.Row.TheVariants.{Came, Memory}
 use Rattle.head_end.specs.declared.row.Line.{Line}
 use Rattle.head_end.specs.Connections.{Told}
 
--- the outcome of a job is that of the bytes which its meter's connection gives
+-- the outcome of a job is that of the predicted bytes of its meter's connection
 abbrev pub IsOutcome : Option Told → Verb → Outcome → Type 0
 IsOutcome None verb outcome = ⊤
 IsOutcome (Some told) verb outcome = outcome ≡ outcome_of verb told.bytes
 
--- the row of a job, or that the job met want of memory
+-- the row of a job, which may be out of memory
 abbrev pub IsRow : (List ℕ → Option Told) → Job → Row → Type 0
 IsRow tells job (Came outcome) = IsOutcome (tells job.address) job.verb outcome
 IsRow tells job Memory = ⊤
@@ -26,7 +26,7 @@ pub record IsLine (tells : List ℕ → Option Told) (job : Job) (line : Line) :
   pub id_is : line.id ≡ job.id
   pub row_is : IsRow tells job line.row
 
--- line i is that of job i, and there are as many
+-- line i is that of job i, and there are as many lines as jobs
 abbrev pub AreLines : (List ℕ → Option Told) → List Job → List Line → Type 0
 AreLines tells [] [] = ⊤
 AreLines tells (job ∷ jobs) (line ∷ lines) = IsLine tells job line × AreLines tells jobs lines

@@ -1,7 +1,7 @@
--- What a conversation is: a log in which each read and each write has its turn.
---     due_text          what is due by the bytes that were heard, end to end
---     Listens           all of it was sent, and the outcome is open: a read comes next
---     IsDueNext         bytes that are due next
+-- Conversations: logs in which each read and each write is in its turn.
+--     due_text          the messages that may be sent after the bytes received, concatenated
+--     Listens           all of them were sent, and the outcome is open: a read follows
+--     IsDueNext         bytes that may be sent next
 --     Conversation      each read and each write in its turn, up to the end
 --     HasConversed      the log of a connection is a conversation, and the outcome is that of its bytes
 use Rattle.std.specs.Prelude.{◌≡◌, ℕ, zero, suc, Bool, false, true, is_some, IsSome, IfSome, ◌⊎◌, List, [], ◌∷◌, ◌++◌, Option, Some, None, ⊤}
@@ -12,34 +12,34 @@ use Rattle.client_core.specs.Texts.{aarq_frame, request_frame, release_frame}
 use Rattle.client_core.specs.Outcomes.{progress_of, decided, outcome_of, due}
 use Rattle.head_end.specs.Logs.{Happening, heard, heard_nothing, sent, cut_off, heard_in, sent_in, reads_in, IsFront}
 
--- the texts that are due by the bytes that were heard, end to end: the AARQ, then the request, then
--- the release
+-- the messages that may be sent after the bytes received, concatenated: the AARQ, then the request,
+-- then the release
 unfoldable pub due_text : Verb → List ℕ → List ℕ → List ℕ
 due_text verb password bytes = concat (due verb password (progress_of verb bytes))
 
--- all that was due was sent, and nothing else, and the outcome is not settled
+-- exactly the messages that may be sent were sent, and the outcome is not settled
 pub record Listens (verb : Verb) (password : List ℕ) (log : List Happening) : Type 0 where
   pub sent_is : sent_in log ≡ due_text verb password (heard_in log)
   pub unsettled : decided verb (heard_in log) ≡ None
 
--- with these bytes no more was sent than is due
+-- with these bytes, at most the messages that may be sent are sent
 abbrev pub IsDueNext : Verb → List ℕ → List Happening → List ℕ → Type 0
 IsDueNext verb password log bytes =
     IsFront (sent_in log ++ bytes) (due_text verb password (heard_in log))
 
--- why no read comes next: the outcome is settled, or 65,536 reads have not settled it
+-- why no read follows: the outcome is settled, or 65,536 reads have not settled it
 abbrev pub IsOver : Verb → List Happening → Type 0
 IsOver verb log = IsSome (decided verb (heard_in log)) ⊎ (reads_in log ≡ 65536)
 
--- the end of a conversation: all that was due was sent, and nothing else. Out of memory it may end
--- anywhere
+-- the end of a conversation: exactly the messages that may be sent were sent. If out of memory, it
+-- may end anywhere
 abbrev pub EndsAt : Bool → Verb → List ℕ → List Happening → Type 0
 EndsAt false verb password log = ⊤
 EndsAt true verb password log = (sent_in log ≡ due_text verb password (heard_in log))
     × IsOver verb log
 
--- what may come after a log: bytes that are due next, or a read once all that is due was sent.
--- Nothing comes after a read that gave no bytes or a write that failed
+-- what may follow a log: bytes that may be sent next, or, if all were sent, a read. Nothing follows
+-- a read without bytes or a write that failed
 abbrev pub GoesOn : Bool → Verb → List ℕ → List Happening → List Happening → Type 0
 GoesOn whole verb password log [] = EndsAt whole verb password log
 GoesOn whole verb password log (heard bytes ∷ later) = Listens verb password log
@@ -54,8 +54,8 @@ GoesOn whole verb password log (cut_off bytes ∷ later) = IsDueNext verb passwo
 abbrev pub Conversation : Bool → Verb → List ℕ → List Happening → Type 0
 Conversation whole verb password log = GoesOn whole verb password [] log
 
--- this log is a conversation: a whole one, whose outcome is that of the bytes that were heard; or
--- none was settled, out of memory
+-- this log is a conversation: a whole one, with the outcome of the bytes received; or one without
+-- an outcome, cut short out of memory
 pub record HasConversed (verb : Verb) (password : List ℕ) (outcome : Option Outcome)
     (now : Option (List Happening)) : Type 0 where
   pub log : List Happening
@@ -63,7 +63,7 @@ pub record HasConversed (verb : Verb) (password : List ℕ) (outcome : Option Ou
   pub conversation : Conversation (is_some outcome) verb password log
   pub outcome_is : IfSome outcome (λ o. o ≡ outcome_of verb (heard_in log))
 
--- the first so many of the three texts
+-- the first of the three messages, up to this number, concatenated
 abbrev pub given_text : Verb → List ℕ → ℕ → List ℕ
 given_text verb password zero = []
 given_text verb password (suc zero) = aarq_frame password

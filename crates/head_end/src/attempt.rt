@@ -9,7 +9,7 @@ use cosem_axdr::Octets;
 use std::marker::Model;
 use std::snapshot::Snapshot;
 
-/// What was done with an attempt. Contracts see a `State` of `specs/Attempts.antt`.
+/// The state of an attempt. Contracts refer to it as a `State` of `specs/Attempts.antt`.
 #[derive(Drop)]
 pub struct Stage<K: Connection> {
     address: Option<Snapshot<Octets>>,
@@ -24,7 +24,7 @@ impl<K: Connection> Model for Stage<K> {
 }
 
 impl<K: Connection> Stage<K> {
-    // Nothing was done.
+    // Returns the stage of an unused attempt.
     fn new() -> Stage<K>
         ensures { result ≡ unused }
     {
@@ -35,7 +35,8 @@ impl<K: Connection> Stage<K> {
         }
     }
 
-    // The attempt was used for an address, which refused or gave a connection that is open.
+    // Returns the stage of an attempt used for an address: the connect was refused, or the
+    // connection is open.
     fn used(address: &Octets, is_refused: bool) -> Stage<K>
         ensures { result ≡ (if is_refused then refused address.now else connected address.now) }
     {
@@ -47,16 +48,17 @@ impl<K: Connection> Stage<K> {
     }
 }
 
-/// One attempt to reach a meter: at most one connection, whose log contracts see once it is closed.
+/// One attempt to reach a meter: at most one connection, whose log contracts can refer to once it
+/// is closed.
 ///
-/// A job gets an attempt of its own. So the contract of what runs the job says how many connections
-/// it made, to which address, and what went over them.
+/// Each job has an attempt of its own, so the contract of the function that runs the job states how
+/// many connections it made, to which address, and which bytes were read and written.
 #[derive(Drop)]
 pub struct Attempt<'a, C: Connector> {
     connector: &'a C,
-    /// The connector, as contracts see it. It has no bytes.
+    /// The connector, for contracts only: it occupies no memory.
     pub source: Snapshot<C>,
-    /// What was done with the attempt.
+    /// The state of the attempt.
     pub stage: Stage<C::Connection>,
     ghost same: { source.value ≡ connector.now },
 }
@@ -74,7 +76,8 @@ impl<'a, C: Connector> Attempt<'a, C> {
         }
     }
 
-    /// Connects to the meter at an address. From then on the attempt is used.
+    /// Connects to the meter at an address. The attempt counts as used afterwards, even if the
+    /// connect fails.
     pub fn connect(&mut self, address: &Octets) -> Result<C::Connection, ConnectFault>
         requires { self.old.stage ≡ unused }
         ensures told { ConnectTells

@@ -1,4 +1,4 @@
-//! A client's conversation with the meter at the other end of a connection.
+//! The conversation of a client with the meter over a connection.
 ghost use Rattle.std.specs.Prelude.{IfOk};
 ghost use Rattle.head_end.specs.Conversations.{GivesUp, SendsAll, Turns, Converses, Sends, TakesTurn, Speaks};
 
@@ -6,16 +6,18 @@ use crate::connection::Connection;
 use client_core::{Client, Outcome};
 use std::alloc::{AllocError, Global};
 
-/// A read asks for so many bytes.
+/// The size of the read buffer in bytes.
 const MAX_READ: usize = 1_024;
-/// The reads of one connection. What they do not settle is unknown.
+/// The maximum number of reads of one connection. If they do not settle the outcome, it is unknown.
 const MAX_READS: u32 = 65_536;
-/// The texts of a job: the AARQ, the request and the release.
+/// The number of messages of a job: the AARQ, the request and the release.
 const MAX_TEXTS: u32 = 3;
 
-/// Sends what is due and reads until the outcome is settled, the connection ends or fails, or 65,536 reads have not settled it.
+/// Sends the client's messages and reads until the outcome is settled, the connection ends or
+/// fails, or 65,536 reads have not settled it.
 ///
-/// Whatever the meter answers, no more goes out than the AARQ, the client's one request and the release, in this order and each at most once.
+/// Whatever the meter responds, only the AARQ, the client's one request and the release are sent,
+/// in this order and each at most once. Fails only if out of memory.
 pub fn converse<K: Connection>(
     alloc: Global,
     client: &mut Client,
@@ -36,7 +38,8 @@ pub fn converse<K: Connection>(
     Ok(give_up(client))
 }
 
-/// One read, what is due after it, and the outcome where it is settled or nothing more can come.
+/// Reads once and sends the messages that may then be sent. Returns the outcome, if it is settled
+/// or nothing more can be read.
 fn take_turn<K: Connection>(
     alloc: Global,
     client: &mut Client,
@@ -59,7 +62,7 @@ fn take_turn<K: Connection>(
     Ok(client.outcome())
 }
 
-/// Writes all texts that are due. False where a write failed.
+/// Writes all messages that may be sent. Returns false if a write fails.
 fn send_due<K: Connection>(client: &mut Client, connection: &mut K) -> bool
     ensures told { SendsAll client.old (K.told connection.old) result client.new (K.told connection.new) }
     ensures log { Sends client.old (K.log connection.old) result client.new (K.log connection.new) }
@@ -77,7 +80,7 @@ fn send_due<K: Connection>(client: &mut Client, connection: &mut K) -> bool
     true
 }
 
-/// The outcome where the connection gives no more.
+/// Ends the client's connection and returns the outcome.
 pub fn give_up(client: &mut Client) -> Outcome
     ensures { GivesUp client.old result }
 {

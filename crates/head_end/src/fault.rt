@@ -5,10 +5,10 @@ ghost use Rattle.head_end.specs.declared.fault.JobsFault.TheVariants.{Memory};
 use std::alloc::AllocError;
 use thiserror::Error;
 
-/// Why a text is not a list of jobs.
+/// Why a text could not be read as a list of jobs.
 #[derive(Clone, Copy, Debug, PartialEq, Eq, Error)]
 pub enum JobsFault {
-    /// The first wrong line, counted from 1.
+    /// The first invalid line, counted from 1.
     #[error("line {0} is not a job")]
     Line(u64),
     /// There are more than 1,000 jobs.
@@ -19,7 +19,7 @@ pub enum JobsFault {
     Memory,
 }
 
-/// The number of the fault, 1 to 3.
+/// Returns the number of the fault, 1 to 3.
 impl From<JobsFault> for u8 {
     ghost from_gives = { λ fault number. number ≡ fault_number fault };
 

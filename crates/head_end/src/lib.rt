@@ -1,9 +1,10 @@
-//! Switching campaigns: many jobs at many meters, side by side, and one report in the order of the jobs.
+//! Switching campaigns: many jobs at many meters, run in parallel, with one report in the order of
+//! the jobs.
 //!
 //! `specs/Connections.antt` defines what is known of the reads of a connection, `specs/Rows.antt`
-//! the report's rows by that, for every number of workers, `specs/Wires.antt` what a conversation
-//! over a connection is, whatever the meter answers, and `specs/Attempts.antt` how a job uses its
-//! attempt to reach its meter.
+//! the rows of the report that follow from it for every number of workers, `specs/Wires.antt` the
+//! conversations over a connection, whatever the meter responds, and `specs/Attempts.antt` how a
+//! job uses its attempt to reach its meter.
 #![tactic(auto)]
 
 mod attempt;

@@ -1,4 +1,4 @@
-//! Connections that are limited in time.
+//! Connections with time limits.
 ghost use Rattle.std.specs.Prelude.{◌≡◌, ◌-◌, ◌≤◌, List, Option, None};
 ghost use Rattle.std.specs.Duration.{as_nanos};
 ghost use Rattle.std.specs.Io.{ReadsAtMost};
@@ -8,9 +8,9 @@ use crate::connection::Connection;
 use byte_streams::StreamFault;
 use std::time::{Clock, Duration, Instant};
 
-/// A stream whose next read or write is limited in time.
+/// A stream whose next read or write has a time limit.
 pub trait LimitedStream: Drop {
-    // The reads and writes on it so far, in order, if they are known.
+    // Ghost value: the reads and writes so far, in order. The default claims nothing.
     ghost log: { Self → Option (List Happening) } = { λ _. None };
 
     /// Reads into the buffer within a limit, and returns the number of bytes read: 0 at the end of
@@ -19,19 +19,19 @@ pub trait LimitedStream: Drop {
         ensures bound { ReadsAtMost result buffer.new }
         ensures log { ReadLogs (log self.old) result buffer.new (log self.new) };
 
-    /// Writes all the bytes, each part of them within a limit. If it fails, a front of them may
+    /// Writes all the bytes, with a limit on each partial write. If it fails, a prefix of them may
     /// have been written. Fails if the limit is zero.
     fn write_all_within(&mut self, limit: Duration, bytes: &[u8]) -> Result<(), StreamFault>
         ensures log { WriteLogs (log self.old) bytes.now result (log self.new) };
 }
 
-/// A connection over a stream that fails once its time is over.
+/// A connection over a stream whose reads and writes fail once the time limit has passed.
 #[derive(Debug, Drop)]
 pub struct LimitedConnection<R, S> {
     rt: R,
     stream: S,
     opened: Instant,
-    /// The limit of the whole connection, from its opening on.
+    /// The limit of the whole connection, from the time at which it was opened.
     pub within: Duration,
 }
 
@@ -63,7 +63,7 @@ impl<R: Clock + Drop, S: LimitedStream> Connection for LimitedConnection<R, S> {
     }
 }
 
-// Returns the remaining time of a limit; zero without a clock.
+// Returns the remaining time of a limit, or zero if the clock can't be read.
 fn time_left<R: Clock>(rt: &R, opened: Instant, within: Duration) -> Duration
     ensures { as_nanos result ≤ as_nanos within }
 {

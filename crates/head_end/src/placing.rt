@@ -9,8 +9,7 @@ use crate::connection::Connector;
 use crate::row::Row;
 use std::alloc::{AllocError, Global};
 
-/// A place for a job: its attempt and its row. Each worker fills the places next to one another
-/// that are its own.
+/// A place for a job: its attempt and its row. Each worker fills consecutive places of its own.
 #[derive(Drop)]
 pub struct Place<'a, C: Connector> {
     pub attempt: Attempt<'a, C>,
@@ -44,7 +43,7 @@ pub fn places_for<C: Connector>(
     Ok(places)
 }
 
-/// The number of places of each worker. `None` if the number of all places does not fit.
+/// Returns the number of places of each worker, or `None` if the number of all places overflows.
 pub fn turns_for(jobs: usize, workers: usize) -> Option<usize>
     requires { 0 < workers }
     ensures turns { IfSome result (λ turns. turns ≡ turns_for jobs workers) }

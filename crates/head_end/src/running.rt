@@ -14,9 +14,9 @@ use std::alloc::{AllocError, Global};
 
 /// Runs a job on one connection to its meter, and returns its row. The password has 1 to 32 bytes.
 ///
-/// The attempt is used for the job's address alone. Its connection is closed, after a conversation
-/// of the job's verb with this password. Only a job that is out of memory before it connects leaves
-/// the attempt unused.
+/// The attempt is used only for the job's address. Its connection is closed after a conversation
+/// with the job's verb and this password. The attempt remains unused only if memory runs out before
+/// the job connects.
 pub fn run_job<C: Connector>(
     alloc: Global,
     job: &Job,
@@ -34,7 +34,7 @@ pub fn run_job<C: Connector>(
     }
 }
 
-/// The texts are made before the connection.
+/// Runs a job. The messages are allocated before it connects.
 fn try_job<C: Connector>(
     alloc: Global,
     job: &Job,

@@ -1,4 +1,4 @@
-//! Connections over TCP, with limits of time.
+//! Connections over TCP, with time limits.
 ghost use Rattle.std.specs.Prelude.{◌≡◌, IfSome};
 
 use crate::connection::{ConnectFault, Connector};
@@ -8,23 +8,23 @@ use cosem_axdr::Octets;
 use std::net::{Net, TcpStream, ToSocketAddrs};
 use std::time::{Clock, Duration, Instant};
 
-/// The limits of time of a connector.
+/// The time limits of a connector.
 #[derive(Clone, Copy, Debug, PartialEq, Eq)]
 pub struct Limits {
-    /// For a connect, to each IP address of a name.
+    /// The limit of a connect, for each IP address of a name.
     pub connect: Duration,
-    /// For a whole connection, from then on.
+    /// The limit of a whole connection, from then on.
     pub answer: Duration,
 }
 
-/// Connects over TCP. An address is an IP address or a host's name, a colon and a port.
+/// Connects over TCP. An address is an IP address or a host name, a colon and a port.
 ///
-/// A meter that does not answer holds its worker no longer than both limits. What comes later is a
-/// failure. The look-up of a name has no limit of its own.
+/// A meter that does not respond blocks its worker for at most both limits together; a later
+/// response counts as a failure. The look-up of a name has no limit of its own.
 #[derive(Debug, Drop)]
 pub struct TcpConnector<R> {
     rt: R,
-    /// Its limits of time.
+    /// The time limits.
     pub limits: Limits,
 }
 
@@ -46,7 +46,7 @@ impl<R: Net<Stream = TcpStream> + Clock + Clone + Send + Sync + Drop + 'static> 
     }
 }
 
-// std refuses a limit of zero, so a read or a write whose time is over fails.
+// std refuses a limit of zero, so a read or a write after the time limit fails.
 impl LimitedStream for TcpStream {
     fn read_within(&mut self, limit: Duration, buffer: &mut [u8]) -> Result<usize, StreamFault> {
         if self.set_read_timeout(Some(limit)).is_err() {
@@ -65,7 +65,7 @@ impl LimitedStream for TcpStream {
     }
 }
 
-/// A connection to one of the IP addresses of an address.
+/// Opens a connection to one of the IP addresses of an address.
 fn open<R: Net<Stream = TcpStream> + Clock + Clone + Drop>(
     rt: &R,
     address: &Octets,
@@ -80,7 +80,7 @@ fn open<R: Net<Stream = TcpStream> + Clock + Clone + Drop>(
     Some(LimitedConnection::new(own, stream, opened, limits.answer))
 }
 
-/// A stream to the first IP address of a text that answers.
+/// Connects to the IP addresses of a text in turn, and returns the first stream that opens.
 fn reach<R: Net<Stream = TcpStream>>(rt: &R, text: &str, within: Duration) -> Option<TcpStream> {
     for place in text.to_socket_addrs(rt).ok()? {
         if let Ok(stream) = TcpStream::connect_timeout(rt, &place, within) {

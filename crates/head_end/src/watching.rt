@@ -1,9 +1,10 @@
 use crate::row::Row;
 use client_core::Job;
 
-/// What is told of each job as soon as its row stands, by whichever worker ran it. It has no part in the rows.
+/// Is notified of the result of each job when it is known, by the worker that ran the job. Does not
+/// influence the results.
 pub trait Watcher: Sync {
-    /// A job came to this.
+    /// Is called with a job and its result.
     fn done(&self, job: &Job, row: Row);
 }
 

@@ -2,7 +2,7 @@
 use Rattle.std.proofs.Common.{◌≡◌, ℕ, ◌+◌, ◌<◌, ◌≤◌, ◌^◌, Option, Some, None, ap, sym, subst, ◌∙◌, arith}
 use Rattle.session_threads.specs.Listening.{RisesBy}
 
--- a count that has not reached its limit is one short of it at least
+-- a count that has not reached its limit is at least one below it
 pub count_on : (limit before after : ℕ) → limit < 2 ^ 64 → ((0 < limit) × (limit ≤ before) → ⊥) → (before < 18446744073709551615 → after ≡ before + 1) → 0 < limit → after ≤ limit
 count_on limit before after fits open_still counted limited =
     let below : before < limit = grind (arith, limited, open_still) in

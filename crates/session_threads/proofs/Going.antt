@@ -1,4 +1,5 @@
--- A port goes on: it stays, step follows step, and what a split and a join do.
+-- A port's development: staying unchanged, consecutive steps, and the effect of a split and of a
+-- join.
 use Rattle.std.proofs.Common.{◌≡◌, ℕ, List, [], ◌∷◌, ◌++◌, refl, sym, ◌∙◌, ap, subst, inl, inr, arith, append_assoc, append-nil}
 use Rattle.turn_lock.specs.declared.turned.Entry.{Entry}
 use Rattle.turn_lock.specs.declared.known.Known.{Known}

@@ -1,4 +1,4 @@
--- What outlives everything names no lifetime.
+-- A value that outlives everything refers to no lifetime.
 use Rattle.std.proofs.Common.{◌≡◌, ℕ, List, [], ◌∷◌, refl}
 use contract.BorrowLft.{◌⊑◌}
 use mathlib.Core.List.{not-mem-nil, mem-cons_self}

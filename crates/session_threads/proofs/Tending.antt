@@ -1,4 +1,4 @@
--- How sessions are opened and closed with no port lost.
+-- Opening and closing sessions loses no port.
 use Rattle.std.proofs.Common.{◌≡◌, ◌≢◌, ◌⊎◌, ℕ, ◌<◌, ◌≤◌, List, [], Option, Some, None, IfSome, sym, ◌∙◌, ap, subst, inl, inr, ⊎_elim, arith}
 use Rattle.std.proofs.lemmas.Bool.{cases_eq}
 use Rattle.slab.specs.Slab.{Slab, get, Updates}
@@ -10,14 +10,14 @@ use Rattle.session_threads.specs.Ports.{GoesOn, AreJoined, AreServed, Returns, c
 use Rattle.session_threads.specs.Sessions.{IsEmpty, AreHeld, IsOpen, IsEnded, Tends}
 use Rattle.session_threads.proofs.Going.{among_at, goes_refl, goes_trans, goes_split, goes_joins}
 
--- a port that came back is the one that was lent
+-- a port that was returned is the one that was lent
 pub returned_same : {E R O : Type 0} (did : ShownPort E R O → ShownPort E R O → Type 0) (p q : ShownPort E R O)
     → ((r s : ShownPort E R O) → did r s → IsSame r s) → Returns did p q → IsSame p q
 returned_same did p q same (inl e) =
     record { lock = ap (λ r. r.lock) e; bound = ap (λ r. r.bound) e; origin = ap (λ r. r.known.origin) e; number = ap (λ r. r.known.number) e; splits = ap (λ r. r.known.splits) e; joined = ap (λ r. r.known.joined) e }
 returned_same did p q same (inr done) = same p q done
 
--- what is so of the connection that was given
+-- a property of the connection that was given
 pub if_given : {C : Type 0} (P : C → Type 0) (next : Option C) (given : C) → next ≡ Some given → IfSome next P → P given
 if_given {C = C} P next given is so = let Q : Option C → Type 0 = λ o. IfSome o P in subst Q is so
 
@@ -44,12 +44,12 @@ module _ {H E R O : Type 0} (port_of : H → ShownPort E R O) (terms_of : H → 
         accounts = λ from a. t.accounts from (s.accounts from a);
       }
 
-  -- the same by another name of the terms
+  -- the same fact for equal terms
   pub tends_by : (other : List ℕ) (p : ShownPort E R O) (held : Slab H) (q : ShownPort E R O) (later : Slab H) → terms ≡ other
       → Tends port_of terms_of did terms p held q later → Tends port_of terms_of did other p held q later
   tends_by other p held q later same tends = let T : List ℕ → Type 0 = λ t. Tends port_of terms_of did t p held q later in subst T same tends
 
-  -- what a slab has after a removal it had before
+  -- the slab's values after a removal were there before
   held_before : (held later : Slab H) (key other : ℕ) (s : H) → Updates held later key None → get later other ≡ Some s → get held other ≡ Some s
   held_before held later key other s updates found =
       elim (cases_eq other key) [
@@ -57,13 +57,14 @@ module _ {H E R O : Type 0} (port_of : H → ShownPort E R O) (terms_of : H → 
         | inr differs ↦ sym (updates.others other differs) ∙ found
       ]
 
-  -- the session at a place is the one that has the port of this number
+  -- the session at a place has the port with this number
   pub record IsThis (s : H) (number : List ℕ) : Type 0 where
     pub named : (port_of s).known.number ≡ number
     pub fresh : calls_by number (port_of s).known.seen ≡ []
     pub on_terms : terms_of s ≡ terms
 
-  -- an open session stays open if another place is cleared; else it is the session that was there
+  -- an open session remains open if another place is cleared; otherwise it is the session that was
+  -- there
   open_later : (held later : Slab H) (key : ℕ) (s : H) (number : List ℕ) → get held key ≡ Some s → Updates held later key None → Opens held number → IsThis s number ⊎ Opens later number
   open_later held later key s number there updates o =
       elim (cases_eq o.key key) [
@@ -75,7 +76,7 @@ module _ {H E R O : Type 0} (port_of : H → ShownPort E R O) (terms_of : H → 
         | inr differs ↦ inr record { key = o.key; session = o.session; there = updates.others o.key differs ∙ o.there; named = o.named; fresh = o.fresh; on_terms = o.on_terms }
       ]
 
-  -- a session that has ended stays so
+  -- a session that has ended remains ended
   ended_on : (p q : ShownPort E R O) (number : List ℕ) → GoesOn p q → Ends p number → Ends q number
   ended_on p q number goes e = record {
     among = goes.joined number e.among;
@@ -153,7 +154,7 @@ module _ {H E R O : Type 0} (port_of : H → ShownPort E R O) (terms_of : H → 
             subst A (sym (ap (λ k. k.number) divides)) account;
       }
 
-  -- a port was split off, no thread was had for it, and it was joined in again
+  -- a port was split off, no thread could be started for it, and it was joined in again
   pub tends_back : (legal : O → List (Entry E R) → Type 0) (p q r own back : ShownPort E R O) (held : Slab H) → q.lock ≡ p.lock → q.bound ≡ p.bound → q.known ≡ divided p.known → own.known ≡ born p.known
       → calls_by own.known.number own.known.seen ≡ [] → Returns (did terms) own back → IsSame own back → r.lock ≡ q.lock → r.bound ≡ q.bound → Joins legal q.known back.known r.known → Tends port_of terms_of did terms p held r held
   tends_back legal p q r own back held lock bound divides birth fresh returned same relock rebound joins =
@@ -196,7 +197,7 @@ module _ {H E R O : Type 0} (port_of : H → ShownPort E R O) (terms_of : H → 
       let Q : Slab H → Type 0 = λ x. Tends port_of terms_of did terms p held p x in
       subst P (sym port) (subst Q (sym same) (tends_refl p held))
 
-  -- no session is open: each port that was split off since none was has ended
+  -- if no session is open, each port that was split off since has ended
   pub ended_all : (p q : ShownPort E R O) (held later : Slab H) → IsEmpty held → Tends port_of terms_of did terms p held q later → ((key : ℕ) → key < 8 → get later key ≡ None)
       → (i : ℕ) → p.known.splits ≤ i → i < q.known.splits → Ends q (child q.known.number i)
   ended_all p q held later empty tends closed i low high =

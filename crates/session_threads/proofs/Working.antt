@@ -1,4 +1,4 @@
--- A port is split off for a worker, and joined in again.
+-- Splitting a port off for a worker, and joining it in again.
 use Rattle.std.proofs.Common.{◌≡◌, List, Option, Some, None, refl, sym, ◌∙◌, ap, inl, arith}
 use Rattle.std.specs.Prelude.{Result}
 use Rattle.turn_lock.specs.declared.turned.Entry.{Entry}

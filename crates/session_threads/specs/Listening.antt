@@ -1,15 +1,16 @@
--- What a listener accepts, and how the number of its connections changes.
+-- The connections that a listener accepts, and the change of their number.
 use Rattle.std.specs.Prelude.{◌≡◌, ⊤, ℕ, ◌+◌, ◌<◌, Option, Some, IfSome}
 use Rattle.session_threads.specs.declared.connections.Incoming.{Incoming}
 use Rattle.session_threads.specs.declared.connections.Incoming.TheVariants as incoming
 
--- this is so of the connection, if there is one to serve
+-- a property of the connection, if there is one to serve
 abbrev pub IfReady : {C : Type 0} → (C → Type 0) → Incoming C → Type 0
 IfReady P (incoming.Ready connection) = P connection
 IfReady P incoming.OutOfMemory = ⊤
 IfReady P incoming.SetupFailed = ⊤
 
--- the number has risen by `count`; nothing is known if the listener does not say it
+-- the number has risen by `count`; nothing is claimed if the listener does not count its
+-- connections
 abbrev pub RisesBy : (before : Option ℕ) (count : ℕ) (after : Option ℕ) → Type 0
 RisesBy before count after = IfSome before (λ number. after ≡ Some (number + count))
 

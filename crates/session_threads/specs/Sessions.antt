@@ -1,4 +1,5 @@
--- Sessions that are open, what becomes of the port that theirs were split off from, and what came of the connections.
+-- Open sessions, the development of the port from which theirs were split off, and the results of
+-- the connections.
 use Rattle.std.specs.Prelude.{◌≡◌, ◌≢◌, ◌⊎◌, ℕ, ◌+◌, ◌<◌, ◌≤◌, true, false, List, [], Some, None}
 use Rattle.std.specs.declared.thread.PromisedHandle.{PromisedHandle}
 use Rattle.slab.specs.Slab.{Slab, get, slab_len}
@@ -13,7 +14,7 @@ use Rattle.session_threads.specs.declared.connections.Incoming.TheVariants as in
 use Rattle.session_threads.specs.declared.session.Lent.{Lent}
 use Rattle.session_threads.specs.Ports.{GoesOn, AreCallsOf, child}
 
--- the port that a session's thread was lent
+-- the port that was lent to a session's thread
 abbrev pub port_of : {T E R O C : Type 0} → PromisedHandle (Port T E R O) (Lent T C E R O) → ShownPort E R O
 port_of session = session.promise.port.value
 
@@ -21,13 +22,14 @@ port_of session = session.promise.port.value
 abbrev pub terms_of : {T E R O C : Type 0} → (C → List ℕ) → PromisedHandle (Port T E R O) (Lent T C E R O) → List ℕ
 terms_of terms session = terms session.promise.connection.value
 
--- no session is open, and there is room for eight
+-- no session is open, and there is capacity for eight
 pub record IsEmpty {H : Type 0} (held : Slab H) : Type 0 where
   pub room : 8 ≤ held.capacity
   pub none : (key : ℕ) → get held key ≡ None
 
 module _ {H E R O : Type 0} (lent : H → ShownPort E R O) where
-  -- there is room for eight sessions, and each open one has a place below eight and a port of the same lock
+  -- there is capacity for eight sessions, and each open one has a place below eight and a port of
+  -- the same lock
   pub record AreHeld (p : ShownPort E R O) (held : Slab H) : Type 0 where
     pub room : 8 ≤ held.capacity
     pub places : (key : ℕ) (session : H) → get held key ≡ Some session → key < 8
@@ -35,7 +37,7 @@ module _ {H E R O : Type 0} (lent : H → ShownPort E R O) where
 
 module _ {H E R O : Type 0} (lent : H → ShownPort E R O) (terms_of : H → List ℕ)
     (did : List ℕ → ShownPort E R O → ShownPort E R O → Type 0) (terms : List ℕ) where
-  -- an open session has the port of this number, which is new, and serves on these terms
+  -- an open session has the port with this number, which is new, and serves on these terms
   pub record IsOpen (held : Slab H) (number : List ℕ) : Type 0 where
     pub key : ℕ
     pub session : H
@@ -44,12 +46,13 @@ module _ {H E R O : Type 0} (lent : H → ShownPort E R O) (terms_of : H → Lis
     pub fresh : calls_by number (lent session).known.seen ≡ []
     pub on_terms : terms_of session ≡ terms
 
-  -- the port of this number was joined in, and its calls are those of a session on these terms
+  -- the port with this number was joined in, and its calls are those of a session on these terms
   pub record IsEnded (p : ShownPort E R O) (number : List ℕ) : Type 0 where
     pub among : IsAmong number p.known.joined
     pub served : AreCallsOf (did terms) number (calls_by number p.known.seen)
 
-  -- each port that was split off, from the count `from` on, was joined in or is an open session's
+  -- each port that was split off, from the count `from` on, was joined in or is that of an open
+  -- session
   abbrev pub IsAccounted : ℕ → ShownPort E R O → Slab H → Type 0
   IsAccounted from p held = (i : ℕ) → from ≤ i → i < p.known.splits → IsEnded p (child p.known.number i) ⊎ IsOpen held (child p.known.number i)
 
@@ -59,30 +62,33 @@ module _ {H E R O : Type 0} (lent : H → ShownPort E R O) (terms_of : H → Lis
     pub holds : AreHeld lent p held → AreHeld lent q later
     pub accounts : (from : ℕ) → IsAccounted from p held → IsAccounted from q later
 
--- as many connections came as the limit says, or fewer and the listener failed; with the limit 0 it failed
+-- the limit of connections was reached, or fewer came and the listener failed; with the limit 0 the
+-- listener failed
 pub record IsComplete (limit : ℕ) (a : Accepted) : Type 0 where
   pub reached : a.has_failed ≡ false → (0 < limit) × (a.served + a.turned_away ≡ limit)
   pub failed : a.has_failed ≡ true → 0 < limit → a.served + a.turned_away < limit
 
--- how a connection changes the count of splits: a port is split off for one that is served, and may have been for one that is not
+-- the effect of a connection on the count of splits: a port is split off for one that is served,
+-- and may have been for one that is not
 abbrev pub Takes : Outcome → ℕ → ℕ → Type 0
 Takes Served splits later = later ≡ splits + 1
 Takes Crowded splits later = later ≡ splits
 Takes Starved splits later = splits ≤ later
 Takes SetupFailed splits later = later ≡ splits
 
--- a connection that its listener closed is reported with the listener's reason; no other one is
--- reported as without a stream
+-- a connection that its listener closed is reported with the listener's reason; no other is
+-- reported as one whose stream could not be set up
 abbrev pub IsClosedFor : {C : Type 0} → Incoming C → Outcome → Type 0
 IsClosedFor (incoming.Ready connection) outcome = outcome ≢ SetupFailed
 IsClosedFor incoming.OutOfMemory outcome = outcome ≡ Starved
 IsClosedFor incoming.SetupFailed outcome = outcome ≡ SetupFailed
 
--- a connection is one too many only if eight sessions are open
+-- a connection is closed as one too many only if eight sessions are open
 abbrev pub IsCrowd : {H : Type 0} → Outcome → Slab H → Type 0
 IsCrowd outcome held = outcome ≡ Crowded → 8 ≤ slab_len held
 
--- No more connections were served than ports were split off; and as many, where none was closed for want of one and the count has not come to its end
+-- No more connections were served than ports were split off; and as many, if none was closed for
+-- lack of one and the count has not saturated
 pub record IsServed (splits later : ℕ) (a : Accepted) : Type 0 where
   pub most : splits + a.served ≤ later
   pub all : a.has_starved ≡ false → a.served < 18446744073709551615 → splits + a.served ≡ later

@@ -1,35 +1,35 @@
-//! What came of the connections.
+//! The results of connections.
 ghost use Rattle.std.specs.Prelude.{◌≡◌, ◌⊎◌, ℕ, ◌+◌, ◌<◌, ◌≤◌, ◌↔◌, true, false, IsTrue};
 ghost use Rattle.session_threads.specs.Sessions.{Takes, IsServed};
 
-/// What became of one connection.
+/// The result of one connection.
 #[derive(Clone, Copy)]
 pub(crate) enum Outcome {
-    /// A thread serves it.
+    /// A thread serves the connection.
     Served,
-    /// As many sessions as there may be were open: it was closed.
+    /// The maximum number of sessions were open; the connection was closed.
     Crowded,
-    /// Memory, a port or a thread was not to be had: it was closed.
+    /// Memory, a port or a thread could not be allocated; the connection was closed.
     Starved,
-    /// Its stream could not be set up: it was closed.
+    /// The stream could not be set up; the connection was closed.
     SetupFailed,
 }
 
-/// What came of the connections, once no more are accepted.
+/// The results of all connections, once no more are accepted.
 #[derive(Clone, Copy, Debug, PartialEq, Eq)]
 pub struct Accepted {
-    /// How many connections a thread served. The count stops at `u64::MAX`.
+    /// The number of connections that a thread served. Saturates at `u64::MAX`.
     pub served: u64,
-    /// How many connections were closed with no byte sent. The count stops at `u64::MAX`.
+    /// The number of connections closed without a byte sent. Saturates at `u64::MAX`.
     pub turned_away: u64,
     /// Whether the listener failed.
     pub has_failed: bool,
-    /// Whether a connection was closed since memory, a port or a thread was not to be had.
+    /// Whether a connection was closed because memory, a port or a thread could not be allocated.
     pub has_starved: bool,
 }
 
 impl Accepted {
-    /// Nothing came yet.
+    /// Returns the results before any connection.
     pub(crate) fn none() -> Accepted
         ensures { result ≡ record { served = 0; turned_away = 0; has_failed = false; has_starved = false } }
     {
@@ -41,7 +41,7 @@ impl Accepted {
         }
     }
 
-    /// Counts one connection more.
+    /// Adds the result of one more connection.
     pub(crate) fn count(&mut self, outcome: Outcome)
         ensures counted { self.old.served + self.old.turned_away < u64.MAX → self.new.served + self.new.turned_away ≡ self.old.served + self.old.turned_away + 1 }
         ensures rises { self.old.served + self.old.turned_away ≤ self.new.served + self.new.turned_away }
@@ -61,7 +61,8 @@ impl Accepted {
         }
     }
 
-    /// Whether as many connections came as there may; a limit of 0 is none.
+    /// Returns whether the number of connections has reached the limit; a limit of 0 means no
+    /// limit.
     pub(crate) fn has_reached(&self, limit: u64) -> bool
         ensures { IsTrue result ↔ (0 < limit) × (limit ≤ self.now.served + self.now.turned_away) }
     {

@@ -1,4 +1,4 @@
-//! What is served, and where it comes from.
+//! Connections and their listeners.
 ghost use Rattle.std.specs.Prelude.{◌≡◌, ⊤, ℕ, List, [], Option, None, IfOk, OnOk, OnErr};
 ghost use Rattle.std.specs.Borrow.{GName};
 ghost use Rattle.session_threads.specs.Listening.{IfReady, RisesBy};
@@ -7,58 +7,60 @@ use std::alloc::Global;
 use std::sync::Wait;
 use thiserror::Error;
 
-/// A connection of a peer, which a thread of its own serves through a port of the type `P`.
+/// A connection of a peer, served by a thread of its own through a port of type `P`.
 ///
-/// Dropping it closes it with no byte sent. `terms` is what it is served on, as bytes (for example a password). `hands_back` says
-/// what a session on such terms does with the port: to be served by
-/// [`serve_connections`](crate::serve_connections) it has to imply `IsSame` of turn_lock.
+/// Dropping it closes it without a byte sent. The ghost value `terms` holds the terms on which it
+/// is served, as bytes (for example a password). The relation `hands_back` states what a session on
+/// these terms does with the port: for [`serve_connections`](crate::serve_connections) it must
+/// imply `IsSame` of turn_lock.
 pub trait Connection<P>: Drop + Send {
     ghost terms: { Self → List ℕ } = { λ _. [] };
 
     ghost hands_back: { List ℕ → P → P → Type 0 };
 
-    /// Serves the peer to the end, closes the connection, and hands the port back.
+    /// Serves the peer to the end, closes the connection, and returns the port.
     fn serve<W: Wait>(self, rt: &W, alloc: Global, port: P) -> P
     where
         Self: Sized,
         ensures { hands_back (terms self) port result };
 }
 
-/// What a listener accepted: a connection to serve, or one that it closed with no byte sent.
+/// The result of an accepted connection: one to serve, or the reason why the listener closed it
+/// without a byte sent.
 #[derive(Drop)]
 pub enum Incoming<C> {
     /// A connection to serve.
     Ready(C),
-    /// It was closed: out of memory.
+    /// Closed: out of memory.
     OutOfMemory,
-    /// It was closed: its stream could not be set up.
+    /// Closed: the stream could not be set up.
     SetupFailed,
 }
 
-/// The listener failed: it gives no further connection.
+/// The listener failed and accepts no further connection.
 #[derive(Clone, Copy, Debug, PartialEq, Eq, Error)]
 #[error("the listener failed")]
 pub struct ListenFault;
 
-/// Where connections come from.
+/// A source of connections.
 pub trait Listener<P> {
     type Connection: Connection<P> + 'static;
 
-    /// It has failed. Of a listener that doesn't say how that is seen nothing is known.
+    /// Ghost predicate: the listener has failed. The default claims nothing.
     ghost has_failed: { Self → Type 0 } = { λ _. ⊤ };
 
-    /// Ghost value: the terms on which its connections are served, which stay the same.
+    /// Ghost value: the terms on which its connections are served. They never change.
     ghost terms: { Self → List ℕ } = { λ _. [] };
 
     /// Ghost value: the number of connections accepted so far, if the listener counts them. The
     /// default claims nothing.
     ghost accepted: { Self → Option ℕ } = { λ _. None };
 
-    /// What it borrows to be written to, if anything: that stays the same.
+    /// Ghost value: the buffer that it borrows for writing, if any. It never changes.
     ghost borrowed: { Self → Option GName } = { λ _. None };
 
-    /// Waits for the next connection, and returns it or says why it was closed. An error: no
-    /// further one is accepted.
+    /// Waits for the next connection, and returns it or the reason why it was closed. After an
+    /// error no further connection is accepted.
     fn accept(&mut self, alloc: Global) -> Result<Incoming<Self::Connection>, ListenFault>
         ensures failed { OnErr result (has_failed self.new) }
         ensures terms { terms self.new ≡ terms self.old }

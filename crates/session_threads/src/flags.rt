@@ -1,13 +1,14 @@
-//! What the sessions' threads and the thread that accepts tell one another.
+//! Flags by which the threads of sessions and the accepting thread communicate.
 ghost use Rattle.std.specs.Prelude.{◌<◌};
 
 use std::sync::atomic::{AtomicBool, Ordering};
 
-/// The most sessions that are open at once.
+/// The maximum number of concurrent sessions.
 pub const SESSIONS: usize = 8;
 
-/// Two flags for each place of a session, since no handle of a thread tells whether the thread has ended, and a thread that
-/// can't be started keeps what it was given until it is called.
+/// Two flags for each session's place. They are needed because the handle of a thread does not show
+/// whether the thread has ended, and because the closure of a thread that can't be started keeps
+/// its values until it is called.
 #[derive(Drop)]
 pub(crate) struct Flags {
     ended: [AtomicBool; SESSIONS],
@@ -22,7 +23,7 @@ impl Flags {
         }
     }
 
-    /// Lowers both flags of a place, before its session is started.
+    /// Clears both flags of a place, before its session is started.
     pub(crate) fn begin(&self, key: usize)
         requires { key < SESSIONS }
     {
@@ -30,7 +31,7 @@ impl Flags {
         self.refused[key].store(false, Ordering::SeqCst);
     }
 
-    /// Says that the session at this place has ended.
+    /// Records that the session at this place has ended.
     pub(crate) fn end(&self, key: usize)
         requires { key < SESSIONS }
     {
@@ -43,7 +44,7 @@ impl Flags {
         self.ended[key].load(Ordering::SeqCst)
     }
 
-    /// Says that no thread is had for the session at this place.
+    /// Records that no thread could be started for the session at this place.
     pub(crate) fn refuse(&self, key: usize)
         requires { key < SESSIONS }
     {
@@ -57,7 +58,7 @@ impl Flags {
     }
 }
 
-// A lowered flag for each place.
+// Returns a cleared flag for each place.
 fn lowered() -> [AtomicBool; SESSIONS] {
     [
         AtomicBool::new(false),

@@ -14,7 +14,7 @@ use std::sync::Wait;
 use std::thread::Threads;
 use turn_lock::{Port, Turned};
 
-// Waits for a connection and admits it. `None`: the listener failed.
+// Waits for a connection and admits it. Returns `None` if the listener failed.
 fn take_next<
     T: Turned + Send + 'static,
     L: Listener<Port<T>>,
@@ -49,7 +49,7 @@ where
     }
 }
 
-// Admits connections until as many came as there may, or the listener fails.
+// Admits connections until the limit is reached or the listener fails.
 fn accept_all<
     T: Turned + Send + 'static,
     L: Listener<Port<T>>,
@@ -90,13 +90,14 @@ where
     unreachable!()
 }
 
-/// Accepts connections, and serves each in a thread of its own through a port split off from this one.
+/// Accepts connections, and serves each in a thread of its own through a port split off from this
+/// one.
 ///
-/// Returns after `limit` connections (0 is no limit), or after the listener failed, once every
-/// session has ended. A connection that arrives while eight sessions are open, or for which memory,
-/// a port or a thread is refused, or whose stream could not be set up, is closed with no byte sent
-/// and counted as turned away. `AllocError`: the allocation for eight sessions was refused, and no
-/// connection was accepted.
+/// Returns after `limit` connections (0 means no limit), or after the listener failed, once every
+/// session has ended. A connection is closed without a byte sent and counted as turned away if
+/// eight sessions are open, if memory, a port or a thread can't be allocated for it, or if its
+/// stream could not be set up. Returns `AllocError` if the memory for eight sessions could not be
+/// allocated; then no connection was accepted.
 pub fn serve_connections<
     T: Turned + Send + 'static,
     L: Listener<Port<T>>,

@@ -11,7 +11,8 @@ use std::thread;
 use std::thread::{Promise, PromisedHandle, Threads};
 use turn_lock::{Port, Turned};
 
-/// What a session's thread promises: it hands back the port that it was lent, as it was or as the connection's session left it.
+/// The promise of a session's thread: it returns the port that it was lent, either unchanged or as
+/// the connection's session left it.
 #[derive(Drop)]
 pub(crate) struct Lent<T: Turned, C> {
     pub(crate) connection: Snapshot<C>,
@@ -27,7 +28,8 @@ impl<T: Turned, C: Connection<Port<T>>> Promise<Port<T>> for Lent<T, C> {
 /// The handle of a session's thread.
 pub(crate) type Session<T, C> = PromisedHandle<Port<T>, Lent<T, C>>;
 
-/// What the thread at this place does. Where it was refused it closes the connection with no byte sent.
+/// Serves the connection at this place, in the session's thread. If the thread was refused, closes
+/// the connection without a byte sent.
 pub(crate) fn attend<T: Turned, C: Connection<Port<T>>, W: Wait + Copy>(
     rt: W,
     alloc: Global,
@@ -47,8 +49,8 @@ pub(crate) fn attend<T: Turned, C: Connection<Port<T>>, W: Wait + Copy>(
     port
 }
 
-/// Starts a thread that serves the connection, at this place. Where no thread is had the connection is closed, and the port comes
-/// back.
+/// Starts a thread that serves the connection at this place. If no thread can be started, closes
+/// the connection and returns the port.
 pub(crate) fn start<
     T: Turned + Send + 'static,
     C: Connection<Port<T>> + 'static,

@@ -1,4 +1,4 @@
-//! The open sessions: each has a place, a thread and a port.
+//! The open sessions, each with a place, a thread and a port.
 ghost use Rattle.std.specs.Prelude.{◌≡◌, ◌≢◌, ℕ, ◌<◌, List, None, IfOk};
 ghost use Rattle.slab.specs.Slab.{get};
 ghost use Rattle.session_threads.specs.Sessions.{port_of, terms_of, AreHeld, IsEmpty, Tends};
@@ -24,7 +24,7 @@ pub(crate) struct Sessions<T: Turned, C: Connection<Port<T>>> {
     flags: Arc<Flags, Global>,
 }
 
-// No thread was had for the port that was split off: it is joined in again.
+// Joins a port in again for which no thread could be started.
 fn take_back<T: Turned>(port: &mut Port<T>, unused: Port<T>) -> Outcome
     requires { unused.lock ≡ port.old.lock }
     ensures lock { (port.new.lock ≡ port.old.lock) × (port.new.bound ≡ port.old.bound) }
@@ -36,7 +36,7 @@ fn take_back<T: Turned>(port: &mut Port<T>, unused: Port<T>) -> Outcome
 }
 
 impl<T: Turned, C: Connection<Port<T>>> Sessions<T, C> {
-    /// No session is open. All memory that sessions take is taken here.
+    /// Returns an empty set of sessions. Allocates all memory for eight sessions.
     pub(crate) fn new(alloc: Global) -> Result<Sessions<T, C>, AllocError>
         ensures { IfOk result (λ sessions. IsEmpty sessions.handles) }
     {
@@ -61,7 +61,7 @@ impl<T: Turned, C: Connection<Port<T>>> Sessions<T, C> {
         }
     }
 
-    /// Closes the session at this place, if its thread has come to its end.
+    /// Closes the session at this place if its thread has ended.
     fn reap_one<R: Threads>(&mut self, rt: &R, key: usize, port: &mut Port<T>)
         requires place { key < SESSIONS }
         requires held { AreHeld port_of port.old self.old.handles }
@@ -74,7 +74,7 @@ impl<T: Turned, C: Connection<Port<T>>> Sessions<T, C> {
         }
     }
 
-    /// Closes each session whose thread has come to its end.
+    /// Closes each session whose thread has ended.
     pub(crate) fn reap<R: Threads>(&mut self, rt: &R, port: &mut Port<T>)
         requires held { AreHeld port_of port.old self.old.handles }
         requires hands_back { (t : _) (p : _) (q : _) → C.hands_back t p q → IsSame p q }
@@ -99,7 +99,8 @@ impl<T: Turned, C: Connection<Port<T>>> Sessions<T, C> {
         }
     }
 
-    /// Gives the connection a thread and a port split off from this one, or closes it.
+    /// Starts a thread for the connection with a port split off from this one, or closes the
+    /// connection.
     pub(crate) fn admit<R: Threads + Wait + Copy + Send + 'static>(
         &mut self,
         rt: &R,
@@ -139,8 +140,8 @@ impl<T: Turned, C: Connection<Port<T>>> Sessions<T, C> {
         }
     }
 
-    /// Gives what a listener accepted a thread and a port split off from this one, or closes it. Of
-    /// what the listener closed this says why.
+    /// Starts a thread for an accepted connection with a port split off from this one, or closes
+    /// the connection. If the listener closed it, the result is the listener's reason.
     pub(crate) fn take_in<R: Threads + Wait + Copy + Send + 'static>(
         &mut self,
         rt: &R,

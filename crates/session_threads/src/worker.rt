@@ -1,4 +1,4 @@
-//! Workers: each has a thread of its own and a port that was split off for it.
+//! Workers, each with a thread of its own and a port that was split off for it.
 ghost use Rattle.std.specs.Prelude.{◌≡◌, ◌+◌, ◌≤◌, IfOk, IfErr, IfSome, IfNone};
 ghost use Rattle.turn_lock.specs.Shown.{IsSame};
 ghost use Rattle.session_threads.specs.Ports.{GoesOn, AreJoined, SplitsOff};
@@ -13,26 +13,28 @@ use std::thread;
 use std::thread::{Promise, PromisedHandle, Threads};
 use turn_lock::{Port, Turned};
 
-/// Work to be done in a thread of its own, through a port of the type `P`.
+/// Work for a thread of its own, through a port of type `P`.
 ///
-/// `did` says what was done: of the worker as it was, its port as it was lent and as it is handed back, and the end.
+/// The relation `did` states what was done, in terms of the worker at its start, its port as lent
+/// and as returned, and the result.
 pub trait Worker<P>: Drop + Send {
     ghost use Rattle.std.specs.Prelude.{Result};
     ghost use Rattle.call_fault.specs.declared.fault.CallFault.{CallFault};
 
     ghost did: { Self → P → P → Result Unit CallFault → Type 0 };
 
-    /// Works until there is nothing left to do, or a call is refused, and hands the port back.
+    /// Works until nothing is left to do or a call is refused, and returns the port and the result.
     fn work<W: Wait>(self, rt: &W, alloc: Global, port: P) -> (P, Result<(), CallFault>)
     where
         Self: Sized,
         ensures { did self port result.0 result.1 };
 }
 
-/// What the thread of a worker hands back: the port, and how the work ended. `None`: it was not begun.
+/// The result of a worker's thread: the port, and the result of the work, or `None` if the work was
+/// not started.
 pub type Handed<T> = (Port<T>, Option<Result<(), CallFault>>);
 
-/// What the thread of a worker promises: the worker did its work through this port.
+/// The promise of a worker's thread: the worker did its work through this port.
 #[derive(Drop)]
 pub struct Task<T: Turned, K> {
     pub worker: Snapshot<K>,
@@ -43,10 +45,10 @@ impl<T: Turned, K: Worker<Port<T>>> Promise<Handed<T>> for Task<T, K> {
     ghost kept_by = { λ task handed. Ended (K.did task.worker.value) task.port.value handed.0 handed.1 };
 }
 
-/// A worker at work.
+/// The handle of a running worker's thread.
 pub type WorkerThread<T, K> = PromisedHandle<Handed<T>, Task<T, K>>;
 
-/// What the worker's thread does. Where it was refused it does nothing.
+/// Does the work of a worker's thread. If the thread was refused, does nothing.
 pub(crate) fn do_work<T: Turned, K: Worker<Port<T>>, W: Wait + Copy>(
     rt: W,
     alloc: Global,
@@ -63,7 +65,8 @@ pub(crate) fn do_work<T: Turned, K: Worker<Port<T>>, W: Wait + Copy>(
     (port, Some(end))
 }
 
-// Starts the thread of a worker. Where no thread is had, or no memory for it, the port comes back.
+// Starts the thread of a worker. If out of memory, or if no thread can be started, returns the
+// port.
 fn start_thread<
     T: Turned + Send + 'static,
     K: Worker<Port<T>> + 'static,
@@ -97,8 +100,8 @@ where
     }
 }
 
-/// Starts a thread for the worker, with a port split off from this one. `None`: memory, a port or a thread is not had; the worker is
-/// let go, and no port is lost.
+/// Starts a thread for the worker, with a port split off from this one. Returns `None` if out of
+/// memory or if no port or thread can be allocated; the worker is dropped, and no port is lost.
 pub fn start_worker<
     T: Turned + Send + 'static,
     K: Worker<Port<T>> + 'static,
@@ -126,7 +129,7 @@ where
     }
 }
 
-/// Waits for the end of a worker and joins its port in. `None`: the work was not begun.
+/// Waits for the end of a worker and joins its port in. Returns `None` if the work was not started.
 pub fn join_worker<T: Turned, K: Worker<Port<T>>, R: Threads>(
     rt: &R,
     running: WorkerThread<T, K>,

@@ -1,4 +1,4 @@
--- Bytes cut into frames.
+-- Bytes split into frames.
 use Rattle.std.proofs.Common.{◌≡◌, ◌≢◌, ℕ, zero, suc, ◌+◌, ◌<◌, ◌≤◌, List, [], ◌++◌, length, take, drop, Some, None, refl, sym, subst, ◌∙◌, ap, arith, length-drop}
 use Rattle.std.proofs.lemmas.List.{drop-append-le, take-append-le, length-take-le}
 use Rattle.wrapper_frame.specs.declared.parts.Frame.{Frame}
@@ -9,33 +9,33 @@ use Rattle.wrapper_frame.specs.Messages.{Cut, first_frame, after_first, cut_afte
 use Rattle.wrapper_frame.specs.Stream.{IsFirst, IsPart, GoesOn, Stops, Fronts}
 use Rattle.wrapper_frame.proofs.FrontLemmas.{whole_parts, field_more, whole_more, version_more, long_more, part_few}
 
--- bytes with no frame at their front
+-- bytes that do not begin with a frame
 abbrev pub uncut : List ℕ → Cut
 uncut bytes = record { frames = []; rest = bytes }
 
--- two cuts of one kind at the front are equal where the bytes after it are cut alike
+-- two splits by the same beginning are equal if the bytes after the first frame are split equally
 cut_by_same : (head : Head) (bytes : List ℕ) (f g : List ℕ → Cut) → ((n : ℕ) → head ≡ Whole n → f (after_first n bytes) ≡ g (after_first n bytes)) → cut_by head bytes f ≡ cut_by head bytes g
 cut_by_same (Whole n) bytes f g same = ap (cut_after (first_frame n bytes)) (same n refl)
 cut_by_same Part bytes f g same = refl
 cut_by_same BadVersion bytes f g same = refl
 cut_by_same TooLong bytes f g same = refl
 
--- where no whole frame is at the front nothing is cut
+-- without a whole frame at the front, nothing is split off
 cut_none : (head : Head) (bytes : List ℕ) (f : List ℕ → Cut) → ((n : ℕ) → head ≢ Whole n) → cut_by head bytes f ≡ uncut bytes
 cut_none (Whole n) bytes f unlike = absurd (unlike n refl)
 cut_none Part bytes f unlike = refl
 cut_none BadVersion bytes f unlike = refl
 cut_none TooLong bytes f unlike = refl
 
--- what comes after a frame is shorter
+-- the bytes after a frame are fewer
 pub after_shorter : (bytes : List ℕ) (n : ℕ) → head_of bytes ≡ Whole n → length (after_first n bytes) < length bytes
 after_shorter bytes n h = let w = whole_parts bytes n h in omega (arith, w.there, length-drop (header_size + n) bytes)
 
--- where there are no bytes no frame stands
+-- no bytes do not begin with a frame
 pub short_whole : (bytes : List ℕ) → length bytes ≤ 0 → (n : ℕ) → head_of bytes ≢ Whole n
 short_whole bytes short n h = let w = whole_parts bytes n h in omega (arith, w.there)
 
--- any number of frames that is no less than the bytes allows for all of them
+-- any limit on the number of frames that is at least the number of bytes gives the same split
 same_cut : (f g : ℕ) (bytes : List ℕ) → length bytes ≤ f → length bytes ≤ g → cut_in f bytes ≡ cut_in g bytes
 unfolding cut_in
 same_cut zero zero bytes a b = refl
@@ -45,7 +45,7 @@ same_cut (suc f) (suc g) bytes a b =
     cut_by_same (head_of bytes) bytes (cut_in f) (cut_in g)
     (λ n h. let shorter = after_shorter bytes n h in same_cut f g (after_first n bytes) (omega arith) (omega arith))
 
--- bytes cut into all their frames
+-- bytes split into all their frames
 abbrev pub cut_of : List ℕ → Cut
 cut_of bytes = cut_in (length bytes) bytes
 
@@ -56,19 +56,19 @@ cut_step_in (suc most) bytes short =
     cut_by_same (head_of bytes) bytes (cut_in most) cut_of
     (λ n h. let shorter = after_shorter bytes n h in same_cut most (length (after_first n bytes)) (after_first n bytes) (omega arith) (omega arith))
 
--- one step of the cut
+-- one step of the split
 pub cut_step : (bytes : List ℕ) → cut_of bytes ≡ cut_by (head_of bytes) bytes cut_of
 cut_step bytes = cut_step_in (length bytes) bytes (omega arith)
 
--- where no whole frame is at the front, there are no frames
+-- without a whole frame at the front there are no frames
 pub cut_stays : (bytes : List ℕ) → ((n : ℕ) → head_of bytes ≢ Whole n) → cut_of bytes ≡ uncut bytes
 cut_stays bytes unlike = cut_step bytes ∙ cut_none (head_of bytes) bytes cut_of unlike
 
--- a whole frame at the front is the first, and the others are those of the bytes after it
+-- a whole frame at the front is the first; the others are those of the bytes after it
 pub cut_first : (bytes : List ℕ) (n : ℕ) → head_of bytes ≡ Whole n → cut_of bytes ≡ cut_after (first_frame n bytes) (cut_of (after_first n bytes))
 cut_first bytes n h = cut_step bytes ∙ ap (λ (head : Head). cut_by head bytes cut_of) h
 
--- the frame at the front does not change by what comes after it
+-- the frame at the front is independent of the bytes after it
 frame_more : (bytes more : List ℕ) (n : ℕ) → header_size + n ≤ length bytes → first_frame n (bytes ++ more) ≡ first_frame n bytes
 frame_more bytes more n h =
     let headed : header_size ≤ length bytes = omega arith in
@@ -79,7 +79,7 @@ frame_more bytes more n h =
     ap (take n) (drop-append-le header_size bytes more headed) ∙ take-append-le n (drop header_size bytes) more there in
     cc
 
--- a first frame and what comes after it, however the bytes go on
+-- a first frame and the bytes after it, whatever bytes follow
 cut_first_more : (bytes more : List ℕ) (n : ℕ) → head_of bytes ≡ Whole n
     → cut_of (bytes ++ more) ≡ cut_after (first_frame n bytes) (cut_of (after_first n bytes ++ more))
 cut_first_more bytes more n h =
@@ -89,11 +89,11 @@ cut_first_more bytes more n h =
     ∙ ap (λ (frame : Frame). cut_after frame (cut_of (after_first n (bytes ++ more)))) (frame_more bytes more n w.there)
     ∙ ap (λ (rest : List ℕ). cut_after (first_frame n bytes) (cut_of rest)) after
 
--- a payload has as many bytes as its header tells
+-- a payload has the length that its header states
 pub payload_length : (bytes : List ℕ) (n : ℕ) → header_size + n ≤ length bytes → length (first_frame n bytes).payload ≡ n
 payload_length bytes n h = length-take-le n (drop header_size bytes) (omega (arith, length-drop header_size bytes))
 
--- what is taken where a whole frame stands at the front
+-- the frame taken if a whole frame is at the front
 pub goes_on : (bytes : List ℕ) (n : ℕ) → head_of bytes ≡ Whole n → GoesOn bytes (Some (first_frame n bytes)) (after_first n bytes)
 unfolding frames_of rest_of
 goes_on bytes n h = record {
@@ -101,25 +101,25 @@ goes_on bytes n h = record {
   rest = λ more. ap (λ (cut : Cut). cut.rest) (cut_first_more bytes more n h);
 }
 
--- the same by the parts of a first frame
+-- the frame taken, by the parts of a first frame
 pub first_on : (old : List ℕ) (frame : Frame) (new : List ℕ) → IsFirst old frame new → GoesOn old (Some frame) new
 first_on old frame new is =
     subst (λ (rest : List ℕ). GoesOn old (Some frame) rest) (sym is.after)
     (subst (λ (first : Frame). GoesOn old (Some first) (after_first (length frame.payload) old)) (sym is.frame_is)
     (goes_on old (length frame.payload) is.front))
 
--- where part of a frame stands at the front all goes on as it is
+-- if the front is part of a frame, nothing changes
 pub stays : (bytes : List ℕ) → GoesOn bytes None bytes
 stays bytes = record { frames = λ more. refl; rest = λ more. refl }
 
--- part of a frame has no frames
+-- part of a frame contains no frames
 pub is_part : (bytes : List ℕ) → head_of bytes ≡ Part → IsPart bytes
 unfolding frames_of rest_of
 is_part bytes h =
     let none = cut_stays bytes (λ n e. cc) in
     record { front = h; few = part_few bytes h; frames = ap (λ (cut : Cut). cut.frames) none; rest = ap (λ (cut : Cut). cut.rest) none }
 
--- a front that stays and is no frame stops all
+-- a front that is not a frame, and remains so whatever bytes follow, stops the reading
 stops_at : (front : Head) (bytes : List ℕ) → ((n : ℕ) → front ≢ Whole n) → ((more : List ℕ) → head_of (bytes ++ more) ≡ front) → Stops front bytes
 unfolding frames_of rest_of
 stops_at front bytes unlike same =
@@ -132,11 +132,11 @@ stops_version bytes h = stops_at BadVersion bytes (λ n e. cc) (λ more. version
 pub stops_long : (bytes : List ℕ) → head_of bytes ≡ TooLong → Stops TooLong bytes
 stops_long bytes h = stops_at TooLong bytes (λ n e. cc) (λ more. long_more bytes more h)
 
--- a whole frame at the front is there
+-- a whole frame at the front is contained in the bytes
 pub whole_there : (bytes : List ℕ) (n : ℕ) → head_of bytes ≡ Whole n → header_size + n ≤ length bytes
 whole_there bytes n h = (whole_parts bytes n h).there
 
--- what was left after a first frame
+-- the bytes left after a first frame
 pub goes_on_as : (bytes : List ℕ) (n : ℕ) (new : List ℕ) → head_of bytes ≡ Whole n → new ≡ after_first n bytes → GoesOn bytes (Some (first_frame n bytes)) new
 goes_on_as bytes n new h e = subst (λ (rest : List ℕ). GoesOn bytes (Some (first_frame n bytes)) rest) (sym e) (goes_on bytes n h)
 

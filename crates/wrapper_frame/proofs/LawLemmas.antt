@@ -1,4 +1,4 @@
--- The laws of the frames of a text.
+-- The laws of the frames of a stream.
 use Rattle.std.proofs.Common.{◌≡◌, ◌≢◌, ℕ, zero, suc, ◌+◌, ◌*◌, ◌<◌, ◌≤◌, ◌^◌, ◌/◌, ◌%◌, ◌-◌, ◌⊎◌, inl, inr, List, [], ◌∷◌, ◌++◌, length, take, drop, refl, sym, subst, ◌∙◌, ap, arith, append_assoc, length-append, length-drop}
 use Rattle.std.specs.List.{flat_map}
 use Rattle.std.proofs.lemmas.List.{drop-drop, take-append-drop, get_or-append-add}
@@ -14,7 +14,7 @@ use Rattle.wrapper_frame.specs.Messages.{Cut, first_frame, after_first, cut_afte
 use Rattle.wrapper_frame.proofs.FrontLemmas.{whole_parts, parts_whole}
 use Rattle.wrapper_frame.proofs.CutLemmas.{cut_of, cut_first, cut_stays, payload_length, short_whole, after_shorter}
 
--- the fields of a header, and what comes after it
+-- the fields of a header, and the bytes after it
 pub record Fields (bytes : List ℕ) (src dst size : ℕ) (after : List ℕ) : Type 0 where
   pub headed : header_size ≤ length bytes
   pub version : version_of bytes ≡ wrapper_version
@@ -23,7 +23,7 @@ pub record Fields (bytes : List ℕ) (src dst size : ℕ) (after : List ℕ) : T
   pub size_is : length_of bytes ≡ size
   pub after_is : drop header_size bytes ≡ after
 
--- a header's text has its fields
+-- the text of a header has its fields
 header_fields : (src dst size : ℕ) (after : List ℕ) → src < 2 ^ 16 → dst < 2 ^ 16 → size < 2 ^ 16 → Fields (header_text src dst size ++ after) src dst size after
 header_fields src dst size after s d z = record {
   headed = omega (arith, length-append (header_text src dst size) after);
@@ -34,12 +34,12 @@ header_fields src dst size after s d z = record {
   after_is = refl;
 }
 
--- a frame's text has its fields
+-- the text of a frame has its fields
 text_fields : (frame : Frame) (more : List ℕ) → IsFrame frame → Fields (frame_text frame ++ more) frame.src frame.dst (length frame.payload) (frame.payload ++ more)
 unfolding frame_text
 text_fields frame more is = header_fields frame.src frame.dst (length frame.payload) (frame.payload ++ more) is.src is.dst (omega (arith, is.payload))
 
--- a frame's text has the frame at its front
+-- the text of a frame begins with the frame
 text_whole : (frame : Frame) (more : List ℕ) → IsFrame frame → head_of (frame_text frame ++ more) ≡ Whole (length frame.payload)
 text_whole frame more is =
     let fields = text_fields frame more is in
@@ -52,12 +52,12 @@ text_whole frame more is =
       told = fields.size_is;
     })
 
--- a frame of equal parts
+-- frames with equal parts are equal
 same_frame : (src dst src' dst' : ℕ) (payload payload' : List ℕ) → src ≡ src' → dst ≡ dst' → payload ≡ payload'
     → ◌≡◌ {A = Frame} (record { src = src; dst = dst; payload = payload }) (record { src = src'; dst = dst'; payload = payload' })
 same_frame src dst src' dst' payload payload' s d p = cc
 
--- and it is that frame
+-- the first frame of a frame's text is that frame
 text_first : (frame : Frame) (more : List ℕ) → IsFrame frame → first_frame (length frame.payload) (frame_text frame ++ more) ≡ frame
 text_first frame more is =
     let fields = text_fields frame more is in
@@ -65,14 +65,14 @@ text_first frame more is =
     ap (take (length frame.payload)) fields.after_is ∙ take-append_seam frame.payload more in
     same_frame _ _ frame.src frame.dst _ frame.payload fields.src_is fields.dst_is payload
 
--- and what follows comes after it
+-- the bytes after the first frame are those after its text
 text_after : (frame : Frame) (more : List ℕ) → IsFrame frame → after_first (length frame.payload) (frame_text frame ++ more) ≡ more
 text_after frame more is =
     let fields = text_fields frame more is in
     sym (drop-drop (length frame.payload) header_size (frame_text frame ++ more))
     ∙ ap (drop (length frame.payload)) fields.after_is ∙ drop-append_seam frame.payload more
 
--- a text that begins with a frame's is cut into that frame and what the others are
+-- bytes that begin with a frame's text are split into that frame and the split of the others
 cut_text : (frame : Frame) (more : List ℕ) → IsFrame frame → cut_of (frame_text frame ++ more) ≡ cut_after frame (cut_of more)
 cut_text frame more is =
     cut_first (frame_text frame ++ more) (length frame.payload) (text_whole frame more is)
@@ -92,7 +92,7 @@ bytes_after xs ys all i = subst (λ (x : ℕ). x < 256) (get_or-append-add xs ys
 bytes_drop : (n : ℕ) (bytes : List ℕ) → AreBytes bytes → AreBytes (drop n bytes)
 bytes_drop n bytes all = bytes_after (take n bytes) (drop n bytes) (subst AreBytes (sym (take-append-drop n bytes)) all)
 
--- two bytes are those of their number
+-- two bytes are the bytes of their number
 two_bytes : (a b : ℕ) → a < 256 → b < 256 → big_bytes 2 (a * 256 + b) ≡ a ∷ b ∷ []
 two_bytes a b ha hb =
     let q : (a * 256 + b) / 256 ≡ a = omega arith in
@@ -100,7 +100,7 @@ two_bytes a b ha hb =
     let low : (a * 256 + b) % 256 ≡ b = omega arith in
     cc
 
--- two bytes and those after them are the bytes of their number and those after them
+-- two bytes at the front are the bytes of their number, and the others follow
 two_spelled : (xs : List ℕ) → 2 ≤ length xs → AreBytes xs → big_bytes 2 (big_number 2 xs) ++ drop 2 xs ≡ xs
 two_spelled [] h all = absurd (omega arith)
 two_spelled (a ∷ []) h all = absurd (omega arith)
@@ -108,7 +108,7 @@ two_spelled (a ∷ b ∷ xs) h all =
     let number : a * 256 + (b * 1 + 0) ≡ a * 256 + b = omega arith in
     ap (λ (n : ℕ). big_bytes 2 n ++ xs) number ∙ ap (λ (bs : List ℕ). bs ++ xs) (two_bytes a b (all 0) (all 1))
 
--- the header's four numbers spell its bytes
+-- the four numbers of a header spell its bytes
 header_spelled : (bytes : List ℕ) → header_size ≤ length bytes → AreBytes bytes
     → (big_bytes 2 (version_of bytes) ++ big_bytes 2 (src_of bytes) ++ big_bytes 2 (dst_of bytes) ++ big_bytes 2 (length_of bytes)) ++ drop header_size bytes ≡ bytes
 header_spelled bytes h all =
@@ -144,7 +144,7 @@ front_spelled bytes n h all =
     ∙ ap (λ (xs : List ℕ). (big_bytes 2 (version_of bytes) ++ big_bytes 2 (src_of bytes) ++ big_bytes 2 (dst_of bytes) ++ big_bytes 2 (length_of bytes)) ++ xs) body
     ∙ header_spelled bytes (omega (arith, w.there)) all
 
--- the frame at the front has a text
+-- the frame at the front can be written
 front_fits : (bytes : List ℕ) (n : ℕ) → head_of bytes ≡ Whole n → AreBytes bytes → IsFrame (first_frame n bytes)
 front_fits bytes n h all =
     let w = whole_parts bytes n h in
@@ -154,26 +154,26 @@ front_fits bytes n h all =
       payload = omega (arith, w.small, payload_length bytes n w.there);
     }
 
--- a whole frame stands at the front, or none
+-- a whole frame is at the front, or none is
 front_cases : (head : Head) → ((n : ℕ) × (head ≡ Whole n)) ⊎ ((n : ℕ) → head ≢ Whole n)
 front_cases (Whole n) = inl (n, refl)
 front_cases Part = inr (λ n e. cc)
 front_cases BadVersion = inr (λ n e. cc)
 front_cases TooLong = inr (λ n e. cc)
 
--- bytes with no whole frame at their front begin with the text of none
+-- bytes without a whole frame at the front do not begin with the text of a frame
 begins_with_none : (bytes : List ℕ) → ((n : ℕ) → head_of bytes ≢ Whole n) → BeginsWithNone bytes
 begins_with_none bytes unlike frame more is e = unlike (length frame.payload) (ap head_of e ∙ text_whole frame more is)
 
--- and the other way round
+-- the converse
 none_whole : (bytes : List ℕ) → AreBytes bytes → BeginsWithNone bytes → (n : ℕ) → head_of bytes ≢ Whole n
 none_whole bytes all none n h = none (first_frame n bytes) (after_first n bytes) (front_fits bytes n h all) (sym (front_spelled bytes n h all))
 
--- a cut of bytes that is as the relation says
+-- a split of bytes satisfies the relation
 abbrev IsCut : List ℕ → Cut → Type 0
 IsCut bytes cut = Messages bytes cut.frames cut.rest
 
--- one frame more
+-- one more frame
 messages_first : (bytes : List ℕ) (n : ℕ) (cut : Cut) → head_of bytes ≡ Whole n → AreBytes bytes → IsCut (after_first n bytes) cut
     → IsCut bytes (cut_after (first_frame n bytes) cut)
 messages_first bytes n cut h all m =
@@ -186,7 +186,7 @@ messages_first bytes n cut h all m =
       ended = m.ended;
     }
 
--- the cut is as the relation says where that of the bytes after the first frame is
+-- the split satisfies the relation if that of the bytes after the first frame does
 found_by : (bytes : List ℕ) → AreBytes bytes → ((n : ℕ) × (head_of bytes ≡ Whole n)) ⊎ ((n : ℕ) → head_of bytes ≢ Whole n)
     → ((n : ℕ) → head_of bytes ≡ Whole n → IsCut (after_first n bytes) (cut_of (after_first n bytes))) → IsCut bytes (cut_of bytes)
 found_by bytes all (inl (n, h)) later =
@@ -200,12 +200,12 @@ found_in (suc most) bytes short all =
     found_by bytes all (front_cases (head_of bytes))
     (λ n h. let shorter = after_shorter bytes n h in found_in most (after_first n bytes) (omega arith) (bytes_drop (header_size + n) bytes all))
 
--- bytes are the texts of their frames and then their rest
+-- bytes are the texts of their frames, followed by their rest
 pub is_found : (bytes : List ℕ) → AreBytes bytes → Messages bytes (frames_of bytes) (rest_of bytes)
 unfolding frames_of rest_of
 is_found bytes all = found_in (length bytes) bytes (omega arith) all
 
--- the cut of frames' texts and of a rest that begins with none
+-- the split of the texts of frames followed by a rest that begins with none
 only_in : (frames : List Frame) (rest : List ℕ) → AreBytes (flat_map frame_text frames ++ rest) → AreFrames frames → BeginsWithNone rest
     → cut_of (flat_map frame_text frames ++ rest) ≡ record { frames = frames; rest = rest }
 only_in [] rest all fit none = cut_stays rest (none_whole rest all none)
@@ -224,14 +224,14 @@ is_only bytes frames rest all m =
     let cut = ap cut_of m.spelled ∙ only_in frames rest (subst AreBytes m.spelled all) m.fit m.ended in
     (sym (ap (λ (cut : Cut). cut.frames) cut), sym (ap (λ (cut : Cut). cut.rest) cut))
 
--- what is no whole frame is one of the three ends
+-- a front that is not a whole frame is one of the three ends
 end_cases : (head : Head) → ((n : ℕ) → head ≢ Whole n) → IsEnd head
 end_cases (Whole n) unlike = unlike n refl
 end_cases Part unlike = tt
 end_cases BadVersion unlike = tt
 end_cases TooLong unlike = tt
 
--- a cut's rest has one of them at its front where that of the bytes after the first frame does
+-- the rest begins with one of the three ends if that of the bytes after the first frame does
 end_by : (bytes : List ℕ) → ((n : ℕ) × (head_of bytes ≡ Whole n)) ⊎ ((n : ℕ) → head_of bytes ≢ Whole n)
     → ((n : ℕ) → head_of bytes ≡ Whole n → IsEnd (head_of (cut_of (after_first n bytes)).rest)) → IsEnd (head_of (cut_of bytes).rest)
 end_by bytes (inl (n, h)) later = subst (λ (cut : Cut). IsEnd (head_of cut.rest)) (sym (cut_first bytes n h)) (later n h)

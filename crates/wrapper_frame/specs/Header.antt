@@ -1,8 +1,9 @@
--- What the header at the front of bytes says (IEC 62056-4-7): version, source port, destination port and length of the payload, each as two bytes with the highest first.
---     wrapper_version, max_payload  the version that is taken, and how long a payload may be
+-- The header at the front of bytes (IEC 62056-4-7): version, source port, destination port and
+-- length of the payload, each in two bytes with the highest first.
+--     wrapper_version, max_payload  the supported version, and the maximum length of a payload
 --     version_of .. length_of       its four fields
---     IsThere                       the header and payload that are told are there
---     head_of                       what stands at the front: part of a frame, a fault, or a frame whose payload has so many bytes
+--     IsThere                       the announced header and payload are complete
+--     head_of                       what bytes begin with: part of a frame, a fault, or a frame with the length of its payload
 use Rattle.std.specs.Prelude.{ℕ, ◌+◌, ◌*◌, ◌≤◌, ◌==◌, nat_lt, List, length, drop, if◌then◌else◌}
 use Rattle.byteorder.specs.Endian.{big_number}
 use Rattle.wrapper_frame.specs.declared.header.Head.{Head}
@@ -12,15 +13,15 @@ use Rattle.wrapper_frame.specs.declared.header.Head.TheVariants.{Part, BadVersio
 abbrev pub wrapper_version : ℕ
 wrapper_version = 0x0001
 
--- how many bytes the four fields have
+-- the number of bytes of the four fields
 abbrev pub header_size : ℕ
 header_size = 4 * 2
 
--- how many bytes a payload may have; the field of its length could tell of more
+-- the maximum number of bytes of a payload; the field of its length could hold more
 abbrev pub max_payload : ℕ
 max_payload = 1024
 
--- a field of the header, behind so many others
+-- the field of the header after this number of other fields
 abbrev pub field_behind : ℕ → List ℕ → ℕ
 field_behind others bytes = big_number 2 (drop (others * 2) bytes)
 
@@ -37,7 +38,7 @@ dst_of bytes = field_behind 2 bytes
 abbrev pub length_of : List ℕ → ℕ
 length_of bytes = field_behind 3 bytes
 
--- What stands at the front of bytes. A header is judged once all of it is there, its version before its length.
+-- What bytes begin with. A header is checked once it is complete, its version before its length.
 unfoldable pub head_of : List ℕ → Head
 head_of bytes =
     if nat_lt (length bytes) header_size then Part
@@ -47,7 +48,7 @@ head_of bytes =
     else Whole (length_of bytes))
     else BadVersion
 
--- a whole frame's header and payload are there, and its payload is not too long
+-- the header and the payload of a whole frame are complete, and the payload is not too long
 abbrev pub IsThere : List ℕ → Head → Type 0
 IsThere bytes (Whole n) = (n ≤ max_payload) × (header_size + n ≤ length bytes)
 IsThere bytes Part = Unit {0}

@@ -1,4 +1,5 @@
--- What a Deframer does to the bytes that it holds, and what that means for every text that they begin.
+-- The effect of a Deframer's calls on its bytes, and what it means for every stream that these
+-- bytes begin.
 use Rattle.std.specs.Prelude.{◌≡◌, ℕ, ◌+◌, ◌<◌, ◌≤◌, List, [], ◌++◌, length, Option, Some, None, option_to_list}
 use Rattle.wrapper_frame.specs.declared.parts.Frame.{Frame}
 use Rattle.wrapper_frame.specs.declared.fault.WrapperFault.{WrapperFault}
@@ -14,36 +15,36 @@ pub record IsFirst (old : List ℕ) (frame : Frame) (new : List ℕ) : Type 0 wh
   pub frame_is : frame ≡ first_frame (length frame.payload) old
   pub after : new ≡ after_first (length frame.payload) old
 
--- part of a frame: no frame, nothing that is wrong, and no more bytes than the longest frame has
+-- part of a frame: no frame, no fault, and no more bytes than the longest frame
 pub record IsPart (bytes : List ℕ) : Type 0 where
   pub front : head_of bytes ≡ Part
   pub few : length bytes < header_size + max_payload
   pub frames : frames_of bytes ≡ []
   pub rest : rest_of bytes ≡ bytes
 
--- the first frame is taken from the front, and where there is none all stays
+-- the first frame is taken from the front; if there is none, nothing changes
 abbrev pub TakesFirst : List ℕ → Option Frame → List ℕ → Type 0
 TakesFirst old (Some frame) new = IsFirst old frame new
 TakesFirst old None new = IsPart old × (new ≡ old)
 
--- however the bytes go on, their frames are what was taken and then the frames of what is kept
+-- whatever bytes follow, all frames are the one taken, followed by those of the bytes kept
 pub record GoesOn (old : List ℕ) (taken : Option Frame) (new : List ℕ) : Type 0 where
   pub frames : (more : List ℕ) → frames_of (old ++ more) ≡ option_to_list taken ++ frames_of (new ++ more)
   pub rest : (more : List ℕ) → rest_of (old ++ more) ≡ rest_of (new ++ more)
 
--- however the bytes go on, they have no frame, and this stands at their front
+-- whatever bytes follow, there is no frame, and the front remains as it is
 pub record Stops (front : Head) (bytes : List ℕ) : Type 0 where
   pub frames : (more : List ℕ) → frames_of (bytes ++ more) ≡ []
   pub rest : (more : List ℕ) → rest_of (bytes ++ more) ≡ bytes ++ more
   pub heads : (more : List ℕ) → head_of (bytes ++ more) ≡ front
 
--- a fault of the bytes stays their fault however they go on
+-- a fault of the bytes remains, whatever bytes follow
 abbrev pub StopsBy : WrapperFault → List ℕ → Type 0
 StopsBy fault.Version bytes = Stops BadVersion bytes
 StopsBy fault.TooLong bytes = Stops TooLong bytes
 StopsBy fault.Memory bytes = Unit {0}
 
--- what stands at the front means this of every text that the bytes begin; a whole frame is there
+-- what the front means for every stream that the bytes begin; a whole frame is complete
 abbrev pub Fronts : List ℕ → Head → Type 0
 Fronts bytes Part = IsPart bytes
 Fronts bytes BadVersion = Stops BadVersion bytes

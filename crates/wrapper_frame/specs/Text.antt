@@ -8,11 +8,11 @@ use Rattle.wrapper_frame.specs.Header.{wrapper_version, max_payload}
 abbrev pub header_text : ℕ → ℕ → ℕ → List ℕ
 header_text src dst size = big_bytes 2 wrapper_version ++ big_bytes 2 src ++ big_bytes 2 dst ++ big_bytes 2 size
 
--- a frame's bytes: its header, then its payload
+-- the bytes of a frame: its header, followed by its payload
 unfoldable pub frame_text : Frame → List ℕ
 frame_text frame = header_text frame.src frame.dst (length frame.payload) ++ frame.payload
 
--- a frame that has a text: its ports are of two bytes, and its payload is not too long
+-- a frame that can be written: its ports fit in two bytes, and its payload is not too long
 pub record IsFrame (frame : Frame) : Type 0 where
   pub src : frame.src < 2 ^ 16
   pub dst : frame.dst < 2 ^ 16

@@ -13,9 +13,11 @@ use octets::Octets;
 use std::alloc::{AllocError, Global};
 use std::marker::Model;
 
-/// The bytes of a stream that were fed and not taken as frames. Contracts see the list of them.
+/// A buffer of the bytes of a stream that were fed and not yet removed as frames. Contracts refer
+/// to it as the list of these bytes.
 ///
-/// Nothing is ever taken past a wrong header, so its fault stays the answer of every later call. The frames before it are given first.
+/// Bytes from a wrong header on are never removed, so every later call returns the fault of that
+/// header. The frames before it are returned first.
 #[derive(Debug, Drop)]
 pub struct Deframer {
     pending: BytesMut,
@@ -30,7 +32,7 @@ impl Model for Deframer {
 }
 
 impl Deframer {
-    /// No bytes. It takes no memory.
+    /// Creates an empty deframer. Does not allocate.
     pub fn new(alloc: Global) -> Self
         ensures { result ≡ [] }
     {
@@ -39,7 +41,7 @@ impl Deframer {
         }
     }
 
-    /// An equal deframer, in memory of its own.
+    /// Returns a copy of the deframer in a newly allocated buffer.
     pub fn try_clone(&self, alloc: Global) -> Result<Deframer, AllocError>
         ensures { IfOk result (λ deframer. deframer ≡ self.now) }
     {
@@ -48,20 +50,21 @@ impl Deframer {
         Ok(Deframer { pending })
     }
 
-    /// Whether no bytes are pending.
+    /// Returns whether no bytes are pending.
     pub fn is_empty(&self) -> bool
         ensures { IsTrue result ↔ (self.now ≡ []) }
     {
         self.pending.is_empty()
     }
 
-    /// Puts the next bytes of the stream behind those pending, in any cut. After a fault all stands as before.
+    /// Appends the next bytes of the stream to the pending ones; a frame may be split at any byte.
+    /// After an error the deframer is unchanged.
     #[tactic(auto, using(crate::proofs::CutLemmas::stops_version, crate::proofs::CutLemmas::stops_long))]
     pub fn feed(&mut self, bytes: &[u8]) -> Result<(), WrapperFault>
         ensures ok { OnOk result (self.new ≡ self.old ++ bytes.now) }
         ensures err { OnErr result (self.new ≡ self.old) }
 
-        // A wrong header at the front is answered again.
+        // A wrong header at the front is reported again by each call.
         ensures version { IsErrOf result WrapperFault.Version ↔ (head_of self.old ≡ BadVersion) }
         ensures too_long { IsErrOf result WrapperFault.TooLong ↔ (head_of self.old ≡ TooLong) }
         ensures stops { IfErr result (λ fault. StopsBy fault self.old) }
@@ -75,7 +78,7 @@ impl Deframer {
         Ok(())
     }
 
-    /// What stands at the front of the pending bytes.
+    /// Returns what the pending bytes begin with.
     #[tactic(auto, using(crate::proofs::CutLemmas::fronts))]
     pub fn front(&self) -> Head
         ensures head { result ≡ head_of self.now }
@@ -85,7 +88,7 @@ impl Deframer {
         judge(pending)
     }
 
-    /// The ports in the header at the front: the source, then the destination.
+    /// Returns the ports in the header at the front: source and destination.
     pub fn ports(&self) -> (u16, u16)
         requires { header_size ≤ length self.now }
         ensures src { result.0 ≡ src_of self.now }
@@ -98,7 +101,7 @@ impl Deframer {
         )
     }
 
-    /// The payload of so many bytes behind the header at the front, where it lies.
+    /// Returns the payload of `size` bytes after the header at the front, without copying it.
     pub fn payload(&self, size: usize) -> &[u8]
         requires { header_size + size ≤ length self.now }
         ensures { result.now ≡ take size (drop header_size self.now) }
@@ -106,7 +109,7 @@ impl Deframer {
         &self.pending.as_slice()[HEADER_SIZE..HEADER_SIZE + size]
     }
 
-    /// Lets the frame at the front go, whose payload has so many bytes.
+    /// Removes the frame at the front, whose payload has `size` bytes.
     #[tactic(auto, using(crate::proofs::CutLemmas::whole_there))]
     pub fn pass(&mut self, size: usize)
         requires { head_of self.old ≡ Whole size }
@@ -116,14 +119,15 @@ impl Deframer {
         self.pending.advance(HEADER_SIZE + size);
     }
 
-    /// Takes the first frame, or says that part of one is pending. After a fault all stands as before.
+    /// Removes and returns the first frame, or returns `None` if only part of one is pending. After
+    /// an error the deframer is unchanged.
     #[tactic(auto, using(crate::proofs::CutLemmas::is_part, crate::proofs::CutLemmas::stops_version, crate::proofs::CutLemmas::stops_long))]
     pub fn take(&mut self, alloc: Global) -> Result<Option<Frame>, WrapperFault>
         ensures taken { IfOk result (λ taken. TakesFirst self.old taken self.new) }
         ensures goes_on { IfOk result (λ taken. GoesOn self.old taken self.new) }
         ensures err { OnErr result (self.new ≡ self.old) }
 
-        // A wrong header at the front is answered again and again.
+        // A wrong header at the front is reported again by each call.
         ensures version { IsErrOf result WrapperFault.Version ↔ (head_of self.old ≡ BadVersion) }
         ensures too_long { IsErrOf result WrapperFault.TooLong ↔ (head_of self.old ≡ TooLong) }
         ensures stops { IfErr result (λ fault. StopsBy fault self.old) }

@@ -5,21 +5,21 @@ ghost use Rattle.wrapper_frame.specs.declared.fault.WrapperFault.TheVariants.{Me
 use std::alloc::AllocError;
 use thiserror::Error;
 
-/// Why bytes are no frame, or a payload gets none.
+/// Why bytes are not a frame, or why a payload can't be framed.
 #[derive(Clone, Copy, Debug, PartialEq, Eq, Error)]
 pub enum WrapperFault {
-    /// A header of another version than 0001.
+    /// The header has a version other than 0001.
     #[error("a header of another version")]
     Version = 1,
-    /// A payload of more than 1,024 bytes.
+    /// The payload has more than 1,024 bytes.
     #[error("a payload of more than 1,024 bytes")]
     TooLong = 2,
-    /// Memory ran out.
+    /// Out of memory.
     #[error("out of memory")]
     Memory = 3,
 }
 
-/// The number of the fault, 1 to 3.
+/// Returns the number of the fault, 1 to 3.
 impl From<WrapperFault> for u8 {
     ghost from_gives = { λ fault number. number ≡ fault_number fault };
 

@@ -5,31 +5,32 @@ use byteorder::{BigEndian, ByteOrder};
 
 /// The version of the wrapper.
 pub const VERSION: u16 = 1;
-/// The bytes of a header.
+/// The length of a header in bytes.
 pub const HEADER_SIZE: usize = 8;
-/// Where the source port stands in a header; the version stands before it.
+/// The offset of the source port in a header; the version precedes it.
 pub const SRC_AT: usize = 2;
-/// Where the destination port stands.
+/// The offset of the destination port in a header.
 pub const DST_AT: usize = 4;
-/// Where the length of the payload stands.
+/// The offset of the payload's length in a header.
 pub const LENGTH_AT: usize = 6;
-/// The longest payload, in bytes.
+/// The maximum length of a payload in bytes.
 pub const MAX_PAYLOAD: usize = 1024;
 
-/// What stands at the front of bytes.
+/// What bytes begin with.
 #[derive(Clone, Copy, Debug, PartialEq, Eq)]
 pub enum Head {
-    /// Less than a frame, of which nothing is wrong so far.
+    /// Part of a frame, valid so far.
     Part,
-    /// A header of another version.
+    /// A header of an unsupported version.
     BadVersion,
-    /// A header whose payload is too long.
+    /// A header that announces too long a payload.
     TooLong,
-    /// A frame whose payload has so many bytes.
+    /// A frame, with the length of its payload in bytes.
     Whole(usize),
 }
 
-/// What stands at the front of bytes. A header is judged once its eight bytes are there, its version before its length.
+/// Returns what bytes begin with. A header is checked once its eight bytes are there, its version
+/// before its length.
 #[tactic(auto, unfolding(crate::specs::Header::head_of))]
 pub fn judge(bytes: &[u8]) -> Head
     ensures head { result ≡ head_of bytes.now }

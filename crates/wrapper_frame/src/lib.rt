@@ -1,7 +1,9 @@
-//! The wrapper of IEC 62056-4-7: frames of COSEM payloads in a stream of bytes.
+//! The TCP wrapper of IEC 62056-4-7: frames of COSEM payloads in a stream of bytes.
 //!
-//! A frame is a header of eight bytes and a payload. The header has the wrapper's version, the source port, the destination port and the length of the payload,
-//! each as two bytes with the highest first. A [`Deframer`] takes frames out of bytes that come in pieces, and [`frame`] writes one.
+//! A frame is a header of eight bytes followed by a payload. The header holds the version of the
+//! wrapper, the source port, the destination port and the length of the payload, each in two bytes
+//! with the highest first. A [`Deframer`] extracts frames from bytes that arrive in pieces, and
+//! [`frame`] returns the bytes of one.
 #![tactic(auto)]
 
 mod deframer;

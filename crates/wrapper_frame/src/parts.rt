@@ -1,12 +1,12 @@
 use octets::Octets;
 
-/// One message of the wrapper: its ports and what it carries.
+/// A frame of the wrapper: its ports and its payload.
 #[derive(Debug, Drop)]
 pub struct Frame {
-    /// The port that it comes from.
+    /// The source port (IEC 62056-4-7, wPort).
     pub src: u16,
-    /// The port that it goes to.
+    /// The destination port (IEC 62056-4-7, wPort).
     pub dst: u16,
-    /// At most 1,024 bytes.
+    /// The payload, at most 1,024 bytes.
     pub payload: Octets,
 }

@@ -8,7 +8,7 @@ use byteorder::{BigEndian, ByteOrder};
 use octets::Octets;
 use std::alloc::Global;
 
-/// The text of a frame: its header, then its payload of at most 1,024 bytes.
+/// Returns the bytes of a frame: its header, followed by its payload of at most 1,024 bytes.
 #[tactic(auto, unfolding(crate::specs::Text::frame_text))]
 pub fn frame(alloc: Global, src: u16, dst: u16, payload: &[u8]) -> Result<Octets, WrapperFault>
     ensures text { IfOk result (λ text. text ≡ frame_text (record { src = src; dst = dst; payload = payload.now })) }
@@ -24,8 +24,8 @@ pub fn frame(alloc: Global, src: u16, dst: u16, payload: &[u8]) -> Result<Octets
     Ok(Octets::from_vec(text))
 }
 
-/// Turns a text into a frame: overwrites its first eight bytes with the header. The payload is the
-/// rest of the text, at most 1,024 bytes. Does not allocate.
+/// Converts bytes into a frame: overwrites the first eight bytes with the header. The payload is
+/// the rest of the bytes, at most 1,024. Does not allocate.
 #[tactic(auto, unfolding(crate::specs::Text::frame_text))]
 pub fn framed(src: u16, dst: u16, text: Octets) -> Octets
     requires header { header_size ≤ length text }
@@ -38,7 +38,7 @@ pub fn framed(src: u16, dst: u16, text: Octets) -> Octets
     Octets::from_vec(bytes)
 }
 
-// Puts a header in the place of the first bytes.
+// Overwrites the first bytes with a header.
 fn put_header(bytes: &mut [u8], header: &[u8; HEADER_SIZE])
     requires { header_size ≤ length bytes.old }
     ensures { bytes.new ≡ header.now ++ drop header_size bytes.old }
@@ -46,7 +46,7 @@ fn put_header(bytes: &mut [u8], header: &[u8; HEADER_SIZE])
     bytes[..HEADER_SIZE].copy_from_slice(header);
 }
 
-// The header of a frame with a payload of `size` bytes.
+// Returns the header of a frame with a payload of `size` bytes.
 fn header(src: u16, dst: u16, size: u16) -> [u8; HEADER_SIZE]
     ensures { result ≡ header_text src dst size }
 {

@@ -1,4 +1,5 @@
--- A Data that bytes spell fits: its numbers are of their types' ranges, and its text is no longer than those bytes.
+-- A Data that bytes spell fits: its numbers are in the ranges of their types, and its text is no
+-- longer than those bytes.
 use Rattle.std.proofs.Common.{◌≡◌, ℕ, zero, suc, ◌+◌, ◌-◌, ◌*◌, ◌/◌, ◌%◌, ◌^◌, ◌<◌, ◌≤◌, List, [], ◌∷◌, ◌++◌, length, slice_index, slice_set, ℤ, FitsSigned, refl, sym, ap, subst, ◌∙◌, arith, inl, inr}
 use Rattle.std.specs.Int.{Width, w8, w16, w32, w64, from_be_bytes, cast_signed}
 use Rattle.std.proofs.Math.Facts.{Fits-bits, sfits_to_z}
@@ -12,7 +13,7 @@ use Rattle.cosem_axdr.specs.Tree.{Tree, Trees, count_of, null, array, structure,
 
 -- ---- bytes
 
--- the first of two texts has bytes alone
+-- the elements of the first of two joined texts are bytes
 front_at : (a b : List ℕ) → IsBytes (a ++ b) → (i : ℕ) → slice_index a i < 256
 front_at [] b bytes i = omega arith
 front_at (x ∷ a) b bytes zero = bytes 0
@@ -21,13 +22,13 @@ front_at (x ∷ a) b bytes (suc i) = front_at a b (λ j. bytes (suc j)) i
 pub front_bytes : (a b whole : List ℕ) → whole ≡ a ++ b → IsBytes whole → IsBytes a
 front_bytes a b whole parts bytes = λ i. front_at a b (subst IsBytes parts bytes) i
 
--- and so has the second
+-- and so are those of the second
 pub back_bytes : (a b whole : List ℕ) → whole ≡ a ++ b → IsBytes whole → IsBytes b
 back_bytes a b whole parts bytes = λ i.
     let given : slice_index (a ++ b) (length a + i) < 256 = subst IsBytes parts bytes (length a + i) in
     subst (λ (n : ℕ). n < 256) (get_or-append-add a b i 0) given
 
--- a byte that is put among bytes
+-- a byte replaced by a byte leaves bytes
 set_at : (l : List ℕ) (j v : ℕ) → IsBytes l → v < 256 → (i : ℕ) → slice_index (slice_set l j v) i < 256
 set_at [] j v bytes below i = bytes i
 set_at (x ∷ l) zero v bytes below zero = below
@@ -35,17 +36,17 @@ set_at (x ∷ l) zero v bytes below (suc i) = bytes (suc i)
 set_at (x ∷ l) (suc j) v bytes below zero = bytes 0
 set_at (x ∷ l) (suc j) v bytes below (suc i) = set_at l j v (λ k. bytes (suc k)) below i
 
--- a change of one place that leaves what it made
+-- an idempotent change of one element is idempotent on the list
 set_again : (f : ℕ → ℕ) → ((n : ℕ) → f (f n) ≡ f n) → (l : List ℕ) (i : ℕ) → let once = slice_set l i (f (slice_index l i)) in slice_set once i (f (slice_index once i)) ≡ once
 set_again f same [] i = refl
 set_again f same (x ∷ l) zero = ap (λ (n : ℕ). n ∷ l) (same x)
 set_again f same (x ∷ l) (suc i) = ap (λ (xs : List ℕ). x ∷ xs) (set_again f same l i)
 
--- the highest bits of the highest bits
+-- taking the highest bits twice is taking them once
 highest_again : (k n : ℕ) → highest_bits k (highest_bits k n) ≡ highest_bits k n
 highest_again k n = ap (λ (q : ℕ). q * 2 ^ (8 - k)) (mul-div_cancel (n / 2 ^ (8 - k)) (pow_pos (8 - k)))
 
--- bits that were cleared stay so
+-- clearing bits twice is clearing them once
 cleared_again : (k : ℕ) (raw : List ℕ) → cleared k (cleared k raw) ≡ cleared k raw
 cleared_again k raw = set_again (highest_bits (k % 8)) (highest_again (k % 8)) raw (k / 8)
 
@@ -57,7 +58,7 @@ cleared_bytes k raw bytes = λ i.
 
 -- ---- lengths
 
--- a number of so few bits has a form of so few bytes
+-- the length of a length's text, by the number of bits of the length
 short_form : (n : ℕ) → ((n < 2 ^ 8) → length (length_text n) ≤ 2) × ((n < 2 ^ 16) → length (length_text n) ≤ 3) × ((n < 2 ^ 24) → length (length_text n) ≤ 4) × (length (length_text n) ≤ 5)
 short_form n =
     elim (cases_lt n 0x80) [
@@ -74,7 +75,7 @@ short_form n =
       ])
     ]
 
--- any form of a length is at least as long as the shortest, and the length is below 2 ^ 32
+-- any form of a length below 2 ^ 32 is at least as long as the shortest
 pub length_is_short : (text : List ℕ) (n : ℕ) → IsBytes text → IsLength text n → (n < 2 ^ 32) × (length (length_text n) ≤ length text)
 length_is_short [] n bytes is = absurd is
 length_is_short (first ∷ []) n bytes (inl h) =
@@ -98,7 +99,7 @@ length_is_short (first ∷ a ∷ b ∷ c ∷ d ∷ e ∷ more) n bytes (inr h) =
 
 -- ---- values
 
--- the number that so many bytes hold
+-- the bound of a number held in 1, 2, 4 or 8 bytes
 below_8 : (s : List ℕ) → IsBytes s → from_be_bytes w8 s < 2 ^ 8
 below_8 s bytes = omega (arith, bytes 0)
 
@@ -111,7 +112,7 @@ below_32 s bytes = omega (arith, bytes 0, bytes 1, bytes 2, bytes 3)
 below_64 : (s : List ℕ) → IsBytes s → from_be_bytes w64 s < 2 ^ 64
 below_64 s bytes = omega (arith, bytes 0, bytes 1, bytes 2, bytes 3, bytes 4, bytes 5, bytes 6, bytes 7)
 
--- what is known of a value behind a tag that these bytes spell
+-- what holds of a value whose contents these bytes spell
 abbrev FitsIn : List ℕ → Tree → Type 0
 FitsIn contents t = IsWithin t × IsFine t × (length (contents_text t) ≤ length contents)
 
@@ -144,11 +145,11 @@ bits_fit contents k bytes are is =
     ) in
     subst (λ (s : List ℕ). FitsIn contents (bit_string k s)) (sym is.value) done
 
--- two texts that are no longer than two others
+-- two texts, each no longer than another, are together no longer than the others together
 joined_fit : (a b x y whole : List ℕ) → whole ≡ x ++ y → length a ≤ length x → length b ≤ length y → length (a ++ b) ≤ length whole
 joined_fit a b x y whole parts first second = omega (arith, length-append a b, length-append x y, ap (λ (s : List ℕ). length s) parts)
 
--- what bytes spell fits: a value behind its tag, and items one after the other
+-- what bytes spell fits: the contents of a value, and items one after the other
 mutual
   contents_fit : (t : Tree) (contents : List ℕ) → IsBytes contents → AreContents contents t → FitsIn contents t
   contents_fit null contents bytes is = (tt, tt, omega arith)

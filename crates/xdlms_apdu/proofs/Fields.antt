@@ -1,4 +1,4 @@
--- The reader of a number and of a length says the same as the relation.
+-- The readers of numbers and lengths agree with the spelling relations.
 use Rattle.std.proofs.Common.{◌≡◌, ℕ, ◌+◌, ◌-◌, ◌<◌, ◌≤◌, true, false, Bool, not, ◌==◌, ◌&&◌, nat_lt, nat_le, List, [], ◌∷◌, ◌++◌, length, Ok, refl, sym, ap, subst, ◌∙◌, arith, inl, inr}
 use Rattle.std.specs.Int.{w32, from_be_bytes}
 use Rattle.std.proofs.lemmas.Bool.{and_parts, and_from, ltb-true, leb-true, lt-ltb, le-ltb, le-leb}
@@ -14,11 +14,11 @@ use Rattle.xdlms_apdu.proofs.Joined.{one_agrees, then_agrees}
 
 -- ---- numbers
 
--- yes or no
+-- a flag
 pub flag_agrees : Agrees Bool flag_at IsFlag
 flag_agrees = one_agrees (λ byte. not (byte == 0)) byte_at IsByte IsFlag (byte_agrees Unreadable) (λ byte text s. (byte, s, refl)) (λ flag text s. (s.0, sym s.2, s.1))
 
--- the number of a block
+-- a block number
 pub number_agrees : Agrees ℕ number_at IsNumber
 number_agrees = one_agrees (from_be_bytes w32) (bytes_at 4) (AreBytes 4) IsNumber (bytes_agrees Unreadable 4)
     (λ bytes text s. (s.0, ap (from_be_bytes w32) s.1)) (λ n text s. (text, sym s.1, (s.0, refl)))
@@ -67,7 +67,7 @@ length_again n (first ∷ bytes) rest (inr h) =
 pub length_agrees : Agrees ℕ length_at (λ n text. IsLength text n)
 length_agrees = record { takes = length_takes; again = length_again }
 
--- bytes behind their length
+-- a length followed by that number of bytes
 pub raw_agrees : Agrees (List ℕ) raw_at IsRaw
 raw_agrees = then_agrees length_at bytes_at IsCount AreBytes IsRaw length_agrees (bytes_agrees Unreadable)
     (λ n bytes text j.

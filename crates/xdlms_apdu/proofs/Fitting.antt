@@ -91,7 +91,7 @@ request_body_fits (request.Action id method parameter) body bytes j = (method_fi
 request_body_fits (request.ActionFirst id method block) body bytes j = (method_fits method j.first (first_bytes body bytes j) j.is_first, block_fits block j.others (other_bytes body bytes j) j.are_others)
 request_body_fits (request.ActionNext id block) body bytes s = block_fits block body bytes s
 
--- the text of a request that bytes spell spells it
+-- if bytes spell a request, its written text spells it
 pub request_text_spells : (bytes : List ℕ) (r : Request) → IsBytes bytes → SpellsRequest bytes r → SpellsRequest (request_text r) r
 request_text_spells bytes r are s = request_spells r (request_body_fits r s.body (back_bytes (request_head r) s.body bytes s.parts are) s.is_body)
 
@@ -113,6 +113,6 @@ response_body_fits (response.Action id code) body bytes s = tt
 response_body_fits (response.ActionBlock id number) body bytes s = number_fits number body bytes s
 response_body_fits (response.Exception exception) body bytes s = tt
 
--- the text of a response that bytes spell spells it
+-- if bytes spell a response, its written text spells it
 pub response_text_spells : (bytes : List ℕ) (r : Response) → IsBytes bytes → SpellsResponse bytes r → SpellsResponse (response_text r) r
 response_text_spells bytes r are s = response_spells r (response_body_fits r s.body (back_bytes (response_head r) s.body bytes s.parts are) s.is_body)

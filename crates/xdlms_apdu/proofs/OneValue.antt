@@ -1,4 +1,4 @@
--- No spelling of an APDU begins another one.
+-- No spelling of an APDU is a proper prefix of another.
 use Rattle.std.proofs.Common.{◌≡◌, ℕ, List, [], ◌∷◌, ◌++◌, Ok, Err, refl, sym, ap, ◌∙◌, append-nil}
 use Rattle.byte_reading.proofs.Agreeing.{Agrees, made_agrees}
 use Rattle.byte_reading.proofs.OutcomeLemmas.{ok_is}
@@ -19,7 +19,7 @@ use Rattle.xdlms_apdu.proofs.Responses.{IsNothing, get_block_agrees, is_get_bloc
 
 -- ---- an APDU at the front of bytes
 
--- one field, and two, with others behind them
+-- one field, and two, followed by other bytes
 one_before : {X R : Type 0} (make : X → R) (field : List ℕ → Read X) (P : X → List ℕ → Type 0) → Agrees X field P → (x : X) (body rest : List ℕ) → P x body → one_at make field (body ++ rest) ≡ Ok (make x, rest)
 one_before make field P agrees x body rest s = (made_agrees make field P agrees).again (make x) body rest (x, refl, s)
 
@@ -32,7 +32,7 @@ abbrev front_request : List ℕ → Read Request
 front_request [] = Err UnknownTag
 front_request (tag ∷ bytes) = request_at tag bytes
 
--- the front of bytes with others behind them
+-- a reader at the front of bytes that are followed by others
 abbrev front_of : {R : Type 0} → (List ℕ → Read R) → List ℕ → List ℕ → Read R
 front_of front rest bytes = front (bytes ++ rest)
 
@@ -80,7 +80,8 @@ response_before bytes rest (response.Exception exception.Unreadable) s = ap (fro
 
 -- ---- the law
 
--- what is read at the front, whatever stands behind it, begins nothing else
+-- a reader at the front that ignores the bytes after it gives one value, so no spelling is a prefix
+-- of another
 one_value : {R : Type 0} (front : List ℕ → Read R) (Spells : List ℕ → R → Type 0) → ((bytes rest : List ℕ) (r : R) → Spells bytes r → front (bytes ++ rest) ≡ Ok (r, rest))
     → (bytes rest : List ℕ) (one other : R) → Spells bytes one → Spells (bytes ++ rest) other → (rest ≡ []) × (one ≡ other)
 one_value {R = R} front Spells before bytes rest one other s t =

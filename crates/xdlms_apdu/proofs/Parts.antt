@@ -1,4 +1,4 @@
--- The reader of each part of a service says the same as the relation.
+-- The reader of each part of a service agrees with its spelling relation.
 use Rattle.std.proofs.Common.{◌≡◌, ◌⊎◌, ℕ, zero, suc, Bool, true, false, cond, not, ◌==◌, Option, Some, None, List, [], ◌∷◌, ◌++◌, length, take, drop, Result, Ok, Err, refl, sym, ap, subst, ◌∙◌, append-nil, arith, inl, inr}
 use Rattle.std.specs.Int.{w16, from_be_bytes}
 use Rattle.std.proofs.lemmas.Bool.{eqb-true}
@@ -56,7 +56,7 @@ data_agrees = record { takes = data_takes; again = data_is_read }
 
 -- ---- a result
 
--- the number of each result is that of no other
+-- each result has a number of its own
 result_of-code_of : (code : ResultCode) → result_of (code_of code) ≡ Some code
 unfolding result_of
 result_of-code_of Success = refl
@@ -72,15 +72,15 @@ result_of-code_of NoLongSetInProgress = refl
 result_of-code_of DataBlockNumberInvalid = refl
 result_of-code_of OtherReason = refl
 
--- a `Some` whose type of values is given
+-- `Some` with its type given
 abbrev some_code : ResultCode → Option ResultCode
 some_code code = Some code
 
--- no result
+-- `None` with its type given
 abbrev no_code : Option ResultCode
 no_code = None
 
--- one line of the table: it is that result, or one of a later line
+-- one row of the table: the result is this one, or that of a later row
 line : (k n : ℕ) (given code : ResultCode) (others : Option ResultCode) → code_of given ≡ k → cond (n == k) (Some given) others ≡ Some code → (code_of code ≡ n) ⊎ (others ≡ Some code)
 line k n given code others is e =
     elim (chosen (n == k) (some_code given) others (some_code code) e) [
@@ -93,7 +93,7 @@ line k n given code others is e =
     one_code : (c d : ResultCode) → some_code c ≡ some_code d → c ≡ d
     one_code c d e = cc
 
--- a result that was found has that number
+-- a result that was found by a number has that number
 code_of-result : (n : ℕ) (code : ResultCode) → result_of n ≡ Some code → code_of code ≡ n
 unfolding result_of
 code_of-result n code e =
@@ -205,9 +205,9 @@ method_agrees =
     (λ method text s. subst (λ (m : MethodRef). IsMethod m text) s.3 s.4)
     (λ method text s. (method.class, method.name, method.number, refl, s))
 
--- ---- parts that may be there
+-- ---- optional parts
 
--- a part that is there where a flag says so
+-- a part that is present if the flag is true
 abbrev Optional : {X : Type 0} → X → (X → List ℕ → Type 0) → Bool → X → List ℕ → Type 0
 Optional none P true x text = P x text
 Optional none P false x text = IsNone none x text
@@ -216,7 +216,7 @@ optional_agrees : {X : Type 0} (none : X) (read : List ℕ → Read X) (P : X �
 optional_agrees none read P agrees true = agrees
 optional_agrees none read P agrees false = none_agrees none
 
--- a byte that says no is 0
+-- the byte of a false flag is 0
 no_is_zero : (text : List ℕ) → IsFlag false text → IsByte 0 text
 no_is_zero text flag = flag.1 ∙ ap (λ (n : ℕ). n ∷ []) (zero_is flag.0 (flag.0 == 0) flag.2 refl)
   where
@@ -224,19 +224,19 @@ no_is_zero text flag = flag.1 ∙ ap (λ (n : ℕ). n ∷ []) (zero_is flag.0 (f
     zero_is n true e is = eqb-true n 0 is
     zero_is n false e is = absurd cc
 
--- 0 says no
+-- the byte 0 is a false flag
 zero_is_no : (text : List ℕ) → IsByte 0 text → IsFlag false text
 zero_is_no text s = (0, s, refl)
 
--- a part behind which nothing stands is all
+-- a part that is followed by nothing is the whole text
 alone : {P Q : List ℕ → Type 0} (text : List ℕ) (j : IsJoined P Q text) → j.others ≡ [] → text ≡ j.first
 alone text j none = j.parts ∙ ap (λ (s : List ℕ). j.first ++ s) none ∙ append-nil j.first
 
--- 0 stands for a part that is not there
+-- the byte 0 marks a part as absent
 absent : (text : List ℕ) {Q : List ℕ → Type 0} (j : IsJoined (IsFlag false) Q text) → j.others ≡ [] → IsByte 0 text
 absent text j none = alone text j none ∙ no_is_zero j.first j.is_first
 
--- an access selection: its selector and its parameters, of which nothing is kept
+-- an access selection, whose selector and parameters are discarded
 abbrev IsSelected : Bool → List ℕ → Type 0
 IsSelected selected text = IsPair (λ selector parameters. true) IsByte IsData selected text
 
@@ -270,7 +270,7 @@ target_agrees =
     (λ target text s. subst (λ (t : AttributeSelection). IsTarget t text) s.2 s.3)
     (λ target text s. (target.attr, target.selected, refl, s))
 
--- a parameter that is there
+-- a parameter that is present
 abbrev IsGiven : Option Data → List ℕ → Type 0
 IsGiven parameter text = IsMade Some IsData parameter text
 
@@ -300,13 +300,13 @@ block_agrees =
     (λ block text s. subst (λ (b : Block). IsBlock b text) s.3 s.4)
     (λ block text s. (block.last, block.number, block.raw, refl, s))
 
--- ---- one of two
+-- ---- one of two choices
 
--- 00 and one kind, or 01 and another
+-- 00 and the first choice, or 01 and the second
 abbrev pub IsEither : {X : Type 0} → (X → List ℕ → Type 0) → (X → List ℕ → Type 0) → X → List ℕ → Type 0
 IsEither A B x text = IsJoined (IsByte 0) (A x) text ⊎ IsJoined (IsByte 1) (B x) text
 
--- the kind by what the byte was found to be
+-- the choice by the tests of its byte
 abbrev ByTests : {X : Type 0} → (X → List ℕ → Type 0) → (X → List ℕ → Type 0) → Bool → Bool → X → List ℕ → Type 0
 ByTests A B true one x text = A x text
 ByTests A B false true x text = B x text
@@ -332,7 +332,7 @@ is_either : {X : Type 0} (A B : X → List ℕ → Type 0) (x : X) (text : List 
 is_either A B x text (inl j) = (0, with_others j j.are_others)
 is_either A B x text (inr j) = (1, with_others j j.are_others)
 
--- a byte, and by it one kind or another
+-- a byte, followed by the choice that it selects
 abbrev pub either_at : {X : Type 0} → (List ℕ → Read X) → (List ℕ → Read X) → List ℕ → Read X
 either_at zero_at one_at bytes = byte_at bytes >>= λ choice. cond (choice.0 == 0) (zero_at choice.1) (cond (choice.0 == 1) (one_at choice.1) (Err Unreadable))
 
@@ -361,7 +361,7 @@ result_agrees =
 
 -- ---- lists
 
--- so many items
+-- the given number of items
 abbrev AreCounted : {X : Type 0} → (X → List ℕ → Type 0) → ℕ → List X → List ℕ → Type 0
 AreCounted P n items text = (length items ≡ n) × AreItems P items text
 

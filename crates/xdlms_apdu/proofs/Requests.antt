@@ -1,4 +1,4 @@
--- Reading a request and spelling one say the same.
+-- The reader of a request agrees with the spelling relation.
 --     request_found      what is read is spelled
 --     request_again      what is spelled is read
 use Rattle.std.proofs.Common.{◌≡◌, ℕ, ◌==◌, List, [], ◌∷◌, ◌++◌, Ok, refl, sym, ap, subst, ◌∙◌, inl, inr}
@@ -29,7 +29,7 @@ no_request fault r e = cc
 
 -- ---- what is read is spelled
 
--- a form with one field behind the invoke-id-and-priority
+-- a form with one field after the invoke-id-and-priority
 one_form : {X : Type 0} (tag form tag' form' : ℕ) (make : InvokeId → X → Request) (field : List ℕ → Read X) (P : X → List ℕ → Type 0) → Agrees X field P → tag ≡ tag' → form ≡ form'
     → ((id : InvokeId) (x : X) → request_head (make id x) ≡ head tag' form' id) → ((id : InvokeId) (x : X) (body : List ℕ) → P x body → IsRequestBody (make id x) body)
     → (more : List ℕ) (r : Request) → two_at make invoke_id_at field more ≡ Ok (r, []) → SpellsRequest (tag ∷ form ∷ more) r
@@ -38,7 +38,7 @@ one_form tag form tag' form' make field P agrees t f heads bodies more r e =
     let parts = head_is tag form tag' form' s.0 (P s.1) more t f s.3 ∙ ap (λ (h : List ℕ). h ++ s.3.others) (sym (heads s.0 s.1)) in
     subst (λ (q : Request). SpellsRequest (tag ∷ form ∷ more) q) s.2 (record { body = s.3.others; parts = parts; is_body = bodies s.0 s.1 s.3.others s.3.are_others })
 
--- a form with two fields behind it
+-- a form with two fields after the invoke-id-and-priority
 two_form : {X Y : Type 0} (tag form tag' form' : ℕ) (make : InvokeId → X → Y → Request) (first : List ℕ → Read X) (second : List ℕ → Read Y) (P : X → List ℕ → Type 0) (Q : Y → List ℕ → Type 0)
     → Agrees X first P → Agrees Y second Q → tag ≡ tag' → form ≡ form'
     → ((id : InvokeId) (x : X) (y : Y) → request_head (make id x y) ≡ head tag' form' id) → ((id : InvokeId) (x : X) (y : Y) (body : List ℕ) → IsJoined (P x) (Q y) body → IsRequestBody (make id x y) body)
@@ -110,11 +110,11 @@ request_found (tag ∷ bytes) r e =
 
 -- ---- what is spelled is read
 
--- one field behind the invoke-id-and-priority
+-- one field after the invoke-id-and-priority
 one_again : {X : Type 0} (make : X → Request) (field : List ℕ → Read X) (P : X → List ℕ → Type 0) → Agrees X field P → (x : X) (body : List ℕ) → P x body → whole (one_at make field body) ≡ Ok (make x)
 one_again make field P agrees x body s = all_read Unreadable (one_at make field) (IsMade make P) (made_agrees make field P agrees) (make x) body (x, refl, s)
 
--- two fields behind it
+-- two fields after the invoke-id-and-priority
 two_again : {X Y : Type 0} (make : X → Y → Request) (first : List ℕ → Read X) (second : List ℕ → Read Y) (P : X → List ℕ → Type 0) (Q : Y → List ℕ → Type 0) → Agrees X first P → Agrees Y second Q
     → (x : X) (y : Y) (body : List ℕ) → IsJoined (P x) (Q y) body → whole (two_at make first second body) ≡ Ok (make x y)
 two_again make first second P Q one two x y body s = all_read Unreadable (two_at make first second) (IsPair make P Q) (two_agrees make first second P Q one two) (make x y) body (x, y, refl, s)

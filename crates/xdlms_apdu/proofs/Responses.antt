@@ -1,4 +1,4 @@
--- Reading a response and spelling one say the same.
+-- The reader of a response agrees with the spelling relation.
 --     response_found      what is read is spelled
 --     response_again      what is spelled is read
 use Rattle.std.proofs.Common.{◌≡◌, ℕ, Bool, true, ◌==◌, ◌&&◌, List, [], ◌∷◌, ◌++◌, Ok, refl, sym, ap, ap₂, subst, ◌∙◌, inl, inr}
@@ -35,7 +35,7 @@ no_response fault r e = cc
 
 -- ---- what is read is spelled
 
--- a form with one field behind the invoke-id-and-priority
+-- a form with one field after the invoke-id-and-priority
 one_form : {X : Type 0} (tag form tag' form' : ℕ) (make : InvokeId → X → Response) (field : List ℕ → Read X) (P : X → List ℕ → Type 0) → Agrees X field P → tag ≡ tag' → form ≡ form'
     → ((id : InvokeId) (x : X) → response_head (make id x) ≡ head tag' form' id) → ((id : InvokeId) (x : X) (body : List ℕ) → P x body → IsResponseBody (make id x) body)
     → (more : List ℕ) (r : Response) → two_at make invoke_id_at field more ≡ Ok (r, []) → SpellsResponse (tag ∷ form ∷ more) r
@@ -44,7 +44,7 @@ one_form tag form tag' form' make field P agrees t f heads bodies more r e =
     let parts = head_is tag form tag' form' s.0 (P s.1) more t f s.3 ∙ ap (λ (h : List ℕ). h ++ s.3.others) (sym (heads s.0 s.1)) in
     subst (λ (q : Response). SpellsResponse (tag ∷ form ∷ more) q) s.2 (record { body = s.3.others; parts = parts; is_body = bodies s.0 s.1 s.3.others s.3.are_others })
 
--- a form with two fields behind it
+-- a form with two fields after the invoke-id-and-priority
 two_form : {X Y : Type 0} (tag form tag' form' : ℕ) (make : InvokeId → X → Y → Response) (first : List ℕ → Read X) (second : List ℕ → Read Y) (P : X → List ℕ → Type 0) (Q : Y → List ℕ → Type 0)
     → Agrees X first P → Agrees Y second Q → tag ≡ tag' → form ≡ form'
     → ((id : InvokeId) (x : X) (y : Y) → response_head (make id x y) ≡ head tag' form' id) → ((id : InvokeId) (x : X) (y : Y) (body : List ℕ) → IsJoined (P x) (Q y) body → IsResponseBody (make id x y) body)
@@ -60,7 +60,7 @@ IsNothing nothing text = IsByte 0 text
 
 -- ---- a block of a GET
 
--- whatever comes with it, a block with its bytes or a block that was refused
+-- the rest of a block, either raw data or a result
 abbrev HasRaw : InvokeId → Bool → ℕ → Response → List ℕ → Type 0
 HasRaw id last number r text = IsMade (λ raw. response.GetBlock id (record { last = last; number = number; raw = raw })) IsRaw r text
 
@@ -79,7 +79,7 @@ HasLast id r text = (last : Bool) × IsJoined (IsFlag last) (HasNumber id last r
 abbrev pub IsGetBlock : Response → List ℕ → Type 0
 IsGetBlock r text = (id : InvokeId) × IsJoined (IsId id) (HasLast id r) text
 
--- what stands behind the invoke-id-and-priority, the flag and the number
+-- the fields after the invoke-id-and-priority, the flag and the number
 abbrev part_at : InvokeId → Bool → ℕ → List ℕ → Read Response
 part_at id last number bytes = either_at (one_at (λ raw. response.GetBlock id (record { last = last; number = number; raw = raw })) raw_at) (one_at (response.GetBlockRefused id last number) code_at) bytes
 
@@ -101,7 +101,7 @@ get_block_agrees =
     (λ last r text j. (last, j)) (λ r text s. s))
     (λ id r text j. (id, j)) (λ r text s. s)
 
--- such a block is spelled by its first bytes and what it says of itself
+-- a block is spelled by its first bytes and its fields
 block_found : (tag form : ℕ) → tag ≡ 0xC4 → form ≡ 2 → (more : List ℕ) (r : Response) → IsGetBlock r more → SpellsResponse (tag ∷ form ∷ more) r
 block_found tag form t f more r s =
     let j = s.1 in
@@ -213,11 +213,11 @@ response_found (tag ∷ bytes) r e =
 
 -- ---- what is spelled is read
 
--- one field behind the invoke-id-and-priority
+-- one field after the invoke-id-and-priority
 one_again : {X : Type 0} (make : X → Response) (field : List ℕ → Read X) (P : X → List ℕ → Type 0) → Agrees X field P → (x : X) (body : List ℕ) → P x body → whole (one_at make field body) ≡ Ok (make x)
 one_again make field P agrees x body s = all_read Unreadable (one_at make field) (IsMade make P) (made_agrees make field P agrees) (make x) body (x, refl, s)
 
--- two fields behind it
+-- two fields after the invoke-id-and-priority
 two_again : {X Y : Type 0} (make : X → Y → Response) (first : List ℕ → Read X) (second : List ℕ → Read Y) (P : X → List ℕ → Type 0) (Q : Y → List ℕ → Type 0) → Agrees X first P → Agrees Y second Q
     → (x : X) (y : Y) (body : List ℕ) → IsJoined (P x) (Q y) body → whole (two_at make first second body) ≡ Ok (make x y)
 two_again make first second P Q one two x y body s = all_read Unreadable (two_at make first second) (IsPair make P Q) (two_agrees make first second P Q one two) (make x y) body (x, y, refl, s)

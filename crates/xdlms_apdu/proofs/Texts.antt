@@ -67,7 +67,7 @@ result_spells : (result : GetResult) → IsFitResult result → IsResult result 
 result_spells (Value value) fit = join (0 ∷ []) (data_text value) refl (data_spells value fit)
 result_spells (Code code) fit = join (1 ∷ []) _ refl refl
 
--- items one after the other
+-- consecutive items
 items_spell : {X : Type 0} (item_text : X → List ℕ) (IsFitItem : X → Type 0) (IsItem : X → List ℕ → Type 0) → ((x : X) → IsFitItem x → IsItem x (item_text x)) → (items : List X) → All IsFitItem items
     → AreItems IsItem items (flat_map item_text items)
 items_spell item_text IsFitItem IsItem spells [] fit = refl

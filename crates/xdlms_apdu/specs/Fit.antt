@@ -1,4 +1,4 @@
--- Which APDUs have a text that is read back.
+-- The APDUs whose text is read back.
 --     IsFitData .. AreFit                     the parts of the services
 --     IsFitRequest, IsFitResponse             whole APDUs
 use Rattle.std.specs.Prelude.{◌≡◌, ℕ, ◌^◌, ◌<◌, Option, Some, None, List, length, All}
@@ -22,7 +22,8 @@ use Rattle.xdlms_apdu.specs.declared.response.Response.TheVariants as response
 abbrev pub IsFitData : Data → Type 0
 IsFitData value = IsFit (tree_of value)
 
--- a class that two bytes hold, and a logical name of six bytes (IEC 62056-5-3, attribute and method descriptors): so it is of each that a program holds
+-- a class of two bytes and a logical name of six bytes (IEC 62056-5-3, attribute and method
+-- descriptors): every class and name that a program can hold
 abbrev pub IsFitDescriptor : ClassId → Obis → Type 0
 IsFitDescriptor class name = (class.0 < 2 ^ 16) × (length name.0 ≡ 6)
 
@@ -36,15 +37,15 @@ IsFitMethod method = IsFitDescriptor method.class method.name
 abbrev pub IsFitTarget : AttributeSelection → Type 0
 IsFitTarget target = IsFitAttribute target.attr
 
--- the number of a block, which four bytes hold (IEC 62056-5-3, block transfer)
+-- a block number of at most four bytes (IEC 62056-5-3, block transfer)
 abbrev pub IsFitNumber : ℕ → Type 0
 IsFitNumber number = number < 2 ^ 32
 
--- a block whose length four bytes hold
+-- a block whose length fits in four bytes
 abbrev pub IsFitBlock : Block → Type 0
 IsFitBlock block = IsFitNumber block.number × (length block.raw < 2 ^ 32)
 
--- the parameter of a method, if it has one
+-- the optional parameter of a method
 abbrev pub IsFitParameter : Option Data → Type 0
 IsFitParameter None = Unit {0}
 IsFitParameter (Some value) = IsFitData value
@@ -54,7 +55,7 @@ abbrev pub IsFitResult : GetResult → Type 0
 IsFitResult (Value value) = IsFitData value
 IsFitResult (Code code) = Unit {0}
 
--- items whose count four bytes hold, each of which fits
+-- items that all fit, with a count that fits in four bytes
 abbrev pub AreFit : {X : Type 0} → (X → Type 0) → List X → Type 0
 AreFit IsFitItem items = (length items < 2 ^ 32) × All IsFitItem items
 

@@ -1,7 +1,7 @@
--- How each APDU begins (IEC 62056-5-3, GET, SET, ACTION and ExceptionResponse): the tag of the service, the number of the form, and the
--- invoke-id-and-priority.
+-- The first bytes of each APDU (IEC 62056-5-3, GET, SET, ACTION and ExceptionResponse): the tag of
+-- the service, the form and the invoke-id-and-priority.
 --     request_head       of a request
---     response_head      of a response; of an exception the tag alone
+--     response_head      of a response; for an exception only the tag
 use Rattle.std.specs.Prelude.{ℕ, List, [], ◌∷◌}
 use Rattle.xdlms_apdu.specs.declared.invoke_id.InvokeId.{InvokeId}
 use Rattle.xdlms_apdu.specs.declared.request.Request.{Request}
@@ -9,7 +9,7 @@ use Rattle.xdlms_apdu.specs.declared.request.Request.TheVariants as request
 use Rattle.xdlms_apdu.specs.declared.response.Response.{Response}
 use Rattle.xdlms_apdu.specs.declared.response.Response.TheVariants as response
 
--- a tag, the form and the invoke-id-and-priority
+-- a tag, a form and an invoke-id-and-priority
 abbrev pub head : ℕ → ℕ → InvokeId → List ℕ
 head tag form id = tag ∷ form ∷ id.0 ∷ []
 

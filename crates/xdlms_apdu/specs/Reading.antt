@@ -1,10 +1,11 @@
--- Reading an APDU (IEC 62056-5-3, GET, SET, ACTION and ExceptionResponse), with the fault that is met first. The order of faults is this meter's.
---     Read, Reads                       what a step answers, and how code is compared with it
---     one_at, two_at, three_at          fields one after the other, made into one value
---     byte_at .. raw_at                 a byte, bytes, a number, a flag, a length, bytes behind their length
+-- Reading an APDU (IEC 62056-5-3, GET, SET, ACTION and ExceptionResponse), with the first fault
+-- found. The order of the faults is this meter's choice.
+--     Read, Reads                       the outcome of a step, and how it relates to the code's
+--     one_at, two_at, three_at          consecutive fields that form one value
+--     byte_at .. raw_at                 a byte, bytes, a number, a flag, a length, bytes after their length
 --     data_at .. result_at              a Data and the parts of the services
---     list_at                           a count and so many items
---     get_request_at .. exception_at    what stands behind the tag of a service
+--     list_at                           a count and that number of items
+--     get_request_at .. exception_at    the rest of an APDU after its tag
 --     request_of, response_of           a whole APDU
 use Rattle.std.specs.Prelude.{◌≡◌, ℕ, zero, suc, ◌-◌, not, ◌&&◌, ◌==◌, nat_lt, nat_le, if◌then◌else◌, Bool, true, false, Option, Some, None, List, [], ◌∷◌, drop, Result, Ok, Err}
 use Rattle.std.specs.Int.{w16, w32, from_be_bytes}
@@ -31,29 +32,29 @@ use Rattle.xdlms_apdu.specs.declared.response.Exception.TheVariants as exception
 use Rattle.xdlms_apdu.specs.declared.response.Response.{Response}
 use Rattle.xdlms_apdu.specs.declared.response.Response.TheVariants as response
 
--- what a reader of X answers: the value and the bytes behind it, or the first fault
+-- the outcome of a reader of X: the value and the bytes after it, or the first fault
 abbrev pub Read : Type 0 → Type 0
 Read X = Result (X × List ℕ) ApduFault
 
--- a step of code that moves on through the bytes answers as the definition does
+-- a step of the code that advances through the bytes has the outcome of the definition
 abbrev pub Reads : {X Y : Type 0} → (X → Y) → Result X ApduFault → List ℕ → Read Y → Type 0
 Reads view (Ok x) new given = given ≡ Ok (view x, new)
 Reads view (Err fault) new given = Fails Memory fault given
 
--- ---- fields one after the other
+-- ---- consecutive fields
 
--- one field, seen as a value
+-- one field, converted to a value
 abbrev pub one_at : {X Y : Type 0} → (X → Y) → (List ℕ → Read X) → List ℕ → Read Y
 one_at make field bytes = read_as make (field bytes)
 
--- two fields, made into one value
+-- two fields that form one value
 abbrev pub two_at : {X Y Z : Type 0} → (X → Y → Z) → (List ℕ → Read X) → (List ℕ → Read Y) → List ℕ → Read Z
 two_at make first second bytes = do
   x ← first bytes
   y ← second x.1
   Ok (make x.0 y.0, y.1)
 
--- three fields, made into one value
+-- three fields that form one value
 abbrev pub three_at : {W X Y Z : Type 0} → (W → X → Y → Z) → (List ℕ → Read W) → (List ℕ → Read X) → (List ℕ → Read Y) → List ℕ → Read Z
 three_at make first second third bytes = do
   w ← first bytes
@@ -67,19 +68,19 @@ three_at make first second third bytes = do
 abbrev pub byte_at : List ℕ → Read ℕ
 byte_at bytes = first_byte Unreadable bytes
 
--- the next bytes, wanted all at once
+-- the next `n` bytes; all of them must be there
 abbrev pub bytes_at : ℕ → List ℕ → Read (List ℕ)
 bytes_at n bytes = first_bytes Unreadable n bytes
 
--- a byte that says yes, whatever it is but 0
+-- a flag: false for 0, true for any other byte
 abbrev pub flag_at : List ℕ → Read Bool
 flag_at bytes = one_at (λ byte. not (byte == 0)) byte_at bytes
 
--- the number of a block, in four bytes
+-- a block number: four bytes, highest first
 abbrev pub number_at : List ℕ → Read ℕ
 number_at bytes = one_at (from_be_bytes w32) (bytes_at 4) bytes
 
--- a length or count: itself below 80, or 81 to 84 and the one to four bytes of the length
+-- a length or count: one byte below 80 hex, or 81 to 84 hex followed by one to four bytes
 unfoldable pub length_at : List ℕ → Read ℕ
 length_at bytes = do
   first ← byte_at bytes
@@ -87,7 +88,7 @@ length_at bytes = do
     guard (nat_lt 0x80 first.0 && nat_le first.0 0x84) Unreadable
     one_at big_endian (bytes_at (first.0 - 0x80)) first.1
 
--- bytes behind their length
+-- a length followed by that number of bytes
 abbrev pub raw_at : List ℕ → Read (List ℕ)
 raw_at bytes = do
   n ← length_at bytes
@@ -95,12 +96,12 @@ raw_at bytes = do
 
 -- ---- the parts of the services
 
--- a value read from the front of bytes, and what stands behind it. Whatever is wrong with it, it is not readable
+-- a value read from the front of bytes, and the bytes after it. Every fault becomes `Unreadable`
 abbrev pub front_of : {X Fault : Type 0} → List ℕ → Result (X × ℕ) Fault → Read X
 front_of bytes (Ok x) = Ok (x.0, drop x.1 bytes)
 front_of bytes (Err fault) = Err Unreadable
 
--- a Data, with its own limit of bytes from its tag on
+-- a Data, whose limit on bytes counts from its own tag
 unfoldable pub data_at : List ℕ → Read Data
 data_at bytes = front_of bytes (first_data bytes)
 
@@ -108,7 +109,7 @@ data_at bytes = front_of bytes (first_data bytes)
 abbrev pub invoke_id_at : List ℕ → Read InvokeId
 invoke_id_at bytes = one_at (λ byte. record { 0 = byte }) byte_at bytes
 
--- a result that is known
+-- the result found in the table of results
 abbrev pub known_result : ℕ → List ℕ → Option ResultCode → Read ResultCode
 known_result byte rest None = Err Unreadable
 known_result byte rest (Some code) = Ok (code, rest)
@@ -134,7 +135,7 @@ attribute_at bytes = three_at (λ class name number. record { class = class; nam
 unfoldable pub method_at : List ℕ → Read MethodRef
 method_at bytes = three_at (λ class name number. record { class = class; name = name; number = number }) class_at name_at byte_at bytes
 
--- whether there is an access selection. Its selector and its parameters, one Data, are not kept
+-- whether there is an access selection. Its selector and its parameters, a Data, are discarded
 unfoldable pub selection_at : List ℕ → Read Bool
 selection_at bytes = do
   present ← flag_at bytes
@@ -144,7 +145,7 @@ selection_at bytes = do
 unfoldable pub target_at : List ℕ → Read AttributeSelection
 target_at bytes = two_at (λ attribute selected. record { attr = attribute; selected = selected }) attribute_at selection_at bytes
 
--- the parameter of a method, if it has one
+-- the optional parameter of a method
 unfoldable pub parameter_at : List ℕ → Read (Option Data)
 parameter_at bytes = do
   present ← flag_at bytes
@@ -162,7 +163,7 @@ result_at bytes = do
       if choice.0 == 1 then one_at Code code_at choice.1 else
       Err Unreadable
 
--- so many items one after the other, each read by the given reader
+-- the given number of consecutive items, each read by the given reader
 unfoldable pub items_at : {X : Type 0} → (List ℕ → Read X) → ℕ → List ℕ → Read (List X)
 items_at item_at zero bytes = Ok ([], bytes)
 items_at item_at (suc n) bytes = do
@@ -170,7 +171,7 @@ items_at item_at (suc n) bytes = do
   others ← items_at item_at n first.1
   Ok (first.0 ∷ others.0, others.1)
 
--- a count, and so many items
+-- a count, followed by that number of items
 unfoldable pub list_at : {X : Type 0} → (List ℕ → Read X) → List ℕ → Read (List X)
 list_at item_at bytes = do
   count ← length_at bytes
@@ -178,7 +179,7 @@ list_at item_at bytes = do
 
 -- ---- the services
 
--- the form of a GET request, and what it holds
+-- the form and the contents of a GET request
 unfoldable pub get_request_at : List ℕ → Read Request
 get_request_at bytes = do
   form ← byte_at bytes
@@ -187,7 +188,7 @@ get_request_at bytes = do
       if form.0 == 3 then two_at request.GetList invoke_id_at (list_at target_at) form.1 else
       Err UnknownForm
 
--- the form of a SET request, and what it holds
+-- the form and the contents of a SET request
 unfoldable pub set_request_at : List ℕ → Read Request
 set_request_at bytes = do
   form ← byte_at bytes
@@ -196,7 +197,7 @@ set_request_at bytes = do
       if form.0 == 3 then two_at request.SetNext invoke_id_at block_at form.1 else
       Err UnknownForm
 
--- the form of an ACTION request, and what it holds
+-- the form and the contents of an ACTION request
 unfoldable pub action_request_at : List ℕ → Read Request
 action_request_at bytes = do
   form ← byte_at bytes
@@ -205,7 +206,7 @@ action_request_at bytes = do
       if form.0 == 6 then two_at request.ActionNext invoke_id_at block_at form.1 else
       Err UnknownForm
 
--- a block of a GET: 00 and its bytes, or 01 and why there are none
+-- a block of a GET: 00 and its raw data, or 01 and the reason why there are none
 unfoldable pub get_block_at : List ℕ → Read Response
 get_block_at bytes = do
   id ← invoke_id_at bytes
@@ -216,7 +217,7 @@ get_block_at bytes = do
       if choice.0 == 1 then one_at (response.GetBlockRefused id.0 last.0 number.0) code_at choice.1 else
       Err Unreadable
 
--- the form of a GET response, and what it holds
+-- the form and the contents of a GET response
 unfoldable pub get_response_at : List ℕ → Read Response
 get_response_at bytes = do
   form ← byte_at bytes
@@ -225,7 +226,7 @@ get_response_at bytes = do
       if form.0 == 3 then two_at response.GetList invoke_id_at (list_at result_at) form.1 else
       Err UnknownForm
 
--- the form of a SET response, and what it holds
+-- the form and the contents of a SET response
 unfoldable pub set_response_at : List ℕ → Read Response
 set_response_at bytes = do
   form ← byte_at bytes
@@ -241,7 +242,7 @@ nothing_at bytes = do
   guard (byte.0 == 0) Unreadable
   Ok (tt, byte.1)
 
--- the form of an ACTION response, and what it holds
+-- the form and the contents of an ACTION response
 unfoldable pub action_response_at : List ℕ → Read Response
 action_response_at bytes = do
   form ← byte_at bytes
@@ -261,11 +262,11 @@ exception_at bytes = do
 
 -- ---- whole APDUs
 
--- what was read, if nothing stands behind it
+-- the value read, if no bytes follow it
 abbrev pub whole : {X : Type 0} → Read X → Result X ApduFault
 whole read = whole_or Unreadable read
 
--- what stands behind the tag of a request
+-- the rest of a request after its tag
 unfoldable pub request_at : ℕ → List ℕ → Read Request
 request_at tag bytes =
     if tag == 0xC0 then get_request_at bytes else
@@ -273,12 +274,12 @@ request_at tag bytes =
     if tag == 0xC3 then action_request_at bytes else
     Err UnknownTag
 
--- the request that bytes are, or why they are none
+-- the request that the bytes spell, or the fault
 unfoldable pub request_of : List ℕ → Result Request ApduFault
 request_of [] = Err UnknownTag
 request_of (tag ∷ bytes) = whole (request_at tag bytes)
 
--- what stands behind the tag of a response
+-- the rest of a response after its tag
 unfoldable pub response_at : ℕ → List ℕ → Read Response
 response_at tag bytes =
     if tag == 0xC4 then get_response_at bytes else
@@ -287,7 +288,7 @@ response_at tag bytes =
     if tag == 0xD8 then exception_at bytes else
     Err UnknownTag
 
--- the response that bytes are, or why they are none
+-- the response that the bytes spell, or the fault
 unfoldable pub response_of : List ℕ → Result Response ApduFault
 response_of [] = Err UnknownTag
 response_of (tag ∷ bytes) = whole (response_at tag bytes)

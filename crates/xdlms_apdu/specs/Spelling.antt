@@ -1,6 +1,7 @@
--- What bytes spell which APDU (IEC 62056-5-3, GET, SET, ACTION and ExceptionResponse), by cases on the APDU.
+-- Which bytes spell which APDU (IEC 62056-5-3, GET, SET, ACTION and ExceptionResponse), by cases on
+-- the APDU.
 --     IsByte .. IsList                        the parts of the services
---     IsRequestBody, IsResponseBody           what stands behind the first bytes
+--     IsRequestBody, IsResponseBody           the rest after the first bytes
 --     SpellsRequest, SpellsResponse           whole APDUs
 use Rattle.std.specs.Prelude.{◌≡◌, ℕ, Bool, true, false, Option, Some, None, List, [], ◌∷◌, ◌++◌, length}
 use Rattle.std.specs.Int.{w16, w32}
@@ -31,15 +32,15 @@ use Rattle.xdlms_apdu.specs.declared.response.Response.TheVariants as response
 abbrev pub IsByte : ℕ → List ℕ → Type 0
 IsByte byte bytes = bytes ≡ byte ∷ []
 
--- 00 for no, any other byte for yes
+-- a flag: 00 for false, any other byte for true
 abbrev pub IsFlag : Bool → List ℕ → Type 0
 IsFlag flag bytes = IsBoolean bytes flag
 
--- the number of a block: four bytes, the highest first
+-- a block number: four bytes, the highest first
 abbrev pub IsNumber : ℕ → List ℕ → Type 0
 IsNumber number bytes = IsUnsigned w32 bytes number
 
--- bytes behind their length, in any of its forms
+-- a length, in any of its forms, followed by that number of bytes
 abbrev pub IsRaw : List ℕ → List ℕ → Type 0
 IsRaw raw bytes = IsString bytes raw
 
@@ -76,7 +77,7 @@ IsSelector bytes = (selector : ℕ) × IsByte selector bytes
 abbrev pub AreParameters : List ℕ → Type 0
 AreParameters bytes = (value : Data) × IsData value bytes
 
--- no access selection, or a byte that says so, a selector and parameters
+-- no access selection, or a byte that marks it as present, a selector and parameters
 abbrev pub IsSelection : Bool → List ℕ → Type 0
 IsSelection false bytes = IsByte 0x00 bytes
 IsSelection true bytes = IsJoined (IsFlag true) (IsJoined IsSelector AreParameters) bytes
@@ -85,7 +86,7 @@ IsSelection true bytes = IsJoined (IsFlag true) (IsJoined IsSelector AreParamete
 abbrev pub IsTarget : AttributeSelection → List ℕ → Type 0
 IsTarget target bytes = IsJoined (IsAttribute target.attr) (IsSelection target.selected) bytes
 
--- the parameter of a method, if it has one
+-- the optional parameter of a method
 abbrev pub IsParameter : Option Data → List ℕ → Type 0
 IsParameter None bytes = IsByte 0x00 bytes
 IsParameter (Some value) bytes = IsJoined (IsFlag true) (IsData value) bytes
@@ -99,12 +100,12 @@ abbrev pub IsResult : GetResult → List ℕ → Type 0
 IsResult (Value value) bytes = IsJoined (IsByte 0x00) (IsData value) bytes
 IsResult (Code code) bytes = IsJoined (IsByte 0x01) (IsCode code) bytes
 
--- items one after the other
+-- consecutive items
 abbrev pub AreItems : {X : Type 0} → (X → List ℕ → Type 0) → List X → List ℕ → Type 0
 AreItems IsItem [] bytes = bytes ≡ []
 AreItems IsItem (x ∷ xs) bytes = IsJoined (IsItem x) (AreItems IsItem xs) bytes
 
--- how many items there are, and the items
+-- the number of items, followed by the items
 abbrev pub IsList : {X : Type 0} → (X → List ℕ → Type 0) → List X → List ℕ → Type 0
 IsList IsItem items bytes = IsJoined (λ count. IsLength count (length items)) (AreItems IsItem items) bytes
 
@@ -114,7 +115,7 @@ IsException exception bytes = bytes ≡ exception_text exception
 
 -- ---- whole APDUs
 
--- what stands behind the first bytes of a request
+-- the rest of a request after its first bytes
 abbrev pub IsRequestBody : Request → List ℕ → Type 0
 IsRequestBody (request.Get id target) body = IsTarget target body
 IsRequestBody (request.GetNext id number) body = IsNumber number body
@@ -126,7 +127,7 @@ IsRequestBody (request.Action id method parameter) body = IsJoined (IsMethod met
 IsRequestBody (request.ActionFirst id method block) body = IsJoined (IsMethod method) (IsBlock block) body
 IsRequestBody (request.ActionNext id block) body = IsBlock block body
 
--- what stands behind the first bytes of a response
+-- the rest of a response after its first bytes
 abbrev pub IsResponseBody : Response → List ℕ → Type 0
 IsResponseBody (response.Get id result) body = IsResult result body
 IsResponseBody (response.GetBlock id block) body = IsJoined (IsFlag block.last) (IsJoined (IsNumber block.number) (IsJoined (IsByte 0x00) (IsRaw block.raw))) body
@@ -139,13 +140,13 @@ IsResponseBody (response.Action id code) body = IsJoined (IsCode code) (IsByte 0
 IsResponseBody (response.ActionBlock id number) body = IsNumber number body
 IsResponseBody (response.Exception exception) body = IsException exception body
 
--- these bytes spell the request: its first bytes and what stands behind them
+-- bytes that spell the request: its first bytes and the rest
 pub record SpellsRequest (bytes : List ℕ) (request : Request) : Type 0 where
   pub body : List ℕ
   pub parts : bytes ≡ request_head request ++ body
   pub is_body : IsRequestBody request body
 
--- these bytes spell the response: its first bytes and what stands behind them
+-- bytes that spell the response: its first bytes and the rest
 pub record SpellsResponse (bytes : List ℕ) (response : Response) : Type 0 where
   pub body : List ℕ
   pub parts : bytes ≡ response_head response ++ body

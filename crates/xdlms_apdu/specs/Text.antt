@@ -1,6 +1,7 @@
--- What is written (IEC 62056-5-3, GET, SET, ACTION and ExceptionResponse): of each APDU one text, with the shortest lengths.
+-- The written text of each APDU (IEC 62056-5-3, GET, SET, ACTION and ExceptionResponse), with the
+-- shortest lengths.
 --     flag_text .. list_text          the parts of the services
---     request_body, response_body     what stands behind the first bytes
+--     request_body, response_body     the rest after the first bytes
 --     request_text, response_text     whole APDUs
 use Rattle.std.specs.Prelude.{ℕ, Bool, true, false, if◌then◌else◌, Option, Some, None, List, [], ◌∷◌, ◌++◌, length}
 use Rattle.std.specs.List.{flat_map}
@@ -25,11 +26,11 @@ use Rattle.xdlms_apdu.specs.declared.response.Exception.TheVariants as exception
 use Rattle.xdlms_apdu.specs.declared.response.Response.{Response}
 use Rattle.xdlms_apdu.specs.declared.response.Response.TheVariants as response
 
--- yes or no
+-- a flag
 abbrev pub flag_text : Bool → List ℕ
 flag_text flag = (if flag then 0x01 else 0x00) ∷ []
 
--- the number of a block
+-- a block number
 abbrev pub number_text : ℕ → List ℕ
 number_text number = to_be_bytes w32 number
 
@@ -57,7 +58,7 @@ selection_text true = 0x01 ∷ 0x00 ∷ 0x00 ∷ []
 abbrev pub target_text : AttributeSelection → List ℕ
 target_text target = attribute_text target.attr ++ selection_text target.selected
 
--- the parameter of a method, if it has one
+-- the optional parameter of a method
 abbrev pub parameter_text : Option Data → List ℕ
 parameter_text None = 0x00 ∷ []
 parameter_text (Some value) = 0x01 ∷ data_text value
@@ -71,7 +72,7 @@ abbrev pub result_text : GetResult → List ℕ
 result_text (Value value) = 0x00 ∷ data_text value
 result_text (Code code) = 0x01 ∷ code_of code ∷ []
 
--- how many items there are, and the items
+-- the number of items, followed by the items
 abbrev pub list_text : {X : Type 0} → (X → List ℕ) → List X → List ℕ
 list_text item_text items = length_text (length items) ++ flat_map item_text items
 
@@ -81,7 +82,7 @@ exception_text exception.NotAllowed = 0x01 ∷ 0x01 ∷ []
 exception_text exception.Unknown = 0x02 ∷ 0x02 ∷ []
 exception_text exception.Unreadable = 0x01 ∷ 0x03 ∷ []
 
--- what stands behind the first bytes of a request
+-- the rest of a request after its first bytes
 abbrev pub request_body : Request → List ℕ
 request_body (request.Get id target) = target_text target
 request_body (request.GetNext id number) = number_text number
@@ -93,7 +94,7 @@ request_body (request.Action id method parameter) = method_text method ++ parame
 request_body (request.ActionFirst id method block) = method_text method ++ block_text block
 request_body (request.ActionNext id block) = block_text block
 
--- what stands behind the first bytes of a response
+-- the rest of a response after its first bytes
 abbrev pub response_body : Response → List ℕ
 response_body (response.Get id result) = result_text result
 response_body (response.GetBlock id block) = flag_text block.last ++ (number_text block.number ++ 0x00 ∷ string_text block.raw)

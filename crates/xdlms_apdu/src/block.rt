@@ -1,12 +1,13 @@
 use cosem_axdr::Octets;
 
-/// One block of a value that goes in blocks: DataBlock-SA, and DataBlock-G with raw data (IEC 62056-5-3).
+/// One block of a value sent by block transfer: DataBlock-SA, or DataBlock-G with raw data (IEC
+/// 62056-5-3).
 #[derive(Debug, Drop)]
 pub struct Block {
-    /// Whether no block follows.
+    /// Whether this is the last block.
     pub last: bool,
-    /// The number of the block. The first has number 1.
+    /// The block number, starting at 1.
     pub number: u32,
-    /// The bytes of the block.
+    /// The bytes of this block.
     pub raw: Octets,
 }

@@ -1,4 +1,4 @@
-//! The choices of a Get-Data-Result, and of the result in a DataBlock-G (IEC 62056-5-3).
+//! The tags of the choices in Get-Data-Result and in the result of a DataBlock-G (IEC 62056-5-3).
 
 /// A value follows: a Data, or the raw data of a block.
 pub const DATA: u8 = 0;

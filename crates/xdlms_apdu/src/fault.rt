@@ -5,24 +5,24 @@ ghost use Rattle.xdlms_apdu.specs.declared.fault.ApduFault.TheVariants.{Memory};
 use std::alloc::{AllocError, AllocFailed};
 use thiserror::Error;
 
-/// Why bytes are no APDU that is known. They are judged in this order: the tag, the form, what follows.
+/// Why bytes could not be read as an APDU. The tag is checked first, then the form, then the rest.
 #[derive(Clone, Copy, Debug, PartialEq, Eq, Error)]
 pub enum ApduFault {
-    /// There is no byte, or the first is no tag of a service.
+    /// There are no bytes, or the first byte is not the tag of a known service.
     #[error("no service that is known")]
     UnknownTag = 1,
-    /// The second byte is no form of the service.
+    /// The second byte is not a known form of the service.
     #[error("no form of the service that is known")]
     UnknownForm = 2,
-    /// The bytes end too early or too late, or one of them can't stand where it does.
+    /// The bytes end too early or too late, or one of them is not valid at its position.
     #[error("the bytes are not those of the service")]
     Unreadable = 3,
-    /// Memory ran out.
+    /// Out of memory.
     #[error("out of memory")]
     Memory = 4,
 }
 
-/// The number of the fault, 1 to 4.
+/// Returns the number of the fault, 1 to 4.
 impl From<ApduFault> for u8 {
     ghost from_gives = { λ fault number. number ≡ fault_number fault };
 

@@ -1,4 +1,4 @@
-//! The parts of the services.
+//! Writers of the parts of the services.
 ghost use Rattle.std.specs.Prelude.{◌≡◌, ◌∷◌, ◌++◌, OnOk, OnErr};
 ghost use Rattle.cosem_axdr.specs.Appending.{Extends};
 ghost use Rattle.cosem_axdr.specs.Spelling.{string_text};

@@ -1,6 +1,6 @@
-//! The numbers of the forms of requests and responses: the second byte of each (IEC 62056-5-3).
+//! The forms of requests and responses: the second byte of each APDU (IEC 62056-5-3).
 
-/// The normal form of every request and every response: one attribute or one method, not in blocks.
+/// The normal form of every request and response: one attribute or method, without block transfer.
 pub const NORMAL: u8 = 1;
 
 /// The other forms of a Get-Request (IEC 62056-5-3, Get-Request).

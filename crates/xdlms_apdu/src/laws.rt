@@ -1,4 +1,5 @@
-//! What holds of written texts as such: each function is a law, which its contract states and a call of it makes known.
+//! Laws of written texts. The contract of each function states a law; calling the function makes it
+//! known to the caller's proof.
 ghost use Rattle.std.specs.Prelude.{◌≡◌, ℕ, List, [], ◌++◌};
 ghost use Rattle.cosem_axdr.specs.Spelling.{IsBytes};
 ghost use Rattle.xdlms_apdu.specs.Fit.{IsFitRequest, IsFitResponse};
@@ -9,25 +10,28 @@ ghost use Rattle.xdlms_apdu.specs.declared.fault.ApduFault.{ApduFault};
 ghost use Rattle.xdlms_apdu.specs.declared.request.Request.{Request};
 ghost use Rattle.xdlms_apdu.specs.declared.response.Response.{Response};
 
-/// The written text of a request spells it, wherever some bytes spell it.
+/// If any bytes spell a request, its written text spells it.
 pub fn text_of_request_spells()
     ensures spelled { (bytes : List ℕ) (request : Request) → IsBytes bytes → SpellsRequest bytes request → SpellsRequest (request_text request) request }
 
-    // So it does where the numbers, the lengths and each Data are within their limits, and then it is read back.
+    // This holds if the numbers, lengths and each Data are within their limits; the text is then
+    // read back as the same request.
     ensures fit { (request : Request) → IsFitRequest request → SpellsRequest (request_text request) request }
     ensures read_back { (request : Request) → IsFitRequest request → request_of (request_text request) ≡ Ok request }
 {}
 
-/// The written text of a response spells it, wherever some bytes spell it.
+/// If any bytes spell a response, its written text spells it.
 pub fn text_of_response_spells()
     ensures spelled { (bytes : List ℕ) (response : Response) → IsBytes bytes → SpellsResponse bytes response → SpellsResponse (response_text response) response }
 
-    // So it does where the numbers, the lengths and each Data are within their limits, and then it is read back.
+    // This holds if the numbers, lengths and each Data are within their limits; the text is then
+    // read back as the same response.
     ensures fit { (response : Response) → IsFitResponse response → SpellsResponse (response_text response) response }
     ensures read_back { (response : Response) → IsFitResponse response → response_of (response_text response) ≡ Ok response }
 {}
 
-/// No spelling of a request begins another one, and no bytes spell two requests; so it is of responses.
+/// No spelling of a request is a proper prefix of another, and no bytes spell two requests. The
+/// same holds for responses.
 pub fn no_spelling_begins_another()
     ensures request { (bytes rest : List ℕ) (one other : Request) → SpellsRequest bytes one → SpellsRequest (bytes ++ rest) other → (rest ≡ []) × (one ≡ other) }
     ensures response { (bytes rest : List ℕ) (one other : Response) → SpellsResponse bytes one → SpellsResponse (bytes ++ rest) other → (rest ≡ []) × (one ≡ other) }

@@ -1,4 +1,5 @@
-//! The xDLMS service APDUs of a meter and its client: GET, SET and ACTION, their responses, and exceptions (IEC 62056-5-3, Green Book of the DLMS UA).
+//! The xDLMS service APDUs between a meter and its client: GET, SET and ACTION requests and
+//! responses, and exceptions (IEC 62056-5-3; DLMS UA Green Book).
 #![tactic(auto)]
 
 mod block;

@@ -1,4 +1,4 @@
-//! Lists of the parts of the services.
+//! Readers of lists of parts of the services.
 ghost use Rattle.std.specs.Prelude.{◌≡◌};
 ghost use Rattle.xdlms_apdu.specs.Reading.{Reads, target_at, result_at, items_at, list_at};
 
@@ -9,7 +9,7 @@ use cosem_names::{AttributeSelection, GetResult};
 use listed::Listed;
 use std::alloc::Global;
 
-/// A count, and so many attributes.
+/// Reads a count and that number of attributes.
 #[tactic(auto, unfolding(crate::specs::Reading::list_at))]
 pub(crate) fn read_targets(
     alloc: Global,
@@ -21,7 +21,7 @@ pub(crate) fn read_targets(
     Ok(Listed::from_vec(read_target_items(alloc, count, reader)?))
 }
 
-// So many attributes.
+// Reads `count` attributes.
 fn read_target_items(
     alloc: Global,
     count: usize,
@@ -36,7 +36,7 @@ fn read_target_items(
     Ok(items)
 }
 
-/// A count, and so many results.
+/// Reads a count and that number of results.
 #[tactic(auto, unfolding(crate::specs::Reading::list_at))]
 pub(crate) fn read_results(
     alloc: Global,
@@ -48,7 +48,7 @@ pub(crate) fn read_results(
     Ok(Listed::from_vec(read_result_items(alloc, count, reader)?))
 }
 
-// So many results.
+// Reads `count` results.
 fn read_result_items(
     alloc: Global,
     count: usize,

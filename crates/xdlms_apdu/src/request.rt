@@ -4,42 +4,42 @@ use cosem_axdr::Data;
 use cosem_names::{AttributeSelection, MethodRef};
 use listed::Listed;
 
-/// A request of a client: GET, SET or ACTION (IEC 62056-5-3).
+/// A client's request: GET, SET or ACTION (IEC 62056-5-3).
 #[derive(Debug, Drop)]
 pub enum Request {
-    /// Get-Request-Normal: the value of an attribute.
+    /// Get-Request-Normal: reads an attribute.
     Get {
         id: InvokeId,
         target: AttributeSelection,
     },
-    /// Get-Request-Next: the block after the one of this number, which was the last that came.
+    /// Get-Request-Next: asks for the next block. The number is that of the last block received.
     GetNext {
         id: InvokeId,
         number: u32,
     },
-    /// Get-Request-With-List: the values of attributes.
+    /// Get-Request-With-List: reads several attributes.
     GetList {
         id: InvokeId,
         targets: Listed<AttributeSelection>,
     },
-    /// Set-Request-Normal: a new value of an attribute.
+    /// Set-Request-Normal: sets an attribute.
     Set {
         id: InvokeId,
         target: AttributeSelection,
         value: Data,
     },
-    /// Set-Request-With-First-Datablock: the first block of an attribute's new value.
+    /// Set-Request-With-First-Datablock: an attribute and the first block of its new value.
     SetFirst {
         id: InvokeId,
         target: AttributeSelection,
         block: Block,
     },
-    /// Set-Request-With-Datablock: one more block of the value.
+    /// Set-Request-With-Datablock: a further block of the value.
     SetNext {
         id: InvokeId,
         block: Block,
     },
-    /// Action-Request-Normal: a method and its parameter, if it has one.
+    /// Action-Request-Normal: invokes a method, with a parameter if it has one.
     Action {
         id: InvokeId,
         method: MethodRef,
@@ -51,7 +51,7 @@ pub enum Request {
         method: MethodRef,
         block: Block,
     },
-    /// Action-Request-With-Pblock: one more block of the parameter.
+    /// Action-Request-With-Pblock: a further block of the parameter.
     ActionNext {
         id: InvokeId,
         block: Block,

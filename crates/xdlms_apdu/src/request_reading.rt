@@ -15,23 +15,26 @@ use crate::{form, tag};
 use byte_reading::Reader;
 use std::alloc::Global;
 
-/// Reads a request: a tag of GET, SET or ACTION, the form, and what it holds, which has to end where the bytes end.
+/// Reads a request: the tag of a GET, SET or ACTION, the form, and its contents, which must end at
+/// the last byte.
 ///
-/// No byte, and a first byte that is none of the three tags, is UnknownTag; a second that is no form of the service, UnknownForm; all else, Unreadable.
+/// Returns `UnknownTag` if there are no bytes or the first is not one of the three tags, then
+/// `UnknownForm` if the second is not a form of the service, then `Unreadable` for anything else.
+/// Returns `Memory` if out of memory.
 pub fn read_request(alloc: Global, bytes: &[u8]) -> Result<Request, ApduFault>
-    // What is read is spelled by the bytes, all of them.
+    // A request that is read is spelled by all of the bytes.
     ensures found { IfOk result (SpellsRequest bytes.now) }
 
-    // What the bytes spell is read.
+    // If the bytes spell a request, that request is read, unless out of memory.
     ensures only { (request : Request) → SpellsRequest bytes.now request → MatchResult result (λ read. read ≡ request) (λ fault. fault ≡ ApduFault.Memory) }
 
-    // Which fault is the answer, too.
+    // The fault is the one that the definition gives, or out of memory.
     ensures exact { Gives ApduFault.Memory (λ read. read) result (request_of bytes.now) }
 {
     read_whole(alloc, bytes)
 }
 
-// As `read_request`, by the definition alone.
+// Reads a request as `read_request` does; its contract refers to the definition `request_of` alone.
 #[tactic(auto, unfolding(crate::specs::Reading::request_of))]
 fn read_whole(alloc: Global, bytes: &[u8]) -> Result<Request, ApduFault>
     ensures { Gives ApduFault.Memory (λ read. read) result (request_of bytes.now) }
@@ -44,7 +47,7 @@ fn read_whole(alloc: Global, bytes: &[u8]) -> Result<Request, ApduFault>
     reader.finish(request, ApduFault::Unreadable)
 }
 
-// What stands behind the tag of a request.
+// Reads the rest of a request after its tag.
 #[tactic(auto, unfolding(crate::specs::Reading::request_at))]
 fn read_tagged(alloc: Global, tag: u8, reader: &mut Reader) -> Result<Request, ApduFault>
     ensures { Reads (λ request. request) result reader.new (request_at tag reader.old) }
@@ -57,7 +60,7 @@ fn read_tagged(alloc: Global, tag: u8, reader: &mut Reader) -> Result<Request, A
     }
 }
 
-// Get-Request, behind its tag.
+// Reads a Get-Request after its tag.
 #[tactic(auto, unfolding(crate::specs::Reading::get_request_at))]
 fn read_get(alloc: Global, reader: &mut Reader) -> Result<Request, ApduFault>
     ensures { Reads (λ request. request) result reader.new (get_request_at reader.old) }
@@ -70,7 +73,7 @@ fn read_get(alloc: Global, reader: &mut Reader) -> Result<Request, ApduFault>
     }
 }
 
-// Get-Request-Normal, behind its form.
+// Reads a Get-Request-Normal after its form.
 fn read_get_normal(alloc: Global, reader: &mut Reader) -> Result<Request, ApduFault>
     ensures { Reads (λ request. request) result reader.new (two_at Request.Get invoke_id_at target_at reader.old) }
 {
@@ -79,7 +82,7 @@ fn read_get_normal(alloc: Global, reader: &mut Reader) -> Result<Request, ApduFa
     Ok(Request::Get { id, target })
 }
 
-// Get-Request-Next, behind its form.
+// Reads a Get-Request-Next after its form.
 fn read_get_next(reader: &mut Reader) -> Result<Request, ApduFault>
     ensures { Reads (λ request. request) result reader.new (two_at Request.GetNext invoke_id_at number_at reader.old) }
 {
@@ -88,7 +91,7 @@ fn read_get_next(reader: &mut Reader) -> Result<Request, ApduFault>
     Ok(Request::GetNext { id, number })
 }
 
-// Get-Request-With-List, behind its form.
+// Reads a Get-Request-With-List after its form.
 fn read_get_list(alloc: Global, reader: &mut Reader) -> Result<Request, ApduFault>
     ensures { Reads (λ request. request) result reader.new (two_at Request.GetList invoke_id_at (list_at target_at) reader.old) }
 {
@@ -97,7 +100,7 @@ fn read_get_list(alloc: Global, reader: &mut Reader) -> Result<Request, ApduFaul
     Ok(Request::GetList { id, targets })
 }
 
-// Set-Request, behind its tag.
+// Reads a Set-Request after its tag.
 #[tactic(auto, unfolding(crate::specs::Reading::set_request_at))]
 fn read_set(alloc: Global, reader: &mut Reader) -> Result<Request, ApduFault>
     ensures { Reads (λ request. request) result reader.new (set_request_at reader.old) }
@@ -110,7 +113,7 @@ fn read_set(alloc: Global, reader: &mut Reader) -> Result<Request, ApduFault>
     }
 }
 
-// Set-Request-Normal, behind its form.
+// Reads a Set-Request-Normal after its form.
 fn read_set_normal(alloc: Global, reader: &mut Reader) -> Result<Request, ApduFault>
     ensures { Reads (λ request. request) result reader.new (three_at Request.Set invoke_id_at target_at data_at reader.old) }
 {
@@ -120,7 +123,7 @@ fn read_set_normal(alloc: Global, reader: &mut Reader) -> Result<Request, ApduFa
     Ok(Request::Set { id, target, value })
 }
 
-// Set-Request-With-First-Datablock, behind its form.
+// Reads a Set-Request-With-First-Datablock after its form.
 fn read_set_first(alloc: Global, reader: &mut Reader) -> Result<Request, ApduFault>
     ensures { Reads (λ request. request) result reader.new (three_at Request.SetFirst invoke_id_at target_at block_at reader.old) }
 {
@@ -130,7 +133,7 @@ fn read_set_first(alloc: Global, reader: &mut Reader) -> Result<Request, ApduFau
     Ok(Request::SetFirst { id, target, block })
 }
 
-// Set-Request-With-Datablock, behind its form.
+// Reads a Set-Request-With-Datablock after its form.
 fn read_set_next(alloc: Global, reader: &mut Reader) -> Result<Request, ApduFault>
     ensures { Reads (λ request. request) result reader.new (two_at Request.SetNext invoke_id_at block_at reader.old) }
 {
@@ -139,7 +142,7 @@ fn read_set_next(alloc: Global, reader: &mut Reader) -> Result<Request, ApduFaul
     Ok(Request::SetNext { id, block })
 }
 
-// Action-Request, behind its tag.
+// Reads an Action-Request after its tag.
 #[tactic(auto, unfolding(crate::specs::Reading::action_request_at))]
 fn read_action(alloc: Global, reader: &mut Reader) -> Result<Request, ApduFault>
     ensures { Reads (λ request. request) result reader.new (action_request_at reader.old) }
@@ -152,7 +155,7 @@ fn read_action(alloc: Global, reader: &mut Reader) -> Result<Request, ApduFault>
     }
 }
 
-// Action-Request-Normal, behind its form.
+// Reads an Action-Request-Normal after its form.
 fn read_action_normal(alloc: Global, reader: &mut Reader) -> Result<Request, ApduFault>
     ensures { Reads (λ request. request) result reader.new (three_at Request.Action invoke_id_at method_at parameter_at reader.old) }
 {
@@ -166,7 +169,7 @@ fn read_action_normal(alloc: Global, reader: &mut Reader) -> Result<Request, Apd
     })
 }
 
-// Action-Request-With-First-Pblock, behind its form.
+// Reads an Action-Request-With-First-Pblock after its form.
 fn read_action_first(alloc: Global, reader: &mut Reader) -> Result<Request, ApduFault>
     ensures { Reads (λ request. request) result reader.new (three_at Request.ActionFirst invoke_id_at method_at block_at reader.old) }
 {
@@ -176,7 +179,7 @@ fn read_action_first(alloc: Global, reader: &mut Reader) -> Result<Request, Apdu
     Ok(Request::ActionFirst { id, method, block })
 }
 
-// Action-Request-With-Pblock, behind its form.
+// Reads an Action-Request-With-Pblock after its form.
 fn read_action_next(alloc: Global, reader: &mut Reader) -> Result<Request, ApduFault>
     ensures { Reads (λ request. request) result reader.new (two_at Request.ActionNext invoke_id_at block_at reader.old) }
 {

@@ -13,9 +13,11 @@ use crate::tag::{ACTION_REQUEST, GET_REQUEST, SET_REQUEST};
 use cosem_axdr::Octets;
 use std::alloc::{AllocError, Global};
 
-/// Writes a request, each length in its shortest form, an access selection as selector 0 with null-data.
+/// Returns the bytes of a request, with each length in its shortest form and an access selection as
+/// selector 0 with null-data.
 ///
-/// Of a length or count of 2^32 or more the lowest four bytes are written, and a Data past the limits of a reader is written too: such a text is not read back.
+/// A length or count of 2^32 or more is written as its lowest four bytes, and a Data that exceeds a
+/// reader's limits is written in full; such bytes are not read back.
 #[tactic(auto, unfolding(crate::specs::Text::request_text))]
 pub fn write_request(alloc: Global, request: &Request) -> Result<Octets, AllocError>
     ensures { IfOk result (λ text. text ≡ request_text request.now) }
@@ -26,7 +28,7 @@ pub fn write_request(alloc: Global, request: &Request) -> Result<Octets, AllocEr
     Ok(out)
 }
 
-// The first bytes of a request.
+// Appends the first bytes of a request: tag, form and invoke-id-and-priority.
 fn put_request_head(request: &Request, out: &mut Octets) -> Result<(), AllocError>
     ensures { OnOk result (out.new ≡ out.old ++ request_head request.now) }
 {
@@ -44,7 +46,7 @@ fn put_request_head(request: &Request, out: &mut Octets) -> Result<(), AllocErro
     put_head(tag, form, id, out)
 }
 
-// What stands behind the first bytes of a request.
+// Appends the rest of a request, after its first bytes.
 fn put_request_body(request: &Request, out: &mut Octets) -> Result<(), AllocError>
     ensures { OnOk result (out.new ≡ out.old ++ request_body request.now) }
 {

@@ -3,64 +3,66 @@ use crate::invoke_id::InvokeId;
 use cosem_names::{GetResult, ResultCode};
 use listed::Listed;
 
-/// Why a request has no response of its service: the state-error and service-error of an ExceptionResponse (IEC 62056-5-3).
+/// The state-error and service-error of an ExceptionResponse: why a request gets no response of its
+/// service (IEC 62056-5-3).
 #[derive(Clone, Copy, Debug, PartialEq, Eq)]
 pub enum Exception {
-    /// service-not-allowed, operation-not-possible: not here, or not now.
+    /// service-not-allowed, operation-not-possible: the service is not available here or now.
     NotAllowed,
-    /// service-unknown, service-not-supported: no service that is known.
+    /// service-unknown, service-not-supported: the service is not known.
     Unknown,
-    /// service-not-allowed, other-reason: a known service, but not its bytes.
+    /// service-not-allowed, other-reason: the service is known, but its bytes can't be read.
     Unreadable,
 }
 
-/// A response of a meter to a GET, a SET or an ACTION, or an exception (IEC 62056-5-3).
+/// A meter's response to a GET, SET or ACTION, or an exception (IEC 62056-5-3).
 #[derive(Debug, Drop)]
 pub enum Response {
-    /// Get-Response-Normal: the value, or why there is none.
+    /// Get-Response-Normal: the value, or the reason why it is not returned.
     Get {
         id: InvokeId,
         result: GetResult,
     },
-    /// Get-Response-With-Datablock, with raw data: one block of the value.
+    /// Get-Response-With-Datablock with raw data: one block of the value.
     GetBlock {
         id: InvokeId,
         block: Block,
     },
-    /// Get-Response-With-Datablock, with a result: why there is no such block.
+    /// Get-Response-With-Datablock with a result: the reason why the block is not returned.
     GetBlockRefused {
         id: InvokeId,
         last: bool,
         number: u32,
         code: ResultCode,
     },
-    /// Get-Response-With-List: the value of each attribute, or why there is none.
+    /// Get-Response-With-List: for each attribute its value, or the reason why it is not returned.
     GetList {
         id: InvokeId,
         results: Listed<GetResult>,
     },
-    /// Set-Response-Normal: whether the value was set.
+    /// Set-Response-Normal: the result of the SET.
     Set {
         id: InvokeId,
         code: ResultCode,
     },
-    /// Set-Response-Datablock: the block of this number came.
+    /// Set-Response-Datablock: acknowledges the block with this number.
     SetBlock {
         id: InvokeId,
         number: u32,
     },
-    /// Set-Response-Last-Datablock: whether the value was set, its last block being the one of this number.
+    /// Set-Response-Last-Datablock: acknowledges the last block, which has this number, with the
+    /// result of the SET.
     SetLastBlock {
         id: InvokeId,
         code: ResultCode,
         number: u32,
     },
-    /// Action-Response-Normal, without return parameters: whether the method was executed.
+    /// Action-Response-Normal without return parameters: the result of the method.
     Action {
         id: InvokeId,
         code: ResultCode,
     },
-    /// Action-Response-Next-Pblock: the block of this number came.
+    /// Action-Response-Next-Pblock: acknowledges the block with this number.
     ActionBlock {
         id: InvokeId,
         number: u32,

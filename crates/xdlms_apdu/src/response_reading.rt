@@ -17,23 +17,27 @@ use crate::{choice, form, tag};
 use byte_reading::Reader;
 use std::alloc::Global;
 
-/// Reads a response: a tag of GET, SET or ACTION, the form, and what it holds, which has to end where the bytes end; or an exception.
+/// Reads a response: the tag of a GET, SET or ACTION response, the form, and its contents, which
+/// must end at the last byte; or an ExceptionResponse.
 ///
-/// No byte, and a first byte that is none of the four tags, is UnknownTag; a second that is no form of the service, UnknownForm; all else, Unreadable.
+/// Returns `UnknownTag` if there are no bytes or the first is not one of the four tags, then
+/// `UnknownForm` if the second is not a form of the service, then `Unreadable` for anything else.
+/// Returns `Memory` if out of memory.
 pub fn read_response(alloc: Global, bytes: &[u8]) -> Result<Response, ApduFault>
-    // What is read is spelled by the bytes, all of them.
+    // A response that is read is spelled by all of the bytes.
     ensures found { IfOk result (SpellsResponse bytes.now) }
 
-    // What the bytes spell is read.
+    // If the bytes spell a response, that response is read, unless out of memory.
     ensures only { (response : Response) → SpellsResponse bytes.now response → MatchResult result (λ read. read ≡ response) (λ fault. fault ≡ ApduFault.Memory) }
 
-    // Which fault is the answer, too.
+    // The fault is the one that the definition gives, or out of memory.
     ensures exact { Gives ApduFault.Memory (λ read. read) result (response_of bytes.now) }
 {
     read_whole(alloc, bytes)
 }
 
-// As `read_response`, by the definition alone.
+// Reads a response as `read_response` does; its contract refers to the definition `response_of`
+// alone.
 #[tactic(auto, unfolding(crate::specs::Reading::response_of))]
 fn read_whole(alloc: Global, bytes: &[u8]) -> Result<Response, ApduFault>
     ensures { Gives ApduFault.Memory (λ read. read) result (response_of bytes.now) }
@@ -46,7 +50,7 @@ fn read_whole(alloc: Global, bytes: &[u8]) -> Result<Response, ApduFault>
     reader.finish(response, ApduFault::Unreadable)
 }
 
-// What stands behind the tag of a response.
+// Reads the rest of a response after its tag.
 #[tactic(auto, unfolding(crate::specs::Reading::response_at))]
 fn read_tagged(alloc: Global, tag: u8, reader: &mut Reader) -> Result<Response, ApduFault>
     ensures { Reads (λ response. response) result reader.new (response_at tag reader.old) }
@@ -60,7 +64,7 @@ fn read_tagged(alloc: Global, tag: u8, reader: &mut Reader) -> Result<Response, 
     }
 }
 
-// Get-Response, behind its tag.
+// Reads a Get-Response after its tag.
 #[tactic(auto, unfolding(crate::specs::Reading::get_response_at))]
 fn read_get(alloc: Global, reader: &mut Reader) -> Result<Response, ApduFault>
     ensures { Reads (λ response. response) result reader.new (get_response_at reader.old) }
@@ -73,7 +77,7 @@ fn read_get(alloc: Global, reader: &mut Reader) -> Result<Response, ApduFault>
     }
 }
 
-// Get-Response-Normal, behind its form.
+// Reads a Get-Response-Normal after its form.
 fn read_get_normal(alloc: Global, reader: &mut Reader) -> Result<Response, ApduFault>
     ensures { Reads (λ response. response) result reader.new (two_at Response.Get invoke_id_at result_at reader.old) }
 {
@@ -82,7 +86,7 @@ fn read_get_normal(alloc: Global, reader: &mut Reader) -> Result<Response, ApduF
     Ok(Response::Get { id, result })
 }
 
-// Get-Response-With-List, behind its form.
+// Reads a Get-Response-With-List after its form.
 fn read_get_list(alloc: Global, reader: &mut Reader) -> Result<Response, ApduFault>
     ensures { Reads (λ response. response) result reader.new (two_at Response.GetList invoke_id_at (list_at result_at) reader.old) }
 {
@@ -91,7 +95,7 @@ fn read_get_list(alloc: Global, reader: &mut Reader) -> Result<Response, ApduFau
     Ok(Response::GetList { id, results })
 }
 
-// Get-Response-With-Datablock, behind its form: DataBlock-G, with raw data or a result.
+// Reads a Get-Response-With-Datablock after its form: a DataBlock-G with raw data or a result.
 #[tactic(auto, unfolding(crate::specs::Reading::get_block_at))]
 fn read_get_block(alloc: Global, reader: &mut Reader) -> Result<Response, ApduFault>
     ensures { Reads (λ response. response) result reader.new (get_block_at reader.old) }
@@ -106,7 +110,7 @@ fn read_get_block(alloc: Global, reader: &mut Reader) -> Result<Response, ApduFa
     }
 }
 
-// The raw data of a DataBlock-G.
+// Reads the raw data of a DataBlock-G.
 fn read_block_raw(
     alloc: Global,
     id: InvokeId,
@@ -123,7 +127,7 @@ fn read_block_raw(
     })
 }
 
-// The result of a DataBlock-G that has no raw data.
+// Reads the result of a DataBlock-G that has no raw data.
 fn read_block_refusal(
     id: InvokeId,
     last: bool,
@@ -141,7 +145,7 @@ fn read_block_refusal(
     })
 }
 
-// Set-Response, behind its tag.
+// Reads a Set-Response after its tag.
 #[tactic(auto, unfolding(crate::specs::Reading::set_response_at))]
 fn read_set(reader: &mut Reader) -> Result<Response, ApduFault>
     ensures { Reads (λ response. response) result reader.new (set_response_at reader.old) }
@@ -154,7 +158,7 @@ fn read_set(reader: &mut Reader) -> Result<Response, ApduFault>
     }
 }
 
-// Set-Response-Normal, behind its form.
+// Reads a Set-Response-Normal after its form.
 fn read_set_normal(reader: &mut Reader) -> Result<Response, ApduFault>
     ensures { Reads (λ response. response) result reader.new (two_at Response.Set invoke_id_at code_at reader.old) }
 {
@@ -163,7 +167,7 @@ fn read_set_normal(reader: &mut Reader) -> Result<Response, ApduFault>
     Ok(Response::Set { id, code })
 }
 
-// Set-Response-Datablock, behind its form.
+// Reads a Set-Response-Datablock after its form.
 fn read_set_block(reader: &mut Reader) -> Result<Response, ApduFault>
     ensures { Reads (λ response. response) result reader.new (two_at Response.SetBlock invoke_id_at number_at reader.old) }
 {
@@ -172,7 +176,7 @@ fn read_set_block(reader: &mut Reader) -> Result<Response, ApduFault>
     Ok(Response::SetBlock { id, number })
 }
 
-// Set-Response-Last-Datablock, behind its form.
+// Reads a Set-Response-Last-Datablock after its form.
 fn read_set_last(reader: &mut Reader) -> Result<Response, ApduFault>
     ensures { Reads (λ response. response) result reader.new (three_at Response.SetLastBlock invoke_id_at code_at number_at reader.old) }
 {
@@ -182,7 +186,7 @@ fn read_set_last(reader: &mut Reader) -> Result<Response, ApduFault>
     Ok(Response::SetLastBlock { id, code, number })
 }
 
-// Action-Response, behind its tag.
+// Reads an Action-Response after its tag.
 #[tactic(auto, unfolding(crate::specs::Reading::action_response_at))]
 fn read_action(reader: &mut Reader) -> Result<Response, ApduFault>
     ensures { Reads (λ response. response) result reader.new (action_response_at reader.old) }
@@ -194,7 +198,7 @@ fn read_action(reader: &mut Reader) -> Result<Response, ApduFault>
     }
 }
 
-// Action-Response-Normal, behind its form.
+// Reads an Action-Response-Normal after its form.
 fn read_action_normal(reader: &mut Reader) -> Result<Response, ApduFault>
     ensures { Reads (λ response. response) result reader.new (three_at (λ id code nothing. Response.Action id code) invoke_id_at code_at nothing_at reader.old) }
 {
@@ -204,7 +208,7 @@ fn read_action_normal(reader: &mut Reader) -> Result<Response, ApduFault>
     Ok(Response::Action { id, code })
 }
 
-// Action-Response-Next-Pblock, behind its form.
+// Reads an Action-Response-Next-Pblock after its form.
 fn read_action_block(reader: &mut Reader) -> Result<Response, ApduFault>
     ensures { Reads (λ response. response) result reader.new (two_at Response.ActionBlock invoke_id_at number_at reader.old) }
 {
@@ -213,7 +217,7 @@ fn read_action_block(reader: &mut Reader) -> Result<Response, ApduFault>
     Ok(Response::ActionBlock { id, number })
 }
 
-// The byte that says that there are no return parameters.
+// Reads the byte that marks the return parameters as absent.
 fn read_nothing(reader: &mut Reader) -> Result<(), ApduFault>
     ensures { Reads (λ nothing. nothing) result reader.new (nothing_at reader.old) }
 {
@@ -223,7 +227,7 @@ fn read_nothing(reader: &mut Reader) -> Result<(), ApduFault>
     Ok(())
 }
 
-// The state-error and the service-error of an ExceptionResponse.
+// Reads the state-error and the service-error of an ExceptionResponse.
 #[tactic(auto, unfolding(crate::specs::Reading::exception_at))]
 fn read_exception(reader: &mut Reader) -> Result<Response, ApduFault>
     ensures { Reads (λ response. response) result reader.new (exception_at reader.old) }

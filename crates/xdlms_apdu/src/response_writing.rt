@@ -17,9 +17,10 @@ use cosem_axdr::Octets;
 use cosem_names::ResultCode;
 use std::alloc::{AllocError, Global};
 
-/// Writes a response, each length in its shortest form.
+/// Returns the bytes of a response, with each length in its shortest form.
 ///
-/// Of a length or count of 2^32 or more the lowest four bytes are written, and a Data past the limits of a reader is written too: such a text is not read back.
+/// A length or count of 2^32 or more is written as its lowest four bytes, and a Data that exceeds a
+/// reader's limits is written in full; such bytes are not read back.
 pub fn write_response(alloc: Global, response: &Response) -> Result<Octets, AllocError>
     ensures { IfOk result (λ text. text ≡ response_text response.now) }
 {
@@ -28,7 +29,7 @@ pub fn write_response(alloc: Global, response: &Response) -> Result<Octets, Allo
     Ok(out)
 }
 
-/// Appends the text that [`write_response`] writes. Out of memory nothing is appended.
+/// Appends the bytes that [`write_response`] returns. If out of memory, appends nothing.
 #[tactic(auto, using(cosem_axdr::proofs::Appending::earlier_again))]
 pub fn append_response(response: &Response, out: &mut Octets) -> Result<(), AllocError>
     ensures ok { OnOk result (out.new ≡ out.old ++ response_text response.now) }
@@ -42,7 +43,7 @@ pub fn append_response(response: &Response, out: &mut Octets) -> Result<(), Allo
     done
 }
 
-// The first bytes of a response and its body.
+// Appends the first bytes of a response, followed by the rest.
 #[tactic(auto, unfolding(crate::specs::Text::response_text), using(cosem_axdr::proofs::Appending::extends_same, cosem_axdr::proofs::Appending::extends_more))]
 fn put_response(response: &Response, out: &mut Octets) -> Result<(), AllocError>
     ensures ok { OnOk result (out.new ≡ out.old ++ response_text response.now) }
@@ -52,7 +53,8 @@ fn put_response(response: &Response, out: &mut Octets) -> Result<(), AllocError>
     put_response_body(response, out)
 }
 
-// The first bytes of a response.
+// Appends the first bytes of a response: tag, form and invoke-id-and-priority; of an exception only
+// the tag.
 fn put_response_head(response: &Response, out: &mut Octets) -> Result<(), AllocError>
     ensures ok { OnOk result (out.new ≡ out.old ++ response_head response.now) }
     ensures unchanged_on_error { OnErr result (out.new ≡ out.old) }
@@ -73,7 +75,7 @@ fn put_response_head(response: &Response, out: &mut Octets) -> Result<(), AllocE
     put_head(tag, form, id, out)
 }
 
-// What stands behind the first bytes of a response.
+// Appends the rest of a response, after its first bytes.
 #[tactic(auto, using(cosem_axdr::proofs::Appending::extends_same, cosem_axdr::proofs::Appending::extends_more))]
 fn put_response_body(response: &Response, out: &mut Octets) -> Result<(), AllocError>
     ensures ok { OnOk result (out.new ≡ out.old ++ response_body response.now) }
@@ -102,7 +104,7 @@ fn put_response_body(response: &Response, out: &mut Octets) -> Result<(), AllocE
     }
 }
 
-// DataBlock-G with raw data.
+// Appends a DataBlock-G with raw data.
 #[tactic(auto, using(cosem_axdr::proofs::Appending::extends_same, cosem_axdr::proofs::Appending::extends_more))]
 fn put_get_block(block: &Block, out: &mut Octets) -> Result<(), AllocError>
     ensures ok { OnOk result (out.new ≡ out.old ++ (flag_text block.now.last ++ (number_text block.now.number ++ 0x00 ∷ string_text block.now.raw))) }
@@ -114,7 +116,7 @@ fn put_get_block(block: &Block, out: &mut Octets) -> Result<(), AllocError>
     put_raw(&block.raw, out)
 }
 
-// DataBlock-G with a result.
+// Appends a DataBlock-G with a result.
 #[tactic(auto, using(cosem_axdr::proofs::Appending::extends_same, cosem_axdr::proofs::Appending::extends_more))]
 fn put_refusal(
     last: bool,
@@ -131,7 +133,7 @@ fn put_refusal(
     put_code(code, out)
 }
 
-// The result of a SET that came in blocks, and the number of its last block.
+// Appends the result of a SET by block transfer and the number of its last block.
 #[tactic(auto, using(cosem_axdr::proofs::Appending::extends_same, cosem_axdr::proofs::Appending::extends_more))]
 fn put_last(code: ResultCode, number: u32, out: &mut Octets) -> Result<(), AllocError>
     ensures ok { OnOk result (out.new ≡ out.old ++ code_of code ∷ number_text number) }
@@ -141,7 +143,7 @@ fn put_last(code: ResultCode, number: u32, out: &mut Octets) -> Result<(), Alloc
     put_number(number, out)
 }
 
-// The result of an ACTION, which has no return parameters.
+// Appends the result of an ACTION without return parameters.
 #[tactic(auto, using(cosem_axdr::proofs::Appending::extends_same, cosem_axdr::proofs::Appending::extends_more))]
 fn put_action(code: ResultCode, out: &mut Octets) -> Result<(), AllocError>
     ensures ok { OnOk result (out.new ≡ out.old ++ code_of code ∷ 0x00 ∷ []) }
@@ -151,7 +153,7 @@ fn put_action(code: ResultCode, out: &mut Octets) -> Result<(), AllocError>
     out.push(ABSENT)
 }
 
-// Data-Access-Result or Action-Result.
+// Appends a Data-Access-Result or an Action-Result.
 fn put_code(code: ResultCode, out: &mut Octets) -> Result<(), AllocError>
     ensures ok { OnOk result (out.new ≡ out.old ++ code_of code ∷ []) }
     ensures unchanged_on_error { OnErr result (out.new ≡ out.old) }
@@ -159,7 +161,7 @@ fn put_code(code: ResultCode, out: &mut Octets) -> Result<(), AllocError>
     out.push(code.code())
 }
 
-// The state-error and the service-error of an ExceptionResponse.
+// Appends the state-error and the service-error of an ExceptionResponse.
 fn put_exception(exception: Exception, out: &mut Octets) -> Result<(), AllocError>
     ensures ok { OnOk result (out.new ≡ out.old ++ exception_text exception) }
     ensures unchanged_on_error { OnErr result (out.new ≡ out.old) }

@@ -2,7 +2,7 @@ use Rattle.std.proofs.Common.{length}
 use Rattle.client_core.specs.Steps.{Moves}
 use Rattle.client_core.proofs.listening.hear.Given as goal
 
--- what was taken is kept, and the bytes left go on as those at the start did
+-- the frames removed have had their effect, and the bytes left continue as those at the start did
 abbrev pub invariant-frames : goal.invariant-frames
 invariant-frames l = Moves l.fn.verb l.fn.progress l.fn.deframer l.progress l.deframer
 

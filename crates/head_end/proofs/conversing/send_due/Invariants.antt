@@ -3,7 +3,7 @@ use Rattle.head_end.specs.Conversations.{SendsAll}
 use Rattle.head_end.proofs.Talking.{Keeps}
 use Rattle.head_end.proofs.conversing.send_due.Given as goal
 
--- all that was given was written, and a text was given in each turn
+-- all messages returned were written, one in each iteration
 abbrev pub invariant-texts : goal.invariant-texts
 invariant-texts g l =
     SendsAll l.fn.client (g.K.Connection.told l.fn.connection) true l.client (g.K.Connection.told l.connection)

@@ -1,4 +1,5 @@
--- However the bytes go on, the frame taken is their first, and the bytes kept go on as the bytes after it.
+-- Whatever bytes follow, the frame taken is the first of all, and the others are those of the bytes
+-- kept.
 use Rattle.std.proofs.Common.{arith}
 use Rattle.std.proofs.lemmas.Grind.{common_steps}
 use Rattle.wrapper_frame.proofs.CutLemmas.{first_on}
