@@ -6,16 +6,18 @@ use crate::connection::Connection;
 use client_core::{Client, Outcome};
 use std::alloc::{AllocError, Global};
 
-/// A read asks for so many bytes.
+/// The greatest number of bytes of a read.
 const MAX_READ: usize = 1_024;
-/// The reads of one connection. What they do not settle is unknown.
+/// The greatest number of reads of a connection. The outcome is unknown if it is not settled by then.
 const MAX_READS: u32 = 65_536;
 /// The texts of a job: the AARQ, the request and the release.
 const MAX_TEXTS: u32 = 3;
 
-/// Sends what is due and reads until the outcome is settled, the connection ends or fails, or 65,536 reads have not settled it.
+/// Sends the pending texts and reads until the outcome is settled, the connection ends or fails, or
+/// 65,536 reads have not settled it.
 ///
-/// Whatever the meter answers, no more goes out than the AARQ, the client's one request and the release, in this order and each at most once.
+/// Whatever the meter answers, only the AARQ, the client's request and the release are sent, in this
+/// order and each at most once.
 pub fn converse<K: Connection>(
     alloc: Global,
     client: &mut Client,
@@ -36,7 +38,8 @@ pub fn converse<K: Connection>(
     Ok(give_up(client))
 }
 
-/// One read, what is due after it, and the outcome where it is settled or nothing more can come.
+/// Reads once and sends the pending texts. Returns the outcome if it is settled or the connection has
+/// ended.
 fn take_turn<K: Connection>(
     alloc: Global,
     client: &mut Client,
@@ -59,7 +62,7 @@ fn take_turn<K: Connection>(
     Ok(client.outcome())
 }
 
-/// Writes all texts that are due. False where a write failed.
+/// Writes all pending texts. Returns false if a write failed.
 fn send_due<K: Connection>(client: &mut Client, connection: &mut K) -> bool
     ensures told { SendsAll client.old (K.told connection.old) result client.new (K.told connection.new) }
     ensures log { Sends client.old (K.log connection.old) result client.new (K.log connection.new) }
@@ -77,7 +80,7 @@ fn send_due<K: Connection>(client: &mut Client, connection: &mut K) -> bool
     true
 }
 
-/// The outcome where the connection gives no more.
+/// Returns the outcome at the end of the connection.
 pub fn give_up(client: &mut Client) -> Outcome
     ensures { GivesUp client.old result }
 {

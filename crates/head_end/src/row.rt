@@ -1,16 +1,16 @@
 use client_core::Outcome;
 use cosem_axdr::Octets;
 
-/// What came of a job.
+/// The result of a job.
 #[derive(Clone, Copy, Debug, PartialEq, Eq)]
 pub enum Row {
     /// How the job ended.
     Came(Outcome),
-    /// The job met want of memory, before or after its request went out.
+    /// Memory ran out, before or after the request was sent.
     Memory,
 }
 
-/// A line of a report: the name of a job, and what came of it.
+/// A line of a report: the name of a job and its result.
 #[derive(Debug, Drop)]
 pub struct Line {
     pub id: Octets,

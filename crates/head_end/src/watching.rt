@@ -1,9 +1,9 @@
 use crate::row::Row;
 use client_core::Job;
 
-/// What is told of each job as soon as its row stands, by whichever worker ran it. It has no part in the rows.
+/// Observes each job as soon as its row is final, from the worker that ran it. It does not change rows.
 pub trait Watcher: Sync {
-    /// A job came to this.
+    /// Reports the row of a job.
     fn done(&self, job: &Job, row: Row);
 }
 
