@@ -10,6 +10,7 @@ import importlib.machinery
 import importlib.util
 import os
 import shutil
+import signal
 import subprocess
 import sys
 
@@ -22,6 +23,7 @@ def stop(doc, words, why):
     """Ends a script: prints its usage if `words` ask for help, with status 0; else reports why its
     arguments are wrong, with status 2."""
     if words and words[0] in ("-h", "--help"):
+        signal.signal(signal.SIGPIPE, signal.SIG_DFL)
         print(doc.strip())
         sys.exit(0)
     print(f"{os.path.basename(sys.argv[0])}: {why}\n\n{doc.strip()}", file=sys.stderr)

@@ -63,16 +63,28 @@ fn first_with(text: &[u8], end: u64, place: usize, word: &[u8]) -> Option<u64> {
 /// Why a text cannot be the address of a meter; `None` if it can. An address is an IP address or the
 /// name of a host, a colon, and a port from 1 to 65535.
 fn why_no_address(text: &[u8]) -> Option<&'static str> {
+    if let Ok(address) = SocketAddr::parse_ascii(text) {
+        return why_no_port(address.port() != 0);
+    }
     let Some(at) = memrchr(b':', text) else {
         return Some("the address has no port (expected HOST:PORT)");
     };
     if !is_port(&text[at + 1..]) {
-        return Some("the port of the address must be 1 to 65535 (expected HOST:PORT)");
+        return why_no_port(false);
     }
-    if !is_name(&text[..at]) && SocketAddr::parse_ascii(text).is_err() {
+    if !is_name(&text[..at]) {
         return Some("the host of the address is not valid (expected HOST:PORT)");
     }
     None
+}
+
+/// What is wrong with the port of an address, if it is not valid.
+fn why_no_port(is_valid: bool) -> Option<&'static str> {
+    if is_valid {
+        None
+    } else {
+        Some("the port of the address must be 1 to 65535 (expected HOST:PORT)")
+    }
 }
 
 /// Whether a text can be the name of a host: it has no colon, and a byte that no IPv4 address has.

@@ -1,0 +1,197 @@
+#!/usr/bin/env python3
+"""Checks how the repository is written. A count of a rule in a folder must not grow.
+
+- length: a line of a .rt or .antt file, or of prose in a .md file, has at most 100 columns. Tables,
+  blocks of code and lines with links may be longer.
+- phrase: comments, docstrings, messages and prose have no phrase of tests/prose_phrases.txt.
+- alone: the first sentence of a doc comment or a docstring does not need the one above it.
+
+tests/prose_counts.txt has the allowed counts; a folder that it does not name has none.
+
+usage: tests/prose.py            compare; the last line is 'N passed, M failed'
+       tests/prose.py --list     print each place
+       tests/prose.py --write    write the present counts to tests/prose_counts.txt
+"""
+import collections
+import re
+import subprocess
+import sys
+import tempfile
+from pathlib import Path
+
+TOP = Path(__file__).resolve().parent.parent
+PHRASES, COUNTS = TOP / "tests" / "prose_phrases.txt", TOP / "tests" / "prose_counts.txt"
+COLUMNS = 100
+SHOWN = 5
+RATTLE = (".rt", ".bench")
+COMMENTS = {".rt": "//", ".bench": "//", ".rs": "//", ".antt": "--", ".py": "#", ".sh": "#", "": "#"}
+LEANING = re.compile(r"(The same\b|Same as\b|As (above|before)\b|See above\b|Likewise\b|Ditto\b)")
+
+
+def phrases():
+    """The patterns of PHRASES, each with what to write instead."""
+    rows = [it for it in PHRASES.read_text().split("\n") if " => " in it and not it.startswith("#")]
+    return [(re.compile(rf"\b(?:{old})\b"), new) for old, new in (it.split(" => ") for it in rows)]
+
+
+def is_prose(line):
+    """Whether a line of Markdown is prose: no row of a table, no code, no line with a link."""
+    return not line.startswith(("|", "    ")) and "](" not in line
+
+
+def prose_lines(lines):
+    """The numbered lines of Markdown outside fenced blocks."""
+    is_code = False
+    for number, line in enumerate(lines, 1):
+        is_code ^= line.startswith("```")
+        if not is_code:
+            yield number, line
+
+
+def comment_lines(kind, lines):
+    """The numbered comments of a source file, and the messages of a Rattle source."""
+    mark, is_text = COMMENTS[kind], False
+    for number, line in enumerate(lines, 1):
+        marks = line.count('"""') if kind in (".py", "") else 0
+        found = re.search(rf"(?:^|\s){mark}[/!]?\s(.*)", line)
+        if marks or is_text:
+            yield number, line
+        elif found:
+            yield number, found[1]
+        elif kind in RATTLE:
+            yield from ((number, it) for it in re.findall(r'"((?:[^"\\]|\\.){12,})"', line))
+        is_text ^= marks % 2 == 1
+
+
+def long_lines(kind, lines):
+    numbered = prose_lines(lines) if kind == ".md" else enumerate(lines, 1)
+    for number, line in numbered if kind in (".rt", ".antt", ".md") else ():
+        if len(line) > COLUMNS and (kind != ".md" or is_prose(line)):
+            yield number, f"{len(line)} columns"
+
+
+def phrase_lines(kind, lines, patterns):
+    if kind not in (".md", ".edit", *COMMENTS):
+        return
+    read = {".md": prose_lines(lines), ".edit": [(1, lines[0])]}
+    for number, line in read.get(kind) or comment_lines(kind, lines):
+        for pattern, instead in patterns:
+            hit = pattern.search(line)
+            if hit:
+                yield number, f"'{hit[0]}', write: {instead}"
+
+
+def leaning_lines(kind, lines):
+    """The first lines of doc comments and docstrings that refer to the one above."""
+    before = ""
+    for number, line in enumerate(lines, 1):
+        start = r"\s*//[/!] " if kind in RATTLE else r'\s*"""' if kind == ".py" else None
+        found = re.match(start, line) if start else None
+        is_first = found and (kind == ".py" or not re.match(r"\s*//[/!]", before))
+        if is_first and LEANING.match(line[found.end():]):
+            yield number, line.strip()[:60]
+        before = line
+
+
+def places_in(path, text, patterns):
+    """The places of a file, each as rule, line and description."""
+    kind, lines = Path(path).suffix, text.split("\n")
+    yield from (("length", *it) for it in long_lines(kind, lines))
+    yield from (("phrase", *it) for it in phrase_lines(kind, lines, patterns))
+    yield from (("alone", *it) for it in leaning_lines(kind, lines))
+
+
+def folder_of(path):
+    parts = path.split("/")
+    return "/".join(parts[:2]) if parts[0] == "crates" else parts[0] if len(parts) > 1 else "."
+
+
+def places_of(top, paths):
+    """The places of all files, by rule and folder."""
+    found, patterns = collections.defaultdict(list), phrases()
+    for path in paths:
+        try:
+            text = (top / path).read_text(encoding="utf-8")
+        except (OSError, UnicodeDecodeError):
+            continue
+        for rule, number, what in places_in(path, text, patterns):
+            found[rule, folder_of(path)].append(f"{path}:{number}: {what}")
+    return found
+
+
+def tracked():
+    ran = subprocess.run(["git", "ls-files"], cwd=TOP, capture_output=True, text=True, check=True)
+    return [it for it in ran.stdout.split("\n") if it and not it.startswith("share/")]
+
+
+def allowed():
+    rows = [it.split() for it in COUNTS.read_text().split("\n") if it and not it.startswith("#")]
+    return {(rule, folder): int(count) for rule, folder, count in rows}
+
+
+def grown(found, limits):
+    """The rules and folders with more places than allowed."""
+    return [it for it in sorted(found) if len(found[it]) > limits.get(it, 0)]
+
+
+PLANTED = {
+    "length": ("crates/one/src/long.rt", "// " + "a" * COLUMNS),
+    "phrase": ("docs/PAGE.md", "A call that finds no memory is " + "told."),
+    "alone": ("crates/one/src/alone.rt", "/// The same for a list.\nfn list() {}"),
+}
+CLEAN = {
+    "crates/one/src/clean.rt": "/// The number of lists.\nfn count() {}",
+    "docs/CLEAN.md": "| " + "a" * 120 + " |\n\n    " + "b" * 120 + "\n\nA call returns a number.",
+}
+
+
+def self_test():
+    """Plants a line against each rule, and returns whether exactly these are found and fail."""
+    with tempfile.TemporaryDirectory() as folder:
+        top = Path(folder)
+        for path, text in [*PLANTED.values(), *CLEAN.items()]:
+            (top / path).parent.mkdir(parents=True, exist_ok=True)
+            (top / path).write_text(text)
+        found = places_of(top, [*(path for path, _ in PLANTED.values()), *CLEAN])
+    wanted = {(rule, folder_of(path)) for rule, (path, _) in PLANTED.items()}
+    is_found = set(found) == wanted and all(len(it) == 1 for it in found.values())
+    return is_found and set(grown(found, {})) == wanted and not grown(found, dict.fromkeys(wanted, 1))
+
+
+def write(found):
+    rows = "".join(f"{rule} {folder} {len(found[rule, folder])}\n" for rule, folder in sorted(found))
+    COUNTS.write_text("# The allowed counts of tests/prose.py: RULE FOLDER COUNT. They only go down.\n"
+                      + rows)
+
+
+def main(words):
+    if words in (["-h"], ["--help"]) or words not in ([], ["--list"], ["--write"]):
+        print(__doc__.strip(), file=sys.stdout if words[0] in ("-h", "--help") else sys.stderr)
+        return 0 if words[0] in ("-h", "--help") else 2
+    found = places_of(TOP, tracked())
+    if words == ["--write"]:
+        write(found)
+        return 0
+    if words == ["--list"]:
+        print("\n".join(it for key in sorted(found) for it in found[key]))
+        return 0
+    limits = allowed()
+    failed = grown(found, limits)
+    for rule, folder in failed:
+        places = found[rule, folder]
+        print(f"FAILED prose: {rule} in {folder}: at most {limits.get((rule, folder), 0)} allowed, "
+              f"found {len(places)}; the last ones:")
+        print("\n".join(f"    {it}" for it in places[-SHOWN:]))
+    lower = sum(len(found.get(it, [])) < count for it, count in limits.items())
+    if lower:
+        print(f"prose: {lower} counts are lower than allowed: run tests/prose.py --write")
+    is_well = self_test()
+    if not is_well:
+        print("FAILED prose: the self-test: a planted line is not found")
+    pairs = len({*found, *limits}) + 1
+    print(f"{pairs - len(failed) - (not is_well)} passed, {len(failed) + (not is_well)} failed")
+    return 1 if failed or not is_well else 0
+
+
+if __name__ == "__main__":
+    sys.exit(main(sys.argv[1:]))
