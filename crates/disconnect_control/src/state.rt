@@ -2,12 +2,12 @@
 #[derive(Clone, Copy, Debug, PartialEq, Eq)]
 pub enum ControlState {
     /// 0, Disconnected: the supply is off, and only a remote reconnection changes the state.
-    Disconnected,
+    Disconnected = 0,
     /// 1, Connected: the supply is on.
-    Connected,
+    Connected = 1,
     /// 2, Ready for reconnection: the supply is off, and a manual reconnection (the meter's button)
     /// restores it; in modes 5 and 6 a local reconnection does too.
-    ReadyForReconnection,
+    ReadyForReconnection = 2,
 }
 
 /// Which triggers the switch obeys: control_mode, attribute 4 (IEC 62056-6-2, class 70). Each mode
@@ -18,22 +18,22 @@ pub enum ControlState {
 #[derive(Clone, Copy, Debug, PartialEq, Eq)]
 pub enum ControlMode {
     /// No disconnection and no reconnection: the switch is always Connected.
-    Mode0,
+    Mode0 = 0,
     /// Disconnection: remote, manual, local. Reconnection: remote (to Ready for reconnection),
     /// manual.
-    Mode1,
+    Mode1 = 1,
     /// Disconnection: remote, manual, local. Reconnection: remote (to Connected), manual.
-    Mode2,
+    Mode2 = 2,
     /// Disconnection: remote, local. Reconnection: remote (to Ready for reconnection), manual.
-    Mode3,
+    Mode3 = 3,
     /// Disconnection: remote, local. Reconnection: remote (to Connected), manual.
-    Mode4,
+    Mode4 = 4,
     /// Disconnection: remote, manual, local. Reconnection: remote (to Ready for reconnection),
     /// manual, local.
-    Mode5,
+    Mode5 = 5,
     /// Disconnection: remote, local. Reconnection: remote (to Ready for reconnection), manual,
     /// local.
-    Mode6,
+    Mode6 = 6,
 }
 
 /// What asks the switch to change: a client or a schedule (remote), a person at the meter's button
