@@ -6,14 +6,22 @@ ghost use Rattle.client_core.specs.Steps.{after};
 
 use crate::job::{Outcome, Verb};
 use crate::progress::Progress;
-use acse_ber::{Info, read_aare};
+use crate::sending::INVOKE_ID;
+use acse_ber::{Conformance, Info, read_aare};
+use bitflags::Flags;
 use std::alloc::Global;
+use xdlms_apdu::choice::{DATA, RESULT};
+use xdlms_apdu::form::NORMAL;
+use xdlms_apdu::tag::{ACTION_RESPONSE, GET_RESPONSE};
 
-/// The bit of the ACTION service in the conformance block: bit 23 of 24, bit 0 being the highest
-/// (IEC 62056-5-3).
-const ACTION_SERVICE: u32 = 0x000001;
-/// The bit of the GET service: bit 19.
-const GET_SERVICE: u32 = 0x000010;
+/// The invoke-id-and-priority of the request, which its answer has too.
+const REQUEST_ID: u8 = INVOKE_ID.0;
+/// The result of what succeeded (IEC 62056-5-3, Data-Access-Result and Action-Result).
+const SUCCESS: u8 = 0;
+/// The tag of an enum (IEC 62056-5-3, Data, `enum [22]`).
+const ENUM: u8 = 0x16;
+/// The highest control state (IEC 62056-6-2, class 70, control_state).
+const LAST_STATE: u8 = 2;
 
 /// Returns the progress before any response.
 pub fn fresh() -> Progress
@@ -87,11 +95,11 @@ fn grants(verb: Verb, info: Info) -> bool
     ensures { result ≡ grants verb info }
 {
     let service = match verb {
-        Verb::Disconnect | Verb::Reconnect => ACTION_SERVICE,
-        Verb::ReadState => GET_SERVICE,
+        Verb::Disconnect | Verb::Reconnect => Conformance::ACTION,
+        Verb::ReadState => Conformance::GET,
     };
     match info {
-        Info::Response { bits, .. } => bits & service != 0,
+        Info::Response { bits, .. } => Conformance::from_bits_retain(bits).intersects(service),
         Info::Absent | Info::InitiateError(_) => false,
     }
 }
@@ -113,8 +121,8 @@ fn action_reply(payload: &[u8]) -> Outcome
     ensures { result ≡ action_reply payload.now }
 {
     match payload {
-        [0xC7, 0x01, 0xC1, 0, ..] => Outcome::Done(0),
-        [0xC7, 0x01, 0xC1, code, ..] => Outcome::Refused(*code),
+        [ACTION_RESPONSE, NORMAL, REQUEST_ID, SUCCESS, ..] => Outcome::Done(SUCCESS),
+        [ACTION_RESPONSE, NORMAL, REQUEST_ID, code, ..] => Outcome::Refused(*code),
         _ => Outcome::Unknown,
     }
 }
@@ -125,8 +133,12 @@ fn state_reply(payload: &[u8]) -> Outcome
     ensures { result ≡ state_reply payload.now }
 {
     match payload {
-        [0xC4, 0x01, 0xC1, 0x01, code] if *code != 0 => Outcome::Refused(*code),
-        [0xC4, 0x01, 0xC1, 0x00, 0x16, state] if *state <= 2 => Outcome::Done(*state),
+        [GET_RESPONSE, NORMAL, REQUEST_ID, RESULT, code] if *code != SUCCESS => Outcome::Refused(
+            *code,
+        ),
+        [GET_RESPONSE, NORMAL, REQUEST_ID, DATA, ENUM, state] if *state <= LAST_STATE => {
+            Outcome::Done(*state)
+        }
         _ => Outcome::Unknown,
     }
 }

@@ -5,7 +5,8 @@ ghost use Rattle.xdlms_apdu.specs.Text.{request_text};
 ghost use Rattle.client_core.specs.Texts.{framed, aarq_payload, action_payload, request_payload, aarq_frame, request_frame, release_frame};
 
 use crate::job::Verb;
-use acse_ber::{RELEASE_REQUEST, low_level_aarq, write_aarq};
+use acse_ber::{Conformance, RELEASE_REQUEST, low_level_aarq, write_aarq};
+use bitflags::Flags;
 use cosem_axdr::{Data, Octets};
 use cosem_names::{AttrRef, AttributeSelection, ClassId, MethodRef, Obis};
 use std::alloc::{AllocError, Global};
@@ -14,14 +15,21 @@ use xdlms_apdu::{InvokeId, Request, write_request};
 
 /// The port of the management client and of the meter's management logical device.
 const PORT: u16 = 1;
-/// The services that the client proposes: GET, SET and ACTION, each with block transfer (IEC
-/// 62056-5-3, conformance).
-const SERVICES: u32 = 0x001C19;
-/// The maximum size of an APDU that the client receives, in bytes.
+// The services that the client proposes: GET, SET and ACTION, each with block transfer (IEC
+// 62056-5-3, conformance).
+const SERVICES: Conformance = Conformance(
+    Conformance::BLOCK_TRANSFER_WITH_GET_OR_READ.0
+        | Conformance::BLOCK_TRANSFER_WITH_SET_OR_WRITE.0
+        | Conformance::BLOCK_TRANSFER_WITH_ACTION.0
+        | Conformance::GET.0
+        | Conformance::SET.0
+        | Conformance::ACTION.0,
+);
+// The maximum size of an APDU that the client receives, in bytes.
 const MOST_BYTES: u16 = 1024;
-/// The invoke-id-and-priority of the request: invoke-id 1, confirmed, high priority.
-const INVOKE_ID: InvokeId = InvokeId(0xC1);
-/// The class of the disconnect control (IEC 62056-6-2, class 70).
+// The invoke-id-and-priority of the request: invoke-id 1, confirmed, high priority.
+pub(crate) const INVOKE_ID: InvokeId = InvokeId(0xC1);
+// The class of the disconnect control (IEC 62056-6-2, class 70).
 const DISCONNECT_CONTROL: ClassId = ClassId(70);
 /// The logical name of the meter's disconnect control.
 const SUPPLY: Obis = Obis([0, 0, 96, 3, 10, 255]);
@@ -42,7 +50,7 @@ fn aarq_payload(alloc: Global, password: &Octets) -> Result<Octets, AllocError>
     requires { IsPassword password.now }
     ensures { IfOk result (λ text. text ≡ aarq_payload password.now) }
 {
-    let aarq = low_level_aarq(alloc, password.as_slice(), SERVICES, MOST_BYTES)?;
+    let aarq = low_level_aarq(alloc, password.as_slice(), SERVICES.bits(), MOST_BYTES)?;
     write_aarq(alloc, &aarq)
 }
 
