@@ -11,6 +11,7 @@ use crate::relay::RelayCore;
 use cosem_names::GetResult;
 use relay_events::{Event, Events, Line, Lines, Reply};
 use std::alloc::{AllocError, Global};
+use thiserror::Error;
 
 impl RelayCore {
     /// Takes an event and answers it. An event that only reads leaves the core as it was. Where memory runs out the core is as it was too, as though the event had
@@ -97,16 +98,17 @@ impl RelayCore {
     }
 }
 
-/// A run that stopped for want of memory: the lines of the events before it stopped. The core stands after
-/// just these.
-#[derive(Debug, Drop)]
+/// Why a run stopped: out of memory. The core has taken just the events whose lines are `done`.
+#[derive(Debug, Drop, Error)]
+#[error("out of memory after {} events", .done.len())]
 pub struct RunStop {
+    /// The lines of the events before the one that needed memory.
     pub done: Lines,
 }
 
 /// Takes an event, and gives its line: the reply to it, and the switch after it. Where memory runs out the core is as it was, as
 /// though the event had not come.
-pub fn line_after(core: &mut RelayCore, alloc: Global, event: &Event) -> Result<Line, AllocError>
+pub fn line_after(alloc: Global, core: &mut RelayCore, event: &Event) -> Result<Line, AllocError>
     ensures world { OnOk result ((w : World) → StandsFor core.old w → StandsFor core.new (at_event event.now w).world) }
     ensures line { IfOk result (λ line. (w : World) → StandsFor core.old w → line ≡ line_at event.now w) }
     ensures sure { IsTrue (is_sure event.now) → IsOk result }
@@ -125,7 +127,7 @@ pub fn line_after(core: &mut RelayCore, alloc: Global, event: &Event) -> Result<
 /// mode and transition tables and the limiters' rules over all samples so far say.
 ///
 /// Where memory runs out, the run stops before the event that wanted it, or before the first.
-pub fn run(core: &mut RelayCore, alloc: Global, events: &Events) -> Result<Lines, RunStop>
+pub fn run(alloc: Global, core: &mut RelayCore, events: &Events) -> Result<Lines, RunStop>
     ensures ok { IfOk result (λ lines. Runs core.old core.new events.now lines) }
     ensures stop { IfErr result (λ stop. StopsEarly core.old core.new events.now stop.done) }
 {
@@ -135,7 +137,7 @@ pub fn run(core: &mut RelayCore, alloc: Global, events: &Events) -> Result<Lines
         });
     };
     'events: for event in events.as_slice() {
-        match line_after(core, alloc, event) {
+        match line_after(alloc, core, event) {
             Ok(line) => lines.push(line).unwrap(),
             Err(_) => return Err(RunStop {
                 done: Lines::from_vec(lines),
