@@ -139,9 +139,8 @@ enum Scenario {
     ListReading,
     /// Lists of each length are read.
     LongListReading,
-    /// A firing raises the threshold during a block, which is scanned with this threshold if there
-    /// is one.
-    Firing(Option<u32>),
+    /// Blocks of samples fire, each scanned at this threshold if there is one.
+    Firing(&'static scan::Firing, Option<u32>),
 }
 
 /// Whether a core behaves as the scenario expects.
@@ -152,7 +151,7 @@ fn does(core: &mut RelayCore, alloc: Global, scenario: Scenario) -> Result<bool,
         Scenario::Running => running::runs_in_mode_1(core, alloc),
         Scenario::ListReading => running::reads_a_list(core, alloc),
         Scenario::LongListReading => sizes::reads_each_list(core, alloc),
-        Scenario::Firing(scan) => scan::fires_with(core, alloc, scan),
+        Scenario::Firing(plan, scan) => scan::fires_with(core, alloc, plan, scan),
     }
 }
 

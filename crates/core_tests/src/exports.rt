@@ -54,7 +54,7 @@ fn codes_of(alloc: Global, lines: &[Line]) -> Result<Vec<u8>, AllocError> {
 
 /// Returns the codes of a core's replies to these events.
 fn run_codes(core: &mut RelayCore, alloc: Global, events: &Events) -> Result<Vec<u8>, AllocError> {
-    match run(core, alloc, events) {
+    match run(alloc, core, events) {
         Ok(lines) => {
             let codes = codes_of(alloc, lines.as_slice());
             drop(lines);

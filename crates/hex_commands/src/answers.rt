@@ -45,7 +45,7 @@ fn add_answer(
 ) -> Result<(), AllocError>
     ensures { OnOk result (AddsAnswer request.now core.old core.new lines.old.items lines.new.items) }
 {
-    let answer = answer_apdu(core, alloc, request)?;
+    let answer = answer_apdu(alloc, core, request)?;
     add_line(answer.as_slice(), digits, lines)
 }
 

@@ -11,6 +11,7 @@ use crate::relay::RelayCore;
 use cosem_names::GetResult;
 use relay_events::{Event, Events, Line, Lines, Reply};
 use std::alloc::{AllocError, Global};
+use thiserror::Error;
 
 impl RelayCore {
     /// Applies an event and returns the reply. An event that only reads leaves the core unchanged.
@@ -100,14 +101,16 @@ impl RelayCore {
 
 /// The error of a run that ran out of memory: the lines of the events before it stopped. The core
 /// has taken exactly these events.
-#[derive(Debug, Drop)]
+#[derive(Debug, Drop, Error)]
+#[error("out of memory after {} events", .done.len())]
 pub struct RunStop {
+    /// The lines of the events before the one that needed memory.
     pub done: Lines,
 }
 
 /// Applies an event and returns its line: the reply, and the switch's state and output after it. If
 /// out of memory, the core is unchanged, as if the event had not arrived.
-pub fn line_after(core: &mut RelayCore, alloc: Global, event: &Event) -> Result<Line, AllocError>
+pub fn line_after(alloc: Global, core: &mut RelayCore, event: &Event) -> Result<Line, AllocError>
     ensures world { OnOk result ((w : World) → StandsFor core.old w → StandsFor core.new (at_event event.now w).world) }
     ensures line { IfOk result (λ line. (w : World) → StandsFor core.old w → line ≡ line_at event.now w) }
     ensures sure { IsTrue (is_sure event.now) → IsOk result }
@@ -127,7 +130,7 @@ pub fn line_after(core: &mut RelayCore, alloc: Global, event: &Event) -> Result<
 /// samples so far say.
 ///
 /// If out of memory, the run stops before the event that needed it, or before the first event.
-pub fn run(core: &mut RelayCore, alloc: Global, events: &Events) -> Result<Lines, RunStop>
+pub fn run(alloc: Global, core: &mut RelayCore, events: &Events) -> Result<Lines, RunStop>
     ensures ok { IfOk result (λ lines. Runs core.old core.new events.now lines) }
     ensures stop { IfErr result (λ stop. StopsEarly core.old core.new events.now stop.done) }
 {
@@ -137,7 +140,7 @@ pub fn run(core: &mut RelayCore, alloc: Global, events: &Events) -> Result<Lines
         });
     };
     'events: for event in events.as_slice() {
-        match line_after(core, alloc, event) {
+        match line_after(alloc, core, event) {
             Ok(line) => lines.push(line).unwrap(),
             Err(_) => return Err(RunStop {
                 done: Lines::from_vec(lines),

@@ -17,5 +17,6 @@ mod writing;
 
 pub use cosem_names::{Which, WriteFault as ScriptFault};
 pub use laws::{each_step_is_listed, read_table_is_in_range, written_table_is_read};
+pub use limiter_core::Profile;
 pub use step::{Script, Step};
 pub use table::{MAX_SCRIPTS, MAX_STEPS, NULL_SCRIPT, ScriptTable};

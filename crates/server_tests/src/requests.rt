@@ -29,7 +29,7 @@ fn answers(
     request: &[u8],
     expected: &str,
 ) -> Result<bool, Fail> {
-    let answer = answer_apdu(core, alloc, request)?;
+    let answer = answer_apdu(alloc, core, request)?;
     let same = are_of(alloc, answer.as_slice(), expected);
     drop(answer);
     same

@@ -469,10 +469,22 @@ static IN_BLOCKS: [(&str, &str); 9] = [
     ("C306C101000000020100", "C701C11000"),
 ];
 
-/// Cuts off a talk with these requests after each of its bytes.
-fn check_cuts(rt: &impl Abort, alloc: Global, talk: &mut Talk) -> Result<(), Fail> {
-    talk.ask_all(alloc, &IN_BLOCKS)?;
-    assert!(rt; talk.ends.len() == 1 + 9);
+/// The management client executes remote_disconnect in one piece, in mode 1, and reads the state.
+static DISCONNECTION: [(&str, &str); 3] = [
+    ("C101C10046000060030AFF04001601", "C501C100"),
+    ("C301C10046000060030AFF01010F00", "C701C10000"),
+    ("C001C10046000060030AFF0300", "C401C1001600"),
+];
+
+/// Cuts the talk of the management client that sends these requests after each of its bytes.
+fn check_cuts(
+    rt: &impl Abort,
+    alloc: Global,
+    talk: &mut Talk,
+    pairs: &[(&str, &str)],
+) -> Result<(), Fail> {
+    talk.ask_all(alloc, pairs)?;
+    assert!(rt; talk.ends.len().checked_sub(1) == Some(pairs.len()));
     for size in 0..=talk.input.len() {
         assert!(rt; talk.goes_so_far(alloc, size)?, "after {size} bytes");
     }
@@ -480,20 +492,38 @@ fn check_cuts(rt: &impl Abort, alloc: Global, talk: &mut Talk) -> Result<(), Fai
 }
 
 #[test]
-fn a_cut_talk_is_answered_so_far(rt: HostRuntime) -> Result<(), Fail> {
+fn a_cut_talk_in_blocks_is_answered_so_far(rt: HostRuntime) -> Result<(), Fail> {
     let mut talk = Talk::new(rt.alloc(), MANAGEMENT, 1)?;
-    let checked = check_cuts(&rt, rt.alloc(), &mut talk);
+    let checked = check_cuts(&rt, rt.alloc(), &mut talk, &IN_BLOCKS);
     drop(talk);
     checked
 }
 
-static NO_VALUES: [(&str, &str); 4] = [
-    // Nine nested structures.
+#[test]
+fn a_cut_disconnection_is_answered_so_far(rt: HostRuntime) -> Result<(), Fail> {
+    let mut talk = Talk::new(rt.alloc(), MANAGEMENT, 1)?;
+    let checked = check_cuts(&rt, rt.alloc(), &mut talk, &DISCONNECTION);
+    drop(talk);
+    checked
+}
+
+static NO_VALUES: [(&str, &str); 6] = [
+    // Nine structures in one another.
     (
         "C102C10046000060030AFF040001000000011302010201020102010201020102010201020100",
         "C503C1FA00000001",
     ),
-    // One byte after the value.
+    // Nine arrays in one another.
+    (
+        "C102C10046000060030AFF040001000000011301010101010101010101010101010101010100",
+        "C503C1FA00000001",
+    ),
+    // Nine arrays as the parameter of a method.
+    (
+        "C304C10046000060030AFF0101000000011301010101010101010101010101010101010100",
+        "C701C1FA00",
+    ),
+    // A byte after the value.
     (
         "C102C10046000060030AFF0400010000000103160200",
         "C503C1FA00000001",

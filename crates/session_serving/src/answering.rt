@@ -19,8 +19,8 @@ use std::alloc::{AllocError, Global};
 /// Where memory runs out the core is as it was, as though the request had not come.
 #[tactic(auto, unfolding(crate::specs::Answering::answered))]
 pub fn answer_apdu(
-    core: &mut RelayCore,
     alloc: Global,
+    core: &mut RelayCore,
     payload: &[u8],
 ) -> Result<Octets, AllocError>
     ensures world { OnOk result ((w : World) → StandsFor core.old w → StandsFor core.new (answered payload.now w).world) }
@@ -30,9 +30,9 @@ pub fn answer_apdu(
     match ask_unframed(alloc, payload)? {
         Unframed::Ask(event, asked) => {
             if event.is_read() {
-                answer(core, alloc, &event, asked)
+                answer(alloc, core, &event, asked)
             } else {
-                answer_or_stay(core, alloc, &event, asked)
+                answer_or_stay(alloc, core, &event, asked)
             }
         }
         Unframed::Say(text) => Ok(text),
@@ -41,8 +41,8 @@ pub fn answer_apdu(
 
 // The answer to an event. Want of memory may come after it.
 fn answer(
-    core: &mut RelayCore,
     alloc: Global,
+    core: &mut RelayCore,
     event: &Event,
     asked: Asked,
 ) -> Result<Octets, AllocError>
@@ -57,8 +57,8 @@ fn answer(
 // The same for an event whose reply has no value: the memory for its answer is taken first, so want of memory changes nothing.
 #[tactic(auto, using(crate::proofs::Valueless::prepared_answer))]
 fn answer_or_stay(
-    core: &mut RelayCore,
     alloc: Global,
+    core: &mut RelayCore,
     event: &Event,
     asked: Asked,
 ) -> Result<Octets, AllocError>

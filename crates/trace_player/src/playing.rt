@@ -37,7 +37,7 @@ fn play_event(
     ensures world { OnOk result ((w : World) → StandsFor core.old w → StandsFor core.new (at_event event.now w).world) }
     ensures line { OnOk result ((w : World) → StandsFor core.old w → out.new.items ≡ out.old.items ++ line_text number (line_at event.now w) ++ 10 ∷ []) }
 {
-    let line = line_after(core, alloc, event)?;
+    let line = line_after(alloc, core, event)?;
     add_line(alloc, out, number, &line)
 }
 

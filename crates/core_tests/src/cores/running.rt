@@ -49,7 +49,7 @@ fn runs_by_the_tables(
     events: &Events,
 ) -> Result<bool, AllocError> {
     let expected = [(1, true), (0, false), (0, false), (2, false), (1, true)];
-    match run(core, alloc, events) {
+    match run(alloc, core, events) {
         Ok(lines) => {
             let by_the_tables = are_lines(&lines, expected.as_slice());
             drop(lines);
