@@ -49,7 +49,7 @@ impl<R: Clock + Eprint + Copy> Sockets<R> {
         }
     }
 
-    /// Returns whether the listener failed for another reason than the end of standard input.
+    /// Returns whether the listener failed for a reason other than the end of standard input.
     pub fn has_failed(&self) -> bool
         ensures { result ≡ has_failed self.now }
     {

@@ -2,7 +2,8 @@
 --     AllBlocks, AllMoments, AllPresses   the events are all that a source declared
 --     Acted                               the port with a number was joined in, with these events
 --     StopsFor, first_of                  which fault is returned, and the order of faults
---     EndsWith                            the result of clients that were served in parallel with a worker, once it is joined
+--     EndsWith                            the result of clients that were served in parallel with a
+--                                         worker, once it is joined
 use Rattle.std.specs.Prelude.{◌≡◌, ⊤, ℕ, ◌+◌, ◌<◌, ◌≤◌, List, map, replicate, Option, Some, None, IfSome, Result, Ok, Err}
 use Rattle.lane_sampler.specs.Samples.{Samples}
 use Rattle.session_serving.specs.Settling.{fault_of}

@@ -83,8 +83,8 @@ impl<I: Read + Drop + Send, O: Write + Observer + Drop + Send> Connection<Port<K
     }
 }
 
-// Returns the client of these streams, with a copy of the password, or the reason why it was
-// closed. Without streams there is no client.
+// Returns the client of these streams with a copy of the password, `OutOfMemory` if the copy can't
+// be allocated, or `SetupFailed` if there are no streams.
 fn prepare_client<I: Drop, O: Drop>(
     alloc: Global,
     streams: Option<(I, O)>,

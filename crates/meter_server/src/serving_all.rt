@@ -205,8 +205,8 @@ fn serve_with_sampler<
 ///
 /// Returns once every source is at its end, every session has ended, and `limit` connections came
 /// (0 means no limit) or the listener failed. A connection is closed without a byte sent and
-/// counted as turned away if eight sessions are open, if a port, a thread or memory can't be
-/// allocated for it, or if its stream could not be set up.
+/// counted as turned away if eight sessions are open, if no port, thread or memory is available for
+/// it, or if its stream could not be set up.
 ///
 /// Returns the port in every case: it has seen a legal history that begins with what it had seen
 /// before, and every port that was split off is joined in. After `Ok` all events that a source
@@ -215,11 +215,12 @@ fn serve_with_sampler<
 /// each further port made the calls of one session with this password. After `Ok` the listener
 /// accepted as many clients as are counted, unless the count reached `u64::MAX`.
 ///
-/// Returns the first of these faults, and no other. `Memory`: the memory for eight sessions, or a
-/// port, thread or copy of the password for a worker or a connection could not be allocated.
-/// `Exhausted`: the meter accepts no more events of the sampler, the clock or the button; the port
-/// has read that all turns of the lock were drawn. `Listen`: the listener failed; all events that
-/// each source declared were passed on. A session's own fault ends only that session.
+/// Returns the first of these faults, and no other. `Memory`: the memory for eight sessions could
+/// not be allocated, or no port, thread or copy of the password was available for a worker or a
+/// connection. `Exhausted`: the meter accepts no more events of the sampler, the clock or the
+/// button; the port has read that all turns of the lock were drawn. `Listen`: the listener failed;
+/// all events that each source declared were passed on. A session's own fault ends only that
+/// session.
 pub fn serve_all<
     L: Listener,
     B: BlockSource + Send + 'static,
