@@ -1,5 +1,6 @@
 -- Readers that agree with spelling relations, and how those of BER are combined.
---     then_agrees .. never_agrees     a step followed by others, a test, a choice, a reading that always fails
+--     then_agrees .. never_agrees     a step followed by others, a test, a choice, a reading that
+--                                     always fails
 use Rattle.std.proofs.Common.{◌≡◌, ◌⊎◌, ℕ, Bool, true, false, cond, List, Err, refl, inl, inr}
 use Rattle.byte_reading.specs.Outcome.{◌>>=◌, ◌>>◌, guard}
 use Rattle.byte_reading.proofs.Agreeing as agreeing

@@ -1,5 +1,6 @@
 -- The APDUs whose text is read back.
---     IsFitAarq, IsFitAare            an AARQ that is not too long, and an AARE whose numbers are in range
+--     IsFitAarq, IsFitAare            an AARQ that is not too long, and an AARE whose numbers are
+--                                     in range
 use Rattle.std.specs.Prelude.{◌≡◌, ◌^◌, ◌<◌, true, length}
 use Rattle.acse_ber.specs.Reading.{is_response}
 use Rattle.acse_ber.specs.Text.{aarq_body}

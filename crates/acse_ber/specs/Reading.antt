@@ -1,11 +1,14 @@
 -- Reading the APDUs of the Association Control Service Element (IEC 62056-5-3, AARQ, AARE and
 -- RLRQ), in BER (ISO/IEC 8825-1).
---     Read, Yields                    the outcome of a step, and how it relates to that of code that reads all of its bytes
+--     Read, Yields                    the outcome of a step, and how it relates to that of code
+--                                     that reads all of its bytes
 --     whole                           a reading of all the bytes
---     byte_at .. contents_at          a byte, bytes, expected bytes, a length, contents after their length
+--     byte_at .. contents_at          a byte, bytes, expected bytes, a length, contents after their
+--                                     length
 --     tagged                          the contents of one tag that fill the bytes
 --     Field, fields_of, field_of      the fields of an APDU, in any order, and the field with a tag
---     proposal_of, info_in            the contents of the user information of an AARQ and of an AARE
+--     proposal_of, info_in            the contents of the user information of an AARQ and of an
+--                                     AARE
 --     aarq_of, aare_of                whole APDUs
 --     is_release_text                 whether bytes are an RLRQ
 use Rattle.std.specs.Prelude.{◌≡◌, ℕ, zero, suc, not, ◌&&◌, ◌||◌, ◌==◌, nat_lt, nat_le, if◌then◌else◌, Bool, true, false, Option, Some, None, unwrap_or, List, [], ◌∷◌, length, bytes_eq, Result, Ok, Err, is_ok}

@@ -16,10 +16,10 @@ use std::alloc::Global;
 
 /// Reads an AARE: a length that ends at the last byte, filled by fields in any order.
 ///
-/// The result and the diagnostic must be present, and with result 0 an InitiateResponse too. None
-/// of these fields may occur twice. All other fields are skipped. With another result, user
-/// information that is neither an InitiateResponse nor a ConfirmedServiceError of Initiate is read
-/// as absent.
+/// The result and the diagnostic must be present, and with result 0 an InitiateResponse too.
+/// Neither the result nor the diagnostic nor the user information may occur twice. All other fields
+/// are skipped. With another result, user information that is neither an InitiateResponse nor a
+/// ConfirmedServiceError of Initiate is read as absent.
 ///
 /// Returns `Unreadable` for any other bytes. Does not allocate.
 pub fn read_aare(_alloc: Global, bytes: &[u8]) -> Result<Aare, AcseFault>

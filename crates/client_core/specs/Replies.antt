@@ -1,5 +1,6 @@
 -- The meaning of a meter's responses for a job.
---     Progress          a Rust struct: whether the request may be sent, and the outcome if it is settled
+--     Progress          a Rust struct: whether the request may be sent, and the outcome if it is
+--                       settled
 --     opened            the meaning of the first response, to the AARQ
 --     replied           the meaning of the second response, to the request
 use Rattle.std.specs.Prelude.{ℕ, Bool, false, true, not, ◌&&◌, ◌==◌, nat_le, if◌then◌else◌, bit_and, Some, None, List, [], ◌∷◌, Result, Ok, Err}

@@ -1,5 +1,6 @@
 -- The state of a client, and the effect of each call on it.
---     Stands            a client with this verb and password, the bytes fed, the number of messages returned, and whether the connection is over
+--     Stands            a client with this verb and password, the bytes fed, the number of messages
+--                       returned, and whether the connection is over
 --     Gives             to_send: the next message to send, or none
 --     Feeds             feed: the bytes follow those fed before, unless the connection is over
 --     Ends              ended: the connection is over

@@ -1,6 +1,7 @@
 -- The messages that a client sends, each in a frame from port 1 to port 1.
 --     aarq_payload        the association request (IEC 62056-5-3, AARQ, low-level security)
---     request_payload     the one request of a job (IEC 62056-5-3, ACTION and GET; IEC 62056-6-2, class 70)
+--     request_payload     the one request of a job (IEC 62056-5-3, ACTION and GET; IEC 62056-6-2,
+--                         class 70)
 --     release_payload     the release of the association (IEC 62056-5-3, RLRQ)
 --     text_at             the message at an index of a list
 use Rattle.std.specs.Prelude.{ℕ, zero, suc, ◌+◌, Option, Some, None, List, [], ◌∷◌, ◌++◌, length}

@@ -1,4 +1,4 @@
--- What a contract sees of the sockets that clients come to.
+-- What contracts refer to in the sockets to which clients connect.
 use Rattle.std.specs.Prelude.{Bool}
 use Rattle.client_sockets.specs.declared.listening.Sockets.{Sockets}
 

@@ -1,19 +1,19 @@
--- Limits of time, in nanoseconds; None is no limit.
---     IsLimit    a limit of so many seconds, where 0 stands for none
+-- Time limits in nanoseconds; None means no limit.
+--     IsLimit    a limit in seconds; 0 means no limit
 --     IsOver     the time of a limit is over
 --     nanos_of   the nanoseconds of a limit
 --     lesser     the lesser of two limits
---     rest_of    what is left of a limit
+--     rest_of    the rest of a limit
 use Rattle.std.specs.Prelude.{◌≡◌, ◌≤◌, ℕ, ◌*◌, ◌-◌, min, Option, Some, None}
 use Rattle.std.specs.Duration.{as_nanos}
 use Rattle.std.specs.declared.time.Duration.{Duration}
 
--- so many seconds are the limit; 0 stands for none
+-- the limit of this number of seconds; 0 means no limit
 abbrev pub IsLimit : ℕ → Option Duration → Type 0
 IsLimit seconds None = seconds ≡ 0
 IsLimit seconds (Some limit) = (1 ≤ seconds) × (as_nanos limit ≡ seconds * 1_000_000_000)
 
--- what has lasted so long is past its limit
+-- a session that has lasted this long has exceeded its limit
 abbrev pub IsOver : Option Duration → Duration → Type 0
 IsOver None lasted = ⊥
 IsOver (Some limit) lasted = as_nanos limit ≤ as_nanos lasted
@@ -29,7 +29,7 @@ lesser None second = second
 lesser (Some first) None = Some first
 lesser (Some first) (Some second) = Some (min first second)
 
--- what is left of a limit after so many nanoseconds
+-- the rest of a limit after this number of nanoseconds
 abbrev pub rest_of : Option ℕ → ℕ → Option ℕ
 rest_of None lasted = None
 rest_of (Some limit) lasted = Some (limit - lasted)

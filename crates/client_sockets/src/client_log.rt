@@ -1,10 +1,10 @@
-//! What standard error is told of a client.
+//! Messages about clients on standard error.
 use meter_server::{ServeFault, SessionEnd};
 use std::io;
 use std::net::SocketAddr;
 use std::sync::atomic::{AtomicBool, Ordering};
 
-/// Reports one client on standard error, if that is asked for: a line when it connects, and one
+/// Reports one client on standard error, if this is enabled: one line when it connects, and one
 /// when its session ends or it is turned away.
 pub struct ClientLog<R: Eprint + Copy> {
     rt: R,
@@ -14,7 +14,7 @@ pub struct ClientLog<R: Eprint + Copy> {
 }
 
 impl<R: Eprint + Copy> ClientLog<R> {
-    /// Reports that a client connected.
+    /// Reports that a client connected, and returns its log.
     pub(crate) fn new(rt: R, address: SocketAddr, is_verbose: bool) -> ClientLog<R> {
         if is_verbose {
             let _ = eprintln!(rt; "{address}: connected");
@@ -52,7 +52,7 @@ impl<R: Eprint + Copy> ClientLog<R> {
     }
 }
 
-/// A client whose log is dropped before a session ended was turned away.
+/// Reports the client as turned away if its log is dropped before a session ended.
 impl<R: Eprint + Copy> Drop for ClientLog<R> {
     fn drop(self) {
         let ClientLog {

@@ -1,4 +1,4 @@
-//! The end of the listening.
+//! Ends the listening when the console ends.
 use crate::listening::Stopped;
 use meter_console::{ConsoleEnd, Ended};
 use std::net::{Net, SocketAddr, TcpStream};
@@ -6,20 +6,20 @@ use std::sync::atomic::Ordering;
 use std::thread;
 use std::time::{Clock, Duration};
 
-/// So often a connection is tried that wakes the listener.
+/// The maximum number of attempts to wake the blocked `accept` by connecting to it.
 const MOST_CALLS_TO_WAKE: u32 = 100;
 
-/// What ends the listening once the console has ended, where that is asked for.
+/// Ends the listening when the console ends, if this is enabled.
 #[derive(Drop)]
 pub struct Closing<R> {
     pub rt: R,
     /// Whether the console has ended.
     pub stopped: Stopped,
-    /// Where the listener waits for a client; `None`: it goes on.
+    /// The address at which the listener waits for a client, or `None` if it continues to listen.
     pub address: Option<SocketAddr>,
 }
 
-/// Wakes the listener at this address, which waits for a client.
+/// Wakes a listener that waits for a client at this address, by connecting to it.
 fn wake<R: Net + Clock>(rt: &R, address: SocketAddr) {
     for _ in 0..MOST_CALLS_TO_WAKE {
         if TcpStream::connect(rt, address).is_ok() {

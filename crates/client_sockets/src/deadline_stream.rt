@@ -7,8 +7,8 @@ use std::io::{ErrorKind, Read, Write};
 use std::net::TcpStream;
 use std::time::{Clock, Duration, Instant};
 
-/// One direction of a client's stream, with deadlines. A call fails if it takes too long, or if the
-/// session has. The direction that the server writes to has the log of the client.
+/// One direction of a client's stream, with deadlines. A call fails if it or the session takes too
+/// long. The direction to the client has the client's log.
 #[derive(Drop)]
 pub struct DeadlineStream<R: Eprint + Copy> {
     rt: R,
@@ -19,8 +19,7 @@ pub struct DeadlineStream<R: Eprint + Copy> {
 }
 
 impl<R: Clock + Eprint + Copy> DeadlineStream<R> {
-    /// Returns both directions of a stream whose session begins now: what is read, and what is
-    /// written.
+    /// Returns the input and the output of a stream whose session begins now.
     pub(crate) fn both_ways(rt: R, stream: TcpStream, limits: Limits) -> io::Result<(Self, Self)> {
         stream.set_nodelay(true)?;
         stream.set_read_timeout(limits.call)?;
@@ -44,13 +43,14 @@ impl<R: Clock + Eprint + Copy> DeadlineStream<R> {
         Ok((input, output))
     }
 
-    /// The same stream, which reports the end of its session to this log.
+    /// Returns the stream with this log, which reports the end of its session.
     pub(crate) fn with_log(mut self, log: ClientLog<R>) -> Self {
         self.log = Some(log);
         self
     }
 
-    /// How long the next call may take. Error: `TimedOut` once the session's time is over.
+    /// Returns the time left for the next call. Fails with `TimedOut` once the session's time is
+    /// over.
     fn left(&self) -> io::Result<Option<Duration>> {
         if self.limits.session.is_none() {
             return Ok(self.limits.call);

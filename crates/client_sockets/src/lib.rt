@@ -1,4 +1,5 @@
-//! The sockets that clients come to: their streams, whose reads and writes have limits of time, and what standard error is told of each client.
+//! The sockets to which clients connect: their streams with time limits for reads and writes, and
+//! messages about each client on standard error.
 #![tactic(auto)]
 
 mod client_log;

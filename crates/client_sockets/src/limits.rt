@@ -1,20 +1,20 @@
-//! How long a client may take.
+//! The time limits of a client.
 ghost use Rattle.std.specs.Prelude.{◌≡◌, ◌↔◌, IsTrue};
 ghost use Rattle.std.specs.Duration.{as_nanos};
 ghost use Rattle.client_sockets.specs.Limits.{IsLimit, IsOver, nanos_of, lesser, rest_of};
 
 use std::time::Duration;
 
-/// How long a client may take: `None` is no limit.
+/// The time limits of a client; `None` means no limit.
 #[derive(Clone, Copy, Debug)]
 pub struct Limits {
-    /// For a read or a write.
+    /// The limit of a read or a write.
     pub call: Option<Duration>,
-    /// For its session as a whole.
+    /// The limit of a whole session.
     pub session: Option<Duration>,
 }
 
-/// A limit of so many seconds; 0 stands for none.
+/// Returns the limit of this number of seconds; 0 means no limit.
 fn limit_of(seconds: u32) -> Option<Duration>
     ensures { IsLimit seconds result }
 {
@@ -25,7 +25,7 @@ fn limit_of(seconds: u32) -> Option<Duration>
     }
 }
 
-/// The shorter of two times.
+/// Returns the shorter of two durations.
 fn shorter(first: Duration, second: Duration) -> Duration
     ensures { nanos_of (Some result) ≡ lesser (nanos_of (Some first)) (nanos_of (Some second)) }
 {
@@ -36,7 +36,7 @@ fn shorter(first: Duration, second: Duration) -> Duration
 }
 
 impl Limits {
-    /// The limits of so many seconds for a read or a write, and for a session; 0 stands for none.
+    /// Returns the limits of a read or a write and of a session, in seconds; 0 means no limit.
     pub fn of_seconds(call: u32, session: u32) -> Limits
         ensures call { IsLimit call result.call }
         ensures session { IsLimit session result.session }
@@ -47,7 +47,7 @@ impl Limits {
         }
     }
 
-    /// Whether the time of a session is over that has lasted so long.
+    /// Returns whether a session that has lasted this long has exceeded its limit.
     pub fn is_over(self, lasted: Duration) -> bool
         ensures { IsTrue result ↔ IsOver self.session lasted }
     {
@@ -57,7 +57,8 @@ impl Limits {
         }
     }
 
-    /// How long the next read or write may take in a session that has lasted so long.
+    /// Returns the time limit of the next read or write in a session that has lasted this long;
+    /// `None` means no limit.
     pub fn left_after(self, lasted: Duration) -> Option<Duration>
         ensures { nanos_of result ≡ lesser (nanos_of self.call) (rest_of (nanos_of self.session) (as_nanos lasted)) }
     {

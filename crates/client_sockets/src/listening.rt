@@ -1,4 +1,4 @@
-//! The sockets that clients come to.
+//! The sockets to which clients connect.
 ghost use Rattle.std.specs.Prelude.{◌≡◌, false};
 ghost use Rattle.client_sockets.specs.Clients.{has_failed};
 
@@ -13,10 +13,10 @@ use std::sync::Arc;
 use std::sync::atomic::{AtomicBool, Ordering};
 use std::time::Clock;
 
-/// Whether standard input has ended, so that no further client is taken.
+/// Whether standard input has ended, after which no further client is accepted.
 pub type Stopped = Arc<AtomicBool, Global>;
 
-/// The address that clients come to.
+/// A listening socket for clients.
 #[derive(Drop)]
 pub struct Sockets<R> {
     rt: R,
@@ -28,7 +28,8 @@ pub struct Sockets<R> {
 }
 
 impl<R: Clock + Eprint + Copy> Sockets<R> {
-    /// Clients of this listener. Their reads and writes fail where they, or their session, take longer than `limits` say.
+    /// Returns the clients of this listener. A read or write fails if it, or the session, takes
+    /// longer than `limits`.
     pub fn new(
         rt: R,
         listener: TcpListener,
@@ -48,15 +49,15 @@ impl<R: Clock + Eprint + Copy> Sockets<R> {
         }
     }
 
-    /// Whether the listener failed, and did not end since standard input did.
+    /// Returns whether the listener failed for a reason other than the end of standard input.
     pub fn has_failed(&self) -> bool
         ensures { result ≡ has_failed self.now }
     {
         self.has_failed
     }
 
-    /// Both directions of the stream of a client that connected. `None`: the stream could not be
-    /// set up; the client is closed, and reported as turned away.
+    /// Returns the input and the output of a client that connected. Returns `None` if its stream
+    /// could not be set up; the client is closed and reported as turned away.
     fn client(
         &self,
         stream: TcpStream,
@@ -73,7 +74,7 @@ impl<R: Clock + Eprint + Copy> Sockets<R> {
     }
 }
 
-/// Whether an error of `accept` is transient: the next call may succeed.
+/// Returns whether an error of `accept` is transient: the next call may succeed.
 fn is_transient(kind: ErrorKind) -> bool {
     matches!(kind, ErrorKind::Interrupted | ErrorKind::ConnectionAborted)
 }

@@ -1,4 +1,5 @@
-//! What no contract sees: how long a client's stream waits, and how the listening ends.
+//! Tests of what contracts do not cover: how long a client's stream waits, and how the listening
+//! ends.
 use crate::limits::Limits;
 use crate::listening::Sockets;
 use meter_server::Listener;
@@ -15,7 +16,7 @@ const NO_LIMITS: Limits = Limits {
     session: None,
 };
 
-/// Sockets on a free port of the loopback interface, and their address.
+/// Returns sockets on a free port of the loopback interface, and their address.
 fn listening(
     rt: HostRuntime,
     limits: Limits,
@@ -28,7 +29,8 @@ fn listening(
     Ok((sockets, address))
 }
 
-/// How long a first read of a silent client takes, which has to fail, and whether a second one fails.
+/// Returns how long the first read from a silent client takes, which must fail, and whether a
+/// second read fails.
 fn failed_reads(rt: HostRuntime, limits: Limits) -> Result<(Duration, bool), Fail> {
     let (mut sockets, address) = listening(rt, limits, false)?;
     let client = TcpStream::connect(&rt, address)?;
@@ -84,7 +86,7 @@ fn no_client_is_accepted_after_the_end_of_the_input(rt: HostRuntime) -> Result<(
 #[test]
 fn a_listener_that_fails_has_failed(rt: HostRuntime) -> Result<(), Fail> {
     let listener = TcpListener::bind(&rt, "127.0.0.1:0")?;
-    // (no client is there, so that the next call fails instead of waiting)
+    // (without a client, the next call fails instead of waiting)
     listener.set_nonblocking(true)?;
     let stopped = Arc::new(rt.alloc(), AtomicBool::new(false))?;
     let mut sockets = Sockets::new(rt, listener, NO_LIMITS, stopped, false);

@@ -2,7 +2,8 @@
 -- found. The order of the faults is this meter's choice.
 --     Place                    the remaining bytes, and how many of them a Data may still use
 --     bytes_at                 the next bytes, requested at once: TooLong before Truncated
---     length_at .. leaf_at     a length, a string, a number, a bit-string, a value of a fixed length, a value with no items
+--     length_at .. leaf_at     a length, a string, a number, a bit-string, a value of a fixed
+--                              length, a value with no items
 --     items_at .. value_at     consecutive items, a counted list of items, a value
 --     first_data               the Data at the front of bytes, and its number of bytes
 use Rattle.std.specs.Prelude.{◌≡◌, ℕ, zero, suc, ◌+◌, ◌-◌, ◌*◌, not, ◌&&◌, List, [], ◌∷◌, length, take, drop, fold, Result, Ok, Err, nat_lt, nat_le, ◌==◌, slice_index, if◌then◌else◌}

@@ -4,7 +4,8 @@
 --     Spells                          the tag of a value, followed by its contents
 --     IsSpelling                      a spelling within the limits of nesting and of bytes
 --     text                            the written spelling, with the shortest lengths
---     IsWithin, IsFine                numbers and bytes in the ranges of their types; items and bits within the limits
+--     IsWithin, IsFine                numbers and bytes in the ranges of their types; items and
+--                                     bits within the limits
 --     IsFit                           a value whose text is within the limits
 use Rattle.std.specs.Prelude.{◌≡◌, ◌⊎◌, ℕ, ◌+◌, ◌^◌, ◌<◌, ◌≤◌, Bool, not, ◌==◌, nat_lt, if◌then◌else◌, ℤ, FitsSigned, List, [], ◌∷◌, ◌++◌, length, slice_index}
 use Rattle.std.specs.Int.{Width, w8, w16, w32, w64, byte_len, from_be_bytes, to_be_bytes, cast_signed, cast_unsigned, bytes_high_first}

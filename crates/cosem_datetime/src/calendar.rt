@@ -1,4 +1,4 @@
-//! The days of the calendar, which `jiff` counts.
+//! The days of the calendar, which `jiff` computes.
 
 ghost use Rattle.std.specs.Prelude.{◌≡◌, ◌≤◌, ◌↔◌, ℕ, Some, None, IfSome, if◌then◌else◌};
 ghost use Rattle.cosem_datetime.specs.declared.calendar.CivilDate.{CivilDate};
@@ -17,13 +17,13 @@ pub struct CivilDate {
 
 pub const SECONDS_OF_DAY: u32 = 86_400;
 
-/// 1 January 2000, as the days since 1 January of the year 0.
+/// 1 January 2000, as the number of days since 1 January of the year 0.
 pub const FIRST_DAY: u32 = 730_485;
 
-/// From `jiff`'s first day to 1 January of the year 0.
+/// The number of days from `jiff`'s first day to 1 January of the year 0.
 const YEAR_ZERO: u32 = 3_652_059;
 
-/// The date of a day, which is counted from 1 January of the year 0.
+/// Returns the date of a day, counted from 1 January of the year 0.
 pub fn date_of_day(day: u32) -> CivilDate
     requires { day ≤ 1_000_000 }
     ensures date { result ≡ calendar.date_of_day day }
@@ -38,7 +38,8 @@ pub fn date_of_day(day: u32) -> CivilDate
     }
 }
 
-/// The weekday of such a day up to 31 December 9999, from 1 for Monday to 7 for Sunday.
+/// Returns the weekday of a day, counted from 1 January of the year 0, up to 31 December 9999: 1
+/// for Monday to 7 for Sunday.
 pub fn weekday(day: u32) -> u8
     requires { day ≤ 3_652_424 }
     ensures { result ≡ calendar.weekday day }
@@ -47,7 +48,7 @@ pub fn weekday(day: u32) -> u8
     date.weekday().to_monday_one_offset() as u8
 }
 
-/// The days of a month.
+/// Returns the number of days of a month.
 pub fn month_length(year: u16, month: u8) -> u8
     requires { year ≤ 9999 }
     ensures value { result ≡ calendar.month_length year month }
@@ -55,7 +56,8 @@ pub fn month_length(year: u16, month: u8) -> u8
     civil::days_in_month(year as i16, month)
 }
 
-/// The day of a date that the calendar has, counted from 1 January of the year 0.
+/// Returns the day of a date, counted from 1 January of the year 0, or `None` if the calendar has
+/// no such date.
 pub fn day_of_date(date: CivilDate) -> Option<u32>
     requires year { date.year ≤ 9999 }
     requires month { date.month ≤ 12 }
@@ -69,8 +71,9 @@ pub fn day_of_date(date: CivilDate) -> Option<u32>
     }
 }
 
-/// The calendar that the contracts speak of: each day has one date, whose earlier years, months and days are counted
-/// together, and 1 January 2000 is a Saturday. A call does nothing; its contract is the statement.
+/// Laws of the calendar that contracts refer to: each day has exactly one date, found by counting
+/// the years, months and days before it, and 1 January 2000 is a Saturday. Calling the function has
+/// no effect; its contract states the laws.
 pub fn calendar_laws()
     ensures one_date { (n : ℕ) (c : CivilDate) → calendar.IsDay n c ↔ (c ≡ calendar.date_of_day n) }
     ensures first_day { calendar.first_day ≡ 730_485 }

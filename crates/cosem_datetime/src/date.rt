@@ -11,7 +11,7 @@ use crate::field::{NOT_SPECIFIED, byte_of, field_holds, read_field};
 use byteorder::{BigEndian, ByteOrder};
 use std::marker::Model;
 
-/// The day of the month that a date names.
+/// The day of the month of a date.
 #[derive(Clone, Copy, Debug, PartialEq, Eq)]
 pub enum DayOfMonth {
     /// Not specified (`FF`): any day.
@@ -20,7 +20,7 @@ pub enum DayOfMonth {
     Number(u8),
     /// The second last day of the month (`FD`).
     SecondLast,
-    /// The last day of the month (`FE`), or with a weekday the last such weekday.
+    /// The last day of the month (`FE`); with a weekday the last such weekday of the month.
     Last,
 }
 
@@ -36,7 +36,8 @@ const DAYLIGHT_SAVING_END: u8 = 0xFD;
 
 const YEAR_NOT_SPECIFIED: u16 = 0xFFFF;
 
-/// A date of five bytes: year, month, day of the month and day of the week, each of which may be left open.
+/// A date of five bytes: year, month, day of the month and day of the week, each of which may be
+/// unspecified.
 #[derive(Clone, Copy, Debug, PartialEq, Eq)]
 pub struct DatePattern {
     year: Option<u16>,
@@ -109,20 +110,21 @@ pub(crate) fn date_fields(bytes: &[u8]) -> Result<DatePattern, PatternFault>
 
 /// Reads a date of five bytes.
 pub fn read_date(bytes: &[u8]) -> Result<DatePattern, PatternFault>
-    // Field by field from left to right, up to the first fault.
+    // Fields are checked from left to right; the first fault is returned.
     ensures exact { result ≡ date_of bytes.now }
-    // What is read is spelled so, and what is spelled so is read.
+    // The bytes of a date that is read spell it, and a date that they spell is read.
     ensures found { IfOk result (λ p. IsDateFields p × (bytes.now ≡ date_bytes p)) }
     ensures only { (p : DateFields) → IsDateFields p → bytes.now ≡ date_bytes p → result ≡ Ok p }
     ensures length { IsErrOf result PatternFault.Length ↔ (length bytes.now ≢ 5) }
-    // The month is the first field that is judged, so this fault hides any later one.
+    // The month is the first field checked, so this fault takes precedence over those of later
+    // fields.
     ensures season { IsErrOf result PatternFault.SeasonMonth ↔ ((length bytes.now ≡ 5) × IsTrue (is_season (slice_index bytes.now 2))) }
 {
     date_fields(bytes)
 }
 
 impl DayOfMonth {
-    /// The byte that spells it.
+    /// Returns the byte of this day of the month.
     fn byte(self) -> u8
         ensures { result ≡ day_byte self }
     {
@@ -134,7 +136,7 @@ impl DayOfMonth {
         }
     }
 
-    /// Whether this is the date's day of the month.
+    /// Returns whether a date has this day of the month.
     fn holds(self, date: CivilDate) -> bool
         requires year { date.year ≤ 9999 }
         requires day { date.day ≤ 31 }
@@ -159,7 +161,7 @@ fn year_holds(year: Option<u16>, number: u16) -> bool
 }
 
 impl DatePattern {
-    /// The date with no field specified.
+    /// Returns the date with no field specified.
     pub(crate) const fn unspecified() -> DatePattern
         ensures { result ≡ unspecified.date }
     {
@@ -171,11 +173,11 @@ impl DatePattern {
         }
     }
 
-    /// The five bytes that spell the date, which are those that it was read from.
+    /// Returns the five bytes of the date. They are the bytes from which it was read.
     pub fn bytes(&self) -> [u8; 5]
         ensures bytes { result ≡ date_bytes self.now }
         ensures within { IsDateFields self.now }
-        // Read again, they give the date back.
+        // Reading the bytes returns the same date.
         ensures again { date_of result ≡ Ok self.now }
     {
         self.spelling()
@@ -196,7 +198,7 @@ impl DatePattern {
         bytes
     }
 
-    /// Whether year, month and day of the month are those of the date.
+    /// Returns whether a date has this year, month and day of the month.
     fn holds(&self, date: CivilDate) -> bool
         requires year { date.year ≤ 9999 }
         requires day { date.day ≤ 31 }
@@ -207,7 +209,7 @@ impl DatePattern {
             && self.day.holds(date)
     }
 
-    /// Whether the date lies in its month's last seven days, in the year and the month of the pattern.
+    /// Returns whether a date is in the last seven days of its month and has this year and month.
     fn last_week_holds(&self, date: CivilDate) -> bool
         requires year { date.year ≤ 9999 }
         requires day { date.day ≤ 31 }
@@ -218,7 +220,8 @@ impl DatePattern {
             && month_length(date.year, date.month) < date.day + DAYS_OF_WEEK
     }
 
-    /// Whether one of the seven days that end with the day has the pattern's year, month and day of the month.
+    /// Returns whether one of the seven days up to this day has the pattern's year, month and day
+    /// of the month.
     fn past_week_holds(&self, day: u32) -> bool
         requires low { 7 ≤ day }
         requires high { day ≤ 1_000_000 }
@@ -232,7 +235,7 @@ impl DatePattern {
         false
     }
 
-    /// Whether the pattern matches the day, apart from its weekday.
+    /// Returns whether the pattern without its weekday matches a day.
     fn month_day_holds(&self, day: u32) -> bool
         requires low { 7 ≤ day }
         requires high { day ≤ 1_000_000 }
@@ -247,7 +250,7 @@ impl DatePattern {
         }
     }
 
-    /// Whether the pattern matches the day, which is counted from 1 January of the year 0.
+    /// Returns whether the pattern matches a day, counted from 1 January of the year 0.
     #[tactic(auto, unfolding(crate::specs::Matching::date_matches))]
     pub(crate) fn matches_day(&self, day: u32) -> bool
         requires low { 7 ≤ day }
@@ -257,14 +260,14 @@ impl DatePattern {
         self.weekday_holds(day) && self.month_day_holds(day)
     }
 
-    /// Whether year, month and day of the month are plain numbers.
+    /// Returns whether year, month and day of the month are numbers.
     pub(crate) fn is_plain(&self) -> bool
         ensures { result ≡ is_plain self.now }
     {
         self.year.is_some() && self.month.is_some() && matches!(&self.day, DayOfMonth::Number(_))
     }
 
-    /// The date, where year, month and day of the month are numbers.
+    /// Returns the date if year, month and day of the month are numbers.
     pub(crate) fn plain_date(&self) -> Option<CivilDate>
         ensures date { result ≡ plain_date self.now }
         ensures within { IfSome result (λ c. (c.month ≤ 12) × (c.day ≤ 31)) }
@@ -277,7 +280,8 @@ impl DatePattern {
         Some(CivilDate { year, month, day })
     }
 
-    /// Whether a weekday that is given is that of the day, which is counted from 1 January of the year 0.
+    /// Returns whether the pattern has no weekday or that of a day, counted from 1 January of the
+    /// year 0.
     pub(crate) fn weekday_holds(&self, day: u32) -> bool
         requires { day ≤ 3_652_424 }
         ensures { result ≡ holds self.now.weekday (weekday day) }

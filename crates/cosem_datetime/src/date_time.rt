@@ -10,7 +10,8 @@ use crate::time::{TimePattern, time_fields};
 use byteorder::{BigEndian, ByteOrder};
 use std::marker::Model;
 
-/// A date-time of twelve bytes: a date, a time, the deviation from local time to UTC in minutes, and the clock status.
+/// A date-time of twelve bytes: a date, a time, the deviation from local time to UTC in minutes,
+/// and the clock status.
 #[derive(Clone, Copy, Debug)]
 pub struct DateTimeField {
     pub(crate) date: DatePattern,
@@ -32,7 +33,7 @@ impl Model for DateTimeField {
     ghost inverse = { λ v. record { date = v.date; time = v.time; deviation = v.deviation; status = v.status } };
 }
 
-// The deviation in the first two bytes.
+// Reads the deviation from the first two bytes.
 fn read_deviation(bytes: &[u8]) -> Result<Option<i16>, PatternFault>
     requires { 2 ≤ length bytes.now }
     ensures { result ≡ deviation_of (big_number 2 bytes.now) }
@@ -64,20 +65,21 @@ fn date_time_fields(bytes: &[u8]) -> Result<DateTimeField, PatternFault>
 
 /// Reads a date-time of twelve bytes.
 pub fn read_date_time(bytes: &[u8]) -> Result<DateTimeField, PatternFault>
-    // Field by field from left to right, up to the first fault.
+    // Fields are checked from left to right; the first fault is returned.
     ensures exact { result ≡ date_time_of bytes.now }
-    // What is read is spelled so, and what is spelled so is read.
+    // The bytes of a date-time that is read spell it, and a date-time that they spell is read.
     ensures found { IfOk result (λ p. IsDateTimeFields p × (bytes.now ≡ date_time_bytes p)) }
     ensures only { (p : DateTimeFields) → IsDateTimeFields p → bytes.now ≡ date_time_bytes p → result ≡ Ok p }
     ensures length { IsErrOf result PatternFault.Length ↔ (length bytes.now ≢ 12) }
-    // The month is the first field that is judged, so this fault hides any later one.
+    // The month is the first field checked, so this fault takes precedence over those of later
+    // fields.
     ensures season { IsErrOf result PatternFault.SeasonMonth ↔ ((length bytes.now ≡ 12) × IsTrue (is_season (slice_index bytes.now 2))) }
 {
     date_time_fields(bytes)
 }
 
 impl DateTimeField {
-    /// The date-time with no field specified, `FFFFFFFFFFFFFFFFFF8000FF`.
+    /// Returns the date-time with no field specified, `FFFFFFFFFFFFFFFFFF8000FF`.
     pub const fn unspecified() -> DateTimeField
         ensures fields { result ≡ unspecified }
         ensures bytes { date_time_bytes result
@@ -91,11 +93,11 @@ impl DateTimeField {
         }
     }
 
-    /// The twelve bytes that spell the date-time, which are those that it was read from.
+    /// Returns the twelve bytes of the date-time. They are the bytes from which it was read.
     pub fn bytes(&self) -> [u8; 12]
         ensures bytes { result ≡ date_time_bytes self.now }
         ensures within { IsDateTimeFields self.now }
-        // Read again, they give the date-time back.
+        // Reading the bytes returns the same date-time.
         ensures again { date_time_of result ≡ Ok self.now }
     {
         self.spelling()

@@ -1,5 +1,6 @@
 -- The assignment of jobs to workers.
---     place_at          the job of a slot: a worker has consecutive slots, and its jobs are as far apart as there are workers
+--     place_at          the job of a slot: a worker has consecutive slots, and its jobs are as far
+--                       apart as there are workers
 --     slot_at           the slot of a job
 --     turns_for         the number of slots of each worker, and slots_for of all workers
 --     IsRun             the result of a slot

@@ -3,7 +3,8 @@
 --     Listens           all of them were sent, and the outcome is open: a read follows
 --     IsDueNext         bytes that may be sent next
 --     Conversation      each read and each write in its turn, up to the end
---     HasConversed      the log of a connection is a conversation, and the outcome is that of its bytes
+--     HasConversed      the log of a connection is a conversation, and the outcome is that of its
+--                       bytes
 use Rattle.std.specs.Prelude.{◌≡◌, ℕ, zero, suc, Bool, false, true, is_some, IsSome, IfSome, ◌⊎◌, List, [], ◌∷◌, ◌++◌, Option, Some, None, ⊤}
 use Rattle.std.specs.List.{concat}
 use Rattle.client_core.specs.declared.job.Outcome.{Outcome}

@@ -1,4 +1,4 @@
--- What a session does of a port, which takes the session's events.
+-- The effect of a session on its port, which passes the session's events on.
 use Rattle.std.proofs.Common.{◌≡◌, ℕ, List, [], ◌∷◌, ◌++◌, Option, Result, Ok, Err, IfOk, refl, sym, ap, ◌∙◌, subst, ⊎_elim}
 use Rattle.std.proofs.lemmas.List.{append-nil, append_assoc}
 use Rattle.kept_meter.specs.Calls.{IsLegal, told}
@@ -24,7 +24,7 @@ use Rattle.call_fault.specs.declared.fault.CallFault.{CallFault}
 use Rattle.turn_lock.specs.declared.known.Known.{Known}
 use Rattle.turn_lock.specs.declared.turned.Entry.{Entry}
 
--- the last reply of a run is of its event's kind
+-- the last reply of a run has the kind of its event
 last_fits : (w : World) (calls : List (Entry Event Reply)) (by : List ℕ) (event : Event) (reply : Reply)
     → replies_of (told (calls ++ entry by event reply ∷ [])) ≡ replies_from w (events_of (told (calls ++ entry by event reply ∷ []))) → Fits event reply
 last_fits w [] by event reply legal = let same : reply ≡ (at_event event w).reply = cc in subst (Fits event) (sym same) (reply_fits event w)
@@ -37,13 +37,14 @@ called_fits k event reply l called =
     let legal : IsLegal called.lawful.0 ((k.seen ++ called.seen.0) ++ entry k.number event reply ∷ []) = subst (IsLegal called.lawful.0) called.seen.1 called.lawful.2 in
     last_fits (opened called.lawful.0) (k.seen ++ called.seen.0) k.number event reply legal
 
--- a reply that a port gave is of its event's kind
+-- a reply that a port returned has the kind of its event
 pub port_fits : (k : Known Event Reply Opening) (event : Event) (result : Result Reply CallFault) (l : Known Event Reply Opening)
     → IfOk result (λ (reply : Reply). Called IsLegal k event reply l) → IfOk result (Fits event)
 port_fits k event (Ok reply) l called = called_fits k event reply l called
 port_fits k event (Err fault) l called = tt
 
--- what is so of a meter and itself, of what a step makes of it, and goes on, is so of the first and the last meter of a session
+-- a relation that is reflexive, holds for each step and is transitive holds between the first and
+-- the last meter of a session
 module _ {M : Type 0} (steps : M → Event → Result Reply CallFault → M → Type 0) (P : M → M → Type 0)
     (here : (m : M) → P m m) (on : (a b c : M) → P a b → P b c → P a c) (by : (m : M) (event : Event) (result : Result Reply CallFault) (n : M) → steps m event result n → P m n) where
   pub replied_on : (m : M) (events : List Event) (replies : List Reply) (n : M) → Replied steps m events replies n → P m n
@@ -92,7 +93,7 @@ pub served_same : {R W : Type 0} (remaining : R → Option (List ℕ)) (reads re
 served_same remaining reads read_failures contents write_failures password r w p result r' w' q served =
     did_on PortSteps IsSame is_same same_on step_same remaining reads read_failures contents write_failures password served.seen r w p result r' w' q served.did
 
--- a port's calls go on with the events that it took
+-- the calls of a port are extended by the events that it passed on
 pub entered : (p : MeterPort) (events : List Event) (replies : List Reply) (q : MeterPort) → Replied PortSteps p events replies q → Enters p events replies q
 entered p [] [] q same = subst (λ (q : MeterPort). Enters p [] [] q) (sym same) (sym (append-nil (calls_by p.known.number p.known.seen)))
 entered p [] (reply ∷ replies) q never = absurd never

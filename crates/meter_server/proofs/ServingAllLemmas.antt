@@ -1,4 +1,4 @@
--- What a worker's calls are once its port was joined in, and that they stay so.
+-- The calls of a worker once its port was joined in, and that they do not change afterwards.
 use Rattle.std.proofs.Common.{◌≡◌, ℕ, ◌≤◌, List, [], ◌++◌, refl, sym, ◌∙◌, ap, subst, inl, inr, arith, Option, Some, None, IfSome, IfOk, map}
 use Rattle.std.proofs.lemmas.Bool.{cases_eq}
 use Rattle.std.specs.Prelude.{⊤, IfErr, OnOk, replicate, Result, Ok, Err}
@@ -46,11 +46,11 @@ pub whole_presses : (told : Option ℕ) (own back : MeterPort) (events : List Ev
 whole_presses None own back events e fresh hands = tt
 whole_presses (Some count) own back events e fresh hands = e ∙ hands ∙ ap (λ xs. xs ++ replicate count event.Button) fresh
 
--- how a worker's work ends well
+-- a worker's work that ends well
 abbrev Did : {W : Type 0} → (W → MeterPort → MeterPort → Type 0) → W → MeterPort → MeterPort → Result (Unit {0}) CallFault → Type 0
 Did hands worker p q end = IsSame p q × OnOk end (hands worker p q) × IfErr end (WorkerStops q)
 
--- what the worker that came back did
+-- the work of the worker whose port was returned
 did_all : {W : Type 0} (hands : W → MeterPort → MeterPort → Type 0) (worker : W) (own back : MeterPort) (end : Option (Result (Unit {0}) CallFault)) → Ended (Did hands worker) own back end → end ≡ Some (Ok tt) → hands worker own back
 did_all hands worker own back end ended is =
     let E : Option (Result (Unit {0}) CallFault) → Type 0 = λ e. Ended (Did hands worker) own back e in
@@ -61,12 +61,12 @@ acted_as own back q Whole same joined whole =
     let J : List ℕ → Type 0 = λ n. IsAmong n q.known.joined in
     record { joined = subst J same.number joined; whole = whole }
 
--- the calls of the port that came back, by the number of the one that was lent
+-- the calls of the port that was returned, by the number of the one that was lent
 their_events : (own back before q : MeterPort) → IsSame own back → TakesIn before back q → events_by own.known.number q ≡ handed back
 their_events own back before q same taken =
     ap (map (λ (call : Entry Event Reply). call.event)) (ap (λ n. calls_by n q.known.seen) (sym same.number) ∙ taken.theirs)
 
--- all that the worker that came back was to do was done, where it came to its end
+-- the worker whose port was returned did all its work, if it came to its end
 acted_own : {W : Type 0} (hands : W → MeterPort → MeterPort → Type 0) (worker : W) (own before q : MeterPort) (end : Option (Result (Unit {0}) CallFault)) (Whole : List Event → Type 0)
     → ((begun back : MeterPort) (events : List Event) → events ≡ handed back → handed begun ≡ [] → hands worker begun back → Whole events)
     → ComesBack (Did hands worker) own end before q → calls_by own.known.number own.known.seen ≡ [] → end ≡ Some (Ok tt) → Acted q own.known.number Whole
@@ -74,7 +74,7 @@ acted_own hands worker own before q end Whole whole back fresh is =
     acted_as own back.back q Whole back.same back.taken.joined
     (whole own back.back _ (their_events own back.back before q back.same back.taken) (fresh_handed own fresh) (did_all hands worker own back.back end back.ended is))
 
--- what was so of a port's number stays so
+-- a property of a port's number is preserved
 acted_on : (p q : MeterPort) (number : List ℕ) (Whole : List Event → Type 0) → GoesOn p q → Acted p number Whole → Acted q number Whole
 acted_on p q number Whole goes acted =
     let P : List Event → Type 0 = λ events. Whole events in
@@ -83,17 +83,17 @@ acted_on p q number Whole goes acted =
       whole = subst P (sym (ap (map (λ (call : Entry Event Reply). call.event)) (goes.own number (inr acted.joined)))) acted.whole;
     }
 
--- the same by another name of the number
+-- the same fact for an equal number
 acted_by : (q : MeterPort) (m n : List ℕ) (Whole : List Event → Type 0) → m ≡ n → Acted q m Whole → Acted q n Whole
 acted_by q m n Whole e acted = let Q : List ℕ → Type 0 = λ k. Acted q k Whole in subst Q e acted
 
--- the ports that were joined in stay so, and the ports split off were those
+-- the ports that were joined in remain so; they are the ports that were split off
 joined_on : (q last : MeterPort) (from : ℕ) → GoesOn q last → last.known.splits ≡ q.known.splits → AreJoined from q → AreJoined from last
 joined_on q last from goes splits joined i low high =
     let J : List ℕ → Type 0 = λ n. IsAmong n last.known.joined in
     subst J (ap (λ n. child n i) (sym goes.number)) (goes.joined _ (joined i low (omega (arith, high, splits))))
 
--- one more was split off first
+-- one more port was split off before the others
 joined_more : (p own lent last : MeterPort) → SplitsOff p own lent → GoesOn lent last → AreJoined lent.known.splits last → IsAmong own.known.number last.known.joined → AreJoined p.known.splits last
 joined_more p own lent last off goes joined mine i low high =
     let number = goes.number ∙ off.goes.number in
@@ -103,7 +103,7 @@ joined_more p own lent last off goes joined mine i low high =
       | inr other ↦ joined i (omega (arith, low, other, off.splits)) high
     ]
 
--- a worker's fault is never told last
+-- a worker's fault is not the last in the order of faults
 quiet : (end : Option (Result (Unit {0}) CallFault)) (X : Type 0) → IfSome (worker_fault end) (λ f. OnEnded (Err f) X)
 quiet None X = tt
 quiet (Some (Ok done)) X = tt
@@ -128,7 +128,7 @@ ended_first (Err fault.Read) (Some g) X Y q y f = q
 ended_first (Err fault.Write) None X Y q y f = tt
 ended_first (Err fault.Write) (Some g) X Y q y f = q
 
--- where no worker stopped, the rest ended so, and the worker came to its end
+-- if no worker stopped, the clients have this result, and the worker came to its end
 on_ok : (served result : Result Served ServeFault) (end : Option (Result (Unit {0}) CallFault)) (X Y : Type 0) → result ≡ first_of served (worker_fault end) → OnEnded served Y → (Y → X) → OnEnded result X
 on_ok served result end X Y is y f =
     let O : Result Served ServeFault → Type 0 = λ r. OnEnded r X in
@@ -165,14 +165,14 @@ if_ok served result end P is y =
     let O : Result Served ServeFault → Type 0 = λ r. IfOk r P in
     subst O (sym is) (ok_first served (worker_fault end) P y)
 
--- the port of a worker was joined in since, which splits none off
+-- the port of a worker was joined in since, and no port was split off
 served_on : (served result : Result Served ServeFault) (end : Option (Result (Unit {0}) CallFault)) (from splits later : ℕ) → result ≡ first_of served (worker_fault end) → later ≡ splits
     → IfOk served (IsServed from splits) → IfOk result (IsServed from later)
 served_on served result end from splits later is same so =
     let O : ℕ → Type 0 = λ n. IfOk result (IsServed from n) in
     subst O (sym same) (if_ok served result end (IsServed from splits) is so)
 
--- the same by another count of splits
+-- the same fact for an equal count of splits
 served_from : (result : Result Served ServeFault) (from before later : ℕ) → from ≡ before → IfOk result (IsServed from later) → IfOk result (IsServed before later)
 served_from result from before later same so = let O : ℕ → Type 0 = λ n. IfOk result (IsServed n later) in subst O same so
 
@@ -183,7 +183,7 @@ stops_for A B F fault.Listen so why = why
 stops_for A B F fault.Read so why = why
 stops_for A B F fault.Write so why = why
 
--- why it stops, in other words
+-- the reason for stopping, with its parts replaced by implied ones
 map_stops : (result : Result Served ServeFault) (A B F : Type 0) → IfErr result (StopsFor A F) → (A → B) → IfErr result (StopsFor B F)
 map_stops (Ok all) A B F why so = tt
 map_stops (Err f) A B F why so = stops_for A B F f so why
@@ -207,14 +207,14 @@ worker_stops (Some (Ok done)) B F spent = tt
 worker_stops (Some (Err call.Memory)) B F spent = tt
 worker_stops (Some (Err call.Exhausted)) B F spent = spent refl
 
--- it stops for what the rest stopped for, or since the worker's port is spent
+-- the server stops for the reason of the clients, or because the worker's port is spent
 stops_by : (served result : Result Served ServeFault) (end : Option (Result (Unit {0}) CallFault)) (A B F : Type 0) → result ≡ first_of served (worker_fault end)
     → IfErr served (StopsFor A F) → (A → B) → (end ≡ Some (Err call.Exhausted) → B) → IfErr result (StopsFor B F)
 stops_by served result end A B F is why so spent =
     let O : Result Served ServeFault → Type 0 = λ r. IfErr r (StopsFor B F) in
     subst O (sym is) (stops_first served (worker_fault end) (StopsFor B F) (worker_stops end B F spent) (map_stops served A B F why so))
 
--- a worker was refused a call: the port is spent, into which its port was joined
+-- a worker was refused a call, so the port into which its port was joined is spent
 spent_by : {W : Type 0} (hands : W → MeterPort → MeterPort → Type 0) (worker : W) (own begun before q : MeterPort) (end : Option (Result (Unit {0}) CallFault)) → ComesBack (Did hands worker) own end before q
     → GoesOn begun before → own.bound ≡ begun.bound → end ≡ Some (Err call.Exhausted) → IsSpent q
 spent_by hands worker own begun before q end back goes bound is =
@@ -223,11 +223,12 @@ spent_by hands worker own begun before q end back goes bound is =
     let same : q.bound ≡ back.back.bound = back.taken.goes.bound ∙ goes.bound ∙ sym bound ∙ sym back.same.bound in
     omega (arith, spent, same, back.taken.drawn)
 
--- a port that was spent stays so
+-- a spent port remains spent
 spent_on : (p q : MeterPort) → GoesOn p q → IsSpent p → IsSpent q
 spent_on p q goes spent = omega (arith, goes.bound, goes.drawn, spent)
 
--- A port was split off for a worker, the rest was served, and then the worker's port was joined in
+-- A port was split off for a worker, the clients were served, and then the worker's port was joined
+-- in
 module _ {did : MeterPort → MeterPort → Result (Unit {0}) CallFault → Type 0} {p own lent mid last : MeterPort} {served result : Result Served ServeFault}
     (off : SplitsOff p own lent) (goes : GoesOn lent mid) (ends : EndsWith did own served result mid last) where
   since : GoesOn lent last
@@ -247,13 +248,13 @@ module _ {did : MeterPort → MeterPort → Result (Unit {0}) CallFault → Type
   pub served_beside : (from before : ℕ) → from ≡ before → IfOk served (IsServed from mid.known.splits) → IfOk result (IsServed before last.known.splits)
   served_beside from before same so = served_from result from before _ same (served_on served result ends.end from _ _ ends.first ends.back.taken.splits so)
 
-  -- what sessions did stays so
+  -- facts about sessions are preserved
   pub sessions_beside : (password : List ℕ) (from before : ℕ) → from ≡ before → lent.known.splits ≤ from → AreJoined lent.known.splits mid
       → AreSessions password from mid → AreSessions password before last
   sessions_beside password from before same early joined sessions =
       sessions_on password lent.known.splits from before mid last same early ends.back.taken.goes ends.back.taken.splits joined sessions
 
-  -- what another worker did stays so
+  -- facts about another worker are preserved
   pub acted_beside : (i j : ℕ) (Whole : List Event → Type 0) → i ≡ j → OnEnded served (Acted mid (child lent.known.number i) Whole) → OnEnded result (Acted last (child p.known.number j) Whole)
   acted_beside i j Whole same so =
       on_ok served result ends.end _ _ ends.first so
@@ -261,7 +262,7 @@ module _ {did : MeterPort → MeterPort → Result (Unit {0}) CallFault → Type
 
 module _ {W : Type 0} (hands : W → MeterPort → MeterPort → Type 0) (worker : W) {p own lent mid last : MeterPort} {served result : Result Served ServeFault}
     (off : SplitsOff p own lent) (goes : GoesOn lent mid) (ends : EndsWith (Did hands worker) own served result mid last) where
-  -- what the worker did, by its other name
+  -- the work of the worker, for an equal worker
   pub acted_itself : (All : W → List Event → Type 0) (given : W) → worker ≡ given
       → ((begun back : MeterPort) (events : List Event) → events ≡ handed back → handed begun ≡ [] → hands worker begun back → All worker events)
       → OnEnded result (Acted last (child p.known.number p.known.splits) (All given))

@@ -1,4 +1,4 @@
--- The calls of a session's port are those that the session asks.
+-- The calls of a session's port are the events of the session.
 use Rattle.std.proofs.Common.{◌≡◌, ℕ, ◌<◌, ◌≤◌, List, [], ◌∷◌, ◌++◌, map, Result, Ok, Err, refl, sym, ap, ◌∙◌, subst, inl, inr, ⊎_elim, arith, Option}
 use Rattle.std.proofs.lemmas.List.{append-nil, append_assoc, map-append}
 use Rattle.relay_events.specs.declared.event.Event.{Event}
@@ -22,7 +22,7 @@ use Rattle.meter_server.proofs.PortLemmas.{is_same, same_on, step_same, replied_
 abbrev event_of : Entry Event Reply → Event
 event_of call = call.event
 
--- the events of entered calls are those that were replied to
+-- the events of the port's new calls are those that were replied to
 entries_events : (by : List ℕ) (p : MeterPort) (events : List Event) (replies : List Reply) (q : MeterPort)
     → Replied PortSteps p events replies q → map event_of (entries by events replies) ≡ events
 entries_events by p [] [] q same = refl
@@ -74,7 +74,7 @@ module _ {R W : Type 0} (remaining : R → Option (List ℕ)) (reads read_failur
   did_ask r w p (Err fault.Exhausted) r' w' q did = by_refused password seen p did.asked did.later did.replies _ q did.all_asked did.refused
   did_ask r w p (Err fault.Listen) r' w' q did = absurd did
 
--- a port that served a session made the session's calls
+-- a port that served a session made the calls of the session
 pub served_asks : {R W : Type 0} (remaining : R → Option (List ℕ)) (reads read_failures : R → ℕ) (contents : W → Option (List ℕ)) (write_failures : W → ℕ) (password : List ℕ)
     (r : R) (w : W) (p : MeterPort) (result : Result SessionEnd ServeFault) (r' : R) (w' : W) (q : MeterPort)
     → Served remaining reads read_failures contents write_failures PortSteps password r w p result r' w' q → AsksThrough password p q
@@ -84,7 +84,7 @@ served_asks remaining reads read_failures contents write_failures password r w p
 abbrev Session : List ℕ → MeterPort → MeterPort → Type 0
 Session password p q = IsSame p q × AsksThrough password p q
 
--- the calls of a new port that served a session, or came back unused
+-- the calls of a new port that served a session, or was returned unused
 calls_asked : (password number : List ℕ) (calls : List (Entry Event Reply)) → AreCallsOf (Session password) number calls → AreAsked password (map event_of calls)
 calls_asked password number calls c =
     let A : List Event → Type 0 = λ es. AreAsked password es in
@@ -107,7 +107,7 @@ are_sessions password from port served i low high = calls_asked password (child 
 pub no_sessions : (password : List ℕ) (from : ℕ) (port : MeterPort) → port.known.splits ≤ from → AreSessions password from port
 no_sessions password from port few i low high = absurd (omega (arith, few, low, high))
 
--- what was so of joined ports stays so
+-- facts about joined ports are preserved
 pub sessions_on : (password : List ℕ) (first from before : ℕ) (p q : MeterPort) → from ≡ before → first ≤ from → GoesOn p q → q.known.splits ≡ p.known.splits
     → AreJoined first p → AreSessions password from p → AreSessions password before q
 sessions_on password first from before p q same early goes splits joined sessions i low high =

@@ -1,4 +1,4 @@
--- A port to a meter that others share, as a meter.
+-- A port of a shared meter, as a meter.
 use Rattle.std.specs.Prelude.{◌≡◌, ℕ, List, [], ◌∷◌, ◌++◌, Result, Ok, Err}
 use Rattle.kept_meter.specs.Calls.{IsLegal, IsSure}
 use Rattle.relay_events.specs.declared.event.Event.{Event}
@@ -13,12 +13,13 @@ use Rattle.turn_lock.specs.declared.turned.Entry.{Entry}
 abbrev pub MeterPort : Type 0
 MeterPort = ShownPort Event Reply Opening
 
--- a call through a port: the legal history that the port then knows ends with it, or has no further call of the port's and there is a cause
+-- a call through a port: the legal history that the port then knows ends with this call; or it has
+-- no further call of the port, and there is a cause
 abbrev pub Calls : MeterPort → Event → Result Reply CallFault → MeterPort → Type 0
 Calls p event (Ok reply) q = Called IsLegal p.known event reply q.known
 Calls p event (Err fault) q = Watches IsLegal p.known q.known × IsCause IsSure event p.bound q.known fault
 
--- how a port takes an event
+-- a step of a port: passing an event on
 pub record PortSteps (p : MeterPort) (event : Event) (result : Result Reply CallFault) (q : MeterPort) : Type 0 where
   pub lock : q.lock ≡ p.lock
   pub bound : q.bound ≡ p.bound
@@ -29,7 +30,7 @@ abbrev pub entries : List ℕ → List Event → List Reply → List (Entry Even
 entries by (event ∷ events) (reply ∷ replies) = entry by event reply ∷ entries by events replies
 entries by _ _ = []
 
--- in the history that the port knows its own calls went on with these, and with no others
+-- in the history that the port knows, its own calls are extended by these and by no others
 abbrev pub Enters : MeterPort → List Event → List Reply → MeterPort → Type 0
 Enters p events replies q =
     calls_by p.known.number q.known.seen ≡ calls_by p.known.number p.known.seen ++ entries p.known.number events replies

@@ -1,4 +1,4 @@
--- The calls of sessions: a port's calls are the first events that a session asks.
+-- The calls of sessions: a port's calls are the first events of a session.
 use Rattle.std.specs.Prelude.{◌≡◌, ℕ, ◌<◌, ◌≤◌, List, ◌++◌}
 use Rattle.relay_events.specs.declared.event.Event.{Event}
 use Rattle.session_core.specs.Backwards.{Asks}
@@ -6,13 +6,13 @@ use Rattle.session_threads.specs.Ports.{child}
 use Rattle.meter_workers.specs.Handed.{MeterPort}
 use Rattle.meter_server.specs.ServingAll.{events_by}
 
--- the events are the first that a session asks for some input; the management client has this password
+-- the events are the first of a session with some input; the management client has this password
 pub record AreAsked (password : List ℕ) (events : List Event) : Type 0 where
   pub input : List ℕ
   pub later : List Event
   pub all : Asks password input ≡ events ++ later
 
--- the port p is q after a session: its further calls are the session's, and no others
+-- q is the state of the port p after a session: its new calls are exactly those of the session
 pub record AsksThrough (password : List ℕ) (p q : MeterPort) : Type 0 where
   pub asked : List Event
   pub are : AreAsked password asked

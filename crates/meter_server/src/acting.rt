@@ -1,4 +1,4 @@
-//! The meter's own actors as workers: its sampler, its clock and its button.
+//! The meter's own event sources as workers: its sampler, its clock and its button.
 use call_fault::CallFault;
 use kept_meter::Kept;
 use meter_workers::{
@@ -9,7 +9,7 @@ use std::alloc::Global;
 use std::sync::Wait;
 use turn_lock::Port;
 
-/// Hands in blocks of samples.
+/// Passes blocks of samples to the meter.
 #[derive(Drop)]
 pub(crate) struct Sampler<S> {
     pub(crate) source: S,
@@ -36,7 +36,7 @@ impl<S: BlockSource + Send> Worker<Port<Kept>> for Sampler<S> {
     }
 }
 
-/// Hands in moments.
+/// Passes moments of the clock to the meter.
 #[derive(Drop)]
 pub(crate) struct Clock<S> {
     pub(crate) source: S,
@@ -60,7 +60,7 @@ impl<S: MomentSource + Send> Worker<Port<Kept>> for Clock<S> {
     }
 }
 
-/// Hands in presses.
+/// Passes presses of the button to the meter.
 #[derive(Drop)]
 pub(crate) struct Button<S> {
     pub(crate) source: S,

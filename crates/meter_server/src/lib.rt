@@ -1,4 +1,5 @@
-//! The meter as its clients meet it: sessions side by side, samples, moments and presses on one meter, in one history.
+//! The meter as a server: parallel sessions of clients, power samples, moments of the clock and
+//! presses of the button on one meter, with one history.
 #![tactic(auto)]
 
 mod acting;

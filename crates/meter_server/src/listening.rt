@@ -1,4 +1,4 @@
-//! Where clients come from, and how the end of a session is reported.
+//! Sources of clients, and the reporting of the ends of sessions.
 ghost use Rattle.std.specs.Prelude.{◌≡◌, ◌≢◌, ⊤, ℕ, Option, None, Some};
 ghost use Rattle.std.specs.Prelude.{IfSome, IfNone, OnOk, OnErr};
 ghost use Rattle.acse_ber.specs.Password.{IsPassword};
@@ -17,40 +17,41 @@ use std::net::TcpStream;
 use std::sync::Wait;
 use turn_lock::Port;
 
-/// An output that the end of its session is reported to. Nothing that it does changes the session.
+/// An output that is notified of the end of its session. The notification does not affect the
+/// session.
 pub trait Observer {
-    /// The session ended in this way, or with this fault. The default does nothing.
+    /// Is called with the end of the session or its fault. The default does nothing.
     fn ended(&self, _end: &Result<SessionEnd, ServeFault>) {}
 }
 
 /// A plain socket reports nothing.
 impl Observer for TcpStream {}
 
-/// Where clients come from.
+/// A source of clients.
 pub trait Listener {
-    /// What a client sends.
+    /// The stream of bytes from a client.
     type Input: Read + Drop + Send + 'static;
 
-    /// What a client is sent, and what the end of its session is reported to.
+    /// The stream of bytes to a client, which is notified of the end of its session.
     type Output: Write + Observer + Drop + Send + 'static;
 
-    /// It has failed. Of a listener that doesn't say how that is seen nothing is known.
+    /// Ghost predicate: the listener has failed. The default claims nothing.
     ghost has_failed: { Self → Type 0 } = { λ _. ⊤ };
 
     /// Ghost value: the number of clients accepted so far, if the listener counts them. The default
     /// claims nothing.
     ghost accepted: { Self → Option ℕ } = { λ _. None };
 
-    /// Waits for the next client and returns its input and its output. `None`: a client connected,
-    /// but its stream could not be set up, and it was closed with no byte sent. An error: no
-    /// further client comes.
+    /// Waits for the next client and returns its input and its output. Returns `None` if a client
+    /// connected but its stream could not be set up; it was closed without a byte sent. After an
+    /// error no further client is accepted.
     fn accept(&mut self) -> Result<Option<(Self::Input, Self::Output)>, ListenFault>
         ensures failed { OnErr result (has_failed self.new) }
         ensures accepted { OnOk result (RisesBy (accepted self.old) 1 (accepted self.new)) }
         ensures accepted_err { OnErr result (RisesBy (accepted self.old) 0 (accepted self.new)) };
 }
 
-/// A client that was accepted.
+/// An accepted client.
 #[derive(Drop)]
 pub(crate) struct Client<I, O> {
     input: I,
@@ -82,7 +83,8 @@ impl<I: Read + Drop + Send, O: Write + Observer + Drop + Send> Connection<Port<K
     }
 }
 
-// The client of these streams, with a copy of the password; without streams there is none.
+// Returns the client of these streams with a copy of the password, `OutOfMemory` if the copy can't
+// be allocated, or `SetupFailed` if there are no streams.
 fn prepare_client<I: Drop, O: Drop>(
     alloc: Global,
     streams: Option<(I, O)>,

@@ -1,4 +1,4 @@
-//! A session that shares its meter with others.
+//! A session on a meter that it shares with others.
 ghost use Rattle.std.specs.Prelude.{◌≡◌, List};
 ghost use Rattle.acse_ber.specs.Password.{IsPassword};
 ghost use Rattle.session_serving.specs.Meters.{Replied};
@@ -21,8 +21,8 @@ use std::marker::Model;
 use std::sync::Wait;
 use turn_lock::Port;
 
-/// A port of a meter that others share, as a [`Meter`]: each event is a call of the port, and waits
-/// for its turn. Contracts see the port.
+/// A port of a shared meter, as a [`Meter`]: each event is a call of the port, and waits for its
+/// turn. Contracts refer to the port.
 pub struct PortMeter<'a, W: Wait> {
     rt: &'a W,
     port: Port<Kept>,
@@ -43,14 +43,14 @@ impl<'a, W: Wait> Model for PortMeter<'a, W> {
 }
 
 impl<'a, W: Wait> PortMeter<'a, W> {
-    /// The meter of this port. Its calls wait for their turns by `rt`.
+    /// Returns the meter of this port. Its calls wait for their turns by `rt`.
     pub fn new(rt: &'a W, port: Port<Kept>) -> PortMeter<'a, W>
         ensures { result ≡ port }
     {
         PortMeter { rt, port }
     }
 
-    /// Returns the port, with all that it has seen.
+    /// Returns the port, with all calls that it has seen.
     pub fn into_port(self) -> Port<Kept>
         ensures { result ≡ self }
     {
@@ -67,15 +67,15 @@ impl<'a, W: Wait> Meter for PortMeter<'a, W> {
     }
 }
 
-/// Events that a port took, one after the other, stand with their replies and in this order in the history that it then knows, and its number has no other new
-/// calls there.
+/// Consecutive events that a port passed on are in the history that the port then knows, with their
+/// replies and in this order; the history has no other new calls with the port's number.
 pub fn calls_are_entered()
     ensures { (p : MeterPort) (events : List Event) (replies : List Reply) (q : MeterPort) → Replied PortSteps p events replies q → Enters p events replies q }
 {}
 
-/// A session that [`serve_session`] served over a [`PortMeter`] leaves the same port: of the same
-/// lock, with the same number. In the history that the port then knows, its further calls are the
-/// events that the session asked.
+/// A session that [`serve_session`] served over a [`PortMeter`] leaves the same port, with the same
+/// lock and the same number. In the history that the port then knows, its new calls are the events
+/// of the session.
 pub fn session_keeps_its_port<R: Reader, O: Writer>()
     ensures { (password : _) (reader : _) (writer : _) (p : MeterPort) (end : _) (read : _)
         (written : _) (q : MeterPort)
@@ -84,8 +84,9 @@ pub fn session_keeps_its_port<R: Reader, O: Writer>()
         → IsSame p q × AsksThrough password p q }
 {}
 
-/// Serves one session as [`serve_session`] does, by the events of a port: each event that the session asks is a call of the port, and waits for its turn. Between
-/// two events the session holds no turn. The management client has this password, 1 to 32 bytes. The port comes back.
+/// Serves one session as [`serve_session`] does, through a port: each event of the session is a
+/// call of the port, and waits for its turn. Between two events the session holds no turn. The
+/// management client has this password, 1 to 32 bytes. Returns the port in every case.
 pub fn serve_port<R: Reader, O: Writer, W: Wait>(
     rt: &W,
     alloc: Global,

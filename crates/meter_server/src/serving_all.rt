@@ -1,4 +1,5 @@
-//! The whole server: sessions of clients, blocks of samples, moments and presses, each in a thread of its own, over one meter.
+//! The whole server: sessions of clients, blocks of samples, moments and presses on one meter, each
+//! session and source in a thread of its own.
 ghost use Rattle.std.specs.Prelude.{◌≡◌, ◌+◌, [], Err, IfOk, IfErr};
 ghost use Rattle.acse_ber.specs.Password.{IsPassword};
 ghost use Rattle.kept_meter.specs.Calls.{IsLegal as IsLegalRun};
@@ -22,16 +23,17 @@ use std::sync::Wait;
 use std::thread::Threads;
 use turn_lock::Port;
 
-/// What became of the connections. Each count stops at `u64::MAX`.
+/// The numbers of connections by their result. Each saturates at `u64::MAX`.
 #[derive(Clone, Copy, Debug, PartialEq, Eq)]
 pub struct Served {
-    /// Those that were given to a session.
+    /// The number of connections that were given to a session.
     pub served: u64,
-    /// Those that were closed with no byte sent.
+    /// The number of connections that were closed without a byte sent.
     pub turned_away: u64,
 }
 
-// The first fault: want of memory, then why a worker stopped, then what came of the rest.
+// Returns the first fault in this order: out of memory, the fault of the worker, the fault of the
+// clients.
 fn first_fault(
     served: Result<Served, ServeFault>,
     end: Option<Result<(), CallFault>>,
@@ -79,7 +81,8 @@ fn serve_clients<L: Listener, R: Threads + Wait + Copy + Send + 'static>(
     })
 }
 
-// Joins the port of a worker in, behind what was served beside it, and gives the first fault of both.
+// Joins in the port of a worker, after the clients that were served in parallel, and returns the
+// first fault of both.
 fn join_beside<K: Worker<Port<Kept>>, R: Threads>(
     rt: &R,
     running: WorkerThread<Kept, K>,
@@ -94,7 +97,7 @@ fn join_beside<K: Worker<Port<Kept>>, R: Threads>(
     first_fault(served, end)
 }
 
-// Serves them while the button is pressed.
+// Serves the clients and passes on the presses of the button, in parallel.
 fn serve_with_button<
     L: Listener,
     U: ButtonSource + Send + 'static,
@@ -125,7 +128,7 @@ fn serve_with_button<
     join_beside(rt, running, port, served)
 }
 
-// Serves them with the button while the clock ticks.
+// Serves the clients and passes on the presses and the moments of the clock, in parallel.
 fn serve_with_clock<
     L: Listener,
     M: MomentSource + Send + 'static,
@@ -159,7 +162,7 @@ fn serve_with_clock<
     join_beside(rt, running, port, served)
 }
 
-// Serves them with the button and the clock while samples come.
+// Serves the clients and passes on the presses, the moments and the blocks of samples, in parallel.
 fn serve_with_sampler<
     L: Listener,
     B: BlockSource + Send + 'static,
@@ -196,26 +199,28 @@ fn serve_with_sampler<
     join_beside(rt, running, port, served)
 }
 
-/// Serves clients, and hands in blocks of samples, moments and presses, over one meter: a thread for each of at most eight open sessions, and one each for the three
-/// sources, each with a port of its own. The management client has this password, 1 to 32 bytes.
+/// Serves clients, and passes blocks of samples, moments and presses to one meter: in a thread for
+/// each of at most eight open sessions and one for each of the three sources, each with a port of
+/// its own. The management client has this password, 1 to 32 bytes.
 ///
-/// Returns once every source has given all, every session has ended, and `limit` connections came
-/// (0 is no limit) or the listener failed. A connection that arrives while eight sessions are open,
-/// or for which a port, a thread or memory is refused, or whose stream could not be set up, is
-/// closed with no byte sent and counted as turned away.
+/// Returns once every source is at its end, every session has ended, and `limit` connections came
+/// (0 means no limit) or the listener failed. A connection is closed without a byte sent and
+/// counted as turned away if eight sessions are open, if no port, thread or memory is available for
+/// it, or if its stream could not be set up.
 ///
-/// The port comes back in every case: it has seen a legal history that begins with what it had
-/// seen, and every port that was split off is joined in. At `Ok` all that a source lists was handed
-/// in, in order: the blocks by the first of these ports, with reads of the thresholds between them,
-/// the moments by the second and the presses by the third. Each further port made the calls of one
-/// session with this password, in every case. At `Ok` the listener accepted as many clients as are
-/// counted, unless the count reached `u64::MAX`.
+/// Returns the port in every case: it has seen a legal history that begins with what it had seen
+/// before, and every port that was split off is joined in. After `Ok` all events that a source
+/// declared were passed on, in order: the blocks by the first of these ports, with reads of the
+/// thresholds between them, the moments by the second and the presses by the third. In every case
+/// each further port made the calls of one session with this password. After `Ok` the listener
+/// accepted as many clients as are counted, unless the count reached `u64::MAX`.
 ///
-/// The fault is the first of these. `Memory`: the allocation for eight sessions, or a port, thread
-/// or copy of the password for a worker or a connection was refused. `Exhausted`: the meter took no
-/// more events of the sampler, the clock or the button; the port has read that as many turns were
-/// drawn as the lock has. `Listen`: the listener failed; all that each source lists was handed in.
-/// It is no other. A session's own fault ends that session alone.
+/// Returns the first of these faults, and no other. `Memory`: the memory for eight sessions could
+/// not be allocated, or no port, thread or copy of the password was available for a worker or a
+/// connection. `Exhausted`: the meter accepts no more events of the sampler, the clock or the
+/// button; the port has read that all turns of the lock were drawn. `Listen`: the listener failed;
+/// all events that each source declared were passed on. A session's own fault ends only that
+/// session.
 pub fn serve_all<
     L: Listener,
     B: BlockSource + Send + 'static,

@@ -1,4 +1,4 @@
--- How `serve` ends.
+-- The end of `serve`.
 --     end_of_console    the fault of the console
 --     Prints            the text of a trace was printed
 --     PrintsText        a text of this kind was printed
@@ -9,7 +9,7 @@ use Rattle.meter_console.specs.declared.running.ConsoleEnd.{ConsoleEnd}
 use Rattle.program_fault.specs.declared.Fault.{Fault}
 use Rattle.program_fault.specs.declared.Fault.TheVariants as fault
 
--- lines that were lost come before the read that failed
+-- lost lines take precedence over a failed read
 abbrev pub fault_of_lines : ℕ → Bool → Result (Unit {0}) Fault
 fault_of_lines zero false = Ok tt
 fault_of_lines zero true = Err fault.Read
@@ -20,13 +20,13 @@ abbrev pub end_of_console : Option ConsoleEnd → Result (Unit {0}) Fault
 end_of_console None = Ok tt
 end_of_console (Some end) = fault_of_lines (lost_lines end) (has_failed end)
 
--- a text was printed whole, or the fault is that of the trace or of the write
+-- the whole text was printed, or the fault is that of the trace or of the write
 abbrev pub Prints : Result (List ℕ) Fault → Option (List ℕ) → Result (Unit {0}) Fault → Option (List ℕ) → Type 0
 Prints (Ok text) written (Ok done) written' = Appends written written' text
 Prints (Ok text) written (Err wrong) written' = wrong ≡ fault.Write
 Prints (Err given) written result written' = result ≡ Err given
 
--- a text of this kind was printed whole
+-- a text of this kind was printed completely
 pub record PrintsText (IsText : List ℕ → Type 0) (written written' : Option (List ℕ)) : Type 0 where
   pub text : List ℕ
   pub kind : IsText text

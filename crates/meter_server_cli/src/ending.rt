@@ -1,4 +1,4 @@
-//! How `serve` ends: what it prints, and the fault that it reports.
+//! The end of `serve`: what it prints, and the fault that it reports.
 ghost use Rattle.std.specs.Prelude.{◌≡◌, false, true, Ok, Err, OnOk};
 ghost use Rattle.program_start.specs.Ends.{first_of};
 ghost use Rattle.meter_server_cli.specs.Endings.{end_of_console, Prints};
@@ -10,8 +10,9 @@ use program_fault::Fault;
 use program_start::{first_fault, print_text};
 use std::io::Write;
 
-/// The fault of a run, by what became of its connections and whether the listener failed. That no
-/// further client was accepted is none if the listener did not fail: standard input had ended.
+/// Returns the fault of a run, by the result of its connections and whether the listener failed. It
+/// is not a fault that no further client was accepted if the listener did not fail: standard input
+/// had ended.
 pub(crate) fn run_fault(served: Result<Served, ServeFault>, has_failed: bool) -> Result<(), Fault>
     ensures served { OnOk served (result ≡ Ok tt) }
     ensures ended { served ≡ Err ServeFault.Listen → has_failed ≡ false → result ≡ Ok tt }
@@ -37,8 +38,8 @@ pub(crate) fn run_fault(served: Result<Served, ServeFault>, has_failed: bool) ->
     }
 }
 
-/// The fault of the console, if its end is known: `Memory` if lines were lost, else `Read` if a read
-/// failed.
+/// Returns the fault of the console, if its end is known: `Memory` if lines were lost, else `Read`
+/// if a read failed.
 fn console_fault(end: Option<ConsoleEnd>) -> Result<(), Fault>
     ensures { result ≡ end_of_console end }
 {
@@ -49,19 +50,19 @@ fn console_fault(end: Option<ConsoleEnd>) -> Result<(), Fault>
     }
 }
 
-/// How the parts of `serve` ended.
+/// The results of the parts of `serve`.
 #[derive(Drop)]
 pub(crate) struct Ends {
-    /// The serving of clients.
+    /// The result of serving clients.
     pub(crate) served: Result<(), Fault>,
-    /// The console, if its thread was waited for.
+    /// The end of the console, if its thread was waited for.
     pub(crate) console: Option<ConsoleEnd>,
-    /// The printing of the trace.
+    /// The result of printing the trace.
     pub(crate) printed: Result<(), Fault>,
 }
 
 impl Ends {
-    /// The first fault: that of the serving, else that of the console, else that of the trace.
+    /// Returns the first fault: that of serving, then that of the console, then that of printing.
     pub(crate) fn first_fault(self) -> Result<(), Fault>
         ensures { result ≡ first_of self.served (first_of (end_of_console self.console) self.printed) }
     {

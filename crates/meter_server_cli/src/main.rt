@@ -1,8 +1,10 @@
-//! The program `meter_server`: `meter_server serve` is a meter that clients reach over TCP, `meter_server apdu` answers requests in hexadecimal, a line each, and
-//! `meter_server hex` runs a client's session.
+//! The program `meter_server`: `meter_server serve` is a meter that clients reach over TCP,
+//! `meter_server apdu` responds to requests in hexadecimal, one per line, and `meter_server hex`
+//! runs a client's session.
 //!
-//! `server_options` reads the command line, `hex_commands` has `apdu` and `hex`, and `serve_plan`, `meter_console` and `client_sockets` what `serve` begins with; this crate joins
-//! them to the standard streams, the threads and the exit status.
+//! `server_options` reads the command line, `hex_commands` has `apdu` and `hex`, and `serve_plan`,
+//! `meter_console` and `client_sockets` have the parts of `serve`; this crate connects them to the
+//! standard streams, the threads and the exit status.
 #![tactic(auto)]
 
 mod ending;
@@ -17,16 +19,16 @@ use program_start::ended;
 use server_options::{HexOptions, Work, asked};
 use std::process::ExitCode;
 
-/// What is to be done once the command line is read.
+/// The next step after the command line is read.
 #[derive(Drop)]
 enum Next {
-    /// Nothing more: the exit status.
+    /// Nothing more to do; exit with this status.
     Ended(u8),
-    /// Clients are to be served.
+    /// Serve clients.
     Serve(Server),
 }
 
-/// `apdu`: answers the requests of standard input on standard output.
+/// `apdu`: responds to the requests of standard input on standard output.
 fn run_apdu(rt: &HostRuntime, is_verbose: bool) -> Result<(), Fault> {
     let mut input = Counted::new(rt.stdin());
     let mut output = Counted::new(rt.stdout());
@@ -36,7 +38,7 @@ fn run_apdu(rt: &HostRuntime, is_verbose: bool) -> Result<(), Fault> {
     }
 }
 
-/// `hex`: plays the session of standard input on standard output.
+/// `hex`: runs the session of standard input on standard output.
 fn run_hex(rt: &HostRuntime, options: &HexOptions) -> Result<(), Fault> {
     let mut input = Counted::new(rt.stdin());
     let mut output = Counted::new(rt.stdout());
@@ -48,7 +50,7 @@ fn run_hex(rt: &HostRuntime, options: &HexOptions) -> Result<(), Fault> {
     }
 }
 
-/// Reads the command line and does what it asks for, up to the first client of a server.
+/// Reads the command line and performs its work, up to the first client of a server.
 fn begin(rt: &HostRuntime) -> Result<Next, Fault> {
     match asked(rt)? {
         Work::Nothing(status) => Ok(Next::Ended(status)),

@@ -1,12 +1,12 @@
-//! What `serve --verbose` says about a fault before the first client.
+//! The messages of `serve --verbose` about faults before the first client.
 use acse_ber::MAX_PASSWORD;
 use server_options::ServeOptions;
 use std::io::ErrorKind;
 
-/// The greatest length of a meter's name, in bytes.
+/// The maximum length of a meter's name, in bytes.
 const MAX_DEVICE: usize = 16;
 
-/// Whether a text has 1 to `most` bytes.
+/// Returns whether a text has 1 to `most` bytes.
 fn fits(text: &str, most: usize) -> bool {
     !text.is_empty() && text.len() <= most
 }

@@ -23,17 +23,17 @@ use std::sync::atomic::AtomicBool;
 use std::sync::{Arc, Wait};
 use std::thread::{JoinHandle, Threads};
 
-/// Who is served.
+/// The parameters of the clients.
 #[derive(Drop)]
 struct Meter {
     /// The password of the management client.
     password: Octets,
-    /// How many connections are accepted; 0 is no limit.
+    /// The number of connections to accept; 0 means no limit.
     connections: u64,
     ghost sized: { IsPassword password },
 }
 
-/// Where clients come from, and the flag by which the console ends the listening.
+/// Returns the source of clients, and the flag with which the console ends the listening.
 fn sockets_of(
     rt: &HostRuntime,
     bounds: Bounds,
@@ -48,8 +48,8 @@ fn sockets_of(
     Ok((sockets, stopped))
 }
 
-/// Runs the meter, and prints its trace. Returns what became of the connections, and whether the trace
-/// was printed.
+/// Runs the meter and prints its trace. Returns the result of its connections, and whether the
+/// trace was printed.
 #[tactic(auto, using(serve_plan::proofs::Unused::unused))]
 fn run_and_print<R: Threads + Wait + Copy + Drop + Send + 'static, W: Write>(
     threads: &R,
@@ -86,7 +86,8 @@ fn run_and_print<R: Threads + Wait + Copy + Drop + Send + 'static, W: Write>(
     (served, print_trace(output, trace))
 }
 
-/// The sockets, the sources of the meter's own events, and what the console's thread reads.
+/// Prepares the sockets, the sources of the meter's own events, and the input of the console's
+/// thread.
 fn prepared<R: Wait + Copy + Drop>(
     rt: &HostRuntime,
     threads: &R,
@@ -124,7 +125,7 @@ fn prepared<R: Wait + Copy + Drop>(
     Ok((sockets, sources, reading))
 }
 
-/// The sockets and the sources of the meter's own events, once the console's thread has begun.
+/// Starts the console's thread, and returns the sockets and the sources of the meter's own events.
 fn started<R: Threads + Wait + Copy + Drop + Send + 'static>(
     rt: &HostRuntime,
     threads: &R,
@@ -147,7 +148,7 @@ fn started<R: Threads + Wait + Copy + Drop + Send + 'static>(
     }
 }
 
-/// What is served, and where clients come to.
+/// A server that is ready to serve: the meter and the sockets for its clients.
 #[derive(Drop)]
 pub(crate) struct Server {
     plan: Plan<Stdin>,
@@ -155,8 +156,8 @@ pub(crate) struct Server {
     address: SocketAddr,
 }
 
-/// Listens on the address of the command line. If `is_verbose`, a line on standard error has the
-/// address, and why listening failed.
+/// Listens on the address of the command line. If `is_verbose`, prints the address, or why
+/// listening failed, on standard error.
 fn listening(
     rt: &HostRuntime,
     address: &str,
@@ -178,8 +179,8 @@ fn listening(
     Ok((listener, address))
 }
 
-/// Does all that is done before the first client is accepted: judges the options, reads the trace to
-/// resume from, and listens.
+/// Prepares a server up to the first client: checks the options, reads the trace to resume from,
+/// and listens.
 pub(crate) fn begun(rt: &HostRuntime, options: &ServeOptions) -> Result<Server, Fault> {
     let plan = match planned(rt.alloc(), rt.stdin(), options) {
         Ok(plan) => plan,
@@ -203,7 +204,8 @@ pub(crate) fn begun(rt: &HostRuntime, options: &ServeOptions) -> Result<Server, 
     }
 }
 
-/// Serves clients beside the lines of the console, and prints the trace of the meter when it ends.
+/// Serves clients in parallel with the lines of the console, and prints the trace of the meter at
+/// the end.
 pub(crate) fn run<R: Threads + Wait + Copy + Drop + Send + 'static>(
     rt: &HostRuntime,
     threads: &R,
@@ -236,7 +238,7 @@ pub(crate) fn run<R: Threads + Wait + Copy + Drop + Send + 'static>(
                 &meter,
             );
             let served = run_fault(served, sockets.has_failed());
-            // (the sources have ended if no fault came, and the console with them)
+            // (if there was no fault, the sources have ended, and so has the console)
             let console = if served.is_ok() {
                 Some(console.join(threads))
             } else {

@@ -1,4 +1,4 @@
--- How a program begins and ends.
+-- The beginning and the end of a program.
 use Rattle.std.specs.Prelude.{ℕ, Bool, true, false, codes, List, ◌++◌, Result, Ok, Err}
 use Rattle.clap.specs.declared.error.kind.ErrorKind.{ErrorKind}
 use Rattle.clap.specs.declared.error.kind.ErrorKind.TheVariants.{DisplayHelp, DisplayVersion}
@@ -6,20 +6,21 @@ use Rattle.program_fault.specs.Statuses.{status_of}
 use Rattle.program_fault.specs.declared.Fault.{Fault}
 use Rattle.program_fault.specs.declared.Fault.TheVariants.{Input, Read, Write, Listen, Memory, Turns}
 
--- whether a fault is one of reading the command line: out of memory, or a word is not valid text
+-- whether a fault can result from reading the command line: out of memory, or a word that is not
+-- valid text
 abbrev pub is_of_words : Fault → Bool
 is_of_words Input = true
 is_of_words Memory = true
 is_of_words _ = false
 
--- whether a fault is one of printing a text: out of memory, or a write failed
+-- whether a fault can result from printing a text: out of memory, or a failed write
 abbrev pub is_of_texts : Fault → Bool
 is_of_texts Write = true
 is_of_texts Memory = true
 is_of_texts _ = false
 
--- the exit status without work: 0 for help and the version, which were asked for; 2 for any other
--- text, which says that the command line is wrong
+-- the exit status of a command line without work: 0 for help and the version; 2 for any other text,
+-- which reports a wrong command line
 abbrev pub status_without_work : ErrorKind → ℕ
 status_without_work DisplayHelp = 0
 status_without_work DisplayVersion = 0

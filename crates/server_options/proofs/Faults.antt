@@ -1,11 +1,11 @@
--- How the faults of a program's beginning are told.
+-- The faults of the beginning of a program are faults of `asked`.
 use Rattle.std.proofs.Common.{◌≡◌, refl, true}
 use Rattle.program_fault.specs.declared.Fault.{Fault}
 use Rattle.program_fault.specs.declared.Fault.TheVariants.{Input, Read, Write, Listen, Memory, Turns}
 use Rattle.program_start.specs.Ends.{is_of_words, is_of_texts}
 use Rattle.server_options.specs.Asking.{is_of_asking}
 
--- that there are no words
+-- a fault of reading the words
 pub words_told : (fault : Fault) → is_of_words fault ≡ true → is_of_asking fault ≡ true
 words_told Input e = refl
 words_told Read e = absurd cc
@@ -14,7 +14,7 @@ words_told Listen e = absurd cc
 words_told Memory e = refl
 words_told Turns e = absurd cc
 
--- that a text is not printed
+-- a fault of printing a text
 pub texts_told : (fault : Fault) → is_of_texts fault ≡ true → is_of_asking fault ≡ true
 texts_told Input e = absurd cc
 texts_told Read e = absurd cc

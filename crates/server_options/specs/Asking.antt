@@ -1,9 +1,9 @@
--- What comes of a command line.
+-- The faults of a command line.
 use Rattle.std.specs.Prelude.{Bool, true, false}
 use Rattle.program_fault.specs.declared.Fault.{Fault}
 use Rattle.program_fault.specs.declared.Fault.TheVariants.{Input, Write, Memory}
 
--- it is none that the program takes, what it asks to be printed can't be, or memory ran out
+-- the command line is wrong, its text could not be printed, or out of memory
 abbrev pub is_of_asking : Fault → Bool
 is_of_asking Input = true
 is_of_asking Write = true

@@ -1,8 +1,8 @@
--- What the options of a command line say.
+-- The values of the options of a command line.
 --     IsText       the text of an option
 --     IsNumber     the number of an option
 --     IsFlag       whether an option without a value is given
---     IsBounds     the options that bound how far `serve` goes
+--     IsBounds     the limits and flags of `serve`
 --     default_of   the value of an option that is not given
 use Rattle.std.specs.Prelude.{◌≡◌, ◌<◌, ◌^◌, ℕ, Bool, true, false, codes, List, [], Option, Some, unwrap_or, slice_get}
 use Rattle.std.specs.Option.{option_map}
@@ -17,7 +17,8 @@ use Rattle.server_options.specs.declared.options.Bounds.{Bounds}
 abbrev pub IsText : Found → List ℕ → List ℕ → Type 0
 IsText found name text = text ≡ unwrap_or (first_value found name) []
 
--- the number of the option of this name, which is written in decimal and fits this number of bits
+-- the number of the option of this name, which is written in decimal and fits in this number of
+-- bits
 abbrev pub IsNumber : ℕ → Found → List ℕ → ℕ → Type 0
 IsNumber bits found name number = (text : List ℕ) → one_text found name ≡ Some text
     → IsNumeral 10 (without_leading_plus text) → digits_value 10 (without_leading_plus text) < 2 ^ bits
@@ -28,7 +29,7 @@ pub record IsFlag (found : Found) (name : List ℕ) (value : Bool) : Type 0 wher
   pub given : one_text found name ≡ Some (codes "true") → value ≡ true
   pub absent : one_text found name ≡ Some (codes "false") → value ≡ false
 
--- how far `serve` goes
+-- the limits and flags of `serve`
 pub record IsBounds (found : Found) (bounds : Bounds) : Type 0 where
   pub depth : IsNumber 16 found (codes "depth") bounds.depth
   pub connections : IsNumber 64 found (codes "connections") bounds.connections

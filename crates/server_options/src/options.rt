@@ -11,7 +11,7 @@ use std::env;
 use std::env::VarError;
 use std::rt::Env;
 
-/// The variable of the environment with the password.
+/// The environment variable of the password.
 pub(crate) const PASSWORD_VARIABLE: &str = "METER_PASSWORD";
 
 /// The options of `hex`.
@@ -93,8 +93,8 @@ pub(crate) fn hex_options(alloc: Global, matches: &ArgMatches<'_>) -> Result<Hex
     })
 }
 
-/// Returns the password of the command line, else that of the environment. Errors: `Memory`, and `Input`
-/// if neither has one.
+/// Returns the password of the command line, else that of the environment. Errors: `Memory`, and
+/// `Input` if neither has one.
 fn password_of<R: Env + AllocGlobal>(rt: &R, matches: &ArgMatches<'_>) -> Result<String, Fault>
     ensures given { IfOk result (λ password. (text : List ℕ) → first_value (found_of matches.now) (codes "password") ≡ Some text
         → string_bytes password ≡ text) }
@@ -110,28 +110,28 @@ fn password_of<R: Env + AllocGlobal>(rt: &R, matches: &ArgMatches<'_>) -> Result
     }
 }
 
-/// The number of events that the trace keeps.
+/// Returns the number of events that the trace keeps.
 fn depth_of(matches: &ArgMatches<'_>) -> u16
     ensures { IsNumber 16 (found_of matches.now) (codes "depth") result }
 {
     matches.get_one::<u16>("depth").unwrap_or(0)
 }
 
-/// The number of connections to accept.
+/// Returns the number of connections to accept.
 fn connections_of(matches: &ArgMatches<'_>) -> u64
     ensures { IsNumber 64 (found_of matches.now) (codes "connections") result }
 {
     matches.get_one::<u64>("connections").unwrap_or(0)
 }
 
-/// The seconds of an option.
+/// Returns the number of seconds of an option.
 fn seconds_of(matches: &ArgMatches<'_>, name: &str) -> u32
     ensures { IsNumber 32 (found_of matches.now) name.now result }
 {
     matches.get_one::<u32>(name).unwrap_or(0)
 }
 
-/// Whether an option without a value is given.
+/// Returns whether an option without a value is given.
 fn is_given(matches: &ArgMatches<'_>, name: &str) -> bool
     ensures { IsFlag (found_of matches.now) name.now result }
 {

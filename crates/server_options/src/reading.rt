@@ -15,9 +15,10 @@ use std::rt::Env;
 /// The work that a command line asks for.
 #[derive(Drop)]
 pub enum Work {
-    /// No work: help, the version or why the command line is wrong was printed. The exit status, 0 or 2.
+    /// No work: help, the version or the reason why the command line is wrong was printed. Holds
+    /// the exit status, 0 or 2.
     Nothing(u8),
-    /// `apdu`, and whether faults are described on standard error.
+    /// `apdu`. Holds whether faults are described on standard error.
     Apdu(bool),
     /// `hex`.
     Hex(HexOptions),
@@ -58,7 +59,8 @@ fn asked_in<R: Env + AllocGlobal + Print + Eprint>(
 /// Returns the work of the command line. The password of `serve` may be in the environment variable
 /// METER_PASSWORD.
 ///
-/// Errors: `Memory`; `Input` if a word or the password of the environment is not UTF-8; `Write` if help,
+/// Errors: `Memory`; `Input` if a word or the password of the environment is not UTF-8; `Write` if
+/// help,
 /// the version or why the command line is wrong could not be printed.
 #[tactic(auto, using(crate::proofs::Faults::words_told))]
 pub fn asked<R: Env + AllocGlobal + Print + Eprint>(rt: &R) -> Result<Work, Fault>

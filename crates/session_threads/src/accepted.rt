@@ -9,7 +9,7 @@ pub(crate) enum Outcome {
     Served,
     /// The maximum number of sessions were open; the connection was closed.
     Crowded,
-    /// Memory, a port or a thread could not be allocated; the connection was closed.
+    /// No memory, port or thread was available; the connection was closed.
     Starved,
     /// The stream could not be set up; the connection was closed.
     SetupFailed,
@@ -24,7 +24,7 @@ pub struct Accepted {
     pub turned_away: u64,
     /// Whether the listener failed.
     pub has_failed: bool,
-    /// Whether a connection was closed because memory, a port or a thread could not be allocated.
+    /// Whether a connection was closed because no memory, port or thread was available.
     pub has_starved: bool,
 }
 

@@ -56,7 +56,7 @@ pub trait Listener<P> {
     /// default claims nothing.
     ghost accepted: { Self → Option ℕ } = { λ _. None };
 
-    /// Ghost value: the buffer that it borrows for writing, if any. It never changes.
+    /// Ghost value: the mutable borrow that it holds, if any. It never changes.
     ghost borrowed: { Self → Option GName } = { λ _. None };
 
     /// Waits for the next connection, and returns it or the reason why it was closed. After an

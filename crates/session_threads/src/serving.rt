@@ -95,9 +95,9 @@ where
 ///
 /// Returns after `limit` connections (0 means no limit), or after the listener failed, once every
 /// session has ended. A connection is closed without a byte sent and counted as turned away if
-/// eight sessions are open, if memory, a port or a thread can't be allocated for it, or if its
-/// stream could not be set up. Returns `AllocError` if the memory for eight sessions could not be
-/// allocated; then no connection was accepted.
+/// eight sessions are open, if no memory, port or thread is available for it, or if its stream could
+/// not be set up. Returns `AllocError` if the memory for eight sessions could not be allocated; then
+/// no connection was accepted.
 pub fn serve_connections<
     T: Turned + Send + 'static,
     L: Listener<Port<T>>,

@@ -100,8 +100,8 @@ where
     }
 }
 
-/// Starts a thread for the worker, with a port split off from this one. Returns `None` if out of
-/// memory or if no port or thread can be allocated; the worker is dropped, and no port is lost.
+/// Starts a thread for the worker, with a port split off from this one. Returns `None` if no memory,
+/// port or thread is available; the worker is dropped, and no port is lost.
 pub fn start_worker<
     T: Turned + Send + 'static,
     K: Worker<Port<T>> + 'static,

@@ -3,7 +3,8 @@
 --     wrapper_version, max_payload  the supported version, and the maximum length of a payload
 --     version_of .. length_of       its four fields
 --     IsThere                       the announced header and payload are complete
---     head_of                       what bytes begin with: part of a frame, a fault, or a frame with the length of its payload
+--     head_of                       what bytes begin with: part of a frame, a fault, or a frame
+--                                   with the length of its payload
 use Rattle.std.specs.Prelude.{ℕ, ◌+◌, ◌*◌, ◌≤◌, ◌==◌, nat_lt, List, length, drop, if◌then◌else◌}
 use Rattle.byteorder.specs.Endian.{big_number}
 use Rattle.wrapper_frame.specs.declared.header.Head.{Head}

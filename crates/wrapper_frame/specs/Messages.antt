@@ -1,6 +1,7 @@
 -- The frames of a stream (IEC 62056-4-7).
 --     frames_of, rest_of     the consecutive frames that bytes begin with, and the bytes after them
---     Messages               bytes are the texts of frames, followed by a rest that begins with no frame
+--     Messages               bytes are the texts of frames, followed by a rest that begins with no
+--                            frame
 use Rattle.std.specs.Prelude.{◌≡◌, ◌≢◌, ℕ, zero, suc, ◌+◌, ◌<◌, List, [], ◌∷◌, ◌++◌, length, take, drop, slice_index}
 use Rattle.std.specs.List.{flat_map}
 use Rattle.wrapper_frame.specs.declared.parts.Frame.{Frame}

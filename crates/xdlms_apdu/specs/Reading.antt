@@ -2,7 +2,8 @@
 -- found. The order of the faults is this meter's choice.
 --     Read, Reads                       the outcome of a step, and how it relates to the code's
 --     one_at, two_at, three_at          consecutive fields that form one value
---     byte_at .. raw_at                 a byte, bytes, a number, a flag, a length, bytes after their length
+--     byte_at .. raw_at                 a byte, bytes, a number, a flag, a length, bytes after
+--                                       their length
 --     data_at .. result_at              a Data and the parts of the services
 --     list_at                           a count and that number of items
 --     get_request_at .. exception_at    the rest of an APDU after its tag
