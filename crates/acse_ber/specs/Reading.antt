@@ -115,7 +115,8 @@ fields_of bytes = fields_within (length bytes) bytes
 -- the contents of the fields with a tag, in order
 abbrev pub contents_of : ℕ → List Field → List (List ℕ)
 contents_of tag [] = []
-contents_of tag (field ∷ fields) = if field.tag == tag then field.contents ∷ contents_of tag fields else contents_of tag fields
+contents_of tag (field ∷ fields) = if field.tag == tag then field.contents ∷ contents_of tag fields
+    else contents_of tag fields
 
 -- the only element, if there is one
 abbrev pub at_most_one : {X : Type 0} → List X → Result (Option X) AcseFault
@@ -135,7 +136,8 @@ needed None = Err Unreadable
 needed (Some x) = Ok x
 
 -- a reading of an optional part
-abbrev pub optional : {X Y : Type 0} → (X → Result Y AcseFault) → Option X → Result (Option Y) AcseFault
+abbrev pub optional : {X Y : Type 0} → (X → Result Y AcseFault) → Option X
+    → Result (Option Y) AcseFault
 optional read None = Ok None
 optional read (Some x) = do
   y ← read x
@@ -179,7 +181,10 @@ proposed_at bytes = do
   version ← byte_at bytes
   conformance ← conformance_at version.1
   size ← size_at conformance.1
-  Ok (record { version = version.0; conformance = record { 0 = conformance.0 }; size = size.0 }, size.1)
+  Ok (
+    record { version = version.0; conformance = record { 0 = conformance.0 }; size = size.0 },
+    size.1,
+  )
 
 -- an InitiateRequest without a dedicated key
 unfoldable pub proposal_at : List ℕ → Read Proposal
@@ -221,7 +226,8 @@ or_else (Err fault) other = other
 
 -- the user information of an AARE; anything but a response or an error is read as absent
 unfoldable pub info_in : List ℕ → Info
-info_in bytes = or_else (whole (response_at bytes)) (or_else (whole (initiate_error_at bytes)) Absent)
+info_in bytes = or_else (whole (response_at bytes))
+    (or_else (whole (initiate_error_at bytes)) Absent)
 
 -- user information, if it is present
 abbrev pub info_of : Option (List ℕ) → Info
@@ -241,7 +247,12 @@ aarq_in body = do
   mechanism ← field_of 0x8B body
   password ← inner_of 0xAC 0x80 body
   user ← inner_of 0xBE 0x04 body >>= needed
-  Ok (record { context = context; mechanism = unwrap_or mechanism []; password = password; user = user })
+  Ok (record {
+    context = context;
+    mechanism = unwrap_or mechanism [];
+    password = password;
+    user = user;
+  })
 
 -- an AARQ
 unfoldable pub aarq_of : List ℕ → Result Aarq AcseFault

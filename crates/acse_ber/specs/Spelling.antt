@@ -18,7 +18,8 @@ use Rattle.acse_ber.specs.declared.aare.Info.TheVariants.{Absent, Response, Init
 -- a length: one byte below 80 hex, 81 hex and one byte, or 82 hex and two, even if fewer would do
 abbrev pub IsLength : List ℕ → ℕ → Type 0
 IsLength text n =
-    ((n < 0x80) × (text ≡ n ∷ [])) ⊎ ((text ≡ 0x81 ∷ n ∷ []) ⊎ ((two : List ℕ) × (text ≡ 0x82 ∷ two) × IsUnsigned w16 two n))
+    ((n < 0x80) × (text ≡ n ∷ []))
+    ⊎ ((text ≡ 0x81 ∷ n ∷ []) ⊎ ((two : List ℕ) × (text ≡ 0x82 ∷ two) × IsUnsigned w16 two n))
 
 -- a tag, the length of the contents, and the contents
 pub record IsTagged (tag : ℕ) (contents bytes : List ℕ) : Type 0 where
@@ -64,7 +65,8 @@ HasInner tag inner fields (Some text) = HasOne tag (IsTagged inner text) fields
 
 -- an absent mechanism is an empty one
 abbrev pub HasMechanism : List Field → List ℕ → Type 0
-HasMechanism fields mechanism = (HasNone 0x8B fields × (mechanism ≡ [])) ⊎ HasOne 0x8B (λ contents. contents ≡ mechanism) fields
+HasMechanism fields mechanism = (HasNone 0x8B fields × (mechanism ≡ []))
+    ⊎ HasOne 0x8B (λ contents. contents ≡ mechanism) fields
 
 -- bytes that spell the AARQ
 pub record SpellsAarq (bytes : List ℕ) (aarq : Aarq) : Type 0 where
@@ -84,7 +86,8 @@ IsResult outcome contents = contents ≡ 0x02 ∷ 0x01 ∷ outcome ∷ []
 -- the diagnostic of the service user or of the service provider: an integer of one byte
 abbrev pub IsDiagnostic : ℕ → List ℕ → Type 0
 IsDiagnostic diagnostic contents =
-    (source : ℕ) × ((source ≡ 0xA1) ⊎ (source ≡ 0xA2)) × (contents ≡ source ∷ 0x03 ∷ 0x02 ∷ 0x01 ∷ diagnostic ∷ [])
+    (source : ℕ) × ((source ≡ 0xA1) ⊎ (source ≡ 0xA2))
+    × (contents ≡ source ∷ 0x03 ∷ 0x02 ∷ 0x01 ∷ diagnostic ∷ [])
 
 -- no byte, or a byte that is discarded
 abbrev pub IsOptionalByte : List ℕ → Type 0
@@ -98,7 +101,8 @@ pub record IsResponse (bits limit : ℕ) (text : List ℕ) : Type 0 where
   pub conformance : List ℕ
   pub size : List ℕ
   pub name : List ℕ
-  pub parts : text ≡ 0x08 ∷ (quality ++ (version ∷ 0x5F ∷ 0x1F ∷ 0x04 ∷ 0x00 ∷ (conformance ++ (size ++ name))))
+  pub parts : text ≡ 0x08
+      ∷ (quality ++ (version ∷ 0x5F ∷ 0x1F ∷ 0x04 ∷ 0x00 ∷ (conformance ++ (size ++ name))))
   pub is_quality : IsOptionalByte quality
   pub three : length conformance ≡ 3
   pub are_bits : bits ≡ from_be_bytes w32 (0x00 ∷ conformance)
@@ -111,13 +115,15 @@ IsInitiateError error text = text ≡ 0x0E ∷ 0x01 ∷ 0x06 ∷ error ∷ []
 
 -- the text of user information that is a response or an error; absent for any other
 abbrev pub IsInfo : Info → List ℕ → Type 0
-IsInfo Absent text = ((bits limit : ℕ) → IsResponse bits limit text → ⊥) × ((error : ℕ) → IsInitiateError error text → ⊥)
+IsInfo Absent text = ((bits limit : ℕ) → IsResponse bits limit text → ⊥)
+    × ((error : ℕ) → IsInitiateError error text → ⊥)
 IsInfo (Response bits limit) text = IsResponse bits limit text
 IsInfo (InitiateError error) text = IsInitiateError error text
 
 -- no user information, or some with this text
 abbrev pub HasInfo : List Field → Info → Type 0
-HasInfo fields info = (HasNone 0xBE fields × (info ≡ Absent)) ⊎ ((text : List ℕ) × HasInner 0xBE 0x04 fields (Some text) × IsInfo info text)
+HasInfo fields info = (HasNone 0xBE fields × (info ≡ Absent))
+    ⊎ ((text : List ℕ) × HasInner 0xBE 0x04 fields (Some text) × IsInfo info text)
 
 -- bytes that spell the AARE; if it accepts, it has an InitiateResponse
 pub record SpellsAare (bytes : List ℕ) (aare : Aare) : Type 0 where

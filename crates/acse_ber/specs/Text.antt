@@ -36,7 +36,8 @@ password_text (Some password) = tagged_text 0xAC (tagged_text 0x80 password)
 
 -- the fields of an AARQ
 abbrev pub aarq_body : Aarq → List ℕ
-aarq_body aarq = context_text aarq.context ++ (mechanism_text aarq.mechanism ++ (password_text aarq.password ++ user_text aarq.user))
+aarq_body aarq = context_text aarq.context
+    ++ (mechanism_text aarq.mechanism ++ (password_text aarq.password ++ user_text aarq.user))
 
 -- the text of an AARQ
 unfoldable pub aarq_text : Aarq → List ℕ
@@ -51,7 +52,9 @@ diagnostic_text diagnostic = 0xA3 ∷ 0x05 ∷ 0xA1 ∷ 0x03 ∷ 0x02 ∷ 0x01 �
 
 -- an InitiateResponse: no quality of service, version 6, the bits, the size and the VAA name 0007
 abbrev pub response_text : ℕ → ℕ → List ℕ
-response_text bits limit = (0x08 ∷ 0x00 ∷ 0x06 ∷ 0x5F ∷ 0x1F ∷ 0x04 ∷ 0x00 ∷ []) ++ (bytes_high_first 3 bits ++ (to_be_bytes w16 limit ++ 0x00 ∷ 0x07 ∷ []))
+response_text bits limit =
+    (0x08 ∷ 0x00 ∷ 0x06 ∷ 0x5F ∷ 0x1F ∷ 0x04 ∷ 0x00 ∷ [])
+    ++ (bytes_high_first 3 bits ++ (to_be_bytes w16 limit ++ 0x00 ∷ 0x07 ∷ []))
 
 -- user information, if there is any
 abbrev pub info_text : Info → List ℕ
@@ -71,15 +74,24 @@ low_level = 0x60 ∷ 0x85 ∷ 0x74 ∷ 0x05 ∷ 0x08 ∷ 0x02 ∷ 0x01 ∷ []
 -- an InitiateRequest: no dedicated key, neither response-allowed nor quality of service, version 6,
 -- the bits and the size
 abbrev pub request_text : ℕ → ℕ → List ℕ
-request_text bits limit = (0x01 ∷ 0x00 ∷ 0x00 ∷ 0x00 ∷ 0x06 ∷ 0x5F ∷ 0x1F ∷ 0x04 ∷ 0x00 ∷ []) ++ (bytes_high_first 3 bits ++ to_be_bytes w16 limit)
+request_text bits limit =
+    (0x01 ∷ 0x00 ∷ 0x00 ∷ 0x00 ∷ 0x06 ∷ 0x5F ∷ 0x1F ∷ 0x04 ∷ 0x00 ∷ [])
+    ++ (bytes_high_first 3 bits ++ to_be_bytes w16 limit)
 
 -- the AARQ of a client with this password, which proposes these bits and this size
 unfoldable pub low_level_aarq : List ℕ → ℕ → ℕ → Aarq
-low_level_aarq password bits limit = record { context = ln_context; mechanism = low_level; password = Some password; user = request_text bits limit }
+low_level_aarq password bits limit =
+    record {
+      context = ln_context;
+      mechanism = low_level;
+      password = Some password;
+      user = request_text bits limit;
+    }
 
 -- the fields of an AARE
 abbrev pub aare_body : Aare → List ℕ
-aare_body aare = context_text ln_context ++ (result_text aare.result ++ (diagnostic_text aare.diagnostic ++ info_text aare.info))
+aare_body aare = context_text ln_context
+    ++ (result_text aare.result ++ (diagnostic_text aare.diagnostic ++ info_text aare.info))
 
 -- the text of an AARE
 unfoldable pub aare_text : Aare → List ℕ

@@ -78,7 +78,7 @@ fn read_told(outcome: u8, diagnostic: u8, body: &[u8]) -> Result<Aare, AcseFault
     })
 }
 
-/// The association result that accepts.
+// The association result that accepts.
 const ACCEPTED: u8 = 0;
 
 // Reads the association result: an integer of one byte.

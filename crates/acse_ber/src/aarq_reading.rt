@@ -22,7 +22,8 @@ pub fn read_aarq(alloc: Global, bytes: &[u8]) -> Result<Aarq, AcseFault>
     ensures found { IfOk result (SpellsAarq bytes.now) }
 
     // If the bytes spell an AARQ, that AARQ is read, unless out of memory.
-    ensures only { (aarq : Aarq) → SpellsAarq bytes.now aarq → MatchResult result (λ read. read ≡ aarq) (λ fault. fault ≡ AcseFault.Memory) }
+    ensures only { (aarq : Aarq) → SpellsAarq bytes.now aarq
+        → MatchResult result (λ read. read ≡ aarq) (λ fault. fault ≡ AcseFault.Memory) }
 
     // The fault is the one that the definition gives, or out of memory.
     ensures exact { Gives AcseFault.Memory (λ aarq. aarq) result (aarq_of bytes.now) }
@@ -62,7 +63,13 @@ fn copy_aarq(
     password: Option<&[u8]>,
     user: &[u8],
 ) -> Result<Aarq, AllocError>
-    ensures { IfOk result (λ aarq. aarq ≡ record { context = context.now; mechanism = mechanism.now; password = option_map (λ bytes. bytes.now) password.entry; user = user.now }) }
+    ensures { IfOk result (λ aarq. aarq
+        ≡ record {
+          context = context.now;
+          mechanism = mechanism.now;
+          password = option_map (λ bytes. bytes.now) password.entry;
+          user = user.now;
+        }) }
 {
     Ok(Aarq {
         context: Octets::from_slice(alloc, context)?,

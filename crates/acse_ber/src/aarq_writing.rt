@@ -32,7 +32,7 @@ fn put_fields(alloc: Global, aarq: &Aarq, out: &mut Octets) -> Result<(), AllocE
     put_user(alloc, aarq.user.as_slice(), out)
 }
 
-/// The ACSE requirements: a bit-string whose first bit, authentication, is set.
+// The ACSE requirements: a bit-string whose first bit, authentication, is set.
 const AUTHENTICATION_REQUIRED: [u8; 4] = [tag::aarq::SENDER_ACSE_REQUIREMENTS, 0x02, 0x07, 0x80];
 
 // Appends the ACSE requirements and the mechanism, if there is one.

@@ -11,19 +11,19 @@ pub struct Conformance(pub u32);
 
 bitflag_items! {
     impl Conformance: u32 {
-        /// Block transfer with GET: bit 11, block-transfer-with-get-or-read.
+        // Block transfer with GET: bit 11, block-transfer-with-get-or-read.
         const BLOCK_TRANSFER_WITH_GET_OR_READ = 1 << (23 - 11);
-        /// Block transfer with SET: bit 12, block-transfer-with-set-or-write.
+        // Block transfer with SET: bit 12, block-transfer-with-set-or-write.
         const BLOCK_TRANSFER_WITH_SET_OR_WRITE = 1 << (23 - 12);
-        /// Block transfer with ACTION: bit 13, block-transfer-with-action.
+        // Block transfer with ACTION: bit 13, block-transfer-with-action.
         const BLOCK_TRANSFER_WITH_ACTION = 1 << (23 - 13);
-        /// Lists of attributes or methods: bit 14, multiple-references.
+        // Lists of attributes or methods: bit 14, multiple-references.
         const MULTIPLE_REFERENCES = 1 << (23 - 14);
-        /// The service GET: bit 19, get.
+        // The service GET: bit 19, get.
         const GET = 1 << (23 - 19);
-        /// The service SET: bit 20, set.
+        // The service SET: bit 20, set.
         const SET = 1 << (23 - 20);
-        /// The service ACTION: bit 23, action.
+        // The service ACTION: bit 23, action.
         const ACTION = 1 << (23 - 23);
     }
 }

@@ -8,17 +8,18 @@ use crate::length::read_contents;
 use crate::tag::{FIRST_FIELD, LAST_FIELD};
 use byte_reading::Reader;
 
-/// A field of an APDU.
+// A field of an APDU.
 #[derive(Clone, Copy)]
 pub(crate) struct Field<'a> {
     pub(crate) tag: u8,
     pub(crate) contents: &'a [u8],
 }
 
-/// Reads the next field: a context-specific tag, the length and the contents.
+// Reads the next field: a context-specific tag, the length and the contents.
 #[tactic(auto, unfolding(crate::specs::Reading::field_at))]
 fn read_field<'a>(reader: &mut Reader<'a>) -> Result<Field<'a>, AcseFault>
-    ensures { Reads (λ field. record { tag = field.tag; contents = field.contents.now }) result reader.new (field_at reader.old) }
+    ensures { Reads (λ field. record { tag = field.tag; contents = field.contents.now }) result
+        reader.new (field_at reader.old) }
 {
     match reader.byte(AcseFault::Unreadable)? {
         tag @ FIRST_FIELD..=LAST_FIELD => Ok(Field {
@@ -29,7 +30,7 @@ fn read_field<'a>(reader: &mut Reader<'a>) -> Result<Field<'a>, AcseFault>
     }
 }
 
-/// Returns the contents of a tag, which must fill the bytes.
+// Returns the contents of a tag, which must fill the bytes.
 #[tactic(auto, unfolding(crate::specs::Reading::tagged, crate::specs::Reading::tagged_at))]
 pub(crate) fn read_tagged(tag: u8, bytes: &[u8]) -> Result<&[u8], AcseFault>
     ensures { Yields (λ contents. contents.now) result (tagged tag bytes.now) }
@@ -42,7 +43,7 @@ pub(crate) fn read_tagged(tag: u8, bytes: &[u8]) -> Result<&[u8], AcseFault>
     reader.finish(contents, AcseFault::Unreadable)
 }
 
-/// Returns whether the bytes are a sequence of fields.
+// Returns whether the bytes are a sequence of fields.
 pub(crate) fn are_fields(body: &[u8]) -> bool
     ensures { result ≡ is_ok (fields_of body.now) }
 {
@@ -55,11 +56,12 @@ pub(crate) fn are_fields(body: &[u8]) -> bool
     true
 }
 
-/// Returns the contents of the field with a tag, or `None` if it is absent. It may not occur twice,
-/// and the bytes must be a sequence of fields.
+// Returns the contents of the field with a tag, or `None` if it is absent. It may not occur twice,
+// and the bytes must be a sequence of fields.
 #[tactic(auto, unfolding(crate::specs::Reading::field_of))]
 pub(crate) fn find_field(tag: u8, body: &[u8]) -> Result<Option<&[u8]>, AcseFault>
-    ensures { Yields (λ found. option_map (λ contents. contents.now) found) result (field_of tag body.now) }
+    ensures { Yields (λ found. option_map (λ contents. contents.now) found) result
+        (field_of tag body.now) }
 {
     let mut reader = Reader::new(body);
     let mut found = None;
@@ -75,11 +77,12 @@ pub(crate) fn find_field(tag: u8, body: &[u8]) -> Result<Option<&[u8]>, AcseFaul
     Ok(found)
 }
 
-/// Returns the contents of an inner tag, which must fill the field with the outer tag, or `None` if
-/// that field is absent.
+// Returns the contents of an inner tag, which must fill the field with the outer tag, or `None` if
+// that field is absent.
 #[tactic(auto, unfolding(crate::specs::Reading::inner_of))]
 pub(crate) fn find_inner(tag: u8, inner: u8, body: &[u8]) -> Result<Option<&[u8]>, AcseFault>
-    ensures { Yields (λ found. option_map (λ contents. contents.now) found) result (inner_of tag inner body.now) }
+    ensures { Yields (λ found. option_map (λ contents. contents.now) found) result
+        (inner_of tag inner body.now) }
 {
     match find_field(tag, body)? {
         Some(contents) => Ok(Some(read_tagged(inner, contents)?)),
@@ -87,15 +90,15 @@ pub(crate) fn find_inner(tag: u8, inner: u8, body: &[u8]) -> Result<Option<&[u8]
     }
 }
 
-/// Returns the contents of the field with a tag, which must be present.
+// Returns the contents of the field with a tag, which must be present.
 pub(crate) fn find_needed(tag: u8, body: &[u8]) -> Result<&[u8], AcseFault>
     ensures { Yields (λ contents. contents.now) result (needed_field tag body.now) }
 {
     find_field(tag, body)?.ok_or(AcseFault::Unreadable)
 }
 
-/// Returns the contents of an inner tag, which must fill the field with the outer tag. That field
-/// must be present.
+// Returns the contents of an inner tag, which must fill the field with the outer tag. That field
+// must be present.
 pub(crate) fn find_needed_inner(tag: u8, inner: u8, body: &[u8]) -> Result<&[u8], AcseFault>
     ensures { Yields (λ contents. contents.now) result (needed_inner tag inner body.now) }
 {

@@ -6,7 +6,7 @@ use crate::tag;
 use cosem_axdr::{Octets, append_length};
 use std::alloc::{AllocError, Global};
 
-/// Appends an application context name.
+// Appends an application context name.
 pub(crate) fn put_context(alloc: Global, context: &[u8], out: &mut Octets) -> Result<(), AllocError>
     ensures { OnOk result (out.new ≡ out.old ++ context_text context.now) }
 {
@@ -19,14 +19,14 @@ pub(crate) fn put_context(alloc: Global, context: &[u8], out: &mut Octets) -> Re
     )
 }
 
-/// Appends user information.
+// Appends user information.
 pub(crate) fn put_user(alloc: Global, user: &[u8], out: &mut Octets) -> Result<(), AllocError>
     ensures { OnOk result (out.new ≡ out.old ++ user_text user.now) }
 {
     put_nested(alloc, tag::USER_INFORMATION, tag::OCTET_STRING, user, out)
 }
 
-/// Appends an outer tag that contains an inner tag with contents.
+// Appends an outer tag that contains an inner tag with contents.
 pub(crate) fn put_nested(
     alloc: Global,
     outer: u8,
@@ -34,14 +34,15 @@ pub(crate) fn put_nested(
     contents: &[u8],
     out: &mut Octets,
 ) -> Result<(), AllocError>
-    ensures { OnOk result (out.new ≡ out.old ++ tagged_text outer (tagged_text inner contents.now)) }
+    ensures { OnOk result (out.new ≡ out.old
+        ++ tagged_text outer (tagged_text inner contents.now)) }
 {
     let mut field = Octets::new(alloc);
     put_tagged(inner, contents, &mut field)?;
     put_tagged(outer, field.as_slice(), out)
 }
 
-/// Appends a tag, the length and the contents.
+// Appends a tag, the length and the contents.
 pub(crate) fn put_tagged(tag: u8, contents: &[u8], out: &mut Octets) -> Result<(), AllocError>
     ensures { OnOk result (out.new ≡ out.old ++ tagged_text tag contents.now) }
 {

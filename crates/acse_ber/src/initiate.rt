@@ -14,46 +14,46 @@ use byteorder::{BigEndian, ByteOrder};
 use cosem_axdr::Octets;
 use std::alloc::AllocError;
 
-/// The tag of an InitiateRequest, followed by the absence of a dedicated key.
+// The tag of an InitiateRequest, followed by the absence of a dedicated key.
 pub(crate) const REQUEST_HEAD: [u8; 2] = [0x01, 0x00];
 
-/// The tag of an InitiateResponse.
+// The tag of an InitiateResponse.
 pub(crate) const RESPONSE_TAG: u8 = 0x08;
 
-/// The first bytes of a ConfirmedServiceError of Initiate: its tag, the choice initiate-error and
-/// within it the choice initiate. The error follows.
+// The first bytes of a ConfirmedServiceError of Initiate: its tag, the choice initiate-error and
+// within it the choice initiate. The error follows.
 pub(crate) const INITIATE_ERROR_HEAD: [u8; 3] = [0x0E, 0x01, 0x06];
 
-/// The tag of a conformance block, the length of its contents and the number of unused bits.
+// The tag of a conformance block, the length of its contents and the number of unused bits.
 const CONFORMANCE_HEAD: [u8; 4] = [0x5F, 0x1F, 0x04, 0x00];
 
-/// The number of values of a conformance block's 24 bits.
+// The number of values of a conformance block's 24 bits.
 const CONFORMANCE_VALUES: u32 = 1 << 24;
 
-/// The DLMS version.
+// The DLMS version.
 pub(crate) const VERSION: u8 = 6;
 
-/// The name of the virtual application entity (VAA) for logical names.
+// The name of the virtual application entity (VAA) for logical names.
 pub(crate) const VAA_NAME: [u8; 2] = [0x00, 0x07];
 
-/// Marks an optional part as absent.
+// Marks an optional part as absent.
 pub(crate) const ABSENT: u8 = 0;
 
 const PRESENT: u8 = 1;
 
-/// The proposal of a client in an InitiateRequest.
+// The proposal of a client in an InitiateRequest.
 #[derive(Clone, Copy)]
 pub(crate) struct Proposal {
-    /// The DLMS version.
+    // The DLMS version.
     pub(crate) version: u8,
-    /// The conformance.
+    // The conformance.
     pub(crate) conformance: Conformance,
-    /// The maximum APDU size that the client receives, in bytes; 0 means no limit.
+    // The maximum APDU size that the client receives, in bytes; 0 means no limit.
     pub(crate) size: u16,
 }
 
-/// Reads an InitiateRequest without a dedicated key. Its response-allowed and quality of service
-/// are ignored.
+// Reads an InitiateRequest without a dedicated key. Its response-allowed and quality of service
+// are ignored.
 #[tactic(auto, unfolding(crate::specs::Reading::proposal_of, crate::specs::Reading::proposal_at, crate::specs::Reading::proposed_at))]
 pub(crate) fn read_proposal(bytes: &[u8]) -> Result<Proposal, AcseFault>
     ensures { Yields (λ proposal. proposal) result (proposal_of bytes.now) }
@@ -81,8 +81,8 @@ fn read_proposed(reader: &mut Reader) -> Result<Proposal, AcseFault>
     })
 }
 
-/// Skips an optional byte: a byte that marks it as absent or present, and the byte itself if
-/// present.
+// Skips an optional byte: a byte that marks it as absent or present, and the byte itself if
+// present.
 #[tactic(auto, unfolding(crate::specs::Reading::optional_byte_at))]
 pub(crate) fn skip_optional_byte(reader: &mut Reader) -> Result<(), AcseFault>
     ensures { Reads (λ unit. unit) result reader.new (optional_byte_at reader.old) }
@@ -97,7 +97,7 @@ pub(crate) fn skip_optional_byte(reader: &mut Reader) -> Result<(), AcseFault>
     }
 }
 
-/// Reads the 24 bits of a conformance block.
+// Reads the 24 bits of a conformance block.
 #[tactic(auto, unfolding(crate::specs::Reading::conformance_at))]
 pub(crate) fn read_conformance(reader: &mut Reader) -> Result<Conformance, AcseFault>
     ensures { Reads (λ conformance. conformance.0) result reader.new (conformance_at reader.old) }
@@ -107,10 +107,11 @@ pub(crate) fn read_conformance(reader: &mut Reader) -> Result<Conformance, AcseF
     Ok(Conformance::from_bits_retain(bits))
 }
 
-/// Appends a conformance block and a PDU size. Only the lowest 24 bits are written.
+// Appends a conformance block and a PDU size. Only the lowest 24 bits are written.
 #[tactic(auto, using(crate::proofs::Texts::low_24_bits))]
 pub(crate) fn put_negotiated(bits: u32, limit: u16, out: &mut Octets) -> Result<(), AllocError>
-    ensures { OnOk result (out.new ≡ out.old ++ (0x5F ∷ 0x1F ∷ 0x04 ∷ 0x00 ∷ []) ++ (bytes_high_first 3 bits ++ to_be_bytes w16 limit)) }
+    ensures { OnOk result (out.new ≡ out.old ++ (0x5F ∷ 0x1F ∷ 0x04 ∷ 0x00 ∷ [])
+        ++ (bytes_high_first 3 bits ++ to_be_bytes w16 limit)) }
 {
     let mut fields = [0; 5];
     BigEndian::write_u24(&mut fields, bits % CONFORMANCE_VALUES);

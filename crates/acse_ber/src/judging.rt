@@ -12,12 +12,12 @@ use bitflags::Flags;
 use cosem_axdr::Octets;
 use cosem_names::Level;
 
-/// The ports of the clients that may open an association.
+// The ports of the clients that may open an association.
 const MANAGEMENT_CLIENT: u16 = 1;
 
 const PUBLIC_CLIENT: u16 = 16;
 
-/// The diagnostics of the ACSE service user.
+// The diagnostics of the ACSE service user.
 mod diagnostic {
     pub(crate) const NO_REASON_GIVEN: u8 = 1;
 
@@ -30,7 +30,7 @@ mod diagnostic {
     pub(crate) const AUTHENTICATION_REQUIRED: u8 = 14;
 }
 
-/// The errors of Initiate.
+// The errors of Initiate.
 mod initiate_error {
     pub(crate) const DLMS_VERSION_TOO_LOW: u8 = 1;
 

@@ -27,8 +27,10 @@ pub fn text_of_fit_aarq_spells()
 /// If a longer AARQ names a mechanism without the ACSE requirements, its written text may be too
 /// long by the four bytes of these requirements.
 pub fn spelled_aarq_is_fit()
-    ensures fit { (bytes : List ℕ) (aarq : Aarq) → IsBytes bytes → length bytes ≤ 65535 → SpellsAarq bytes aarq → IsFitAarq aarq }
-    ensures spelled { (bytes : List ℕ) (aarq : Aarq) → IsBytes bytes → length bytes ≤ 65535 → SpellsAarq bytes aarq → SpellsAarq (aarq_text aarq) aarq }
+    ensures fit { (bytes : List ℕ) (aarq : Aarq) → IsBytes bytes → length bytes ≤ 65535
+        → SpellsAarq bytes aarq → IsFitAarq aarq }
+    ensures spelled { (bytes : List ℕ) (aarq : Aarq) → IsBytes bytes → length bytes ≤ 65535
+        → SpellsAarq bytes aarq → SpellsAarq (aarq_text aarq) aarq }
 {}
 
 /// The written text of an AARE that fits spells it and is read back. An AARE fits if its numbers
@@ -40,20 +42,26 @@ pub fn text_of_fit_aare_spells()
 
 /// Every AARE spelled by bytes fits, so its written text spells it.
 pub fn spelled_aare_is_fit()
-    ensures fit { (bytes : List ℕ) (aare : Aare) → IsBytes bytes → SpellsAare bytes aare → IsFitAare aare }
-    ensures spelled { (bytes : List ℕ) (aare : Aare) → IsBytes bytes → SpellsAare bytes aare → SpellsAare (aare_text aare) aare }
+    ensures fit { (bytes : List ℕ) (aare : Aare) → IsBytes bytes → SpellsAare bytes aare
+        → IsFitAare aare }
+    ensures spelled { (bytes : List ℕ) (aare : Aare) → IsBytes bytes → SpellsAare bytes aare
+        → SpellsAare (aare_text aare) aare }
 {}
 
 /// No spelling is a proper prefix of another, and no bytes spell two values.
 pub fn no_spelling_begins_another()
-    ensures aarq { (bytes rest : List ℕ) (one other : Aarq) → SpellsAarq bytes one → SpellsAarq (bytes ++ rest) other → (rest ≡ []) × (one ≡ other) }
-    ensures aare { (bytes rest : List ℕ) (one other : Aare) → SpellsAare bytes one → SpellsAare (bytes ++ rest) other → (rest ≡ []) × (one ≡ other) }
-    ensures release { (bytes rest : List ℕ) → SpellsRelease bytes → SpellsRelease (bytes ++ rest) → rest ≡ [] }
+    ensures aarq { (bytes rest : List ℕ) (one other : Aarq) → SpellsAarq bytes one
+        → SpellsAarq (bytes ++ rest) other → (rest ≡ []) × (one ≡ other) }
+    ensures aare { (bytes rest : List ℕ) (one other : Aare) → SpellsAare bytes one
+        → SpellsAare (bytes ++ rest) other → (rest ≡ []) × (one ≡ other) }
+    ensures release { (bytes rest : List ℕ) → SpellsRelease bytes → SpellsRelease (bytes ++ rest)
+        → rest ≡ [] }
 {}
 
 /// No form of a length is shorter than the written one.
 pub fn written_length_is_shortest()
-    ensures { (bytes : List ℕ) (n : ℕ) → IsBytes bytes → IsLength bytes n → length (length_text n) ≤ length bytes }
+    ensures { (bytes : List ℕ) (n : ℕ) → IsBytes bytes → IsLength bytes n
+        → length (length_text n) ≤ length bytes }
 {}
 
 /// A management association is opened only from port 1, with low-level security and the password; a
@@ -62,11 +70,15 @@ pub fn written_length_is_shortest()
 /// The AARQ of a management client with the password is accepted if it proposes a service that the
 /// meter offers and a size that is large enough or unlimited.
 pub fn management_needs_the_password()
-    ensures management { (aarq : Aarq) (sap : ℕ) (password : List ℕ) (bits limit : ℕ) → verdict_of aarq sap password ≡ Accepted Management bits limit
+    ensures management { (aarq : Aarq) (sap : ℕ) (password : List ℕ) (bits limit : ℕ)
+        → verdict_of aarq sap password ≡ Accepted Management bits limit
         → (sap ≡ 1) × (aarq.mechanism ≡ low_level) × (aarq.password ≡ Some password) }
-    ensures public { (aarq : Aarq) (sap : ℕ) (password : List ℕ) (bits limit : ℕ) → verdict_of aarq sap password ≡ Accepted Public bits limit → sap ≡ 16 }
-    ensures accepted { (password : List ℕ) (bits limit : ℕ) → bits < 2 ^ 24 → limit < 2 ^ 16 → bit_and offered bits ≢ 0 → (limit ≡ 0) ⊎ (64 ≤ limit)
-        → verdict_of (low_level_aarq password bits limit) 1 password ≡ Accepted Management (bit_and offered bits) limit }
+    ensures public { (aarq : Aarq) (sap : ℕ) (password : List ℕ) (bits limit : ℕ)
+        → verdict_of aarq sap password ≡ Accepted Public bits limit → sap ≡ 16 }
+    ensures accepted { (password : List ℕ) (bits limit : ℕ) → bits < 2 ^ 24 → limit < 2 ^ 16
+        → bit_and offered bits ≢ 0 → (limit ≡ 0) ⊎ (64 ≤ limit)
+        → verdict_of (low_level_aarq password bits limit) 1 password
+        ≡ Accepted Management (bit_and offered bits) limit }
 {}
 
 /// The RLRQ that a client sends and the RLRE that answers it have the reason normal, and the former

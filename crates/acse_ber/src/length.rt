@@ -7,14 +7,14 @@ use crate::fault::AcseFault;
 use byte_reading::Reader;
 use byteorder::{BigEndian, ByteOrder};
 
-/// Reads a number of two bytes.
+// Reads a number of two bytes.
 pub(crate) fn read_size(reader: &mut Reader) -> Result<u16, AcseFault>
     ensures { Reads (λ size. size) result reader.new (size_at reader.old) }
 {
     Ok(BigEndian::read_u16(reader.bytes(2, AcseFault::Unreadable)?))
 }
 
-/// Reads bytes that must be the expected ones.
+// Reads bytes that must be the expected ones.
 pub(crate) fn read_literal(expected: &[u8], reader: &mut Reader) -> Result<(), AcseFault>
     ensures { Reads (λ unit. unit) result reader.new (literal_at expected.now reader.old) }
 {
@@ -24,7 +24,7 @@ pub(crate) fn read_literal(expected: &[u8], reader: &mut Reader) -> Result<(), A
     Ok(())
 }
 
-/// Reads a length: one byte below 80 hex, or 81 or 82 hex followed by one or two bytes.
+// Reads a length: one byte below 80 hex, or 81 or 82 hex followed by one or two bytes.
 #[tactic(auto, unfolding(crate::specs::Reading::length_at))]
 fn read_length(reader: &mut Reader) -> Result<usize, AcseFault>
     ensures { Reads (λ n. n) result reader.new (length_at reader.old) }
@@ -37,7 +37,7 @@ fn read_length(reader: &mut Reader) -> Result<usize, AcseFault>
     }
 }
 
-/// Reads a length and returns that number of bytes.
+// Reads a length and returns that number of bytes.
 #[tactic(auto, unfolding(crate::specs::Reading::contents_at))]
 pub(crate) fn read_contents<'a>(reader: &mut Reader<'a>) -> Result<&'a [u8], AcseFault>
     ensures { Reads (λ contents. contents.now) result reader.new (contents_at reader.old) }

@@ -17,7 +17,9 @@ is_same_field _ _ = false
 
 -- the same hour, minute and second, as written
 abbrev pub is_same_time : TimeFields → TimeFields → Bool
-is_same_time one other = is_same_field one.hour other.hour && (is_same_field one.minute other.minute && is_same_field one.second other.second)
+is_same_time one other =
+    is_same_field one.hour other.hour &&
+    (is_same_field one.minute other.minute && is_same_field one.second other.second)
 
 -- all entries have the time of the first
 abbrev pub have_one_time : List EntryPattern → Bool
@@ -55,7 +57,8 @@ has_match entries after upto = list_any (λ entry. matches_in entry after upto) 
 
 -- the schedule is due between the previous moment and now
 unfoldable pub is_due : Schedule → ℕ → ℕ → Bool
-is_due schedule previous now = fits schedule && has_match schedule.entries (window_start previous now) now
+is_due schedule previous now =
+    fits schedule && has_match schedule.entries (window_start previous now) now
 
 -- what `is_due` means: the schedule fits, and a second of the window matches one of its entries
 pub record IsDue (schedule : Schedule) (previous now : ℕ) : Type 0 where

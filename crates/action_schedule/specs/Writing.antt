@@ -14,7 +14,8 @@ use Rattle.action_schedule.specs.declared.attribute.ScheduleAttribute.{ScheduleA
 use Rattle.action_schedule.specs.declared.attribute.ScheduleAttribute.TheVariants.{ExecutedScript, Kind, ExecutionTime}
 
 unfoldable pub entry_data : EntryPattern → Data
-entry_data entry = structure_with (OctetString (time_bytes entry.time) ∷ OctetString (date_bytes entry.date) ∷ [])
+entry_data entry = structure_with (OctetString (time_bytes entry.time)
+    ∷ OctetString (date_bytes entry.date) ∷ [])
 
 unfoldable pub entries_data : List EntryPattern → Data
 entries_data entries = array_with (map entry_data entries)

@@ -13,8 +13,8 @@ use cosem_names::{NamedScript, WriteFault, judge_each};
 use listed::Listed;
 use std::alloc::{AllocError, Global};
 
-/// Reads the selector of the script to run: `Unmatched` if a type differs, then `Value` if the
-/// script is of another script table.
+// Reads the selector of the script to run: `Unmatched` if a type differs, then `Value` if the
+// script is of another script table.
 #[tactic(auto, unfolding(crate::specs::Reading::selector_of))]
 pub(crate) fn read_selector(value: &Data) -> Result<u16, WriteFault>
     ensures exact { result ≡ selector_of value.now }
@@ -27,8 +27,8 @@ pub(crate) fn read_selector(value: &Data) -> Result<u16, WriteFault>
     Ok(script.selector)
 }
 
-/// Reads the type of a schedule: `Unmatched` if the Data is not an enum, then `Value` if its number
-/// is not 1 to 5.
+// Reads the type of a schedule: `Unmatched` if the Data is not an enum, then `Value` if its number
+// is not 1 to 5.
 #[tactic(auto, unfolding(crate::specs::Reading::kind_of))]
 pub(crate) fn read_kind(value: &Data) -> Result<ScheduleType, WriteFault>
     ensures exact { result ≡ kind_of value.now }
@@ -38,8 +38,8 @@ pub(crate) fn read_kind(value: &Data) -> Result<ScheduleType, WriteFault>
     ScheduleType::of_number(number).ok_or(WriteFault::Value)
 }
 
-/// Reads an entry: `Unmatched` if a type or length differs, then `Value` if a field of the time or
-/// date is out of its range.
+// Reads an entry: `Unmatched` if a type or length differs, then `Value` if a field of the time or
+// date is out of its range.
 #[tactic(auto, unfolding(crate::specs::Reading::entry_of))]
 fn read_entry(value: &Data) -> Result<EntryPattern, WriteFault>
     ensures exact { result ≡ entry_of value.now }
@@ -51,8 +51,8 @@ fn read_entry(value: &Data) -> Result<EntryPattern, WriteFault>
     Ok(EntryPattern { time, date })
 }
 
-/// Judges entries: `Unmatched` if any has a wrong type, then `Value` if any has a wrong value or
-/// there are more than `MAX_ENTRIES`.
+// Judges entries: `Unmatched` if any has a wrong type, then `Value` if any has a wrong value or
+// there are more than `MAX_ENTRIES`.
 #[tactic(auto, unfolding(crate::specs::Reading::judged_entries))]
 pub(crate) fn judge_entries(items: &[Data]) -> Result<(), WriteFault>
     ensures exact { result ≡ judged_entries items.now }
@@ -66,7 +66,7 @@ pub(crate) fn judge_entries(items: &[Data]) -> Result<(), WriteFault>
     Ok(())
 }
 
-/// Returns the entries that have no fault.
+// Returns the entries that have no fault.
 pub(crate) fn read_entries(
     alloc: Global,
     items: &[Data],

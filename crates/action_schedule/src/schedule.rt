@@ -98,9 +98,11 @@ impl ActionSchedule {
     /// if out of memory. On an error nothing changes.
     #[tactic(auto, unfolding(crate::specs::Reading::entries_of))]
     pub fn set_entries(&mut self, alloc: Global, value: &Data) -> Result<(), WriteFault>
-        ensures ok { IfOk result (λ _. (self.new ≡ with_entries (entries_of value.now) self.old) × IsOk (entries_of value.now)) }
+        ensures ok { IfOk result (λ _. (self.new ≡ with_entries (entries_of value.now) self.old)
+            × IsOk (entries_of value.now)) }
         ensures err { OnErr result (self.new ≡ self.old) }
-        ensures unmatched { IsErrOf result WriteFault.Unmatched ↔ (entries_of value.now ≡ Err Unmatched) }
+        ensures unmatched { IsErrOf result WriteFault.Unmatched
+            ↔ (entries_of value.now ≡ Err Unmatched) }
         ensures value { IsErrOf result WriteFault.Value ↔ (entries_of value.now ≡ Err Value) }
         ensures memory { IsErrOf result WriteFault.Memory → IsOk (entries_of value.now) }
     {
@@ -163,7 +165,7 @@ impl ActionSchedule {
         fits_type(self.kind, self.entries.as_slice())
     }
 
-    /// Whether the schedule fits its type and some second of the window matches one of its entries.
+    // Whether the schedule fits its type and some second of the window matches one of its entries.
     #[tactic(auto, unfolding(crate::specs::Fitting::is_due, crate::specs::Fitting::fits))]
     fn falls_due(&self, previous: u32, now: u32) -> bool
         ensures { result ≡ is_due self.now previous now }

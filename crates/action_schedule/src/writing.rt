@@ -7,14 +7,14 @@ use cosem_datetime::EntryPattern;
 use cosem_names::NamedScript;
 use std::alloc::{AllocError, Global};
 
-/// Writes a script of the script table: a structure of a logical name and a selector.
+// Writes a script of the script table: a structure of a logical name and a selector.
 pub(crate) fn write_script(alloc: Global, selector: u16) -> Result<Data, AllocError>
     ensures { IfOk result (λ value. value ≡ script_data (named selector)) }
 {
     NamedScript::of_the_table(selector).to_data(alloc)
 }
 
-/// Writes an entry: a structure of two octet-strings, time and date.
+// Writes an entry: a structure of two octet-strings, time and date.
 #[tactic(auto, unfolding(crate::specs::Writing::entry_data))]
 fn write_entry(alloc: Global, entry: &EntryPattern) -> Result<Data, AllocError>
     ensures { IfOk result (λ value. value ≡ entry_data entry.now) }
@@ -27,7 +27,7 @@ fn write_entry(alloc: Global, entry: &EntryPattern) -> Result<Data, AllocError>
     ]?)))
 }
 
-/// Writes the array of the entries.
+// Writes the array of the entries.
 #[tactic(auto, unfolding(crate::specs::Writing::entries_data))]
 pub(crate) fn write_entries(alloc: Global, entries: &[EntryPattern]) -> Result<Data, AllocError>
     ensures { IfOk result (λ value. value ≡ entries_data entries.now) }

@@ -22,7 +22,7 @@ pub(crate) const SET_LAST_BLOCK: [u8; 11] = [
     0xC1, 0x03, 0xC1, 0x01, 0x00, 0x00, 0x00, 0x02, 0x02, 0x1B, 0x58,
 ];
 
-// An attribute of disconnect control, of the one with that value group E.
+// Returns an attribute of the disconnect control with this value group E.
 fn control(group: u8, number: u8, selected: bool) -> AttributeSelection {
     AttributeSelection {
         attr: AttrRef {
@@ -34,7 +34,7 @@ fn control(group: u8, number: u8, selected: bool) -> AttributeSelection {
     }
 }
 
-// An attribute of an object of another class.
+// Returns an attribute of an object of another class.
 fn attribute(class: u16, name: Obis, number: u8) -> AttributeSelection {
     AttributeSelection {
         attr: AttrRef {
@@ -46,7 +46,7 @@ fn attribute(class: u16, name: Obis, number: u8) -> AttributeSelection {
     }
 }
 
-// A method of disconnect control.
+// Returns a method of the disconnect control.
 fn method(number: u8) -> MethodRef {
     MethodRef {
         class: ClassId(70),
@@ -108,7 +108,7 @@ fn add_gets(pairs: &mut Vec<(&'static [u8], Request)>) -> Result<(), AllocError>
     )
 }
 
-// The same of requests that read lists of attributes.
+// Adds requests that read lists of attributes, with their texts.
 fn add_get_lists(
     alloc: Global,
     pairs: &mut Vec<(&'static [u8], Request)>,
@@ -135,7 +135,7 @@ fn add_get_lists(
     )
 }
 
-// The same of requests that write an attribute.
+// Adds requests that write an attribute, with their texts.
 fn add_sets(alloc: Global, pairs: &mut Vec<(&'static [u8], Request)>) -> Result<(), AllocError> {
     add(
         pairs,
@@ -173,7 +173,8 @@ fn add_sets(alloc: Global, pairs: &mut Vec<(&'static [u8], Request)>) -> Result<
     )
 }
 
-// The same of requests that call a method with a parameter that comes whole, or with none.
+// Adds requests that call a method without a parameter or with one in a single piece, with their
+// texts.
 fn add_actions(pairs: &mut Vec<(&'static [u8], Request)>) -> Result<(), AllocError> {
     add(
         pairs,
@@ -200,7 +201,7 @@ fn add_actions(pairs: &mut Vec<(&'static [u8], Request)>) -> Result<(), AllocErr
     )
 }
 
-// The same of requests that call a method with a parameter in blocks.
+// Adds requests that call a method with a parameter in blocks, with their texts.
 fn add_action_blocks(
     alloc: Global,
     pairs: &mut Vec<(&'static [u8], Request)>,
@@ -229,7 +230,7 @@ fn add_action_blocks(
     )
 }
 
-// A request of each form, and some forms with other contents, each with its text.
+// Adds a request of each form, some with different contents, each with its text.
 fn add_requests(
     alloc: Global,
     pairs: &mut Vec<(&'static [u8], Request)>,
@@ -243,7 +244,7 @@ fn add_requests(
 
 pub(crate) const GOT: [u8; 6] = [0xC4, 0x01, 0xC1, 0x00, 0x16, 0x01];
 
-// Adds responses that carry the value of an attribute, or why there is none, with their texts.
+// Adds responses with the value of an attribute, or the reason why there is none, with their texts.
 fn add_got(alloc: Global, pairs: &mut Vec<(&'static [u8], Response)>) -> Result<(), AllocError> {
     add(
         pairs,
@@ -274,7 +275,7 @@ fn add_got(alloc: Global, pairs: &mut Vec<(&'static [u8], Response)>) -> Result<
     )
 }
 
-// The same of responses with a block of a value.
+// Adds responses with a block of a value, with their texts.
 fn add_got_blocks(
     alloc: Global,
     pairs: &mut Vec<(&'static [u8], Response)>,
@@ -313,7 +314,7 @@ fn add_got_blocks(
     )
 }
 
-// The same of responses with a list of values.
+// Adds responses with a list of values, with their texts.
 fn add_got_lists(
     alloc: Global,
     pairs: &mut Vec<(&'static [u8], Response)>,
@@ -340,7 +341,7 @@ fn add_got_lists(
     )
 }
 
-// The same of what is answered to a write.
+// Adds responses to writes, with their texts.
 fn add_set(pairs: &mut Vec<(&'static [u8], Response)>) -> Result<(), AllocError> {
     add(
         pairs,
@@ -374,7 +375,7 @@ fn add_set(pairs: &mut Vec<(&'static [u8], Response)>) -> Result<(), AllocError>
     )
 }
 
-// The same of what is answered to the call of a method.
+// Adds responses to calls of methods, with their texts.
 fn add_acted(pairs: &mut Vec<(&'static [u8], Response)>) -> Result<(), AllocError> {
     add(
         pairs,
@@ -399,7 +400,7 @@ fn add_acted(pairs: &mut Vec<(&'static [u8], Response)>) -> Result<(), AllocErro
     )
 }
 
-// The same of exceptions.
+// Adds exceptions, with their texts.
 fn add_exceptions(pairs: &mut Vec<(&'static [u8], Response)>) -> Result<(), AllocError> {
     add(
         pairs,
@@ -418,7 +419,7 @@ fn add_exceptions(pairs: &mut Vec<(&'static [u8], Response)>) -> Result<(), Allo
     )
 }
 
-// A response of each form, and some forms with other contents, each with its text.
+// Adds a response of each form, some with different contents, each with its text.
 fn add_responses(
     alloc: Global,
     pairs: &mut Vec<(&'static [u8], Response)>,
@@ -431,7 +432,8 @@ fn add_responses(
     add_exceptions(pairs)
 }
 
-// The calls under test, without their contracts: a test is run for what no clause says, and its own proof then has little to look at.
+// Calls the function under test without its contract. A test checks what no clause states, so this
+// keeps its own proof small.
 pub(crate) fn request_of(alloc: Global, bytes: &[u8]) -> Result<Request, ApduFault> {
     read_request(alloc, bytes)
 }
@@ -448,7 +450,7 @@ fn text_of_response(alloc: Global, response: &Response) -> Result<Octets, AllocE
     write_response(alloc, response)
 }
 
-// Whether Debug writes this of a request.
+// Returns whether Debug writes this text for a request.
 fn is_debug_of_request(
     alloc: Global,
     request: &Request,
@@ -460,7 +462,7 @@ fn is_debug_of_request(
     Ok(is_same)
 }
 
-// Whether requests are the same, seen by what Debug writes of both.
+// Returns whether requests are equal, according to their Debug output.
 fn are_same_requests(alloc: Global, one: &Request, other: &Request) -> Result<bool, AllocError> {
     let text = format!(in alloc; "{one:?}")?;
     let are_same = is_debug_of_request(alloc, other, text.as_str());
@@ -468,7 +470,7 @@ fn are_same_requests(alloc: Global, one: &Request, other: &Request) -> Result<bo
     are_same
 }
 
-// Whether the bytes are read as that request.
+// Returns whether the bytes are read as this request.
 fn is_read_as_request(alloc: Global, bytes: &[u8], expected: &Request) -> bool {
     match request_of(alloc, bytes) {
         Ok(request) => {
@@ -480,7 +482,7 @@ fn is_read_as_request(alloc: Global, bytes: &[u8], expected: &Request) -> bool {
     }
 }
 
-// Whether the bytes are what is written of a request.
+// Returns whether a request is written as these bytes.
 pub(crate) fn is_text_of_request(alloc: Global, request: &Request, bytes: &[u8]) -> bool {
     match text_of_request(alloc, request) {
         Ok(text) => {
@@ -492,12 +494,12 @@ pub(crate) fn is_text_of_request(alloc: Global, request: &Request, bytes: &[u8])
     }
 }
 
-// Whether the text is read as that request, and is what is written of it.
+// Returns whether the text is read as this request, and the request is written as the text.
 fn spells_request(alloc: Global, text: &[u8], request: &Request) -> bool {
     is_read_as_request(alloc, text, request) && is_text_of_request(alloc, request, text)
 }
 
-// Whether Debug writes this of a response.
+// Returns whether Debug writes this text for a response.
 fn is_debug_of_response(
     alloc: Global,
     response: &Response,
@@ -509,7 +511,7 @@ fn is_debug_of_response(
     Ok(is_same)
 }
 
-// Whether responses are the same, seen by what Debug writes of both.
+// Returns whether responses are equal, according to their Debug output.
 fn are_same_responses(alloc: Global, one: &Response, other: &Response) -> Result<bool, AllocError> {
     let text = format!(in alloc; "{one:?}")?;
     let are_same = is_debug_of_response(alloc, other, text.as_str());
@@ -517,7 +519,7 @@ fn are_same_responses(alloc: Global, one: &Response, other: &Response) -> Result
     are_same
 }
 
-// Whether the bytes are read as that response.
+// Returns whether the bytes are read as this response.
 fn is_read_as_response(alloc: Global, bytes: &[u8], expected: &Response) -> bool {
     match response_of(alloc, bytes) {
         Ok(response) => {
@@ -529,7 +531,7 @@ fn is_read_as_response(alloc: Global, bytes: &[u8], expected: &Response) -> bool
     }
 }
 
-// Whether the bytes are what is written of a response.
+// Returns whether a response is written as these bytes.
 fn is_text_of_response(alloc: Global, response: &Response, bytes: &[u8]) -> bool {
     match text_of_response(alloc, response) {
         Ok(text) => {
@@ -541,12 +543,12 @@ fn is_text_of_response(alloc: Global, response: &Response, bytes: &[u8]) -> bool
     }
 }
 
-// Whether the text is read as that response, and is what is written of it.
+// Returns whether the text is read as this response, and the response is written as the text.
 fn spells_response(alloc: Global, text: &[u8], response: &Response) -> bool {
     is_read_as_response(alloc, text, response) && is_text_of_response(alloc, response, text)
 }
 
-// Why bytes are no request, and no response; None where they are one.
+// Returns why bytes are not a request, or not a response; `None` if they are one.
 pub(crate) fn request_fault(alloc: Global, bytes: &[u8]) -> Option<ApduFault> {
     request_of(alloc, bytes).err()
 }
@@ -565,7 +567,7 @@ fn with_a_byte_behind(alloc: Global, text: &[u8]) -> Option<Vec<u8>> {
     }
 }
 
-// Why a text with a byte behind it is no request, and no response; None where it is one.
+// Returns why a text followed by a byte is not a request, or not a response; `None` if it is one.
 fn late_request_fault(alloc: Global, text: &[u8]) -> Option<ApduFault> {
     let longer = with_a_byte_behind(alloc, text)?;
     let fault = request_fault(alloc, longer.as_slice());
@@ -580,7 +582,8 @@ fn late_response_fault(alloc: Global, text: &[u8]) -> Option<ApduFault> {
     fault
 }
 
-// What is tried with the text of each request or response: that it and its value spell each other, or that it is unreadable where it ends too early or too late.
+// A check of the text of each request or response: that the text and its value spell each other, or
+// that the text is unreadable if it ends too early or too late.
 #[derive(Clone, Copy)]
 enum Trial {
     Spells,
@@ -588,10 +591,10 @@ enum Trial {
     EndsLate,
 }
 
-// How many of a text's bytes are taken where it goes wrong; None where all is well.
+// The number of bytes of a text for which a check fails; `None` if it succeeds.
 type Wrong = Option<usize>;
 
-// All bytes, where it isn't so.
+// Returns the length of the text unless the check succeeded.
 fn all_unless(is_so: bool, text: &[u8]) -> Wrong {
     if is_so { None } else { Some(text.len()) }
 }
@@ -616,7 +619,7 @@ fn request_wrong(alloc: Global, trial: Trial, text: &[u8], request: &Request) ->
     }
 }
 
-// The first text with which the trial goes wrong, and at how many bytes.
+// Returns the first text for which the check fails, and the number of its bytes.
 fn first_request_wrong(
     alloc: Global,
     trial: Trial,
@@ -630,7 +633,7 @@ fn first_request_wrong(
     None
 }
 
-// The same of all requests.
+// Performs the check for all requests.
 fn try_requests(alloc: Global, trial: Trial) -> Result<Option<(&'static [u8], usize)>, AllocError> {
     let mut pairs = Vec::new(alloc);
     let added = add_requests(alloc, &mut pairs);
@@ -642,7 +645,7 @@ fn try_requests(alloc: Global, trial: Trial) -> Result<Option<(&'static [u8], us
     }
 }
 
-// Fails where a trial went wrong, and says with which text.
+// Fails if a check failed, and reports the text.
 fn assert_all_well(rt: &impl Abort, wrong: Result<Option<(&'static [u8], usize)>, AllocError>) {
     assert!(*rt; wrong == Ok(None), "{wrong:?}");
 }
@@ -683,7 +686,7 @@ fn response_wrong(alloc: Global, trial: Trial, text: &[u8], response: &Response)
     }
 }
 
-// The first text with which the trial goes wrong, and at how many bytes.
+// Returns the first text for which the check fails, and the number of its bytes.
 fn first_response_wrong(
     alloc: Global,
     trial: Trial,
@@ -697,7 +700,7 @@ fn first_response_wrong(
     None
 }
 
-// The same of all responses.
+// Performs the check for all responses.
 fn try_responses(
     alloc: Global,
     trial: Trial,
@@ -728,7 +731,7 @@ fn a_response_that_ends_too_late_is_unreadable(rt: HostRuntime) {
     assert_all_well(&rt, try_responses(rt.alloc(), Trial::EndsLate));
 }
 
-// The text of a request that reads the same attribute `count` times.
+// Returns the text of a request that reads the same attribute `count` times.
 fn list_text(alloc: Global, count: u8) -> Result<Vec<u8>, AllocError> {
     let mut text = Vec::from_slice(alloc, &[0xC0, 0x03, 0xC1, count])?;
     for _ in 0..count {
@@ -737,7 +740,7 @@ fn list_text(alloc: Global, count: u8) -> Result<Vec<u8>, AllocError> {
     Ok(text)
 }
 
-// That request.
+// Returns the request that reads the same attribute `count` times.
 fn list_request(alloc: Global, count: u8) -> Result<Request, AllocError> {
     let mut targets = Vec::new(alloc);
     for _ in 0..count {
@@ -749,7 +752,7 @@ fn list_request(alloc: Global, count: u8) -> Result<Request, AllocError> {
     })
 }
 
-// Whether a text is the one of that request.
+// Returns whether a text is that of the request that reads the same attribute `count` times.
 fn is_list(alloc: Global, text: &[u8], count: u8) -> Result<bool, AllocError> {
     let request = list_request(alloc, count)?;
     let is_so = spells_request(alloc, text, &request);
@@ -757,7 +760,8 @@ fn is_list(alloc: Global, text: &[u8], count: u8) -> Result<bool, AllocError> {
     Ok(is_so)
 }
 
-// Whether that request is read from its text and written as it.
+// Returns whether the request that reads the same attribute `count` times is read from its text and
+// written as it.
 fn is_list_spelled(alloc: Global, count: u8) -> Result<bool, AllocError> {
     let text = list_text(alloc, count)?;
     let is_so = is_list(alloc, text.as_slice(), count);

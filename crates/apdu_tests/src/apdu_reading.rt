@@ -16,7 +16,7 @@ static REQUEST_FAULTS: [(&[u8], ApduFault); 11] = [
     (&[0xC1, 0x04], ApduFault::UnknownForm),
     (&[0xC3, 0x02], ApduFault::UnknownForm),
     (&[0xC3, 0x05], ApduFault::UnknownForm),
-    // Lengths with no byte and with five bytes behind the first.
+    // Lengths with no byte and with five bytes after the first.
     (
         &[
             0xC1, 0x03, 0xC1, 0x01, 0x00, 0x00, 0x00, 0x02, 0x80, 0x00, 0x00, 0x00, 0x00, 0x00,
@@ -66,7 +66,8 @@ fn a_response_fault_says_how_far_the_bytes_are_known(rt: HostRuntime) {
     }
 }
 
-// A length in a longer form and any byte for yes, and any selector with any parameters: other spellings of what is written in one way.
+// Other spellings than those written: a length in a longer form, any byte for true, and any
+// selector with any parameters.
 static OTHER_SPELLINGS: [(&[u8], &[u8]); 2] = [
     (
         &[
@@ -83,7 +84,7 @@ static OTHER_SPELLINGS: [(&[u8], &[u8]); 2] = [
     ),
 ];
 
-// Whether bytes are read as a request that is written as these.
+// Returns whether bytes are read as a request that is written as the other bytes.
 fn is_written_as(alloc: Global, bytes: &[u8], written: &[u8]) -> bool {
     match request_of(alloc, bytes) {
         Ok(request) => {

@@ -1,8 +1,9 @@
-//! Tests of `xdlms_apdu`: reads and writes texts of the standard. Also tests `byte_reading`, and the
-//! numbers of the faults of `cosem_axdr`, `acse_ber`, `xdlms_apdu`, `wrapper_frame` and
+//! Tests of `xdlms_apdu`: reads and writes texts of the standard. Also tests `byte_reading`, and
+//! the numbers of the faults of `cosem_axdr`, `acse_ber`, `xdlms_apdu`, `wrapper_frame` and
 //! `xdlms_blocks`.
 //!
-//! The tests have a crate of their own because a check of tests also proves the rest of their crate.
+//! The tests have a crate of their own because a check of tests also proves the rest of their
+//! crate.
 #![tactic(auto)]
 
 #[cfg(test)]

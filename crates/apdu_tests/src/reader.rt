@@ -2,7 +2,7 @@ use byte_reading::{Reader, beside};
 use std::process::Abort;
 use xdlms_apdu::ApduFault;
 
-// A response to a GET, whose value is 1 of an enumeration.
+// A response to a GET with the value 1 of an enumeration.
 const GOT: [u8; 6] = [0xC4, 0x01, 0xC1, 0x00, 0x16, 0x01];
 
 #[test]

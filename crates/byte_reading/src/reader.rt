@@ -65,7 +65,8 @@ impl<'a> Reader<'a> {
 
     /// Reads the next `count` bytes. Returns `fault` and reads nothing if there are fewer.
     pub fn bytes<F: Copy>(&mut self, count: usize, fault: F) -> Result<&'a [u8], F>
-        ensures read { Reads (λ bytes. bytes.now) result self.new (first_bytes fault count self.old) }
+        ensures read { Reads (λ bytes. bytes.now) result self.new
+            (first_bytes fault count self.old) }
         ensures len { IfOk result (λ bytes. length bytes.now ≡ count) }
     {
         if self.rest.len() < count {

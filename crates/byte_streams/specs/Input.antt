@@ -14,7 +14,8 @@ FailsToRead limit bytes failed fault.Read failed' = (length bytes ≤ limit) × 
 FailsToRead limit bytes failed fault.Memory failed' = ⊤
 
 -- The bytes were not read to their end.
-pub record StopsReading (limit : ℕ) (left : Option (List ℕ)) (failed : ℕ) (f : InputFault) (left' : Option (List ℕ)) (failed' : ℕ) : Type 0 where
+pub record StopsReading (limit : ℕ) (left : Option (List ℕ)) (failed : ℕ) (f : InputFault)
+    (left' : Option (List ℕ)) (failed' : ℕ) : Type 0 where
   pub bytes : List ℕ
   pub read : Consumes left left' bytes
   pub cause : FailsToRead limit bytes failed f failed'

@@ -17,7 +17,8 @@ use Rattle.byte_streams.specs.declared.fault.InputFault.TheVariants as fault
 
 -- the bytes that the stream has left, if they are known: those in the buffer, followed by the
 -- unread ones
-abbrev pub left_in : {T A : Type 0} → (T → Option (List ℕ)) → BufReader (Monitored T) A → Option (List ℕ)
+abbrev pub left_in : {T A : Type 0} → (T → Option (List ℕ)) → BufReader (Monitored T) A
+    → Option (List ℕ)
 left_in remaining input = reader_remaining (λ m. remaining (stream_of m)) input
 
 -- whether a read of the stream has failed
@@ -26,7 +27,8 @@ has_failed_in input = has_failed (reader_inner input)
 
 -- A piece of a line was appended: bytes that were read, of which only the last can be 0A. A piece
 -- that ends the line ends with that byte, or is empty at the end of the input.
-pub record AddsPiece (left : Option (List ℕ)) (line : List ℕ) (is_done : Bool) (left' : Option (List ℕ)) (line' : List ℕ) : Type 0 where
+pub record AddsPiece (left : Option (List ℕ)) (line : List ℕ) (is_done : Bool)
+    (left' : Option (List ℕ)) (line' : List ℕ) : Type 0 where
   pub piece : List ℕ
   pub added : line' ≡ line ++ piece
   pub read : Consumes left left' piece
@@ -38,7 +40,8 @@ pub record AddsPiece (left : Option (List ℕ)) (line : List ℕ) (is_done : Boo
 
 -- A line was appended: the bytes up to and including the first 0A, or all bytes if there is none.
 -- `count` is their number.
-pub record ReadsLine (left : Option (List ℕ)) (line : List ℕ) (count : ℕ) (left' : Option (List ℕ)) (line' : List ℕ) : Type 0 where
+pub record ReadsLine (left : Option (List ℕ)) (line : List ℕ) (count : ℕ) (left' : Option (List ℕ))
+    (line' : List ℕ) : Type 0 where
   pub bytes : List ℕ
   pub added : line' ≡ line ++ bytes
   pub read : Consumes left left' bytes
@@ -49,6 +52,7 @@ pub record ReadsLine (left : Option (List ℕ)) (line : List ℕ) (count : ℕ) 
 -- why no line was appended to `line`: with it, `line` would exceed the limit, or a read has failed,
 -- or out of memory
 abbrev pub IsLineFault : ℕ → Option (List ℕ) → List ℕ → Bool → InputFault → Type 0
-IsLineFault limit left line failed fault.TooLong = IfSome left (λ all. limit < length line + length (take_through 10 all))
+IsLineFault limit left line failed fault.TooLong =
+    IfSome left (λ all. limit < length line + length (take_through 10 all))
 IsLineFault limit left line failed fault.Read = failed ≡ true
 IsLineFault limit left line failed fault.Memory = ⊤

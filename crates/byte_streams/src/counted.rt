@@ -8,7 +8,7 @@ use crate::streams::{Reader, Writer};
 use std::io;
 use std::io::{ErrorKind, Read, Write};
 
-/// The number of tries of a read that a signal interrupts.
+// The number of tries of a read that a signal interrupts.
 const MOST_TRIES: u32 = 1_000;
 
 // Whether a read that failed with this error is retried: only if a signal interrupted it.
@@ -64,10 +64,11 @@ impl<T> Counted<T> {
     }
 }
 
-/// Reads from a stream. A read that a signal interrupts is retried, up to 1,000 tries in all.
+// Reads from a stream. A read that a signal interrupts is retried, up to 1,000 tries in all.
 pub(crate) fn read_stream<T: Read>(stream: &mut T, buffer: &mut [u8]) -> io::Result<usize>
     ensures bound { ReadsAtMost result buffer.new }
-    ensures bytes { ReadConsumes (T.remaining stream.old) (T.remaining stream.new) result buffer.new }
+    ensures bytes { ReadConsumes (T.remaining stream.old) (T.remaining stream.new) result
+        buffer.new }
 {
     'tries: for _ in 1..MOST_TRIES {
         match stream.read(buffer) {

@@ -6,7 +6,7 @@ use crate::fault::InputFault;
 use crate::streams::Reader;
 use std::alloc::Global;
 
-/// The largest number of bytes that one read asks for.
+// The largest number of bytes that one read asks for.
 const MAX_PIECE: usize = 16_384;
 
 /// Reads all bytes up to the end, at most `limit`. Errors: `TooLong` as soon as more than `limit`
@@ -19,10 +19,13 @@ pub fn read_to_end_within<R: Reader>(
 ) -> Result<Vec<u8>, InputFault>
     requires readable { R.can_read reader.now }
     requires limited { limit < 2 ^ 32 }
-    ensures read { IfOk result (λ bytes. Consumes (R.remaining reader.old) (R.remaining reader.new) bytes.items) }
+    ensures read { IfOk result
+        (λ bytes. Consumes (R.remaining reader.old) (R.remaining reader.new) bytes.items) }
     ensures whole { IfOk result (λ bytes. IsAtEnd (R.remaining reader.new)) }
     ensures within { IfOk result (λ bytes. length bytes.items ≤ limit) }
-    ensures err { IfErr result (λ fault. StopsReading limit (R.remaining reader.old) (R.failures reader.old) fault (R.remaining reader.new) (R.failures reader.new)) }
+    ensures err { IfErr result
+        (λ fault. StopsReading limit (R.remaining reader.old) (R.failures reader.old) fault
+        (R.remaining reader.new) (R.failures reader.new)) }
 {
     let mut bytes = Vec::new(alloc);
     let mut buffer = [0; MAX_PIECE];

@@ -5,7 +5,7 @@ use crate::fault::InputFault;
 use crate::monitored::Monitored;
 use std::io::{BufRead, BufReader, Read};
 
-/// Returns the number of bytes up to and including the first 0A, or of all bytes if there is none.
+// Returns the number of bytes up to and including the first 0A, or of all bytes if there is none.
 fn line_len(bytes: &[u8]) -> usize
     ensures bound { result ≤ length bytes.now }
     ensures some { 0 < length bytes.now → 0 < result }
@@ -19,10 +19,12 @@ fn line_len(bytes: &[u8]) -> usize
     bytes.len()
 }
 
-/// Appends the buffered bytes of the reader, up to and including the first 0A. Returns whether the
-/// line or the input ends there.
+// Appends the buffered bytes of the reader, up to and including the first 0A. Returns whether the
+// line or the input ends there.
 fn add_piece<B: BufRead>(input: &mut B, line: &mut Vec<u8>) -> Result<bool, InputFault>
-    ensures { IfOk result (λ is_done. AddsPiece (B.remaining input.old) line.old.items is_done (B.remaining input.new) line.new.items) }
+    ensures { IfOk result
+        (λ is_done. AddsPiece (B.remaining input.old) line.old.items is_done (B.remaining input.new)
+        line.new.items) }
 {
     let available = match input.fill_buf() {
         Ok(available) => available,
@@ -35,8 +37,8 @@ fn add_piece<B: BufRead>(input: &mut B, line: &mut Vec<u8>) -> Result<bool, Inpu
     Ok(is_done)
 }
 
-/// Returns the fault of a piece that was not appended: `Read` only if the stream has recorded a
-/// failed read.
+// Returns the fault of a piece that was not appended: `Read` only if the stream has recorded a
+// failed read.
 fn piece_fault(fault: InputFault, has_failed: bool) -> InputFault
     ensures cause { result ≡ InputFault.Read → has_failed ≡ true }
     ensures short { result ≢ InputFault.TooLong }
@@ -59,9 +61,13 @@ pub fn read_line_within<T: Read>(
     limit: usize,
 ) -> Result<usize, InputFault>
     requires { limit < 2 ^ 32 }
-    ensures read { IfOk result (λ count. ReadsLine (left_in T.remaining input.old) line.old.items count (left_in T.remaining input.new) line.new.items) }
+    ensures read { IfOk result
+        (λ count. ReadsLine (left_in T.remaining input.old) line.old.items count
+        (left_in T.remaining input.new) line.new.items) }
     ensures within { IfOk result (λ _. length line.new.items ≤ limit) }
-    ensures err { IfErr result (IsLineFault limit (left_in T.remaining input.old) line.old.items (has_failed_in input.new)) }
+    ensures err { IfErr result
+        (IsLineFault limit (left_in T.remaining input.old) line.old.items
+        (has_failed_in input.new)) }
 {
     let start = line.len();
     'pieces: for _ in 0..limit + 1 {

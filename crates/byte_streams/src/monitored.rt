@@ -40,7 +40,8 @@ impl<T: Read> Read for Monitored<T> {
 
     fn read(&mut self, buffer: &mut [u8]) -> io::Result<usize>
         ensures bound { ReadsAtMost result buffer.new }
-        ensures bytes { ReadConsumes (T.remaining (stream_of self.old)) (T.remaining (stream_of self.new)) result buffer.new }
+        ensures bytes { ReadConsumes (T.remaining (stream_of self.old))
+            (T.remaining (stream_of self.new)) result buffer.new }
         ensures same { OnOk result (has_failed self.new ≡ has_failed self.old) }
         ensures cause { OnErr result (has_failed self.new ≡ true) }
     {

@@ -4,7 +4,7 @@ use std::process::Abort;
 use std::test::Fail;
 use xdlms_blocks::{BlockFault, GetBlocks, JoinBlocks, Piece};
 
-/// The bytes 0, 1, 2 and so on, from 0 again after 250.
+/// Returns the bytes 0, 1, 2 and so on, starting at 0 again after 250.
 fn counted<const N: usize>() -> [u8; N] {
     let mut bytes = [0; N];
     for (at, byte) in bytes.iter_mut().enumerate() {
@@ -13,30 +13,31 @@ fn counted<const N: usize>() -> [u8; N] {
     bytes
 }
 
-/// A block: whether it is the last, its number, and how many bytes it has.
+/// A block: whether it is the last, its number, and the number of its bytes.
 type Block = (bool, u32, usize);
 
-/// A text of 650 bytes that goes out in blocks of 52.
+/// Returns a block transfer of a text of 650 bytes in blocks of 52.
 fn sending_650(alloc: Global) -> Result<GetBlocks, AllocError> {
     let text: [u8; 650] = counted();
     Ok(GetBlocks::new(Octets::from_slice(alloc, &text)?, 52))
 }
 
-/// The same of 104 bytes.
+/// Returns a block transfer of a text of 104 bytes in blocks of 52.
 fn sending_104(alloc: Global) -> Result<GetBlocks, AllocError> {
     let text: [u8; 104] = counted();
     Ok(GetBlocks::new(Octets::from_slice(alloc, &text)?, 52))
 }
 
-/// What is asked of a text that goes out in blocks: after which number, and the block (whether it is the last, its number and its bytes) or why there is none.
+/// A request for the block after a number, and the expected block (whether it is the last, its
+/// number and its bytes) or fault.
 type Sending<'a> = (u32, Result<(bool, u32, &'a [u8]), BlockFault>);
 
-/// Whether a block is this one.
+/// Returns whether a block is the expected one.
 fn is_block(piece: &Piece, (last, number, raw): (bool, u32, &[u8])) -> bool {
     piece.last == last && piece.number == number && piece.raw.as_slice() == raw
 }
 
-/// Whether it is answered so.
+/// Returns whether a request for a block has the expected result.
 fn sends(
     alloc: Global,
     sent: &mut GetBlocks,
@@ -69,10 +70,11 @@ fn send_all(
     Ok(())
 }
 
-/// A block that is added (whether it is the last, its number and its bytes), and the text that it completes, or none, or why it is not added.
+/// A block to add (whether it is the last, its number and its bytes), and the expected result: the
+/// text that it completes, none, or a fault.
 type Joining<'a> = ((bool, u32, &'a [u8]), Result<Option<&'a [u8]>, BlockFault>);
 
-/// Whether a text that was put together is this one, or is not there as it is not here.
+/// Returns whether the result of adding a block is the expected text, or none as expected.
 fn is_text(added: &Option<Octets>, text: Option<&[u8]>) -> bool {
     match (added, text) {
         (Some(added), Some(text)) => added.as_slice() == text,
@@ -81,7 +83,7 @@ fn is_text(added: &Option<Octets>, text: Option<&[u8]>) -> bool {
     }
 }
 
-/// Whether it gives that.
+/// Returns whether adding a block has the expected result.
 fn joins(joined: &mut JoinBlocks, (block, expected): &Joining<'_>) -> Result<bool, BlockFault> {
     let (last, number, raw) = *block;
     match (joined.add(last, number, raw), expected) {
@@ -110,7 +112,7 @@ fn join_all(
     Ok(())
 }
 
-/// Adds blocks to none.
+/// Adds blocks to an empty transfer.
 fn join(rt: &impl Abort, alloc: Global, rows: &[Joining<'_>]) -> Result<(), BlockFault> {
     let mut joined = JoinBlocks::new(alloc);
     let added = join_all(rt, &mut joined, rows);
@@ -118,7 +120,8 @@ fn join(rt: &impl Abort, alloc: Global, rows: &[Joining<'_>]) -> Result<(), Bloc
     added
 }
 
-/// Whether a block is this one, and gives this text, or none, where it is added. Where `is_patient`, it is added again where memory runs out.
+/// Returns whether a block is the expected one, and adding it returns the expected text, or none.
+/// If `is_patient`, adds it again if out of memory.
 fn passes(
     joined: &mut JoinBlocks,
     piece: Piece,
@@ -136,7 +139,7 @@ fn passes(
     Ok(added? && same)
 }
 
-/// Passes 13 blocks of the text of 650 bytes, and no more.
+/// Checks that the text of 650 bytes is passed in exactly 13 blocks.
 fn check_13_blocks(
     rt: &impl Abort,
     alloc: Global,
@@ -189,7 +192,8 @@ fn a_full_block_at_the_end_is_the_last(rt: HostRuntime) -> Result<(), Fail> {
     Ok(())
 }
 
-/// Asks a text of 650 bytes for the block after the first by a wrong number, and then by the right one.
+/// Requests the block after the first of a text of 650 bytes with a wrong number, and then with the
+/// right one.
 fn check_wrong_number(rt: &impl Abort, alloc: Global, wrong: u32) -> Result<(), Fail> {
     let text: [u8; 52] = counted();
     let mut sent = sending_650(alloc)?;
@@ -227,7 +231,7 @@ fn three_blocks_give_one_text(rt: HostRuntime) -> Result<(), Fail> {
     Ok(join(&rt, rt.alloc(), &THREE)?)
 }
 
-/// A first block of a wrong number, and then of the right one.
+/// Returns a first block with a wrong number, followed by one with the right number.
 fn wrong_first(first: u32) -> [Joining<'static>; 2] {
     [
         ((false, first, &[0x06]), Err(BlockFault::WrongNumber)),
@@ -235,7 +239,7 @@ fn wrong_first(first: u32) -> [Joining<'static>; 2] {
     ]
 }
 
-/// A first block, and a second of a wrong number.
+/// Returns a first block, followed by a second with a wrong number.
 fn wrong_second(second: u32) -> [Joining<'static>; 2] {
     [
         ((false, 1, &[0x06]), Ok(None)),
@@ -256,7 +260,7 @@ fn another_number_ends_the_joining(rt: HostRuntime) -> Result<(), Fail> {
 
 const LONGEST: [u8; 8192] = [0xAB; 8192];
 
-/// A byte is added to 8,192.
+/// A byte added to 8,192 bytes.
 static LONGER: [Joining<'static>; 3] = [
     ((false, 1, &LONGEST), Ok(None)),
     ((true, 2, &[0xAB]), Err(BlockFault::TooLong)),
@@ -274,7 +278,7 @@ fn no_more_than_8192_bytes_are_joined(rt: HostRuntime) -> Result<(), Fail> {
     Ok(())
 }
 
-/// The block after that of a number, asked for again where memory runs out.
+/// Returns the block after a number; requests it again if out of memory.
 fn next_again(alloc: Global, sent: &mut GetBlocks, after: u32) -> Result<Piece, BlockFault> {
     match sent.next(alloc, after) {
         Err(BlockFault::Memory) => sent.next(alloc, after),
@@ -310,13 +314,13 @@ fn a_call_that_found_no_memory_can_be_repeated(rt: HostRuntime) -> Result<(), Fa
     checked
 }
 
-/// A text of 8,192 bytes that goes out in blocks of 52.
+/// Returns a block transfer of a text of 8,192 bytes in blocks of 52.
 fn sending_8192(alloc: Global) -> Result<GetBlocks, AllocError> {
     let text: [u8; 8192] = counted();
     Ok(GetBlocks::new(Octets::from_slice(alloc, &text)?, 52))
 }
 
-/// Wants that text to go out in its blocks, numbered from 1.
+/// Checks that this text is sent in its blocks, numbered from 1.
 fn check_blocks(rt: &impl Abort, alloc: Global, text: &[u8]) -> Result<(), Fail> {
     let mut sent = sending_8192(alloc)?;
     let mut number = 0u32;
@@ -336,7 +340,7 @@ fn a_text_of_8192_bytes_has_158_blocks(rt: HostRuntime) -> Result<(), Fail> {
     check_blocks(&rt, rt.alloc(), &text)
 }
 
-/// Wants a text to come back whole from its blocks of 52 bytes.
+/// Checks that a text is joined again from its blocks of 52 bytes.
 fn check_joined(rt: &impl Abort, alloc: Global, text: &[u8]) -> Result<(), BlockFault> {
     let mut joined = JoinBlocks::new(alloc);
     let mut number = 0u32;

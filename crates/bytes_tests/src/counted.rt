@@ -6,7 +6,7 @@ use std::io;
 use std::io::{ErrorKind, Read, Write};
 use std::test::Fail;
 
-/// A stream of std that fails at one of its calls, counted from 1. Each other call moves a byte.
+/// A stream of std that fails at one of its calls, counted from 1. Each other call moves one byte.
 #[derive(Drop)]
 struct Scripted {
     calls: u32,
@@ -23,7 +23,7 @@ impl Scripted {
         }
     }
 
-    /// Counts a call, and says whether it is the one that fails.
+    /// Counts a call, and returns whether it is the one that fails.
     fn fails(&mut self) -> bool {
         self.calls = self.calls.saturating_add(1);
         self.calls == self.failing
@@ -58,7 +58,7 @@ impl Write for Scripted {
     }
 }
 
-// Whether a slice is read to its end, three bytes at a time.
+// Returns whether a slice is read to its end, three bytes at a time.
 fn reads_slice() -> Result<bool, StreamFault> {
     let bytes: &[u8] = &[1, 2, 3, 4, 5];
     let mut reader = Counted::new(bytes);
@@ -77,7 +77,7 @@ fn a_slice_is_read_to_its_end(rt: HostRuntime) -> Result<(), Fail> {
     Ok(())
 }
 
-// Writes three bytes in two pieces, and none between.
+// Writes three bytes in two pieces, with an empty write between them.
 fn write_three<W: Write>(writer: &mut Counted<W>) -> Result<(), StreamFault>
     requires { writer.old.has_failed ≡ false }
 {
@@ -99,7 +99,8 @@ fn a_vector_takes_what_is_written(rt: HostRuntime) -> Result<(), Fail> {
     Ok(())
 }
 
-// What is told of a stream that was read: whether it has failed, how many reads there were, and how many calls of the stream.
+// Returns whether a stream that was read has failed, the number of reads, and the number of calls
+// of the stream.
 fn told_of(reader: Counted<Scripted>) -> (bool, u64, u32) {
     let (has_failed, reads) = (reader.has_failed(), reader.reads());
     (has_failed, reads, reader.into_inner().calls)
@@ -136,20 +137,20 @@ fn a_write_that_fails_is_told(rt: HostRuntime) -> Result<(), Fail> {
     Ok(())
 }
 
-// What is read of five bytes within a limit, or the fault.
+// Returns the bytes read from five bytes within a limit, or the fault.
 fn read_five(alloc: Global, limit: u16) -> Result<Vec<u8>, InputFault> {
     let bytes: &[u8] = &[1, 2, 3, 4, 5];
     let mut reader = Counted::new(bytes);
     read_to_end_within(alloc, &mut reader, usize::from(limit))
 }
 
-// What is read of a stream that fails at its third call within 100 bytes, or the fault.
+// Returns the bytes read within 100 bytes from a stream that fails at its third call, or the fault.
 fn read_failing(alloc: Global) -> Result<Vec<u8>, InputFault> {
     let mut reader = Counted::new(Scripted::new(3, ErrorKind::ConnectionReset));
     read_to_end_within(alloc, &mut reader, 100)
 }
 
-// Whether five bytes are read within five.
+// Returns whether five bytes are read within a limit of five.
 fn reads_five(alloc: Global) -> Result<bool, InputFault> {
     let read = read_five(alloc, 5)?;
     let same = read.as_slice() == [1, 2, 3, 4, 5].as_slice();
@@ -157,7 +158,7 @@ fn reads_five(alloc: Global) -> Result<bool, InputFault> {
     Ok(same)
 }
 
-// How many bytes are read of these, in several pieces.
+// Returns the number of bytes read from these in several pieces.
 fn count_read(alloc: Global, bytes: &[u8]) -> Result<usize, InputFault> {
     let mut reader = Counted::new(bytes);
     let read = read_to_end_within(alloc, &mut reader, 100_000)?;

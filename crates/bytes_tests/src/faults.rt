@@ -4,7 +4,7 @@ use std::alloc::{AllocError, Global};
 use std::process::ExitCode;
 use std::test::Fail;
 
-/// A fault, its word and its status.
+/// A fault, its word and its exit status.
 static FAULTS: [(Fault, &str, u8); 6] = [
     (Fault::Input, "input", 2),
     (Fault::Read, "read", 3),
@@ -14,7 +14,7 @@ static FAULTS: [(Fault, &str, u8); 6] = [
     (Fault::Turns, "turns", 4),
 ];
 
-/// Whether a fault is shown as a word.
+/// Returns whether a fault is displayed as a word.
 fn is_shown(alloc: Global, fault: Fault, word: &str) -> Result<bool, AllocError> {
     let shown = format!(in alloc; "{fault}")?;
     let same = shown.as_str() == word;

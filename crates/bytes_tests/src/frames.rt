@@ -3,7 +3,7 @@ use std::process::Abort;
 use std::test::Fail;
 use wrapper_frame::{Deframer, Frame, Head, WrapperFault, frame};
 
-/// An association request, 31 bytes from port 16 to port 1, and a GET request, 13 bytes.
+/// An association request, 31 bytes from port 16 to port 1, and a GET request of 13 bytes.
 static STREAM: [u8; 60] = [
     0x00, 0x01, 0x00, 0x10, 0x00, 0x01, 0x00, 0x1F, 0x60, 0x1D, 0xA1, 0x09, 0x06, 0x07, 0x60, 0x85,
     0x74, 0x05, 0x08, 0x01, 0x01, 0xBE, 0x10, 0x04, 0x0E, 0x01, 0x00, 0x00, 0x00, 0x06, 0x5F, 0x1F,
@@ -22,7 +22,7 @@ const GET: [u8; 13] = [
     0xC0, 0x01, 0xC1, 0x00, 0x46, 0x00, 0x00, 0x60, 0x03, 0x0A, 0xFF, 0x03, 0x00,
 ];
 
-/// Takes the first frame if it is whole, and tells whether it is.
+/// Takes the first frame if it is whole, and returns whether it is.
 fn take_one(deframer: &mut Deframer, alloc: Global, frames: &mut Vec<Frame>) -> Result<bool, Fail> {
     match deframer.take(alloc)? {
         Some(frame) => {
@@ -33,7 +33,7 @@ fn take_one(deframer: &mut Deframer, alloc: Global, frames: &mut Vec<Frame>) -> 
     }
 }
 
-/// Feeds bytes, and takes the frames that are whole, at most three.
+/// Feeds bytes, and takes the whole frames, at most three.
 fn feed_and_take(
     deframer: &mut Deframer,
     alloc: Global,
@@ -47,7 +47,7 @@ fn feed_and_take(
     Ok(())
 }
 
-/// Whether these are the two frames of the stream.
+/// Returns whether these are the two frames of the stream.
 fn are_both(frames: &[Frame]) -> bool {
     match frames {
         [association, get] => is_frame(association, &ASSOCIATION) && is_frame(get, &GET),
@@ -55,12 +55,12 @@ fn are_both(frames: &[Frame]) -> bool {
     }
 }
 
-/// Whether a frame goes from port 16 to port 1 with this payload.
+/// Returns whether a frame is from port 16 to port 1 with this payload.
 fn is_frame(frame: &Frame, payload: &[u8]) -> bool {
     frame.src == 16 && frame.dst == 1 && frame.payload.as_slice() == payload
 }
 
-/// Takes the two frames out of two pieces of the stream.
+/// Takes the two frames from two pieces of the stream.
 fn check_pieces(
     rt: &impl Abort,
     alloc: Global,
@@ -89,8 +89,9 @@ fn two_frames_come_out_of_every_cut(rt: HostRuntime) -> Result<(), Fail> {
     Ok(())
 }
 
-/// Feeds the byte of a place in the stream, and takes the frame that ends with it. Tells whether none was begun before, where none was to be, and none is whole
-/// but where one is.
+/// Feeds one byte of the stream, and takes the frame that ends with it. Returns whether no bytes
+/// were pending exactly at the start of each frame, and a frame was whole exactly at the end of
+/// each.
 fn is_fed(
     alloc: Global,
     (at, byte): (usize, u8),
@@ -129,7 +130,8 @@ fn two_frames_come_out_byte_by_byte(rt: HostRuntime) -> Result<(), Fail> {
     checked
 }
 
-/// Whether the frame in front goes from port 16 to port 1 with this payload. It is let go.
+/// Returns whether the frame at the front is from port 16 to port 1 with this payload, and removes
+/// it.
 fn is_first(deframer: &mut Deframer, payload: &[u8]) -> bool {
     match deframer.front() {
         Head::Whole(size) => {
@@ -141,7 +143,7 @@ fn is_first(deframer: &mut Deframer, payload: &[u8]) -> bool {
     }
 }
 
-/// Whether the two frames of the stream lie in front of each other, and nothing behind them.
+/// Returns whether the two frames of the stream follow each other, with no bytes after them.
 fn lie_there(deframer: &mut Deframer) -> Result<bool, Fail> {
     let is_part = matches!(deframer.front(), Head::Part);
     deframer.feed(&STREAM)?;
@@ -158,7 +160,7 @@ fn two_frames_are_read_where_they_lie(rt: HostRuntime) -> Result<(), Fail> {
     Ok(())
 }
 
-/// Whether there is no frame yet.
+/// Returns whether there is no whole frame yet.
 fn takes_none(deframer: &mut Deframer, alloc: Global) -> Result<bool, Fail> {
     let taken = deframer.take(alloc)?;
     let is_none = taken.is_none();
@@ -166,7 +168,8 @@ fn takes_none(deframer: &mut Deframer, alloc: Global) -> Result<bool, Fail> {
     Ok(is_none)
 }
 
-/// Feeds eight bytes one by one, and tells whether there is no frame and no fault before the last.
+/// Feeds eight bytes one by one, and returns whether there is neither a frame nor a fault before
+/// the last.
 fn is_header_fed(deframer: &mut Deframer, alloc: Global, header: [u8; 8]) -> Result<bool, Fail> {
     let mut is_none = true;
     for byte in header.iter() {
@@ -176,12 +179,13 @@ fn is_header_fed(deframer: &mut Deframer, alloc: Global, header: [u8; 8]) -> Res
     Ok(is_none)
 }
 
-/// Why no frame is taken.
+/// Returns the fault of taking a frame.
 fn take_fault(deframer: &mut Deframer, alloc: Global) -> Option<WrapperFault> {
     deframer.take(alloc).err()
 }
 
-/// Asks twice, and feeds more behind a wrong header. Tells whether each answer is this fault.
+/// Takes a frame twice, and feeds more bytes after a wrong header. Returns whether each result is
+/// this fault.
 fn stays_wrong(deframer: &mut Deframer, alloc: Global, fault: WrapperFault) -> bool {
     let mut is_so = true;
     for _ in 0..2 {
@@ -192,7 +196,7 @@ fn stays_wrong(deframer: &mut Deframer, alloc: Global, fault: WrapperFault) -> b
     is_so && !deframer.is_empty()
 }
 
-/// Whether a wrong header is answered with this fault for good.
+/// Returns whether a wrong header is reported with this fault by every call.
 fn is_wrong(alloc: Global, header: [u8; 8], fault: WrapperFault) -> Result<bool, Fail> {
     let mut deframer = Deframer::new(alloc);
     let fed = is_header_fed(&mut deframer, alloc, header);
@@ -258,7 +262,7 @@ fn frames_before_a_wrong_header_come_first(rt: HostRuntime) -> Result<(), Fail> 
     checked
 }
 
-/// Whether a frame of this payload was taken.
+/// Returns whether a frame with this payload was taken.
 fn is_of(taken: Result<Option<Frame>, WrapperFault>, payload: &[u8]) -> Result<bool, WrapperFault> {
     let taken = taken?;
     let is_so = matches!(&taken, Some(frame) if is_frame(frame, payload));
@@ -266,7 +270,7 @@ fn is_of(taken: Result<Option<Frame>, WrapperFault>, payload: &[u8]) -> Result<b
     Ok(is_so)
 }
 
-/// Whether a frame of this payload is taken out of a text.
+/// Returns whether a frame with this payload is taken from a text.
 fn is_taken(alloc: Global, text: &[u8], payload: &[u8]) -> Result<bool, WrapperFault> {
     let mut deframer = Deframer::new(alloc);
     let taken = match deframer.feed(text) {
@@ -277,7 +281,8 @@ fn is_taken(alloc: Global, text: &[u8], payload: &[u8]) -> Result<bool, WrapperF
     taken
 }
 
-/// Whether a payload of 1,024 bytes has a text that begins so, out of which it is taken.
+/// Returns whether the text of a payload of 1,024 bytes has the expected header, and the payload is
+/// taken from it.
 fn is_written_and_taken(alloc: Global, longest: &[u8]) -> Result<bool, WrapperFault> {
     let text = frame(alloc, 16, 1, longest)?;
     let begins = text
@@ -298,7 +303,7 @@ fn the_longest_payload_is_written_and_taken(rt: HostRuntime) -> Result<(), Fail>
     Ok(())
 }
 
-/// Whether the frame of a payload has this text.
+/// Returns whether the frame of a payload has this text.
 fn is_written(
     alloc: Global,
     (src, dst): (u16, u16),
@@ -323,7 +328,7 @@ fn a_frame_has_the_written_text(rt: HostRuntime) -> Result<(), Fail> {
     Ok(())
 }
 
-/// Feeds the stream, again where memory runs out.
+/// Feeds the stream; feeds it again if out of memory.
 fn feed_again(rt: &impl Abort, deframer: &mut Deframer) -> Result<(), Fail> {
     if deframer.feed(&STREAM) == Err(WrapperFault::Memory) {
         assert!(rt; deframer.is_empty());
@@ -332,7 +337,7 @@ fn feed_again(rt: &impl Abort, deframer: &mut Deframer) -> Result<(), Fail> {
     Ok(())
 }
 
-/// Takes the first frame, again where memory runs out.
+/// Takes the first frame; tries again if out of memory.
 fn take_again(deframer: &mut Deframer, alloc: Global) -> Result<Option<Frame>, WrapperFault> {
     match deframer.take(alloc) {
         Err(WrapperFault::Memory) => deframer.take(alloc),
@@ -356,7 +361,7 @@ fn a_call_that_found_no_memory_can_be_repeated(rt: HostRuntime) -> Result<(), Fa
     checked
 }
 
-/// Whether a payload has a text of 8 bytes more, out of which it is taken.
+/// Returns whether the text of a payload is 8 bytes longer, and the payload is taken from it.
 fn is_framed(alloc: Global, payload: &[u8]) -> Result<bool, WrapperFault> {
     let text = frame(alloc, 16, 1, payload)?;
     let is_so = text.as_slice().len() == payload.len() + 8;
@@ -374,7 +379,7 @@ fn each_length_of_a_payload_is_written_and_taken(rt: HostRuntime) -> Result<(), 
     Ok(())
 }
 
-/// Whether a frame is taken that comes in two pieces, and not before the second.
+/// Returns whether a frame in two pieces is taken after the second piece and not before.
 fn is_taken_in_two(alloc: Global, text: &[u8], cut: usize, payload: &[u8]) -> Result<bool, Fail> {
     let (first, second) = text.split_at(cut.min(text.len()));
     let mut deframer = Deframer::new(alloc);
@@ -387,7 +392,7 @@ fn is_taken_in_two(alloc: Global, text: &[u8], cut: usize, payload: &[u8]) -> Re
     Ok(taken? && !is_early)
 }
 
-/// Wants the longest frame to be taken wherever it is cut in two.
+/// Checks that the longest frame is taken wherever it is split in two.
 fn check_cuts(rt: &impl Abort, alloc: Global, text: &[u8], payload: &[u8]) -> Result<(), Fail> {
     for cut in 1..1032 {
         assert!(*rt; is_taken_in_two(alloc, text, cut, payload)?, "cut at {cut}");

@@ -6,7 +6,7 @@ use std::io;
 use std::io::{BufReader, ErrorKind, Read};
 use std::test::Fail;
 
-// The numbers of bytes of two lines and of what follows them, read from `ab`, a line end and `c`.
+// Returns the lengths of two lines and of the rest, read from `ab`, a line end and `c`.
 fn lengths(alloc: Global, limit: usize) -> Result<[usize; 3], InputFault>
     requires { limit < 2 ^ 32 }
 {
@@ -46,7 +46,7 @@ impl Read for Failing {
     }
 }
 
-// What a read of a line of a failing stream gives, and whether the stream has failed then.
+// Returns the result of reading a line of a failing stream, and whether the stream has failed then.
 fn read_failing(alloc: Global) -> (Result<usize, InputFault>, bool) {
     let Ok(mut input) = BufReader::new(alloc, Monitored::new(Failing)) else {
         return (Err(InputFault::Memory), false);

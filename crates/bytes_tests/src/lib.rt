@@ -1,7 +1,8 @@
 //! Tests of the crates for streams, frames, blocks and words: `byte_streams`, `wrapper_frame`,
 //! `xdlms_blocks` and `trace_text`; and of `listed`, `program_fault` and `program_start`.
 //!
-//! The tests have a crate of their own because a check of tests also proves the rest of their crate.
+//! The tests have a crate of their own because a check of tests also proves the rest of their
+//! crate.
 #![tactic(auto)]
 
 #[cfg(test)]

@@ -2,7 +2,7 @@ use listed::Listed;
 use std::process::Abort;
 use std::test::Fail;
 
-/// Adds 7 and 9 to no items.
+/// Adds 7 and 9 to an empty list.
 fn add_two(rt: &impl Abort, list: &mut Listed<u32>) -> Result<(), Fail> {
     let was_empty = list.is_empty();
     list.push(7)?;

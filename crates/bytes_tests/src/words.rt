@@ -1,4 +1,4 @@
-//! Words, lines and texts with the values that they stand for.
+//! Tests of words, lines and texts, and of their values.
 use std::alloc::{AllocError, Global};
 use std::process::Abort;
 use std::test::Fail;
@@ -7,12 +7,12 @@ use trace_text::{
     write_hex, write_number,
 };
 
-// The bytes of a word, as a copy, or none.
+// Returns a copy of the bytes of a word, or `None`.
 fn hex_of(alloc: Global, word: &[u8]) -> Result<Option<Vec<u8>>, AllocError> {
     Ok(read_hex(alloc, word)?.map(|bytes| bytes.into_vec()))
 }
 
-// Whether a word is read as these bytes.
+// Returns whether a word is read as these bytes.
 fn is_hex_of(alloc: Global, word: &[u8], bytes: &[u8]) -> Result<bool, AllocError> {
     match hex_of(alloc, word)? {
         Some(read) => Ok(read.as_slice() == bytes),
@@ -20,12 +20,12 @@ fn is_hex_of(alloc: Global, word: &[u8], bytes: &[u8]) -> Result<bool, AllocErro
     }
 }
 
-// Whether a word is read as no bytes.
+// Returns whether a word is not read as bytes.
 fn is_no_hex(alloc: Global, word: &[u8]) -> Result<bool, AllocError> {
     Ok(hex_of(alloc, word)?.is_none())
 }
 
-// Adds the words of a line with a bar before each.
+// Adds the words of a line, with a bar before each.
 fn add_barred_words(line: &[u8], out: &mut Vec<u8>) -> Result<(), AllocError> {
     for word in Words::new(line) {
         out.push(b'|')?;
@@ -34,7 +34,7 @@ fn add_barred_words(line: &[u8], out: &mut Vec<u8>) -> Result<(), AllocError> {
     Ok(())
 }
 
-// Whether the words of a line, with a bar before each, are these.
+// Returns whether the words of a line, with a bar before each, are these.
 fn has_words(alloc: Global, line: &[u8], barred: &[u8]) -> Result<bool, AllocError> {
     let mut out = Vec::new(alloc);
     let added = add_barred_words(line, &mut out);
@@ -44,7 +44,7 @@ fn has_words(alloc: Global, line: &[u8], barred: &[u8]) -> Result<bool, AllocErr
     Ok(same)
 }
 
-// Adds the lines of a text with a bar before each, and a star before what is behind them.
+// Adds the lines of a text with a bar before each, and a star before the rest.
 fn add_barred_lines(text: &[u8], out: &mut Vec<u8>) -> Result<(), AllocError> {
     let mut lines = Lines::new(text);
     while let Some(line) = lines.next() {
@@ -55,7 +55,7 @@ fn add_barred_lines(text: &[u8], out: &mut Vec<u8>) -> Result<(), AllocError> {
     out.extend_from_slice(lines.rest())
 }
 
-// Whether the lines of a text, with a bar before each, and what is behind them are these.
+// Returns whether the lines of a text, with a bar before each, and the rest are these.
 fn has_lines(alloc: Global, text: &[u8], barred: &[u8]) -> Result<bool, AllocError> {
     let mut out = Vec::new(alloc);
     let added = add_barred_lines(text, &mut out);
@@ -82,7 +82,7 @@ fn add_some_lines(alloc: Global, out: &mut Vec<u8>) -> Result<(), AllocError> {
     write_hex(alloc, out, &[0x0F, 0xA0])
 }
 
-// A word, the largest number that it may tell, and what it is read as.
+// A word, the largest number allowed, and the expected result of reading it.
 type Number = (&'static [u8], u64, Option<u64>);
 
 fn read_all(rt: &impl Abort, numbers: &[Number]) {
@@ -155,7 +155,7 @@ fn other_words_are_no_bytes(rt: HostRuntime) -> Result<(), Fail> {
     Ok(())
 }
 
-// A text, and its first line with what is behind it, or none.
+// A text, and its first line with the rest, or none.
 type Split = (&'static [u8], Option<(&'static [u8], &'static [u8])>);
 
 static SPLIT: [Split; 4] = [

@@ -22,7 +22,8 @@ use Rattle.client_core.specs.Texts.{aarq_frame, request_frame, release_frame}
 -- skipped
 abbrev pub heard : List Frame → List (List ℕ)
 heard [] = []
-heard (frame ∷ frames) = if frame.src == 1 && frame.dst == 1 then frame.payload ∷ heard frames else heard frames
+heard (frame ∷ frames) = if frame.src == 1 && frame.dst == 1 then frame.payload ∷ heard frames
+    else heard frames
 
 -- the request may be sent, and its response has not come
 abbrev pub is_asking : Progress → Bool
@@ -31,7 +32,8 @@ is_asking progress = progress.accepted && is_none progress.outcome
 -- the response to the request, which is the first of these payloads, settles the outcome
 abbrev pub answered : Verb → Progress → List (List ℕ) → Progress
 answered verb progress [] = progress
-answered verb progress (answer ∷ later) = if is_asking progress then record progress { outcome = Some (replied verb answer) } else progress
+answered verb progress (answer ∷ later) = if is_asking progress
+    then record progress { outcome = Some (replied verb answer) } else progress
 
 -- the progress by all payloads: the first is the AARE, the second the response to the request
 abbrev pub said : Verb → List (List ℕ) → Progress
@@ -70,4 +72,6 @@ is_served None = false
 -- the request (IEC 62056-5-3, AARQ, ACTION and GET, RLRQ)
 abbrev pub due : Verb → List ℕ → Progress → List (List ℕ)
 due verb password progress =
-    aarq_frame password ∷ (if progress.accepted then request_frame verb ∷ (if is_served progress.outcome then release_frame ∷ [] else []) else [])
+    aarq_frame password ∷ (if progress.accepted
+    then request_frame verb ∷ (if is_served progress.outcome then release_frame ∷ [] else [])
+    else [])

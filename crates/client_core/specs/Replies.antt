@@ -44,7 +44,8 @@ grants verb (InitiateError code) = false
 -- an AARE opens the association or settles the outcome; any other bytes settle it as unknown
 abbrev pub opened_by : Verb → Result Aare AcseFault → Progress
 opened_by verb (Ok aare) =
-    if aare.result == 0 then (if grants verb aare.info then asking else settled (Rejected 0)) else settled (Rejected aare.diagnostic)
+    if aare.result == 0 then (if grants verb aare.info then asking else settled (Rejected 0))
+    else settled (Rejected aare.diagnostic)
 opened_by verb (Err fault) = settled Unknown
 
 unfoldable pub opened : Verb → List ℕ → Progress
@@ -56,16 +57,19 @@ opened verb payload = opened_by verb (aare_of payload)
 -- Action-Response-Normal with invoke-id C1, that of the request: a result, and any further bytes
 abbrev pub action_reply : List ℕ → Outcome
 action_reply (tag ∷ form ∷ id ∷ code ∷ tail) =
-    if tag == 0xC7 && form == 0x01 && id == 0xC1 then (if code == 0 then Done 0 else Refused code) else Unknown
+    if tag == 0xC7 && form == 0x01 && id == 0xC1 then (if code == 0 then Done 0 else Refused code)
+    else Unknown
 action_reply _ = Unknown
 
 -- Get-Response-Normal with invoke-id C1 and no further bytes: a result other than 0, or the control
 -- state as an enum
 abbrev pub state_reply : List ℕ → Outcome
 state_reply (tag ∷ form ∷ id ∷ choice ∷ code ∷ []) =
-    if tag == 0xC4 && form == 0x01 && id == 0xC1 && choice == 0x01 && not (code == 0) then Refused code else Unknown
+    if tag == 0xC4 && form == 0x01 && id == 0xC1 && choice == 0x01 && not (code == 0)
+    then Refused code else Unknown
 state_reply (tag ∷ form ∷ id ∷ choice ∷ kind ∷ state ∷ []) =
-    if tag == 0xC4 && form == 0x01 && id == 0xC1 && choice == 0x00 && kind == 0x16 && nat_le state 2 then Done state else Unknown
+    if tag == 0xC4 && form == 0x01 && id == 0xC1 && choice == 0x00 && kind == 0x16 && nat_le state 2
+    then Done state else Unknown
 state_reply _ = Unknown
 
 unfoldable pub replied : Verb → List ℕ → Outcome

@@ -14,43 +14,57 @@ use Rattle.client_core.specs.Outcomes.{progress_of, decided, outcome_of, due}
 use Rattle.client_core.specs.Steps.{goes}
 
 -- the messages that are left after this number of them was returned
-abbrev pub AreLeft : Verb → List ℕ → ℕ → Option (List ℕ) → Option (List ℕ) → Option (List ℕ) → Type 0
+abbrev pub AreLeft : Verb → List ℕ → ℕ → Option (List ℕ) → Option (List ℕ) → Option (List ℕ)
+    → Type 0
 AreLeft verb password zero aarq request release =
-    (aarq ≡ Some (aarq_frame password)) × (request ≡ Some (request_frame verb)) × (release ≡ Some release_frame)
-AreLeft verb password (suc zero) aarq request release = (aarq ≡ None) × (request ≡ Some (request_frame verb)) × (release ≡ Some release_frame)
-AreLeft verb password (suc (suc zero)) aarq request release = (aarq ≡ None) × (request ≡ None) × (release ≡ Some release_frame)
-AreLeft verb password (suc (suc (suc given))) aarq request release = (aarq ≡ None) × (request ≡ None) × (release ≡ None)
+    (aarq ≡ Some (aarq_frame password)) × (request ≡ Some (request_frame verb))
+    × (release ≡ Some release_frame)
+AreLeft verb password (suc zero) aarq request release = (aarq ≡ None)
+    × (request ≡ Some (request_frame verb)) × (release ≡ Some release_frame)
+AreLeft verb password (suc (suc zero)) aarq request release = (aarq ≡ None) × (request ≡ None)
+    × (release ≡ Some release_frame)
+AreLeft verb password (suc (suc (suc given))) aarq request release = (aarq ≡ None)
+    × (request ≡ None) × (release ≡ None)
 
 -- a client with this verb and password that was fed these bytes and returned this number of
 -- messages
-pub record Stands (verb : Verb) (password fed : List ℕ) (given : ℕ) (over : Bool) (c : Client) : Type 0 where
+pub record Stands (verb : Verb) (password fed : List ℕ) (given : ℕ) (over : Bool) (c : Client)
+    : Type 0 where
   pub verb_is : c.verb ≡ verb
   pub now : c.progress ≡ progress_of verb fed
-  pub later : (more : List ℕ) → progress_of verb (fed ++ more) ≡ goes verb c.progress (c.deframer ++ more)
+  pub later : (more : List ℕ)
+      → progress_of verb (fed ++ more) ≡ goes verb c.progress (c.deframer ++ more)
   pub left : AreLeft verb password given c.aarq c.request c.release
   pub over_is : c.is_ended ≡ over
 
 -- the next message to send that was not returned, or none if each was
 pub record Gives (old : Client) (result : Option (List ℕ)) (new : Client) : Type 0 where
-  pub text : (verb : Verb) (password fed : List ℕ) (given : ℕ) (over : Bool) → Stands verb password fed given over old
+  pub text : (verb : Verb) (password fed : List ℕ) (given : ℕ) (over : Bool)
+      → Stands verb password fed given over old
       → result ≡ text_at (due verb password (progress_of verb fed)) given
-  pub stands : (verb : Verb) (password fed : List ℕ) (given : ℕ) (over : Bool) → Stands verb password fed given over old
+  pub stands : (verb : Verb) (password fed : List ℕ) (given : ℕ) (over : Bool)
+      → Stands verb password fed given over old
       → Stands verb password fed (if is_some result then suc given else given) over new
 
 -- the bytes follow those fed before, unless the connection is over
 pub record Feeds (old : Client) (bytes : List ℕ) (new : Client) : Type 0 where
-  pub stands : (verb : Verb) (password fed : List ℕ) (given : ℕ) (over : Bool) → Stands verb password fed given over old
+  pub stands : (verb : Verb) (password fed : List ℕ) (given : ℕ) (over : Bool)
+      → Stands verb password fed given over old
       → Stands verb password (if over then fed else fed ++ bytes) given over new
 
 -- the connection is over
 pub record Ends (old new : Client) : Type 0 where
-  pub stands : (verb : Verb) (password fed : List ℕ) (given : ℕ) (over : Bool) → Stands verb password fed given over old
+  pub stands : (verb : Verb) (password fed : List ℕ) (given : ℕ) (over : Bool)
+      → Stands verb password fed given over old
       → Stands verb password fed given true new
 
 -- the outcome by the bytes fed: if the connection is over that of all bytes, otherwise the one that
 -- they settle, if any; a settled outcome remains
 pub record Tells (c : Client) (result : Option Outcome) : Type 0 where
-  pub told : (verb : Verb) (password fed : List ℕ) (given : ℕ) (over : Bool) → Stands verb password fed given over c
+  pub told : (verb : Verb) (password fed : List ℕ) (given : ℕ) (over : Bool)
+      → Stands verb password fed given over c
       → result ≡ (if over then Some (outcome_of verb fed) else decided verb fed)
-  pub stays : (verb : Verb) (password fed : List ℕ) (given : ℕ) (over : Bool) → Stands verb password fed given over c
-      → (outcome : Outcome) → decided verb fed ≡ Some outcome → (more : List ℕ) → outcome_of verb (fed ++ more) ≡ outcome
+  pub stays : (verb : Verb) (password fed : List ℕ) (given : ℕ) (over : Bool)
+      → Stands verb password fed given over c
+      → (outcome : Outcome) → decided verb fed ≡ Some outcome → (more : List ℕ)
+      → outcome_of verb (fed ++ more) ≡ outcome

@@ -16,12 +16,14 @@ use Rattle.client_core.specs.Outcomes.{heard, ended_by}
 abbrev pub after : Verb → Progress → List ℕ → Progress
 after verb progress payload =
     if is_none progress.outcome then
-    (if progress.accepted then record progress { outcome = Some (replied verb payload) } else opened verb payload)
+    (if progress.accepted then record progress { outcome = Some (replied verb payload) }
+    else opened verb payload)
     else progress
 
 -- one more frame, which has an effect only from port 1 to port 1
 abbrev pub after_frame : Verb → Progress → Frame → Progress
-after_frame verb progress frame = if frame.src == 1 && frame.dst == 1 then after verb progress frame.payload else progress
+after_frame verb progress frame = if frame.src == 1 && frame.dst == 1
+    then after verb progress frame.payload else progress
 
 -- consecutive payloads
 abbrev pub after_all : Verb → Progress → List (List ℕ) → Progress
@@ -30,14 +32,17 @@ after_all verb progress (payload ∷ later) = after_all verb (after verb progres
 
 -- more bytes: their frames, followed by their rest
 unfoldable pub goes : Verb → Progress → List ℕ → Progress
-goes verb progress bytes = ended_by (after_all verb progress (heard (frames_of bytes))) (head_of (rest_of bytes))
+goes verb progress bytes =
+    ended_by (after_all verb progress (heard (frames_of bytes))) (head_of (rest_of bytes))
 
 -- whatever bytes follow, the old bytes have the same effect on the old progress as the kept bytes
 -- on the new one
-pub record Moves (verb : Verb) (old : Progress) (bytes : List ℕ) (new : Progress) (kept : List ℕ) : Type 0 where
+pub record Moves (verb : Verb) (old : Progress) (bytes : List ℕ) (new : Progress) (kept : List ℕ)
+    : Type 0 where
   pub on : (more : List ℕ) → goes verb old (bytes ++ more) ≡ goes verb new (kept ++ more)
 
 -- and the kept bytes have no effect by themselves
-pub record Hears (verb : Verb) (old : Progress) (bytes : List ℕ) (new : Progress) (kept : List ℕ) : Type 0 where
+pub record Hears (verb : Verb) (old : Progress) (bytes : List ℕ) (new : Progress) (kept : List ℕ)
+    : Type 0 where
   pub moves : Moves verb old bytes new kept
   pub here : goes verb new kept ≡ new

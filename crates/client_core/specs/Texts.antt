@@ -28,18 +28,22 @@ initiate_field =
 abbrev pub aarq_payload : List ℕ → List ℕ
 aarq_payload password =
     0x60 ∷ (46 + length password)
-    ∷ (opening_fields ++ (0xAC ∷ (2 + length password) ∷ 0x80 ∷ length password ∷ (password ++ initiate_field)))
+    ∷ (opening_fields ++ (0xAC ∷ (2 + length password) ∷ 0x80 ∷ length password
+    ∷ (password ++ initiate_field)))
 
 -- the ACTION that invokes a method of the disconnect control 0.0.96.3.10.255 with the parameter
 -- integer 0
 abbrev pub action_payload : ℕ → List ℕ
-action_payload method = 0xC3 ∷ 0x01 ∷ 0xC1 ∷ 0x00 ∷ 0x46 ∷ 0x00 ∷ 0x00 ∷ 0x60 ∷ 0x03 ∷ 0x0A ∷ 0xFF ∷ method ∷ 0x01 ∷ 0x0F ∷ 0x00 ∷ []
+action_payload method =
+    0xC3 ∷ 0x01 ∷ 0xC1 ∷ 0x00 ∷ 0x46 ∷ 0x00 ∷ 0x00 ∷ 0x60 ∷ 0x03 ∷ 0x0A ∷ 0xFF ∷ method ∷ 0x01
+    ∷ 0x0F ∷ 0x00 ∷ []
 
 -- its methods remote_disconnect and remote_reconnect, and the GET of its attribute control_state
 abbrev pub request_payload : Verb → List ℕ
 request_payload Disconnect = action_payload 1
 request_payload Reconnect = action_payload 2
-request_payload ReadState = 0xC0 ∷ 0x01 ∷ 0xC1 ∷ 0x00 ∷ 0x46 ∷ 0x00 ∷ 0x00 ∷ 0x60 ∷ 0x03 ∷ 0x0A ∷ 0xFF ∷ 0x03 ∷ 0x00 ∷ []
+request_payload ReadState =
+    0xC0 ∷ 0x01 ∷ 0xC1 ∷ 0x00 ∷ 0x46 ∷ 0x00 ∷ 0x00 ∷ 0x60 ∷ 0x03 ∷ 0x0A ∷ 0xFF ∷ 0x03 ∷ 0x00 ∷ []
 
 -- the RLRQ, with reason normal
 abbrev pub release_payload : List ℕ

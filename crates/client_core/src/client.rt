@@ -116,7 +116,7 @@ impl Client {
     }
 }
 
-/// Returns whether the meter has responded to the request.
+// Returns whether the meter has responded to the request.
 fn is_served(outcome: Option<Outcome>) -> bool
     ensures { result ≡ is_served outcome }
 {

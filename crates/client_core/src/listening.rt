@@ -8,7 +8,7 @@ use crate::replying::{after, or_unknown};
 use std::alloc::{AllocError, Global};
 use wrapper_frame::{Deframer, Frame, WrapperFault};
 
-/// The port of the meter's management logical device and of the management client.
+// The port of the meter's management logical device and of the management client.
 const PORT: u16 = 1;
 
 /// Processes more bytes from the meter: all whole frames are removed and processed.
@@ -19,7 +19,8 @@ pub fn hear_more(
     deframer: &mut Deframer,
     bytes: &[u8],
 ) -> Result<Progress, AllocError>
-    ensures { IfOk result (λ new. Hears verb progress (deframer.old ++ bytes.now) new deframer.new) }
+    ensures { IfOk result
+        (λ new. Hears verb progress (deframer.old ++ bytes.now) new deframer.new) }
 {
     match deframer.feed(bytes) {
         Ok(()) => hear(alloc, verb, progress, deframer),
@@ -29,7 +30,7 @@ pub fn hear_more(
     }
 }
 
-/// Removes and processes all whole frames.
+// Removes and processes all whole frames.
 fn hear(
     alloc: Global,
     verb: Verb,
@@ -52,7 +53,7 @@ fn hear(
     }
 }
 
-/// Returns the progress after one more frame. Frames of other ports are skipped.
+// Returns the progress after one more frame. Frames of other ports are skipped.
 fn after_frame(alloc: Global, verb: Verb, progress: Progress, frame: &Frame) -> Progress
     ensures { result ≡ after_frame verb progress frame.now }
 {

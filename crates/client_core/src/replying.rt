@@ -14,13 +14,13 @@ use xdlms_apdu::choice::{DATA, RESULT};
 use xdlms_apdu::form::NORMAL;
 use xdlms_apdu::tag::{ACTION_RESPONSE, GET_RESPONSE};
 
-/// The invoke-id-and-priority of the request, which its answer has too.
+// The invoke-id-and-priority of the request, which its answer has too.
 const REQUEST_ID: u8 = INVOKE_ID.0;
-/// The result of what succeeded (IEC 62056-5-3, Data-Access-Result and Action-Result).
+// The result of what succeeded (IEC 62056-5-3, Data-Access-Result and Action-Result).
 const SUCCESS: u8 = 0;
-/// The tag of an enum (IEC 62056-5-3, Data, `enum [22]`).
+// The tag of an enum (IEC 62056-5-3, Data, `enum [22]`).
 const ENUM: u8 = 0x16;
-/// The highest control state (IEC 62056-6-2, class 70, control_state).
+// The highest control state (IEC 62056-6-2, class 70, control_state).
 const LAST_STATE: u8 = 2;
 
 /// Returns the progress before any response.
@@ -33,7 +33,7 @@ pub fn fresh() -> Progress
     }
 }
 
-/// Returns the progress with an outcome that is settled before the request is sent.
+// Returns the progress with an outcome that is settled before the request is sent.
 fn settled(outcome: Outcome) -> Progress
     ensures { result ≡ settled outcome }
 {
@@ -70,7 +70,7 @@ pub fn or_unknown(progress: Progress) -> Progress
     }
 }
 
-/// Returns the progress after the response to the AARQ.
+// Returns the progress after the response to the AARQ.
 #[tactic(auto, unfolding(crate::specs::Replies::opened))]
 fn opened(alloc: Global, verb: Verb, payload: &[u8]) -> Progress
     ensures { result ≡ opened verb payload.now }
@@ -90,7 +90,7 @@ fn opened(alloc: Global, verb: Verb, payload: &[u8]) -> Progress
     }
 }
 
-/// Returns whether the negotiated services include that of the request.
+// Returns whether the negotiated services include that of the request.
 fn grants(verb: Verb, info: Info) -> bool
     ensures { result ≡ grants verb info }
 {
@@ -104,7 +104,7 @@ fn grants(verb: Verb, info: Info) -> bool
     }
 }
 
-/// Returns the outcome according to the response to the request.
+// Returns the outcome according to the response to the request.
 #[tactic(auto, unfolding(crate::specs::Replies::replied))]
 fn replied(verb: Verb, payload: &[u8]) -> Outcome
     ensures { result ≡ replied verb payload.now }
@@ -115,8 +115,8 @@ fn replied(verb: Verb, payload: &[u8]) -> Outcome
     }
 }
 
-/// Returns the outcome of an Action-Response-Normal with invoke-id C1: its result. Further bytes
-/// are ignored.
+// Returns the outcome of an Action-Response-Normal with invoke-id C1: its result. Further bytes
+// are ignored.
 fn action_reply(payload: &[u8]) -> Outcome
     ensures { result ≡ action_reply payload.now }
 {
@@ -127,8 +127,8 @@ fn action_reply(payload: &[u8]) -> Outcome
     }
 }
 
-/// Returns the outcome of a Get-Response-Normal with invoke-id C1 and no further bytes: a result
-/// other than 0, or a control state from 0 to 2 as an enum.
+// Returns the outcome of a Get-Response-Normal with invoke-id C1 and no further bytes: a result
+// other than 0, or a control state from 0 to 2 as an enum.
 fn state_reply(payload: &[u8]) -> Outcome
     ensures { result ≡ state_reply payload.now }
 {

@@ -13,7 +13,7 @@ use std::alloc::{AllocError, Global};
 use wrapper_frame::{WrapperFault, frame};
 use xdlms_apdu::{InvokeId, Request, write_request};
 
-/// The port of the management client and of the meter's management logical device.
+// The port of the management client and of the meter's management logical device.
 const PORT: u16 = 1;
 // The services that the client proposes: GET, SET and ACTION, each with block transfer (IEC
 // 62056-5-3, conformance).
@@ -31,7 +31,7 @@ const MOST_BYTES: u16 = 1024;
 pub(crate) const INVOKE_ID: InvokeId = InvokeId(0xC1);
 // The class of the disconnect control (IEC 62056-6-2, class 70).
 const DISCONNECT_CONTROL: ClassId = ClassId(70);
-/// The logical name of the meter's disconnect control.
+// The logical name of the meter's disconnect control.
 const SUPPLY: Obis = Obis([0, 0, 96, 3, 10, 255]);
 
 /// Returns the frame of the AARQ, with a password of 1 to 32 bytes.
@@ -44,7 +44,7 @@ pub fn aarq_frame(alloc: Global, password: &Octets) -> Result<Octets, AllocError
     framed(alloc, payload.as_slice())
 }
 
-/// Returns the AARQ, with a password of 1 to 32 bytes.
+// Returns the AARQ, with a password of 1 to 32 bytes.
 #[tactic(auto, using(crate::proofs::Passwords::aarq_written))]
 fn aarq_payload(alloc: Global, password: &Octets) -> Result<Octets, AllocError>
     requires { IsPassword password.now }
@@ -71,7 +71,7 @@ pub fn release_frame(alloc: Global) -> Result<Octets, AllocError>
     framed(alloc, &RELEASE_REQUEST)
 }
 
-/// Returns a payload in a frame from port 1 to port 1.
+// Returns a payload in a frame from port 1 to port 1.
 fn framed(alloc: Global, payload: &[u8]) -> Result<Octets, AllocError>
     requires { length payload.now ≤ 1024 }
     ensures { IfOk result (λ text. text ≡ framed payload.now) }
@@ -84,7 +84,7 @@ fn framed(alloc: Global, payload: &[u8]) -> Result<Octets, AllocError>
     }
 }
 
-/// Returns the request of a verb.
+// Returns the request of a verb.
 #[tactic(auto, unfolding(xdlms_apdu::specs::Text::request_text))]
 fn request(verb: Verb) -> Request
     ensures { request_text result ≡ request_payload verb }
@@ -106,7 +106,7 @@ fn request(verb: Verb) -> Request
     }
 }
 
-/// Returns the invocation of a method of the disconnect control, with the parameter integer 0.
+// Returns the invocation of a method of the disconnect control, with the parameter integer 0.
 #[tactic(auto, unfolding(xdlms_apdu::specs::Text::request_text))]
 fn action(number: u8) -> Request
     ensures { request_text result ≡ action_payload number }

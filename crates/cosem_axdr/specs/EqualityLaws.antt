@@ -16,7 +16,8 @@ same_code : (x y : Gv) → is_same_code x y ≡ true → x ≡ y
 unfolding is_same_code
 same_code gnil gnil e = refl
 same_code (gnum m) (gnum n) e = ap gnum (eqb-true m n e)
-same_code (gcons a b) (gcons c d) e = let both = and_parts _ _ e in ap₂ gcons (same_code a c both.0) (same_code b d both.1)
+same_code (gcons a b) (gcons c d) e = let both = and_parts _ _ e
+    in ap₂ gcons (same_code a c both.0) (same_code b d both.1)
 same_code gnil (gnum n) e = absurd cc
 same_code gnil (gcons c d) e = absurd cc
 same_code (gnum m) gnil e = absurd cc
@@ -36,22 +37,27 @@ as_true : (a b : Bool) → (a ≡ true → b ≡ true) → (b ≡ true → a ≡
 as_true a b to from = same_from_decides a b (λ e. e, λ e. e) (from, to)
 
 -- a test of equality is an equivalence relation
-equivalence : {K : Type 0} (same : K → K → Bool) → ((x y : K) → same x y ≡ true → x ≡ y) → ((x : K) → same x x ≡ true) → IsEquivalence same
+equivalence : {K : Type 0} (same : K → K → Bool) → ((x y : K) → same x y ≡ true → x ≡ y)
+    → ((x : K) → same x x ≡ true) → IsEquivalence same
 equivalence same one itself = record {
   refl = itself;
-  symm = λ x y. as_true (same x y) (same y x) (λ e. subst (λ z. same z x ≡ true) (one x y e) (itself x)) (λ e. subst (λ z. same z y ≡ true) (one y x e) (itself y));
+  symm = λ x y. as_true (same x y) (same y x)
+      (λ e. subst (λ z. same z x ≡ true) (one x y e) (itself x))
+      (λ e. subst (λ z. same z y ≡ true) (one y x e) (itself y));
   congr = λ x y z e. ap (λ w. same w z) (one x y e);
 }
 
 -- Datas that compare as the same are equal
 pub is_same-true : (d e : Data) → is_same d e ≡ true → d ≡ e
 is_same-true d e same =
-    one_tree d e (sym (stored_back (tree_of d)) ∙ ap (λ g. (back g).0) (same_code (stored (tree_of d)) (stored (tree_of e)) same) ∙ stored_back (tree_of e))
+    one_tree d e (sym (stored_back (tree_of d)) ∙ ap (λ g. (back g).0)
+    (same_code (stored (tree_of d)) (stored (tree_of e)) same) ∙ stored_back (tree_of e))
 
 -- items that compare as the same are equal
 pub are_same-true : (ts us : Trees) → are_same ts us ≡ true → ts ≡ us
 are_same-true ts us same =
-    sym (stored_all_back ts) ∙ ap (λ g. (back g).1) (same_code (stored_all ts) (stored_all us) same) ∙ stored_all_back us
+    sym (stored_all_back ts) ∙ ap (λ g. (back g).1) (same_code (stored_all ts) (stored_all us) same)
+    ∙ stored_all_back us
 
 -- each Data compares as the same as itself, and so do items
 pub is_same-itself : (d : Data) → is_same d d ≡ true
@@ -63,11 +69,17 @@ are_same-itself ts = code_itself (stored_all ts)
 -- a test of equality is `==`
 pub is_same-is : (r : Bool) (d e : Data) → IsTrue r ↔ (d ≡ e) → r ≡ is_same d e
 is_same-is r d e tells =
-    same_from_decides r (is_same d e) tells (is_same-true d e, λ one. subst (λ x. is_same d x ≡ true) one (is_same-itself d))
+    same_from_decides r (is_same d e) tells (
+      is_same-true d e,
+      λ one. subst (λ x. is_same d x ≡ true) one (is_same-itself d),
+    )
 
 pub are_same-is : (r : Bool) (ts us : Trees) → IsTrue r ↔ (ts ≡ us) → r ≡ are_same ts us
 are_same-is r ts us tells =
-    same_from_decides r (are_same ts us) tells (are_same-true ts us, λ one. subst (λ x. are_same ts x ≡ true) one (are_same-itself ts))
+    same_from_decides r (are_same ts us) tells (
+      are_same-true ts us,
+      λ one. subst (λ x. are_same ts x ≡ true) one (are_same-itself ts),
+    )
 
 -- `==` is an equivalence relation
 pub is_same-equivalence : IsEquivalence is_same

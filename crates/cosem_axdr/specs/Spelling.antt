@@ -88,7 +88,8 @@ abbrev pub IsUnsigned : Width → List ℕ → ℕ → Type 0
 IsUnsigned w contents n = (length contents ≡ byte_len w) × (n ≡ from_be_bytes w contents)
 
 abbrev pub IsSigned : Width → List ℕ → ℤ → Type 0
-IsSigned w contents z = (length contents ≡ byte_len w) × (z ≡ cast_signed w (from_be_bytes w contents))
+IsSigned w contents z = (length contents ≡ byte_len w)
+    × (z ≡ cast_signed w (from_be_bytes w contents))
 
 -- a fixed number of bytes, unchanged
 abbrev pub IsFixed : ℕ → List ℕ → List ℕ → Type 0
@@ -103,7 +104,8 @@ abbrev mutual
   pub AreContents : List ℕ → Tree → Type 0
   AreContents contents null = contents ≡ []
   AreContents contents (array ts) = IsCounted (λ items. AreSpelled items ts) contents (count_of ts)
-  AreContents contents (structure ts) = IsCounted (λ items. AreSpelled items ts) contents (count_of ts)
+  AreContents contents (structure ts) =
+      IsCounted (λ items. AreSpelled items ts) contents (count_of ts)
   AreContents contents (boolean b) = IsBoolean contents b
   AreContents contents (bit_string bits bytes) = IsBits contents bits bytes
   AreContents contents (double_long z) = IsSigned w32 contents z
@@ -124,7 +126,9 @@ abbrev mutual
 
   pub AreSpelled : List ℕ → Trees → Type 0
   AreSpelled bytes no_trees = bytes ≡ []
-  AreSpelled bytes (tree t ts) = IsJoined (IsTagged (tag_of t) (λ contents. AreContents contents t)) (λ others. AreSpelled others ts) bytes
+  AreSpelled bytes (tree t ts) =
+      IsJoined (IsTagged (tag_of t) (λ contents. AreContents contents t))
+      (λ others. AreSpelled others ts) bytes
 
 -- bytes that spell the value: its tag and its contents
 abbrev pub Spells : List ℕ → Tree → Type 0

@@ -143,4 +143,7 @@ mutual
 
 -- the code of items, for models whose values contain items
 abbrev pub coded_trees : Coded Trees
-coded_trees = record { code = stored_all; inj = λ x y e. sym (stored_all_back x) ∙ ap (λ g. (back g).1) e ∙ stored_all_back y }
+coded_trees = record {
+  code = stored_all;
+  inj = λ x y e. sym (stored_all_back x) ∙ ap (λ g. (back g).1) e ∙ stored_all_back y;
+}

@@ -89,7 +89,8 @@ fn are_fine(items: &[Data]) -> bool
 
 // Returns whether a bit-string has exactly the bytes that its bits need, with the unused bits 0.
 fn is_clear(bits: usize, bytes: &[u8]) -> bool
-    ensures clear { IsTrue result ↔ (length bytes.now ≡ bytes_for bits) × (cleared bits bytes.now ≡ bytes.now) }
+    ensures clear { IsTrue result ↔ (length bytes.now ≡ bytes_for bits)
+        × (cleared bits bytes.now ≡ bytes.now) }
     ensures within { IsBytes bytes.now }
 {
     if bytes.len() != bytes_for(bits) {

@@ -6,7 +6,8 @@ ghost use Rattle.cosem_axdr.specs.Spelling.{IsSpelling, IsFit, text};
 
 /// No spelling is a proper prefix of another, and no bytes spell two values.
 pub fn no_spelling_begins_another()
-    ensures { (bytes rest : List ℕ) (s t : Tree) → IsSpelling bytes s → IsSpelling (bytes ++ rest) t → (rest ≡ []) × (s ≡ t) }
+    ensures { (bytes rest : List ℕ) (s t : Tree) → IsSpelling bytes s → IsSpelling (bytes ++ rest) t
+        → (rest ≡ []) × (s ≡ t) }
 {}
 
 /// The text of a value that fits spells it.

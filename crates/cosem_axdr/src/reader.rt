@@ -9,8 +9,8 @@ use crate::limits::MAX_TEXT;
 use byteorder::{BigEndian, ByteOrder};
 use std::marker::Model;
 
-/// A position in bytes that are read from left to right: the remaining bytes, and how many of them
-/// the Data may still use.
+// A position in bytes that are read from left to right: the remaining bytes, and how many of them
+// the Data may still use.
 #[derive(Drop)]
 pub(crate) struct Reader<'a> {
     rest: &'a [u8],
@@ -26,7 +26,7 @@ impl<'a> Model for Reader<'a> {
 }
 
 impl<'a> Reader<'a> {
-    /// Creates a reader at the front of bytes.
+    // Creates a reader at the front of bytes.
     pub(crate) fn new(bytes: &'a [u8]) -> Self
         ensures { result ≡ start bytes.now }
     {
@@ -36,14 +36,14 @@ impl<'a> Reader<'a> {
         }
     }
 
-    /// Returns the number of remaining bytes.
+    // Returns the number of remaining bytes.
     pub(crate) fn remaining(&self) -> usize
         ensures { result ≡ length self.now.bytes }
     {
         self.rest.len()
     }
 
-    /// Reads the next `count` bytes. All of them must be there; otherwise none is read.
+    // Reads the next `count` bytes. All of them must be there; otherwise none is read.
     pub(crate) fn bytes(&mut self, count: usize) -> Result<&'a [u8], DataFault>
         ensures read { Reads (λ bytes. bytes.now) result self.new (bytes_at count self.old) }
         ensures len { IfOk result (λ bytes. length bytes.now ≡ count) }
@@ -60,14 +60,14 @@ impl<'a> Reader<'a> {
         Ok(bytes)
     }
 
-    /// Reads the next byte.
+    // Reads the next byte.
     pub(crate) fn byte(&mut self) -> Result<u8, DataFault>
         ensures { Reads (λ byte. byte) result self.new (byte_at self.old) }
     {
         Ok(self.bytes(1)?[0])
     }
 
-    /// Reads the next `N` bytes.
+    // Reads the next `N` bytes.
     pub(crate) fn array<const N: usize>(&mut self) -> Result<[u8; N], DataFault>
         ensures { Reads (λ bytes. bytes) result self.new (bytes_at N self.old) }
     {
@@ -76,7 +76,7 @@ impl<'a> Reader<'a> {
         Ok(array)
     }
 
-    /// Reads a number of two bytes, the highest first.
+    // Reads a number of two bytes, the highest first.
     #[tactic(auto, using(crate::proofs::BigEndian::two_bytes))]
     pub(crate) fn read_u16(&mut self) -> Result<u16, DataFault>
         ensures { Reads (λ number. number) result self.new (unsigned_at w16 self.old) }
@@ -84,7 +84,7 @@ impl<'a> Reader<'a> {
         Ok(BigEndian::read_u16(self.bytes(2)?))
     }
 
-    /// Reads a number of four bytes, the highest first.
+    // Reads a number of four bytes, the highest first.
     #[tactic(auto, using(crate::proofs::BigEndian::four_bytes))]
     pub(crate) fn read_u32(&mut self) -> Result<u32, DataFault>
         ensures { Reads (λ number. number) result self.new (unsigned_at w32 self.old) }
@@ -92,7 +92,7 @@ impl<'a> Reader<'a> {
         Ok(BigEndian::read_u32(self.bytes(4)?))
     }
 
-    /// Reads a number of eight bytes, the highest first.
+    // Reads a number of eight bytes, the highest first.
     #[tactic(auto, using(crate::proofs::BigEndian::eight_bytes))]
     pub(crate) fn read_u64(&mut self) -> Result<u64, DataFault>
         ensures { Reads (λ number. number) result self.new (unsigned_at w64 self.old) }
@@ -100,8 +100,8 @@ impl<'a> Reader<'a> {
         Ok(BigEndian::read_u64(self.bytes(8)?))
     }
 
-    /// Reads a length or count: one byte below 80 hex, or 81 to 84 hex followed by one to four
-    /// bytes.
+    // Reads a length or count: one byte below 80 hex, or 81 to 84 hex followed by one to four
+    // bytes.
     #[tactic(auto, unfolding(crate::specs::Reading::length_at))]
     pub(crate) fn length(&mut self) -> Result<usize, DataFault>
         ensures { Reads (λ n. n) result self.new (length_at self.old) }
@@ -113,7 +113,7 @@ impl<'a> Reader<'a> {
         }
     }
 
-    /// Reads a string: its length, followed by its bytes.
+    // Reads a string: its length, followed by its bytes.
     #[tactic(auto, unfolding(crate::specs::Reading::string_at))]
     pub(crate) fn string(&mut self) -> Result<&'a [u8], DataFault>
         ensures { Reads (λ bytes. bytes.now) result self.new (string_at self.old) }

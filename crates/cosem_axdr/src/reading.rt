@@ -21,10 +21,13 @@ use std::alloc::Global;
 /// memory.
 pub fn read(alloc: Global, bytes: &[u8]) -> Result<(Data, usize), DataFault>
     // The bytes that a Data occupies spell it.
-    ensures found { IfOk result (λ read. (read.1 ≤ length bytes.now) × IsSpelling (take read.1 bytes.now) (tree_of read.0)) }
+    ensures found { IfOk result (λ read. (read.1 ≤ length bytes.now)
+        × IsSpelling (take read.1 bytes.now) (tree_of read.0)) }
     // If the bytes begin with a spelling of a value, that value is read, unless out of memory.
-    ensures only { (d : Data) (n : ℕ) → n ≤ length bytes.now → IsSpelling (take n bytes.now) (tree_of d)
-        → MatchResult result (λ read. (read.0 ≡ d) × (read.1 ≡ n)) (λ fault. fault ≡ DataFault.Memory) }
+    ensures only { (d : Data) (n : ℕ) → n ≤ length bytes.now
+        → IsSpelling (take n bytes.now) (tree_of d)
+        → MatchResult result (λ read. (read.0 ≡ d)
+        × (read.1 ≡ n)) (λ fault. fault ≡ DataFault.Memory) }
     // The fault is the one that the definition gives, or out of memory.
     ensures exact { Gives DataFault.Memory (λ read. read) result (first_data bytes.now) }
 {
@@ -79,7 +82,8 @@ fn read_items(
     count: usize,
     reader: &mut Reader,
 ) -> Result<Vec<Data>, DataFault>
-    ensures { Reads (λ items. items.items) result reader.new (items_at (value_at (nested_at levels)) count reader.old) }
+    ensures { Reads (λ items. items.items) result reader.new
+        (items_at (value_at (nested_at levels)) count reader.old) }
 {
     let mut items = Vec::new(alloc);
     'items: for _ in 0..count {

@@ -45,7 +45,7 @@ pub(crate) const DATE: u8 = 0x1A;
 
 pub(crate) const TIME: u8 = 0x1B;
 
-/// Returns the tag of a value's type.
+// Returns the tag of a value's type.
 pub(crate) fn tag_of(value: &Data) -> u8
     ensures { result ≡ tag_of (tree_of value.now) }
 {

@@ -90,7 +90,8 @@ fn put_contents(value: &Data, out: &mut Octets) -> Result<(), AllocError>
 #[cycle(writing)]
 #[tactic(auto, using(crate::proofs::Appending::extends_same, crate::proofs::Appending::extends_more))]
 fn put_counted(items: &[Data], out: &mut Octets) -> Result<(), AllocError>
-    ensures ok { let ts = trees_of (all_trees items.now) in OnOk result (out.new ≡ out.old ++ (length_text (count_of ts) ++ texts ts)) }
+    ensures ok { let ts = trees_of (all_trees items.now)
+        in OnOk result (out.new ≡ out.old ++ (length_text (count_of ts) ++ texts ts)) }
     ensures extends { OnErr result (Extends out.old out.new) }
 {
     append_length(items.len(), out)?;

@@ -29,7 +29,8 @@ days_of_months y (suc n) = days_of_months y n + month_length y (suc n)
 -- whether the calendar has this date
 abbrev pub is_date : CivilDate → Bool
 is_date c =
-    nat_le 1 c.month && (nat_le c.month 12 && (nat_le 1 c.day && nat_le c.day (month_length c.year c.month)))
+    nat_le 1 c.month && (nat_le c.month 12 &&
+    (nat_le 1 c.day && nat_le c.day (month_length c.year c.month)))
 
 -- the number of days of the earlier years, the earlier months, and the earlier days of the month
 unfoldable pub day_count : CivilDate → ℕ
@@ -47,7 +48,8 @@ first_day = day_count (record { year = 2000; month = 1; day = 1 })
 -- the day after
 abbrev pub next_date : CivilDate → CivilDate
 next_date c =
-    if nat_lt c.day (month_length c.year c.month) then record { year = c.year; month = c.month; day = c.day + 1 }
+    if nat_lt c.day (month_length c.year c.month)
+    then record { year = c.year; month = c.month; day = c.day + 1 }
     else (if nat_lt c.month 12 then record { year = c.year; month = c.month + 1; day = 1 }
     else record { year = c.year + 1; month = 1; day = 1 })
 

@@ -31,7 +31,8 @@ date_holds p c = holds p.year c.year && (holds p.month c.month && day_holds p.da
 -- whether the date is in the last seven days of its month, and its year and month hold
 abbrev pub last_week_holds : DateFields → CivilDate → Bool
 last_week_holds p c =
-    holds p.year c.year && (holds p.month c.month && nat_lt (month_length c.year c.month) (c.day + 7))
+    holds p.year c.year &&
+    (holds p.month c.month && nat_lt (month_length c.year c.month) (c.day + 7))
 
 -- whether one of the seven days that end with day n has the date
 abbrev pub past_week_holds : DateFields → ℕ → Bool
@@ -52,7 +53,8 @@ date_matches p n = holds p.weekday (weekday n) && month_day_holds p.day p.weekda
 
 -- whether the time matches a second of the day; hundredths of a second do not count
 unfoldable pub time_matches : TimeFields → ℕ → Bool
-time_matches t s = holds t.hour (s / 3600) && (holds t.minute (s / 60 % 60) && holds t.second (s % 60))
+time_matches t s = holds t.hour (s / 3600) &&
+    (holds t.minute (s / 60 % 60) && holds t.second (s % 60))
 
 -- whether the entry matches a second of the meter's time (IEC 62056-6-2, class 22, execution_time)
 unfoldable pub matches : EntryPattern → ℕ → Bool

@@ -45,7 +45,8 @@ in_u32 (negsuc s) = None
 -- minutes, gives UTC
 abbrev pub seconds_since : CivilDate → ℕ → Option ℤ → ℤ
 seconds_since c second deviation =
-    (pos (86400 * day_count c + second) -ℤ pos (86400 * first_day)) +ℤ (pos 60 *ℤ unwrap_or deviation (pos 0))
+    (pos (86400 * day_count c + second) -ℤ pos (86400 * first_day)) +ℤ
+    (pos 60 *ℤ unwrap_or deviation (pos 0))
 
 -- the seconds, if all six fields are numbers, the date is right, and the seconds fit 32 bits
 unfoldable pub moment_of : DateTimeFields → Option ℕ

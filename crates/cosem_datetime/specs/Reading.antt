@@ -9,7 +9,8 @@ use Rattle.cosem_datetime.specs.declared.date.DayOfMonth.TheVariants.{Any, Numbe
 use Rattle.cosem_datetime.specs.Fields.{DateFields, TimeFields, DateTimeFields}
 
 infixl 10 ◌>>=◌
-abbrev pub ◌>>=◌ : {A B : Type 0} → Result A PatternFault → (A → Result B PatternFault) → Result B PatternFault
+abbrev pub ◌>>=◌ : {A B : Type 0} → Result A PatternFault → (A → Result B PatternFault)
+    → Result B PatternFault
 (Ok x) >>= f = f x
 (Err e) >>= f = Err e
 
@@ -54,7 +55,12 @@ date_of bytes =
       month ← month_of (slice_index bytes 2)
       day ← day_of (slice_index bytes 3)
       weekday ← field_of 1 7 (slice_index bytes 4)
-      Ok (record { year = year_of (from_be_bytes w16 (slice_range bytes 0 2)); month = month; day = day; weekday = weekday }))
+      Ok (record {
+        year = year_of (from_be_bytes w16 (slice_range bytes 0 2));
+        month = month;
+        day = day;
+        weekday = weekday;
+      }))
     else Err Length
 
 -- a time of four bytes
@@ -75,5 +81,10 @@ date_time_of bytes =
       date ← date_of (slice_range bytes 0 5)
       time ← time_of (slice_range bytes 5 9)
       deviation ← deviation_of (from_be_bytes w16 (slice_range bytes 9 11))
-      Ok (record { date = date; time = time; deviation = deviation; status = slice_index bytes 11 }))
+      Ok (record {
+        date = date;
+        time = time;
+        deviation = deviation;
+        status = slice_index bytes 11;
+      }))
     else Err Length

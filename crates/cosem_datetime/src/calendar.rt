@@ -20,7 +20,7 @@ pub const SECONDS_OF_DAY: u32 = 86_400;
 /// 1 January 2000, as the number of days since 1 January of the year 0.
 pub const FIRST_DAY: u32 = 730_485;
 
-/// The number of days from `jiff`'s first day to 1 January of the year 0.
+// The number of days from `jiff`'s first day to 1 January of the year 0.
 const YEAR_ZERO: u32 = 3_652_059;
 
 /// Returns the date of a day, counted from 1 January of the year 0.
@@ -62,7 +62,8 @@ pub fn day_of_date(date: CivilDate) -> Option<u32>
     requires year { date.year ≤ 9999 }
     requires month { date.month ≤ 12 }
     requires day { date.day ≤ 31 }
-    ensures value { result ≡ (if calendar.is_date date then Some (calendar.day_count date) else None) }
+    ensures value { result
+        ≡ (if calendar.is_date date then Some (calendar.day_count date) else None) }
     ensures bound { IfSome result (λ day. day ≤ 3_652_424) }
 {
     match Date::new(date.year as i16, date.month as i8, date.day as i8) {

@@ -51,11 +51,27 @@ impl Model for DatePattern {
 
     ghost Value = { DateFields };
 
-    ghost view = { λ p. record { year = p.year; month = p.month; day = p.day; weekday = p.weekday } };
+    ghost view = { λ p. record {
+      year = p.year;
+      month = p.month;
+      day = p.day;
+      weekday = p.weekday;
+    } };
 
-    ghost invariant = { λ p. IsDateFields (record { year = p.year; month = p.month; day = p.day; weekday = p.weekday }) };
+    ghost invariant = { λ p.
+        IsDateFields (record {
+          year = p.year;
+          month = p.month;
+          day = p.day;
+          weekday = p.weekday;
+        }) };
 
-    ghost inverse = { λ v. record { year = v.year; month = v.month; day = v.day; weekday = v.weekday } };
+    ghost inverse = { λ v. record {
+      year = v.year;
+      month = v.month;
+      day = v.day;
+      weekday = v.weekday;
+    } };
 }
 
 fn read_month(byte: u8) -> Result<Option<u8>, PatternFault>
@@ -118,13 +134,14 @@ pub fn read_date(bytes: &[u8]) -> Result<DatePattern, PatternFault>
     ensures length { IsErrOf result PatternFault.Length ↔ (length bytes.now ≢ 5) }
     // The month is the first field checked, so this fault takes precedence over those of later
     // fields.
-    ensures season { IsErrOf result PatternFault.SeasonMonth ↔ ((length bytes.now ≡ 5) × IsTrue (is_season (slice_index bytes.now 2))) }
+    ensures season { IsErrOf result PatternFault.SeasonMonth
+        ↔ ((length bytes.now ≡ 5) × IsTrue (is_season (slice_index bytes.now 2))) }
 {
     date_fields(bytes)
 }
 
 impl DayOfMonth {
-    /// Returns the byte of this day of the month.
+    // Returns the byte of this day of the month.
     fn byte(self) -> u8
         ensures { result ≡ day_byte self }
     {
@@ -136,7 +153,7 @@ impl DayOfMonth {
         }
     }
 
-    /// Returns whether a date has this day of the month.
+    // Returns whether a date has this day of the month.
     fn holds(self, date: CivilDate) -> bool
         requires year { date.year ≤ 9999 }
         requires day { date.day ≤ 31 }
@@ -161,7 +178,7 @@ fn year_holds(year: Option<u16>, number: u16) -> bool
 }
 
 impl DatePattern {
-    /// Returns the date with no field specified.
+    // Returns the date with no field specified.
     pub(crate) const fn unspecified() -> DatePattern
         ensures { result ≡ unspecified.date }
     {
@@ -198,7 +215,7 @@ impl DatePattern {
         bytes
     }
 
-    /// Returns whether a date has this year, month and day of the month.
+    // Returns whether a date has this year, month and day of the month.
     fn holds(&self, date: CivilDate) -> bool
         requires year { date.year ≤ 9999 }
         requires day { date.day ≤ 31 }
@@ -209,7 +226,7 @@ impl DatePattern {
             && self.day.holds(date)
     }
 
-    /// Returns whether a date is in the last seven days of its month and has this year and month.
+    // Returns whether a date is in the last seven days of its month and has this year and month.
     fn last_week_holds(&self, date: CivilDate) -> bool
         requires year { date.year ≤ 9999 }
         requires day { date.day ≤ 31 }
@@ -220,8 +237,8 @@ impl DatePattern {
             && month_length(date.year, date.month) < date.day + DAYS_OF_WEEK
     }
 
-    /// Returns whether one of the seven days up to this day has the pattern's year, month and day
-    /// of the month.
+    // Returns whether one of the seven days up to this day has the pattern's year, month and day
+    // of the month.
     fn past_week_holds(&self, day: u32) -> bool
         requires low { 7 ≤ day }
         requires high { day ≤ 1_000_000 }
@@ -235,7 +252,7 @@ impl DatePattern {
         false
     }
 
-    /// Returns whether the pattern without its weekday matches a day.
+    // Returns whether the pattern without its weekday matches a day.
     fn month_day_holds(&self, day: u32) -> bool
         requires low { 7 ≤ day }
         requires high { day ≤ 1_000_000 }
@@ -250,7 +267,7 @@ impl DatePattern {
         }
     }
 
-    /// Returns whether the pattern matches a day, counted from 1 January of the year 0.
+    // Returns whether the pattern matches a day, counted from 1 January of the year 0.
     #[tactic(auto, unfolding(crate::specs::Matching::date_matches))]
     pub(crate) fn matches_day(&self, day: u32) -> bool
         requires low { 7 ≤ day }
@@ -260,14 +277,14 @@ impl DatePattern {
         self.weekday_holds(day) && self.month_day_holds(day)
     }
 
-    /// Returns whether year, month and day of the month are numbers.
+    // Returns whether year, month and day of the month are numbers.
     pub(crate) fn is_plain(&self) -> bool
         ensures { result ≡ is_plain self.now }
     {
         self.year.is_some() && self.month.is_some() && matches!(&self.day, DayOfMonth::Number(_))
     }
 
-    /// Returns the date if year, month and day of the month are numbers.
+    // Returns the date if year, month and day of the month are numbers.
     pub(crate) fn plain_date(&self) -> Option<CivilDate>
         ensures date { result ≡ plain_date self.now }
         ensures within { IfSome result (λ c. (c.month ≤ 12) × (c.day ≤ 31)) }
@@ -280,8 +297,8 @@ impl DatePattern {
         Some(CivilDate { year, month, day })
     }
 
-    /// Returns whether the pattern has no weekday or that of a day, counted from 1 January of the
-    /// year 0.
+    // Returns whether the pattern has no weekday or that of a day, counted from 1 January of the
+    // year 0.
     pub(crate) fn weekday_holds(&self, day: u32) -> bool
         requires { day ≤ 3_652_424 }
         ensures { result ≡ holds self.now.weekday (weekday day) }

@@ -26,11 +26,21 @@ impl Model for DateTimeField {
 
     ghost Value = { DateTimeFields };
 
-    ghost view = { λ p. record { date = p.date; time = p.time; deviation = p.deviation; status = p.status } };
+    ghost view = { λ p. record {
+      date = p.date;
+      time = p.time;
+      deviation = p.deviation;
+      status = p.status;
+    } };
 
     ghost invariant = { λ p. IsDeviationWithin p.deviation × (p.status < 256) };
 
-    ghost inverse = { λ v. record { date = v.date; time = v.time; deviation = v.deviation; status = v.status } };
+    ghost inverse = { λ v. record {
+      date = v.date;
+      time = v.time;
+      deviation = v.deviation;
+      status = v.status;
+    } };
 }
 
 // Reads the deviation from the first two bytes.
@@ -69,11 +79,13 @@ pub fn read_date_time(bytes: &[u8]) -> Result<DateTimeField, PatternFault>
     ensures exact { result ≡ date_time_of bytes.now }
     // The bytes of a date-time that is read spell it, and a date-time that they spell is read.
     ensures found { IfOk result (λ p. IsDateTimeFields p × (bytes.now ≡ date_time_bytes p)) }
-    ensures only { (p : DateTimeFields) → IsDateTimeFields p → bytes.now ≡ date_time_bytes p → result ≡ Ok p }
+    ensures only { (p : DateTimeFields) → IsDateTimeFields p → bytes.now ≡ date_time_bytes p
+        → result ≡ Ok p }
     ensures length { IsErrOf result PatternFault.Length ↔ (length bytes.now ≢ 12) }
     // The month is the first field checked, so this fault takes precedence over those of later
     // fields.
-    ensures season { IsErrOf result PatternFault.SeasonMonth ↔ ((length bytes.now ≡ 12) × IsTrue (is_season (slice_index bytes.now 2))) }
+    ensures season { IsErrOf result PatternFault.SeasonMonth
+        ↔ ((length bytes.now ≡ 12) × IsTrue (is_season (slice_index bytes.now 2))) }
 {
     date_time_fields(bytes)
 }
@@ -83,7 +95,8 @@ impl DateTimeField {
     pub const fn unspecified() -> DateTimeField
         ensures fields { result ≡ unspecified }
         ensures bytes { date_time_bytes result
-            ≡ 0xFF ∷ 0xFF ∷ 0xFF ∷ 0xFF ∷ 0xFF ∷ 0xFF ∷ 0xFF ∷ 0xFF ∷ 0xFF ∷ 0x80 ∷ 0x00 ∷ 0xFF ∷ [] }
+            ≡ 0xFF ∷ 0xFF ∷ 0xFF ∷ 0xFF ∷ 0xFF ∷ 0xFF ∷ 0xFF ∷ 0xFF ∷ 0xFF ∷ 0x80 ∷ 0x00 ∷ 0xFF
+            ∷ [] }
     {
         DateTimeField {
             date: DatePattern::unspecified(),

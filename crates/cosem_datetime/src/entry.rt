@@ -31,7 +31,8 @@ impl EntryPattern {
     /// `upto`.
     pub fn matches_in(&self, after: u32, upto: u32) -> bool
         ensures value { result ≡ matches_in self.now after upto }
-        ensures seconds { IsTrue result ↔ ((s : ℕ) × ((after < s) × ((s ≤ upto) × IsTrue (matches self.now s)))) }
+        ensures seconds { IsTrue result
+            ↔ ((s : ℕ) × ((after < s) × ((s ≤ upto) × IsTrue (matches self.now s)))) }
     {
         after < upto && self.matches_within(after + 1, upto)
     }
@@ -43,7 +44,7 @@ impl EntryPattern {
         self.date.is_plain()
     }
 
-    /// Whether the entry matches some second from `first` to `last`, both included.
+    // Whether the entry matches some second from `first` to `last`, both included.
     fn matches_within(&self, first: u32, last: u32) -> bool
         ensures { TellsPassing (matches self.now) first last result }
     {
@@ -58,8 +59,8 @@ impl EntryPattern {
         false
     }
 
-    /// Whether the entry matches some second of a day from `from` to `to`, both included. Day 0 is
-    /// 1 January 2000.
+    // Whether the entry matches some second of a day from `from` to `to`, both included. Day 0 is
+    // 1 January 2000.
     fn matches_on(&self, day: u32, from: u32, to: u32) -> bool
         requires day { day ≤ 49710 }
         requires from { from < 86400 }

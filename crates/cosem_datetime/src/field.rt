@@ -5,10 +5,10 @@ ghost use Rattle.cosem_datetime.specs.Matching.{holds};
 
 use crate::fault::PatternFault;
 
-/// The byte of a field that is not specified.
+// The byte of a field that is not specified.
 pub(crate) const NOT_SPECIFIED: u8 = 0xFF;
 
-/// Reads a field of one byte: `None` if it is not specified, else a number from `low` to `high`.
+// Reads a field of one byte: `None` if it is not specified, else a number from `low` to `high`.
 pub(crate) fn read_field(byte: u8, low: u8, high: u8) -> Result<Option<u8>, PatternFault>
     ensures { result ≡ field_of low high byte }
 {
@@ -21,14 +21,14 @@ pub(crate) fn read_field(byte: u8, low: u8, high: u8) -> Result<Option<u8>, Patt
     }
 }
 
-/// Returns the byte of a field.
+// Returns the byte of a field.
 pub(crate) fn byte_of(field: Option<u8>) -> u8
     ensures { result ≡ field_byte field }
 {
     field.unwrap_or(NOT_SPECIFIED)
 }
 
-/// Whether a field is the number, or not specified.
+// Whether a field is the number, or not specified.
 pub(crate) fn field_holds(field: Option<u8>, number: u32) -> bool
     ensures { result ≡ holds field number }
 {

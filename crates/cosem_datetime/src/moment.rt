@@ -6,13 +6,13 @@ ghost use Rattle.cosem_datetime.specs.Moment.{in_u32, moment_of};
 use crate::calendar::{SECONDS_OF_DAY, day_of_date};
 use crate::date_time::DateTimeField;
 
-/// The seconds from 1 January of the year 0 to 1 January 2000.
+// The seconds from 1 January of the year 0 to 1 January 2000.
 const FIRST_SECOND: i64 = 63_113_904_000;
 
-/// The last year for which `jiff` is called. The moments end in 2136.
+// The last year for which `jiff` is called. The moments end in 2136.
 const LAST_YEAR: u16 = 9999;
 
-/// Returns the seconds from 1 January 2000 to a second of a day, as written: negative before 2000.
+// Returns the seconds from 1 January 2000 to a second of a day, as written: negative before 2000.
 fn written_seconds(day: u32, second: u32) -> i64
     requires day { day ≤ 3_652_424 }
     requires second { second < 86400 }
@@ -23,7 +23,7 @@ fn written_seconds(day: u32, second: u32) -> i64
     seconds as i64 - FIRST_SECOND
 }
 
-/// Returns the seconds after adding a deviation in minutes.
+// Returns the seconds after adding a deviation in minutes.
 fn moved_seconds(seconds: i64, deviation: i16) -> i64
     requires { IsWithin (2 ^ 40) seconds }
     ensures { result ≡ seconds +ℤ (pos 60 *ℤ deviation) }
@@ -31,7 +31,7 @@ fn moved_seconds(seconds: i64, deviation: i16) -> i64
     seconds + 60 * i64::from(deviation)
 }
 
-/// Returns the seconds, or `None` if they do not fit a `u32`.
+// Returns the seconds, or `None` if they do not fit a `u32`.
 fn seconds_of_u32(seconds: i64) -> Option<u32>
     ensures { result ≡ in_u32 seconds }
 {

@@ -24,11 +24,27 @@ impl Model for TimePattern {
 
     ghost Value = { TimeFields };
 
-    ghost view = { λ p. record { hour = p.hour; minute = p.minute; second = p.second; hundredths = p.hundredths } };
+    ghost view = { λ p. record {
+      hour = p.hour;
+      minute = p.minute;
+      second = p.second;
+      hundredths = p.hundredths;
+    } };
 
-    ghost invariant = { λ p. IsTimeFields (record { hour = p.hour; minute = p.minute; second = p.second; hundredths = p.hundredths }) };
+    ghost invariant = { λ p.
+        IsTimeFields (record {
+          hour = p.hour;
+          minute = p.minute;
+          second = p.second;
+          hundredths = p.hundredths;
+        }) };
 
-    ghost inverse = { λ v. record { hour = v.hour; minute = v.minute; second = v.second; hundredths = v.hundredths } };
+    ghost inverse = { λ v. record {
+      hour = v.hour;
+      minute = v.minute;
+      second = v.second;
+      hundredths = v.hundredths;
+    } };
 }
 
 #[tactic(auto, unfolding(crate::specs::Reading::time_of))]
@@ -67,7 +83,7 @@ pub fn read_time(bytes: &[u8]) -> Result<TimePattern, PatternFault>
     time_fields(bytes)
 }
 
-/// Returns the first number from `from` to before `limit` that the field allows, or `None`.
+// Returns the first number from `from` to before `limit` that the field allows, or `None`.
 fn first_value(field: Option<u8>, from: u32, limit: u32) -> Option<u32>
     ensures { IsFirstIfAny (holds field) from limit result }
 {
@@ -79,8 +95,8 @@ fn first_value(field: Option<u8>, from: u32, limit: u32) -> Option<u32>
     }
 }
 
-/// Returns the first matching second from `from` on in the same minute, or `None`. Both are counted
-/// from the start of the hour.
+// Returns the first matching second from `from` on in the same minute, or `None`. Both are counted
+// from the start of the hour.
 fn first_in_minute(minute: Option<u8>, second: Option<u8>, from: u32) -> Option<u32>
     requires { from < 3600 }
     ensures { IsFirstIfAny (hour_second_holds minute second) from (60 * (from / 60 + 1)) result }
@@ -92,8 +108,8 @@ fn first_in_minute(minute: Option<u8>, second: Option<u8>, from: u32) -> Option<
     Some(60 * (from / 60) + second)
 }
 
-/// Returns the first matching second from `from` on in the same hour, or `None`. Both are counted
-/// from the start of the hour.
+// Returns the first matching second from `from` on in the same hour, or `None`. Both are counted
+// from the start of the hour.
 fn first_in_hour(minute: Option<u8>, second: Option<u8>, from: u32) -> Option<u32>
     requires { from < 3600 }
     ensures { IsFirstIfAny (hour_second_holds minute second) from 3600 result }
@@ -107,7 +123,7 @@ fn first_in_hour(minute: Option<u8>, second: Option<u8>, from: u32) -> Option<u3
 }
 
 impl TimePattern {
-    /// Returns the time with no field specified.
+    // Returns the time with no field specified.
     pub(crate) const fn unspecified() -> TimePattern
         ensures { result ≡ unspecified.time }
     {
@@ -144,12 +160,14 @@ impl TimePattern {
     /// Whether both have the same hour, minute and second as written. An unspecified field equals
     /// only an unspecified field; hundredths do not count.
     pub fn same_time(&self, other: &TimePattern) -> bool
-        ensures { IsTrue result ↔ (((self.now.hour ≡ other.now.hour) × (self.now.minute ≡ other.now.minute)) × (self.now.second ≡ other.now.second)) }
+        ensures { IsTrue result
+            ↔ (((self.now.hour ≡ other.now.hour) × (self.now.minute ≡ other.now.minute))
+            × (self.now.second ≡ other.now.second)) }
     {
         self.hour == other.hour && self.minute == other.minute && self.second == other.second
     }
 
-    /// Whether the time matches a second of the day.
+    // Whether the time matches a second of the day.
     #[tactic(auto, unfolding(crate::specs::Matching::time_matches))]
     pub(crate) fn matches_second(&self, second: u32) -> bool
         ensures { result ≡ time_matches self.now second }
@@ -159,8 +177,8 @@ impl TimePattern {
             && field_holds(self.second, second % 60)
     }
 
-    /// Returns the first matching second from `from` on in the same hour, or `None`. Both are
-    /// counted from the start of the day.
+    // Returns the first matching second from `from` on in the same hour, or `None`. Both are
+    // counted from the start of the day.
     fn first_in_this_hour(&self, from: u32) -> Option<u32>
         requires { from < 86400 }
         ensures { IsFirstIfAny (day_second_holds self.now) from (3600 * (from / 3600 + 1)) result }
@@ -172,8 +190,8 @@ impl TimePattern {
         Some(3600 * (from / 3600) + second)
     }
 
-    /// Returns the first matching second from `from` on in the same day, or `None`. Both are
-    /// counted from the start of the day.
+    // Returns the first matching second from `from` on in the same day, or `None`. Both are
+    // counted from the start of the day.
     fn first_in_day(&self, from: u32) -> Option<u32>
         requires { from < 86400 }
         ensures { IsFirstIfAny (day_second_holds self.now) from 86400 result }
@@ -186,7 +204,7 @@ impl TimePattern {
         Some(3600 * hour + second)
     }
 
-    /// Whether the time matches some second of the day from `from` to `to`, both included.
+    // Whether the time matches some second of the day from `from` to `to`, both included.
     pub(crate) fn matches_between(&self, from: u32, to: u32) -> bool
         requires from { from < 86400 }
         requires to { to < 86400 }
@@ -198,7 +216,7 @@ impl TimePattern {
         }
     }
 
-    /// Returns the second of the day, or `None` unless hour, minute and second are all numbers.
+    // Returns the second of the day, or `None` unless hour, minute and second are all numbers.
     pub(crate) fn second_of_day(&self) -> Option<u32>
         ensures second { result ≡ second_of_day self.now }
         ensures within { IfSome result (λ second. second < 86400) }

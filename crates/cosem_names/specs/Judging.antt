@@ -6,5 +6,7 @@ use Rattle.cosem_axdr.specs.declared.value.Data.{Data}
 use Rattle.cosem_names.specs.declared.write_fault.WriteFault.{WriteFault}
 
 -- each result that this code can return for an item is that of the definition
-abbrev pub IsReader : {F X : Type 0} → Shared F (Bor Data × Unit {0}) (Result X WriteFault) → F → (Data → Result X WriteFault) → Type 0
-IsReader {F} {X} calls read of_item = (item : Data) (given : Result X WriteFault) → FnReturnsAt calls read item given → given ≡ of_item item
+abbrev pub IsReader : {F X : Type 0} → Shared F (Bor Data × Unit {0}) (Result X WriteFault) → F
+    → (Data → Result X WriteFault) → Type 0
+IsReader {F} {X} calls read of_item = (item : Data) (given : Result X WriteFault)
+    → FnReturnsAt calls read item given → given ≡ of_item item

@@ -38,21 +38,25 @@ method_entry level row = structure_with
 
 -- the entries of a class's attributes among rows, in their order
 unfoldable pub attribute_entries : Level → ClassId → List Attribute → List Data
-attribute_entries level class rows = map (attribute_entry level) (filter (λ row. row.class.0 == class.0) rows)
+attribute_entries level class rows =
+    map (attribute_entry level) (filter (λ row. row.class.0 == class.0) rows)
 
 -- the entries of a class's methods among rows, in their order
 unfoldable pub method_entries : Level → ClassId → List Method → List Data
-method_entries level class rows = map (method_entry level) (filter (λ row. row.class.0 == class.0) rows)
+method_entries level class rows =
+    map (method_entry level) (filter (λ row. row.class.0 == class.0) rows)
 
 -- the access rights to the attributes and methods of a class that rows have
 unfoldable pub access_rights : Level → ClassId → List Attribute → List Method → Data
 access_rights level class attributes methods = structure_with
-    (array_with (attribute_entries level class attributes) ∷ array_with (method_entries level class methods) ∷ [])
+    (array_with (attribute_entries level class attributes)
+    ∷ array_with (method_entries level class methods) ∷ [])
 
 -- the entry of an object: its class, version and logical name, and the access rights of its class
 unfoldable pub object_entry : Level → List Attribute → List Method → Object → Data
 object_entry level attributes methods row = structure_with
-    (LongUnsigned row.class.0 ∷ Unsigned row.version ∷ OctetString row.name.0 ∷ access_rights level row.class attributes methods ∷ [])
+    (LongUnsigned row.class.0 ∷ Unsigned row.version ∷ OctetString row.name.0
+    ∷ access_rights level row.class attributes methods ∷ [])
 
 -- the entries of objects, in their order
 unfoldable pub object_entries : Level → List Attribute → List Method → List Object → List Data
@@ -60,4 +64,5 @@ object_entries level attributes methods rows = map (object_entry level attribute
 
 -- the list of all objects
 unfoldable pub object_list_of : Level → Data
-object_list_of level = array_with (object_entries level table.attributes table.methods table.objects)
+object_list_of level =
+    array_with (object_entries level table.attributes table.methods table.objects)

@@ -22,7 +22,8 @@ object_of name = find (λ row. bytes_eq row.name.0 name.0) objects
 
 -- the row of an attribute of a class
 unfoldable pub class_attribute_of : ClassId → ℕ → Option Attribute
-class_attribute_of class number = find (λ row. row.class.0 == class.0 && row.number == number) attributes
+class_attribute_of class number =
+    find (λ row. row.class.0 == class.0 && row.number == number) attributes
 
 -- the row of a method of a class
 unfoldable pub class_method_of : ClassId → ℕ → Option Method
@@ -32,13 +33,15 @@ class_method_of class number = find (λ row. row.class.0 == class.0 && row.numbe
 -- named
 unfoldable pub attribute_of : AttrRef → Option Attribute
 attribute_of reference = option_and_then (λ object.
-    if object.class.0 == reference.class.0 then class_attribute_of object.class reference.number else None)
+    if object.class.0 == reference.class.0 then class_attribute_of object.class reference.number
+    else None)
     (object_of reference.name)
 
 -- the row of a method that a request names: the object with that name must be of the class named
 unfoldable pub method_of : MethodRef → Option Method
 method_of reference = option_and_then (λ object.
-    if object.class.0 == reference.class.0 then class_method_of object.class reference.number else None)
+    if object.class.0 == reference.class.0 then class_method_of object.class reference.number
+    else None)
     (object_of reference.name)
 
 -- the rights of an access mode
@@ -59,8 +62,11 @@ execution_by Management row = row.management
 
 -- what a client of this level may do with an attribute
 unfoldable pub rights_of : Level → AttrRef → Rights
-rights_of level reference = unwrap_or (option_map (λ row. rights_by (access_by level row)) (attribute_of reference)) (rights_by NoAccess)
+rights_of level reference =
+    unwrap_or (option_map (λ row. rights_by (access_by level row)) (attribute_of reference))
+    (rights_by NoAccess)
 
 -- whether a client of this level may execute a method
 unfoldable pub may_execute_of : Level → MethodRef → Bool
-may_execute_of level reference = unwrap_or (option_map (execution_by level) (method_of reference)) false
+may_execute_of level reference =
+    unwrap_or (option_map (execution_by level) (method_of reference)) false

@@ -19,7 +19,11 @@ code_of OtherReason = 250
 
 -- the result of a number
 unfoldable pub result_of : ℕ → Option ResultCode
-result_of n = if n == 0 then Some Success else if n == 1 then Some HardwareFault else if n == 2 then Some TemporaryFailure
-    else if n == 3 then Some ReadWriteDenied else if n == 4 then Some ObjectUndefined else if n == 9 then Some ObjectClassInconsistent
-    else if n == 12 then Some TypeUnmatched else if n == 13 then Some ScopeOfAccessViolated else if n == 16 then Some NoLongGetInProgress
-    else if n == 18 then Some NoLongSetInProgress else if n == 19 then Some DataBlockNumberInvalid else if n == 250 then Some OtherReason else None
+result_of n = if n == 0 then Some Success else if n == 1 then Some HardwareFault else if n == 2
+    then Some TemporaryFailure
+    else if n == 3 then Some ReadWriteDenied else if n == 4 then Some ObjectUndefined else if n == 9
+    then Some ObjectClassInconsistent
+    else if n == 12 then Some TypeUnmatched else if n == 13 then Some ScopeOfAccessViolated
+    else if n == 16 then Some NoLongGetInProgress
+    else if n == 18 then Some NoLongSetInProgress else if n == 19 then Some DataBlockNumberInvalid
+    else if n == 250 then Some OtherReason else None

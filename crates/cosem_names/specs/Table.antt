@@ -47,15 +47,18 @@ obis a b c d e f = record { 0 = a ∷ b ∷ c ∷ d ∷ e ∷ f ∷ [] }
 
 -- an object: its class, version and logical name
 abbrev pub object : Instance → ClassId → ℕ → Obis → Object
-object instance class version logical_name = record { instance = instance; class = class; version = version; name = logical_name }
+object instance class version logical_name =
+    record { instance = instance; class = class; version = version; name = logical_name }
 
 -- an attribute of a class: its number, and the access of the public and of the management client
 abbrev pub attribute : ClassId → ℕ → Access → Access → Attribute
-attribute class number public management = record { class = class; number = number; public = public; management = management }
+attribute class number public management =
+    record { class = class; number = number; public = public; management = management }
 
 -- a method of a class: its number, and whether the public and the management client may execute it
 abbrev pub method : ClassId → ℕ → Bool → Bool → Method
-method class number public management = record { class = class; number = number; public = public; management = management }
+method class number public management =
+    record { class = class; number = number; public = public; management = management }
 
 -- the objects, in the order of the object list: class, version and logical name
 abbrev pub objects : List Object

@@ -21,8 +21,8 @@ pub fn find(name: Obis) -> Option<ClassId>
     Some(row.class)
 }
 
-/// Returns the row of an attribute of a class, or `None` if the class has no attribute of this
-/// number.
+// Returns the row of an attribute of a class, or `None` if the class has no attribute of this
+// number.
 #[tactic(auto, unfolding(crate::specs::Objects::class_attribute_of))]
 fn class_attribute(class: ClassId, number: u8) -> Option<Attribute>
     ensures { result ≡ class_attribute_of class number }
@@ -33,7 +33,7 @@ fn class_attribute(class: ClassId, number: u8) -> Option<Attribute>
         .find(|row| row.class == class && row.number == number)
 }
 
-/// Returns the row of a method of a class, or `None` if the class has no method of this number.
+// Returns the row of a method of a class, or `None` if the class has no method of this number.
 #[tactic(auto, unfolding(crate::specs::Objects::class_method_of))]
 fn class_method(class: ClassId, number: u8) -> Option<Method>
     ensures { result ≡ class_method_of class number }

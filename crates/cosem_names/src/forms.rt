@@ -4,7 +4,7 @@ ghost use Rattle.cosem_names.specs.Forms.{so_many, name_of, date_time_bytes_of, 
 use crate::name::Obis;
 use cosem_axdr::Data;
 
-/// The lengths in bytes of a date-time, a date and a time (IEC 62056-6-2, date and time formats).
+// The lengths in bytes of a date-time, a date and a time (IEC 62056-6-2, date and time formats).
 const DATE_TIME_LEN: usize = 12;
 
 const DATE_LEN: usize = 5;
@@ -22,7 +22,7 @@ pub fn name_in(value: &Data) -> Option<Obis>
     Some(Obis([*a, *b, *c, *d, *e, *f]))
 }
 
-/// Returns the bytes, or `None` if their number is not `length`.
+// Returns the bytes, or `None` if their number is not `length`.
 fn of_length(bytes: &[u8], length: usize) -> Option<&[u8]>
     ensures { option_map (λ bytes. bytes.now) result ≡ so_many length bytes.now }
 {

@@ -5,7 +5,7 @@ ghost use Rattle.cosem_names.specs.WriteFault.{is_unmatched, told};
 use crate::write_fault::WriteFault;
 use cosem_axdr::Data;
 
-/// Whether reading failed because of a wrong type.
+// Whether reading failed because of a wrong type.
 fn is_unmatched<X>(given: &Result<X, WriteFault>) -> bool
     ensures { result ≡ is_unmatched given.now }
 {
@@ -20,7 +20,8 @@ pub fn judge_each<X: Drop, F: Fn(&Data) -> Result<X, WriteFault>>(
     read: F,
 ) -> Result<(), WriteFault>
     requires { F.IsAlwaysCallable read }
-    ensures told { (of_item : Data → Result X WriteFault) → IsReader F.Fn read of_item → result ≡ told of_item items.now }
+    ensures told { (of_item : Data → Result X WriteFault) → IsReader F.Fn read of_item
+        → result ≡ told of_item items.now }
     ensures no_memory { ¬ IsErrOf result WriteFault.Memory }
 {
     let mut unmatched = false;

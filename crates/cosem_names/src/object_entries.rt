@@ -27,7 +27,8 @@ fn object_entries(
     methods: &[Method],
     rows: &[Object],
 ) -> Result<Vec<Data>, AllocError>
-    ensures { IfOk result (λ entries. entries.items ≡ object_entries level attributes.now methods.now rows.now) }
+    ensures { IfOk result (λ entries. entries.items
+        ≡ object_entries level attributes.now methods.now rows.now) }
 {
     let mut entries = Vec::with_capacity(alloc, rows.len())?;
     for row in rows {
@@ -66,7 +67,8 @@ fn access_rights(
     attributes: &[Attribute],
     methods: &[Method],
 ) -> Result<Data, AllocError>
-    ensures { IfOk result (λ rights. rights ≡ access_rights level class attributes.now methods.now) }
+    ensures { IfOk result (λ rights. rights
+        ≡ access_rights level class attributes.now methods.now) }
 {
     let attributes = attribute_entries(alloc, level, class, attributes)?;
     let methods = method_entries(alloc, level, class, methods)?;

@@ -6,7 +6,7 @@ use crate::name::Obis;
 use cosem_axdr::{Data, Items, Octets};
 use std::alloc::{AllocError, Global};
 
-/// The logical name of the script table (IEC 62056-6-1, script table objects).
+// The logical name of the script table (IEC 62056-6-1, script table objects).
 const SCRIPT_TABLE: Obis = Obis([0, 0, 10, 0, 106, 255]);
 
 /// A script as other objects name it (IEC 62056-6-2: executed_script of class 22, actions of class

@@ -15,7 +15,8 @@ pub record Control : Type 0 where
 
 -- the switch after a trigger: its mode does not change
 abbrev pub triggered : Trigger → Control → Control
-triggered trigger control = record { state = after control.mode trigger control.state; mode = control.mode }
+triggered trigger control =
+    record { state = after control.mode trigger control.state; mode = control.mode }
 
 -- whether a mode may be written: in mode 0 the switch is always connected (IEC 62056-6-2, class 70,
 -- control_mode), so mode 0 is accepted only in Connected
@@ -24,7 +25,8 @@ is_mode_fit mode state = not (mode_number mode == 0) || is_state state Connected
 
 -- the switch after a write of its mode
 unfoldable pub with_mode : ControlMode → Control → Control
-with_mode mode control = if is_mode_fit mode control.state then record { state = control.state; mode = mode } else control
+with_mode mode control = if is_mode_fit mode control.state
+    then record { state = control.state; mode = mode } else control
 
 -- the result of a write of the mode
 unfoldable pub mode_result : ControlMode → Control → ResultCode

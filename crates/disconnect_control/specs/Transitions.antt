@@ -47,7 +47,9 @@ only_if false row rest = rest
 
 abbrev pub columns : Bool → Bool → Bool → Bool → Bool → Bool → Bool → Bool → List Row
 columns has_a has_b has_c has_d has_e has_f has_g has_h =
-    only_if has_a a (only_if has_b b (only_if has_c c (only_if has_d d (only_if has_e e (only_if has_f f (only_if has_g g (only_if has_h h [])))))))
+    only_if has_a a (only_if has_b b
+    (only_if has_c c (only_if has_d d
+    (only_if has_e e (only_if has_f f (only_if has_g g (only_if has_h h [])))))))
 
 -- yes and no, in the table below
 abbrev pub y : Bool
@@ -85,8 +87,10 @@ mode_number Mode6 = 6
 
 -- the mode of a number
 abbrev pub mode_of : ℕ → Option ControlMode
-mode_of number = if number == 0 then Some Mode0 else if number == 1 then Some Mode1 else if number == 2 then Some Mode2 else if number == 3 then Some Mode3
-    else if number == 4 then Some Mode4 else if number == 5 then Some Mode5 else if number == 6 then Some Mode6 else None
+mode_of number = if number == 0 then Some Mode0 else if number == 1 then Some Mode1
+    else if number == 2 then Some Mode2 else if number == 3 then Some Mode3
+    else if number == 4 then Some Mode4 else if number == 5 then Some Mode5 else if number == 6
+    then Some Mode6 else None
 
 -- a number for each trigger, to tell them apart
 abbrev pub trigger_number : Trigger → ℕ
@@ -103,7 +107,9 @@ is_state one other = state_number one == state_number other
 
 -- the transition that a mode allows on a trigger in a state
 unfoldable pub allowed : ControlMode → Trigger → ControlState → Option Row
-allowed mode trigger state = find (λ row. trigger_number row.trigger == trigger_number trigger && is_state row.from state) (rows_of mode)
+allowed mode trigger state =
+    find (λ row. trigger_number row.trigger == trigger_number trigger && is_state row.from state)
+    (rows_of mode)
 
 -- the state after a trigger
 unfoldable pub after : ControlMode → Trigger → ControlState → ControlState
@@ -122,13 +128,18 @@ waits_for_button Mode6 = true
 -- whether a state is what a trigger asks for, so that nothing is left to do
 abbrev pub is_target : ControlMode → Trigger → ControlState → Bool
 is_target _ RemoteDisconnect state = is_state state Disconnected
-is_target mode RemoteReconnect state = is_state state Connected || (waits_for_button mode && is_state state ReadyForReconnection)
-is_target _ ManualDisconnect state = is_state state Disconnected || is_state state ReadyForReconnection
+is_target mode RemoteReconnect state =
+    is_state state Connected || (waits_for_button mode && is_state state ReadyForReconnection)
+is_target _ ManualDisconnect state =
+    is_state state Disconnected || is_state state ReadyForReconnection
 is_target _ ManualReconnect state = is_state state Connected
-is_target _ LocalDisconnect state = is_state state Disconnected || is_state state ReadyForReconnection
+is_target _ LocalDisconnect state =
+    is_state state Disconnected || is_state state ReadyForReconnection
 is_target _ LocalReconnect state = is_state state Connected
 
 -- the result of a trigger, a rule of this meter: success if a transition is allowed or nothing is
 -- left to do
 unfoldable pub result_of : ControlMode → Trigger → ControlState → ResultCode
-result_of mode trigger state = if is_some (allowed mode trigger state) || is_target mode trigger state then Success else TemporaryFailure
+result_of mode trigger state =
+    if is_some (allowed mode trigger state) || is_target mode trigger state then Success
+    else TemporaryFailure

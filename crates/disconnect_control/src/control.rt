@@ -60,8 +60,8 @@ impl ControlMode {
     }
 }
 
-/// Returns the state to which the mode's transition leads, or `None` if the mode has no transition
-/// on this trigger in this state.
+// Returns the state to which the mode's transition leads, or `None` if the mode has no transition
+// on this trigger in this state.
 #[tactic(auto, unfolding(crate::specs::Transitions::allowed))]
 fn next(mode: ControlMode, trigger: Trigger, state: ControlState) -> Option<ControlState>
     ensures { result ≡ option_map (λ row. row.to) (allowed mode trigger state) }
@@ -86,7 +86,7 @@ fn next(mode: ControlMode, trigger: Trigger, state: ControlState) -> Option<Cont
     }
 }
 
-/// Whether the state is already what the trigger asks for.
+// Whether the state is already what the trigger asks for.
 fn is_done(mode: ControlMode, trigger: Trigger, state: ControlState) -> bool
     ensures { result ≡ is_target mode trigger state }
 {

@@ -17,7 +17,7 @@ static LOW_LEVEL: [u8; 7] = [0x60, 0x85, 0x74, 0x05, 0x08, 0x02, 0x01];
 
 const PASSWORD: &[u8] = b"12345678";
 
-// The AARQ of a public client, as an example of the Green Book has it.
+// The AARQ of a public client: an example of the Green Book.
 const PUBLIC_AARQ: [u8; 31] = [
     0x60, 0x1D, 0xA1, 0x09, 0x06, 0x07, 0x60, 0x85, 0x74, 0x05, 0x08, 0x01, 0x01, 0xBE, 0x10, 0x04,
     0x0E, 0x01, 0x00, 0x00, 0x00, 0x06, 0x5F, 0x1F, 0x04, 0x00, 0x00, 0x7E, 0x1F, 0x04, 0xB0,
@@ -38,13 +38,13 @@ const ACCEPTING_AARE: [u8; 43] = [
     0x5F, 0x1F, 0x04, 0x00, 0x00, 0x1E, 0x19, 0x04, 0x00, 0x00, 0x07,
 ];
 
-// The AARE of diagnostic 14.
+// The AARE with the diagnostic 14.
 const REFUSING_AARE: [u8; 25] = [
     0x61, 0x17, 0xA1, 0x09, 0x06, 0x07, 0x60, 0x85, 0x74, 0x05, 0x08, 0x01, 0x01, 0xA2, 0x03, 0x02,
     0x01, 0x01, 0xA3, 0x05, 0xA1, 0x03, 0x02, 0x01, 0x0E,
 ];
 
-// The AARE of initiate error 1.
+// The AARE with the initiate error 1.
 const INITIATE_ERROR_AARE: [u8; 33] = [
     0x61, 0x1F, 0xA1, 0x09, 0x06, 0x07, 0x60, 0x85, 0x74, 0x05, 0x08, 0x01, 0x01, 0xA2, 0x03, 0x02,
     0x01, 0x01, 0xA3, 0x05, 0xA1, 0x03, 0x02, 0x01, 0x01, 0xBE, 0x06, 0x04, 0x04, 0x0E, 0x01, 0x06,
@@ -57,7 +57,7 @@ const PUBLIC_ACCEPTED: Verdict = Verdict::Accepted {
     limit: 1200,
 };
 
-// The bytes of an example, of which some are others, each at its place.
+// Returns the bytes of an example with some bytes changed, each given by its index and new value.
 fn changed(alloc: Global, example: &[u8], changes: &[(usize, u8)]) -> Result<Vec<u8>, AllocError> {
     let mut bytes = example.to_vec(alloc)?;
     for (place, byte) in changes {
@@ -68,7 +68,8 @@ fn changed(alloc: Global, example: &[u8], changes: &[(usize, u8)]) -> Result<Vec
     Ok(bytes)
 }
 
-// Whether an AARQ's context, mechanism and password, and its user information are the management client's.
+// Returns whether an AARQ's context, mechanism, password and user information are those of the
+// management client.
 fn parts_found(aarq: &Aarq) -> [bool; 4] {
     let has_password = match &aarq.password {
         Some(password) => password.as_slice() == PASSWORD,
@@ -91,7 +92,7 @@ fn an_aarq_is_read_into_its_parts(rt: HostRuntime) -> Result<(), Fail> {
     Ok(())
 }
 
-// An AARQ whose fields have one byte each.
+// Returns an AARQ whose fields have one byte each.
 fn small_aarq(alloc: Global) -> Result<Aarq, AllocError> {
     Ok(Aarq {
         context: Octets::from_slice(alloc, &[1])?,
@@ -101,7 +102,7 @@ fn small_aarq(alloc: Global) -> Result<Aarq, AllocError> {
     })
 }
 
-// Whether Debug writes each field of it but the password.
+// Returns whether Debug writes each field of the AARQ except the password.
 fn is_shown_without_its_password(alloc: Global, aarq: &Aarq) -> Result<bool, AllocError> {
     let text = format!(in alloc; "{aarq:?}")?;
     let is_same = text.as_str()
@@ -119,7 +120,8 @@ fn an_aarq_does_not_show_its_password(rt: HostRuntime) -> Result<(), Fail> {
     Ok(())
 }
 
-// A port, the password of its client, an AARQ, as an example and what of its bytes is changed, and the verdict.
+// A client's port, its password, an AARQ as an example with changed bytes, and the expected
+// verdict.
 type Judged = (
     u16,
     &'static [u8],
@@ -128,7 +130,7 @@ type Judged = (
     Verdict,
 );
 
-// A password of a row, 1 to 32 bytes.
+// Returns a password of 1 to 32 bytes.
 fn password_of(alloc: Global, bytes: &[u8]) -> Option<Octets>
     ensures { IfSome result IsPassword }
 {
@@ -138,7 +140,7 @@ fn password_of(alloc: Global, bytes: &[u8]) -> Option<Octets>
     Octets::from_slice(alloc, bytes).ok()
 }
 
-// The verdict on an AARQ.
+// Returns the verdict on an AARQ.
 fn verdict_on(alloc: Global, aarq: &Aarq, port: u16, password: &[u8]) -> Option<Verdict> {
     let password = password_of(alloc, password)?;
     let verdict = judge(aarq, port, &password);
@@ -146,7 +148,7 @@ fn verdict_on(alloc: Global, aarq: &Aarq, port: u16, password: &[u8]) -> Option<
     Some(verdict)
 }
 
-// The verdict on the bytes of an AARQ.
+// Returns the verdict on the bytes of an AARQ.
 fn verdict_of(alloc: Global, bytes: &[u8], port: u16, password: &[u8]) -> Option<Verdict> {
     let aarq = read_aarq(alloc, bytes).ok()?;
     let verdict = verdict_on(alloc, &aarq, port, password);
@@ -203,7 +205,7 @@ static OF_THE_MANAGEMENT_CLIENT: [Judged; 5] = [
     (1, b"12345679", &MANAGEMENT_AARQ, &[], Verdict::Rejected(13)),
     (1, b"1234567", &MANAGEMENT_AARQ, &[], Verdict::Rejected(13)),
     (1, PASSWORD, &PUBLIC_AARQ, &[], Verdict::Rejected(14)),
-    // The example of the Green Book proposes 007E1F and 1,200 bytes.
+    // The example of the Green Book proposes the conformance 007E1F and 1,200 bytes.
     (
         1,
         PASSWORD,
@@ -260,7 +262,8 @@ fn other_ports_contexts_and_mechanisms_are_rejected(rt: HostRuntime) {
     check_verdicts(&rt, rt.alloc(), &OTHER_OPENINGS);
 }
 
-// An older version, a PDU size that is too short, none, the shortest with GET alone, and no service that the meter offers.
+// An older version; a PDU size that is too short, none, or the shortest with only GET; and no
+// service that the meter offers.
 static PROPOSALS: [Judged; 5] = [
     (
         16,
@@ -312,7 +315,7 @@ fn a_proposal_is_checked(rt: HostRuntime) {
     check_verdicts(&rt, rt.alloc(), &PROPOSALS);
 }
 
-// The public client's AARQ with its fields in another order, and an empty one beside them.
+// The public client's AARQ with its fields in another order and an additional empty field.
 const REORDERED_AARQ: [u8; 34] = [
     0x60, 0x81, 0x1F, 0xBE, 0x10, 0x04, 0x0E, 0x01, 0x00, 0x00, 0x00, 0x06, 0x5F, 0x1F, 0x04, 0x00,
     0x00, 0x7E, 0x1F, 0x04, 0xB0, 0x8B, 0x00, 0xA1, 0x09, 0x06, 0x07, 0x60, 0x85, 0x74, 0x05, 0x08,
@@ -332,7 +335,7 @@ fn fields_come_in_any_order(rt: HostRuntime) {
     check_verdicts(&rt, rt.alloc(), &IN_OTHER_ORDERS);
 }
 
-// Of the management client's AARQ ever more is wrong, and what is wrong comes ever sooner.
+// Ever more faults in the management client's AARQ, each checked before the previous ones.
 static FIRST_FAULTS: [Judged; 9] = [
     (
         1,
@@ -419,7 +422,7 @@ const WRONG: [(usize, u8); 6] = [
     (42, 0x21),
 ];
 
-// The mechanism and the context are wrong too.
+// The mechanism and the context are wrong as well.
 const WORST: [(usize, u8); 8] = [
     (55, 0x3F),
     (54, 0x00),
@@ -436,7 +439,7 @@ fn the_first_check_that_fails_decides(rt: HostRuntime) {
     check_verdicts(&rt, rt.alloc(), &FIRST_FAULTS);
 }
 
-// A field twice, no context, a field of a lower tag, and a length that is one too many.
+// A field twice, no context, a field of a lower tag, and a length that is one too large.
 static UNREADABLE_AARQS: [(&[u8], &[(usize, u8)]); 4] = [
     (
         &[
@@ -473,7 +476,8 @@ fn fields_come_once_each(rt: HostRuntime) {
     }
 }
 
-// Bytes, and whether they are a request for a release. A length may have one or two bytes behind its first, and not none or three.
+// Bytes, and whether they are a release request. A length may have one or two bytes after its
+// first, but not zero or three.
 static RELEASES: [(&[u8], bool); 13] = [
     (&[0x62, 0x00], true),
     (&RELEASE_REQUEST, true),
@@ -497,14 +501,14 @@ fn releases_are_known(rt: HostRuntime) {
     }
 }
 
-// Puts in the parts of the management client's AARQ, but its password.
+// Fills in the parts of the management client's AARQ except its password.
 fn push_parts(aarq: &mut Aarq) -> Result<(), AllocError> {
     aarq.context.extend_from_slice(&LN_CONTEXT)?;
     aarq.mechanism.extend_from_slice(&LOW_LEVEL)?;
     aarq.user.extend_from_slice(&MANAGEMENT_AARQ[42..])
 }
 
-// An AARQ of no parts but the password.
+// Returns an AARQ with only a password.
 fn of_password(alloc: Global, password: Octets) -> Aarq {
     Aarq {
         context: Octets::new(alloc),
@@ -514,7 +518,7 @@ fn of_password(alloc: Global, password: Octets) -> Aarq {
     }
 }
 
-// The management client's AARQ, of its parts.
+// Returns the management client's AARQ, built from its parts.
 fn management_aarq(alloc: Global) -> Result<Aarq, AllocError> {
     let mut aarq = of_password(alloc, Octets::from_slice(alloc, PASSWORD)?);
     match push_parts(&mut aarq) {
@@ -581,7 +585,7 @@ const INITIATE_ERROR: Aare = Aare {
     info: Info::InitiateError(1),
 };
 
-// An AARE, and its bytes, as an example and what of it is changed.
+// An AARE, and its expected bytes as an example with changed bytes.
 type WrittenAare = (Aare, &'static [u8], &'static [(usize, u8)]);
 
 static WRITTEN_AARES: [WrittenAare; 5] = [
@@ -606,7 +610,7 @@ static WRITTEN_AARES: [WrittenAare; 5] = [
     ),
 ];
 
-// Whether the bytes are what is written of an AARE.
+// Returns whether an AARE is written as these bytes.
 fn is_text_of(alloc: Global, aare: &Aare, bytes: &[u8]) -> Result<bool, AllocError> {
     let text = write_aare(alloc, aare)?;
     let is_same = text.as_slice() == bytes;
@@ -629,14 +633,15 @@ fn an_aare_is_written(rt: HostRuntime) {
     }
 }
 
-// Bytes, as an example and what of it is changed, and what they are read as.
+// Bytes as an example with changed bytes, and the expected result of reading them.
 type ReadAare = (
     &'static [u8],
     &'static [(usize, u8)],
     Result<Aare, AcseFault>,
 );
 
-// An AARE whose fields come in another order, the context twice, the result's length in the long form, with another field.
+// An AARE with its fields in another order, the context twice, the length of the result in the long
+// form, and another field.
 const REORDERED_AARE: [u8; 36] = [
     0x61, 0x81, 0x20, 0xBE, 0x06, 0x04, 0x04, 0x0E, 0x01, 0x06, 0x03, 0xA3, 0x05, 0xA2, 0x03, 0x02,
     0x01, 0x02, 0xA1, 0x00, 0xA1, 0x02, 0x06, 0x00, 0x80, 0x02, 0x07, 0x80, 0xA2, 0x82, 0x00, 0x03,
@@ -647,7 +652,7 @@ static READ_AARES: [ReadAare; 7] = [
     (&ACCEPTING_AARE, &[], Ok(ACCEPTING)),
     (&REFUSING_AARE, &[], Ok(REFUSING)),
     (&INITIATE_ERROR_AARE, &[], Ok(INITIATE_ERROR)),
-    // The mark of an answer is another, and what of an error it is isn't known.
+    // The tag of a response is wrong, or the kind of an error is unknown.
     (&INITIATE_ERROR_AARE, &[(17, 0)], Err(AcseFault::Unreadable)),
     (
         &INITIATE_ERROR_AARE,
@@ -657,13 +662,13 @@ static READ_AARES: [ReadAare; 7] = [
             ..INITIATE_ERROR
         }),
     ),
-    // The user information is no octet-string.
+    // The user information is not an octet-string.
     (
         &INITIATE_ERROR_AARE,
         &[(27, 0x09)],
         Err(AcseFault::Unreadable),
     ),
-    // A byte is behind the last field.
+    // A byte follows the last field.
     (&REORDERED_AARE, &[], Err(AcseFault::Unreadable)),
 ];
 
@@ -692,7 +697,8 @@ fn an_aares_fields_come_in_any_order(rt: HostRuntime) {
     assert!(rt; read_aare(rt.alloc(), &REORDERED_AARE[..35]) == Ok(expected));
 }
 
-// An AARQ whose application context has `length` bytes, at most 100, with the user information of the public client.
+// Returns an AARQ whose application context has `length` bytes, at most 100, with the user
+// information of the public client.
 fn aarq_with_context(alloc: Global, length: u8) -> Result<Vec<u8>, AllocError> {
     let mut text = Vec::from_slice(alloc, &[0x60, length.saturating_add(22)])?;
     text.extend_from_slice(&[0xA1, length.saturating_add(2), 0x06, length])?;
@@ -703,7 +709,7 @@ fn aarq_with_context(alloc: Global, length: u8) -> Result<Vec<u8>, AllocError> {
     Ok(text)
 }
 
-// Whether that AARQ is read, with a context of `length` bytes.
+// Returns whether the AARQ with a context of `length` bytes is read with that context.
 fn is_context_read(alloc: Global, length: u8) -> Result<bool, AllocError> {
     let text = aarq_with_context(alloc, length)?;
     let read = read_aarq(alloc, text.as_slice());

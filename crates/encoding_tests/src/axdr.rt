@@ -5,7 +5,7 @@ use cosem_axdr::{
 use std::alloc::{AllocError, Global};
 use std::test::Fail;
 
-// One text of each tag, in the order of the tags.
+// A text of each tag, in the order of the tags.
 static TEXTS: [&[u8]; 20] = [
     &[0x00],
     &[0x01, 0x02, 0x11, 0x01, 0x11, 0x02],
@@ -39,7 +39,7 @@ static DATE: [u8; 5] = [0x07, 0xEA, 0x0B, 0x16, 0x07];
 
 static TIME: [u8; 4] = [0x0C, 0x1E, 0x00, 0x00];
 
-// What the text at that place of the table spells.
+// Returns the value of the text at an index of the table.
 fn value_at(alloc: Global, place: usize) -> Result<Data, AllocError> {
     Ok(match place {
         1 => Data::Array(Items::from_vec(vec![in alloc; Data::Unsigned(1), Data::Unsigned(2)]?)),
@@ -55,7 +55,7 @@ fn value_at(alloc: Global, place: usize) -> Result<Data, AllocError> {
     })
 }
 
-// The same of the texts of values that take no memory.
+// Returns the value of the text at an index of the table, if its value does not allocate.
 fn plain_value_at(place: usize) -> Data {
     match place {
         0 => Data::Null,
@@ -75,7 +75,8 @@ fn plain_value_at(place: usize) -> Data {
     }
 }
 
-// The calls under test, without their contracts: a test is run for what no clause says, and its own proof then has little to look at.
+// Calls the function under test without its contract. A test checks what no clause states, so this
+// keeps its own proof small.
 fn read_from(alloc: Global, text: &[u8]) -> Result<(Data, usize), DataFault> {
     read(alloc, text)
 }
@@ -84,7 +85,7 @@ fn fault_of(alloc: Global, text: &[u8]) -> Option<DataFault> {
     read(alloc, text).err()
 }
 
-// Whether a value is written as these bytes.
+// Returns whether a value is written as these bytes.
 fn is_written(alloc: Global, value: &Data, bytes: &[u8]) -> bool {
     let mut text = Octets::new(alloc);
     let is_done = write(alloc, value, &mut text).is_ok();
@@ -105,7 +106,7 @@ static LENGTHS: [(usize, &[u8]); 8] = [
     (0x100_0000, &[0x84, 0x01, 0x00, 0x00, 0x00]),
 ];
 
-// Whether a length is written as these bytes.
+// Returns whether a length is written as these bytes.
 fn is_length(alloc: Global, length: usize, bytes: &[u8]) -> bool {
     let mut text = Octets::new(alloc);
     let is_done = append_length(length, &mut text).is_ok();
@@ -132,7 +133,7 @@ fn len_of(value: &Data) -> u64 {
     text_len(value)
 }
 
-// Whether all of the text is read as this value, of which it is the written text.
+// Returns whether the whole text is read as this value, and the value is written as the text.
 fn is_text_of(alloc: Global, text: &[u8], value: &Data) -> bool {
     match read_from(alloc, text) {
         Ok((found, len)) => {
@@ -144,7 +145,7 @@ fn is_text_of(alloc: Global, text: &[u8], value: &Data) -> bool {
     }
 }
 
-// Whether all of the text is read, and written as the other.
+// Returns whether the whole text is read, and its value written as the other text.
 fn is_written_as(alloc: Global, text: &[u8], other: &[u8]) -> bool {
     match read_from(alloc, text) {
         Ok((value, len)) => {
@@ -156,7 +157,7 @@ fn is_written_as(alloc: Global, text: &[u8], other: &[u8]) -> bool {
     }
 }
 
-// Whether this is the text of the value at that place.
+// Returns whether this is the text of the value at an index.
 fn is_text_at(alloc: Global, place: usize, text: &[u8]) -> bool {
     match value_at(alloc, place) {
         Ok(value) => {
@@ -175,7 +176,7 @@ fn each_tag_is_read_and_written(rt: HostRuntime) {
     }
 }
 
-// Whether a copy of a value is equal to it.
+// Returns whether a copy of a value is equal to it.
 fn is_copied(alloc: Global, value: &Data) -> bool {
     match value.try_clone(alloc) {
         Ok(copy) => {
@@ -187,7 +188,7 @@ fn is_copied(alloc: Global, value: &Data) -> bool {
     }
 }
 
-// Whether a copy of the value at that place is equal to it.
+// Returns whether a copy of the value at an index is equal to it.
 fn is_copied_at(alloc: Global, place: usize) -> bool {
     match value_at(alloc, place) {
         Ok(value) => {
@@ -218,7 +219,7 @@ fn each_part_of_a_text_is_truncated(rt: HostRuntime) {
     }
 }
 
-// A text, and the one form in which its value is written.
+// A text, and the form in which its value is written.
 static OTHER_FORMS: [(&[u8], &[u8]); 3] = [
     (
         &[0x09, 0x82, 0x00, 0x02, 0xAB, 0xCD],
@@ -244,7 +245,7 @@ fn bytes_behind_a_value_are_left(rt: HostRuntime) -> Result<(), Fail> {
     Ok(())
 }
 
-// Nine structures of one item, one within the other, around a null-data.
+// Nine nested structures of one item each, around a null-data.
 static NINE_DEEP: [u8; 19] = [
     0x02, 0x01, 0x02, 0x01, 0x02, 0x01, 0x02, 0x01, 0x02, 0x01, 0x02, 0x01, 0x02, 0x01, 0x02, 0x01,
     0x02, 0x01, 0x00,
@@ -268,7 +269,7 @@ fn the_first_fault_is_the_answer(rt: HostRuntime) {
     for (text, fault) in &FAULTS {
         assert!(rt;
             fault_of(rt.alloc(), text) == Some(*fault),
-            "{text:?} is to be {fault:?}"
+            "expected {fault:?} for {text:?}"
         );
     }
 }
@@ -288,7 +289,7 @@ fn depth_is_judged_at_the_ninth_tag(rt: HostRuntime) {
     }
 }
 
-// The value of the eight inner ones.
+// Returns the value of the eight inner structures.
 fn eight_deep(alloc: Global) -> Result<Data, DataFault> {
     let (value, _) = read_from(alloc, &NINE_DEEP[2..])?;
     Ok(value)
@@ -311,12 +312,12 @@ fn a_value_around_the_deepest_does_not_fit(rt: HostRuntime) -> Result<(), Fail> 
     Ok(())
 }
 
-// A string of so many bytes.
+// Returns a string of `len` bytes.
 fn string_of(alloc: Global, len: usize) -> Result<Data, AllocError> {
     Ok(Data::OctetString(Octets::from_vec(vec![in alloc; 0x5A; len]?)))
 }
 
-// An array of so many null-data.
+// Returns an array of `count` null-data.
 fn nulls(alloc: Global, count: usize) -> Result<Data, AllocError> {
     let mut items = Vec::new(alloc);
     for _ in 0..count {
@@ -325,7 +326,7 @@ fn nulls(alloc: Global, count: usize) -> Result<Data, AllocError> {
     Ok(Data::Array(Items::from_vec(items)))
 }
 
-// An array of so many null-data, or a string of so many bytes.
+// An array with a number of null-data, or a string with a number of bytes.
 #[derive(Clone, Copy)]
 enum Wide {
     Nulls(usize),
@@ -339,7 +340,7 @@ fn make_wide(alloc: Global, form: Wide) -> Result<Data, AllocError> {
     }
 }
 
-// Whether a value is read from its text again.
+// Returns whether a value is read back from its text.
 fn is_read_again(alloc: Global, value: &Data) -> bool {
     let mut text = Octets::new(alloc);
     let is_done = write(alloc, value, &mut text).is_ok();
@@ -348,7 +349,7 @@ fn is_read_again(alloc: Global, value: &Data) -> bool {
     is_same
 }
 
-// Whether a value has a text of so many bytes and is read from it again.
+// Returns whether a value has a text of `len` bytes and is read back from it.
 fn is_widest(alloc: Global, form: Wide, len: u64) -> bool {
     match make_wide(alloc, form) {
         Ok(value) => {
@@ -360,7 +361,7 @@ fn is_widest(alloc: Global, form: Wide, len: u64) -> bool {
     }
 }
 
-// The fault of a value's text.
+// Returns the fault of reading a value's text.
 fn text_fault(alloc: Global, value: &Data) -> Option<DataFault> {
     let mut text = Octets::new(alloc);
     let is_done = write(alloc, value, &mut text).is_ok();
@@ -369,7 +370,7 @@ fn text_fault(alloc: Global, value: &Data) -> Option<DataFault> {
     if is_done { fault } else { None }
 }
 
-// Whether a value has a text of so many bytes, is not fit, and is too long to be read.
+// Returns whether a value has a text of `len` bytes, does not fit, and is too long to be read.
 fn is_too_wide(alloc: Global, form: Wide, len: u64) -> bool {
     match make_wide(alloc, form) {
         Ok(value) => {
@@ -389,7 +390,7 @@ fn the_widest_values_are_read_and_written(rt: HostRuntime) {
     }
 }
 
-// The number of bytes of a length or count in its shortest form, of at most 65,535.
+// Returns the number of bytes of the shortest form of a length or count of at most 65,535.
 fn length_size(length: usize) -> u64 {
     match length {
         0..=127 => 1,
@@ -427,7 +428,7 @@ fn wider_values_are_too_long(rt: HostRuntime) {
     }
 }
 
-// Whether a bit-string of so many bits in one byte fits.
+// Returns whether a bit-string of `bits` bits in one byte fits.
 fn bits_fit(alloc: Global, bits: usize, byte: u8) -> Result<bool, AllocError> {
     let bytes = Octets::from_slice(alloc, &[byte])?;
     let value = Data::BitString { bits, bytes };
@@ -436,7 +437,7 @@ fn bits_fit(alloc: Global, bits: usize, byte: u8) -> Result<bool, AllocError> {
     Ok(is_fit)
 }
 
-// The bits of a bit-string, its byte, and whether it fits.
+// The number of bits of a bit-string, its byte, and whether it fits.
 static BITS: [(usize, u8, bool); 5] = [
     (5, 0xB8, true),
     (8, 0xFF, true),
@@ -466,7 +467,7 @@ fn accessors_give_numbers(rt: HostRuntime) {
     assert!(rt; found == [true; 6]);
 }
 
-// Whether the accessors give the bytes of a string, a date-time, a date and a time.
+// Returns whether the accessors return the bytes of a string, a date-time, a date and a time.
 fn bytes_given(string: &Data) -> [bool; 4] {
     [
         string.octets() == Some([0xAB, 0xCD].as_slice()),
@@ -484,7 +485,7 @@ fn accessors_give_bytes(rt: HostRuntime) -> Result<(), Fail> {
     Ok(())
 }
 
-// How many items a value has as an array, and how many as a structure.
+// Returns the number of items of a value as an array and as a structure.
 fn items_given(value: &Data) -> (Option<usize>, Option<usize>) {
     let array = match value.array() {
         Some(items) => Some(items.len()),
@@ -497,7 +498,7 @@ fn items_given(value: &Data) -> (Option<usize>, Option<usize>) {
     (array, structure)
 }
 
-// The same of the value at that place.
+// Returns the number of items of the value at an index, as an array and as a structure.
 fn items_at(alloc: Global, place: usize) -> Result<(Option<usize>, Option<usize>), AllocError> {
     let value = value_at(alloc, place)?;
     let given = items_given(&value);
@@ -511,7 +512,7 @@ fn accessors_give_items(rt: HostRuntime) {
     assert!(rt; items_at(rt.alloc(), 2) == Ok((None, Some(2))));
 }
 
-// Whether a value is equal to the one at that place.
+// Returns whether a value is equal to the one at an index.
 fn is_value_at(alloc: Global, value: &Data, place: usize) -> Result<bool, AllocError> {
     let other = value_at(alloc, place)?;
     let is_same = *value == other;
@@ -519,7 +520,7 @@ fn is_value_at(alloc: Global, value: &Data, place: usize) -> Result<bool, AllocE
     Ok(is_same)
 }
 
-// Whether the values at two places are equal.
+// Returns whether the values at two indexes are equal.
 fn are_equal(alloc: Global, one: usize, other: usize) -> Result<bool, AllocError> {
     let value = value_at(alloc, one)?;
     let is_same = is_value_at(alloc, &value, other);
@@ -545,13 +546,13 @@ fn items_keep_what_is_put_in(rt: HostRuntime) -> Result<(), Fail> {
     Ok(())
 }
 
-// Puts in three bytes, by one and by two.
+// Appends three bytes: one, then two.
 fn push_three(octets: &mut Octets) -> Result<(), AllocError> {
     octets.push(0xAB)?;
     octets.extend_from_slice(&[0xCD, 0xEF])
 }
 
-// Whether octets are the three bytes, and a copy is equal to them and gives them back.
+// Returns whether octets are the three bytes, and a copy is equal to them and returns them.
 fn are_three(alloc: Global, octets: &Octets) -> Result<bool, AllocError> {
     let copy = octets.try_clone(alloc)?;
     let is_same = copy == *octets && !octets.is_empty() && octets.len() == 3;

@@ -1,7 +1,8 @@
 //! Tests of the encodings, `cosem_axdr` (A-XDR) and `acse_ber` (BER): reads and writes texts of the
 //! standards.
 //!
-//! The tests have a crate of their own because a check of tests also proves the rest of their crate.
+//! The tests have a crate of their own because a check of tests also proves the rest of their
+//! crate.
 #![tactic(auto)]
 
 #[cfg(test)]

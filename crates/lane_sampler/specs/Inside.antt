@@ -7,7 +7,10 @@ use Rattle.lane_sampler.specs.Scans.{AreRightScans}
 
 -- the samples of a block
 abbrev pub samples_of : Inside → Samples
-samples_of block = record { import = block.import.items; export = option_map (λ v. v.items) block.export }
+samples_of block = record {
+  import = block.import.items;
+  export = option_map (λ v. v.items) block.export;
+}
 
 -- a block has at most `most_values` values or pairs, and its scans are right for them
 pub record IsBlock (block : Inside) : Type 0 where

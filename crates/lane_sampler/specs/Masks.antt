@@ -41,7 +41,8 @@ word_at test values k = word_of test (take 64 (drop (64 * k) values))
 -- the four words for up to 256 values
 unfoldable pub words_of : (ℕ → Bool) → List ℕ → List ℕ
 words_of test values =
-    word_at test values 0 ∷ word_at test values 1 ∷ word_at test values 2 ∷ word_at test values 3 ∷ []
+    word_at test values 0 ∷ word_at test values 1 ∷ word_at test values 2 ∷ word_at test values 3
+    ∷ []
 
 -- the masks of up to 256 values, as numbers
 abbrev pub masks_of : List ℕ → ℕ → Masks

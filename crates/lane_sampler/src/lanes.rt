@@ -6,10 +6,10 @@ ghost use Rattle.lane_sampler.specs.Masks.{AreMasks, is_over, is_under, masks_of
 
 use std::simd::prelude::*;
 
-/// The number of values in one vector.
+// The number of values in one vector.
 const LANES: usize = 16;
 
-/// The number of values in one word of a mask.
+// The number of values in one word of a mask.
 const WORD_BITS: usize = 64;
 
 /// Which of up to 256 values are over a threshold, and which under it. Bit `i % 64` of word `i /
@@ -25,7 +25,7 @@ pub struct Masks {
     pub len: u16,
 }
 
-/// The two words for up to 64 values: bit `i` is for value `i`.
+// The two words for up to 64 values: bit `i` is for value `i`.
 #[derive(Clone, Copy)]
 struct Word {
     over: u64,

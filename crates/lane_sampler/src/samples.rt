@@ -200,7 +200,8 @@ fn scans_of(
 ) -> Scans
     requires few { length import.now ≤ most_values }
     requires even { IfSome export (λ values. length values.now ≡ length import.now) }
-    ensures right { AreRightScans (record { import = import.now; export = option_copied export.entry }) result }
+    ensures right { AreRightScans
+        (record { import = import.now; export = option_copied export.entry }) result }
     ensures import { result.import.threshold ≡ import_threshold }
     ensures export { IfSome result.export (λ scan. scan.threshold ≡ export_threshold) }
 {

@@ -18,7 +18,10 @@ no_run = record { run = 0; fired = false }
 abbrev pub taken : Bool → ℕ → Count → Count
 taken past need count =
     if past
-    then record { run = min (count.run + 1) cap; fired = count.fired || nat_le need (min (count.run + 1) cap) }
+    then record {
+      run = min (count.run + 1) cap;
+      fired = count.fired || nat_le need (min (count.run + 1) cap);
+    }
     else no_run
 
 -- whether one more sample fires

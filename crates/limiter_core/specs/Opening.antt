@@ -19,4 +19,5 @@ one_under value count = Sample value (value + 1) (opened_need count) (opened_nee
 -- empty is long; no sample if both runs are empty
 unfoldable pub opened_rows : ℕ → Count → Count → List Row
 opened_rows last over under =
-    if over.run == 0 then replicate under.run (one_under last under) else replicate over.run (one_over last over)
+    if over.run == 0 then replicate under.run (one_under last under)
+    else replicate over.run (one_over last over)

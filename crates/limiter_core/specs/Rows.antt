@@ -37,7 +37,8 @@ run side rows = prefix_len (is_past side) rows
 -- whether the newest row is in a run at least as long as that row's need
 unfoldable pub reaches : Side → List Row → Bool
 reaches side [] = false
-reaches side (row ∷ rows) = nat_lt 0 (run side (row ∷ rows)) && nat_le (need side row) (run side (row ∷ rows))
+reaches side (row ∷ rows) =
+    nat_lt 0 (run side (row ∷ rows)) && nat_le (need side row) (run side (row ∷ rows))
 
 -- whether some number below n passes the test
 unfoldable pub any_below : (ℕ → Bool) → ℕ → Bool
@@ -54,7 +55,8 @@ fires side rows = reaches side rows && not (has_fired side (drop 1 rows))
 
 -- what the newest row fires
 unfoldable pub fire_of : List Row → Fire
-fire_of rows = if fires OverThreshold rows then Over else if fires UnderThreshold rows then Under else Quiet
+fire_of rows = if fires OverThreshold rows then Over else if fires UnderThreshold rows then Under
+    else Quiet
 
 -- what a firing on a side is
 abbrev pub fire_past : Side → Fire

@@ -22,7 +22,9 @@ is_among id ids = list_any (λ i. i == id) ids
 -- whether the emergency profile is active: its group is among the limiter's, and the clock's last
 -- moment is in its time
 unfoldable pub is_active : Settings → Option ℕ → Bool
-is_active s moment = is_among s.profile.id s.groups && is_within moment (moment_of s.profile.start) s.profile.duration
+is_active s moment =
+    is_among s.profile.id s.groups && is_within moment (moment_of s.profile.start)
+    s.profile.duration
 
 unfoldable pub active_threshold : Settings → Option ℕ → ℕ
 active_threshold s moment = if is_active s moment then s.emergency_threshold else s.normal_threshold
@@ -52,7 +54,8 @@ row_of limits value = Sample value limits.threshold limits.need_over limits.need
 
 -- the side of the threshold on which a value is
 abbrev pub kind_of : ℕ → ℕ → Kind
-kind_of threshold value = if nat_lt threshold value then Over else if nat_lt value threshold then Under else Equal
+kind_of threshold value = if nat_lt threshold value then Over else if nat_lt value threshold
+    then Under else Equal
 
 -- the settings of a new limiter
 abbrev pub new_settings : Settings

@@ -44,11 +44,13 @@ pub record IsFit (last : ℕ) (over under : Count) : Type 0 where
 
 -- the tests that decide `IsFitCount` and `IsFit`
 abbrev pub is_fit_count : Count → Bool
-is_fit_count count = if count.run == 0 then not count.fired else if count.run == cap then count.fired else nat_lt count.run cap
+is_fit_count count = if count.run == 0 then not count.fired else if count.run == cap
+    then count.fired else nat_lt count.run cap
 
 unfoldable pub are_fit : ℕ → Count → Count → Bool
 are_fit last over under =
-    is_fit_count over && is_fit_count under && (over.run == 0 || (under.run == 0 && nat_lt 0 last)) && (under.run == 0 || nat_lt last 4294967295)
+    is_fit_count over && is_fit_count under && (over.run == 0 || (under.run == 0 && nat_lt 0 last))
+    && (under.run == 0 || nat_lt last 4294967295)
 
 -- what holds of every limiter: its counts are fit, its thresholds and durations have 32 bits, and
 -- it has at most 32 group ids
@@ -69,12 +71,14 @@ rows_after limits (value ∷ values) rows = rows_after limits values (row_of lim
 abbrev pub IsQuiet : Limits → List ℕ → List Row → Type 0
 IsQuiet limits [] rows = Unit {0}
 IsQuiet limits (value ∷ values) rows =
-    (fire_of (row_of limits value ∷ rows) ≡ Quiet) × IsQuiet limits values (row_of limits value ∷ rows)
+    (fire_of (row_of limits value ∷ rows) ≡ Quiet)
+    × IsQuiet limits values (row_of limits value ∷ rows)
 
 -- every value is on that side of the threshold
 abbrev pub AreOfKind : Kind → ℕ → List ℕ → Type 0
 AreOfKind kind threshold [] = Unit {0}
-AreOfKind kind threshold (value ∷ values) = (kind_of threshold value ≡ kind) × AreOfKind kind threshold values
+AreOfKind kind threshold (value ∷ values) = (kind_of threshold value ≡ kind)
+    × AreOfKind kind threshold values
 
 -- the number of further samples of a kind that do not fire, or the greatest u64 if none would ever
 -- fire
@@ -92,5 +96,6 @@ fire_on Equal = Quiet
 -- the limiter after n samples of a kind that do not fire
 abbrev pub jumped : Kind → ℕ → ℕ → State → State
 jumped Over n last state = record state { last = last; over = skipped n state.over; under = no_run }
-jumped Under n last state = record state { last = last; over = no_run; under = skipped n state.under }
+jumped Under n last state =
+    record state { last = last; over = no_run; under = skipped n state.under }
 jumped Equal n last state = record state { last = last; over = no_run; under = no_run }

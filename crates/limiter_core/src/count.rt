@@ -26,8 +26,8 @@ impl Count {
         }
     }
 
-    /// Counts a sample and returns whether it fires. `past` says whether it is past the threshold,
-    /// `need` how many samples the run needs to fire.
+    // Counts a sample and returns whether it fires. `past` says whether it is past the threshold,
+    // `need` how many samples the run needs to fire.
     pub(crate) fn take(&mut self, past: bool, need: u64) -> bool
         ensures count { self.new ≡ taken past need self.old }
         ensures fires { result ≡ fires_at past need self.old }
@@ -43,8 +43,8 @@ impl Count {
         fires
     }
 
-    /// Returns the number of further samples past the threshold that do not fire, or `u64::MAX` if
-    /// the run has fired.
+    // Returns the number of further samples past the threshold that do not fire, or `u64::MAX` if
+    // the run has fired.
     pub(crate) fn quiet_before(&self, need: u64) -> u64
         ensures { result ≡ before need self.now }
     {
@@ -54,14 +54,14 @@ impl Count {
         need.saturating_sub(1).saturating_sub(self.run)
     }
 
-    /// Counts `samples` samples past the threshold that do not fire.
+    // Counts `samples` samples past the threshold that do not fire.
     pub(crate) fn skip(&mut self, samples: u64)
         ensures { self.new ≡ skipped samples self.old }
     {
         self.run = self.run.saturating_add(samples).min(RUN_LIMIT);
     }
 
-    /// Whether samples can give this count: an empty run has not fired, and a run at the cap has.
+    // Whether samples can give this count: an empty run has not fired, and a run at the cap has.
     fn is_fit(&self) -> bool
         ensures test { result ≡ is_fit_count self.now }
         ensures meaning { IsTrue result ↔ IsFitCount self.now }

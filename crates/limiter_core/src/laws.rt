@@ -13,19 +13,24 @@ pub fn fired_means()
 /// A run is the longest sequence of samples past their thresholds that ends with the newest row.
 pub fn run_means()
     ensures within { (side : Side) (rows : List Row) → run side rows ≤ length rows }
-    ensures past { (side : Side) (rows : List Row) (k : ℕ) → k < run side rows → IsTrue (is_past side (slice_index_or rows k Entry)) }
-    ensures longest { (side : Side) (rows : List Row) → run side rows < length rows → IsFalse (is_past side (slice_index_or rows (run side rows) Entry)) }
+    ensures past { (side : Side) (rows : List Row) (k : ℕ) → k < run side rows
+        → IsTrue (is_past side (slice_index_or rows k Entry)) }
+    ensures longest { (side : Side) (rows : List Row) → run side rows < length rows
+        → IsFalse (is_past side (slice_index_or rows (run side rows) Entry)) }
     // With the oldest row first, it is the longest suffix.
-    ensures suffix { (side : Side) (rows : List Row) → run side (reverse rows) ≡ suffix_len (is_past side) rows }
+    ensures suffix { (side : Side) (rows : List Row)
+        → run side (reverse rows) ≡ suffix_len (is_past side) rows }
 {}
 
 /// No sample fires on both sides.
 pub fn one_side()
-    ensures { (rows : List Row) → IsTrue (fires OverThreshold rows) → ¬ IsTrue (fires UnderThreshold rows) }
+    ensures { (rows : List Row) → IsTrue (fires OverThreshold rows)
+        → ¬ IsTrue (fires UnderThreshold rows) }
 {}
 
 /// Runs pass the test exactly if samples can give them.
 #[tactic(auto, using(crate::proofs::FitRuns::test_means, crate::proofs::FitRuns::means_test))]
 pub fn fit_runs_mean()
-    ensures { (last : ℕ) (over under : Count) → IsTrue (are_fit last over under) ↔ IsFit last over under }
+    ensures { (last : ℕ) (over under : Count) → IsTrue (are_fit last over under)
+        ↔ IsFit last over under }
 {}

@@ -19,7 +19,7 @@ use std::mem;
 #[derive(Debug, Drop)]
 pub struct Limiter {
     settings: Settings,
-    /// Seconds since 1 January 2000, or `None` before the first moment.
+    // Seconds since 1 January 2000, or `None` before the first moment.
     moment: Option<u32>,
     last: u32,
     over: Count,
@@ -31,16 +31,36 @@ impl Model for Limiter {
 
     ghost Value = { State };
 
-    ghost view = { λ l. record { settings = l.settings; moment = l.moment; last = l.last; over = l.over; under = l.under } };
+    ghost view = { λ l. record {
+      settings = l.settings;
+      moment = l.moment;
+      last = l.last;
+      over = l.over;
+      under = l.under;
+    } };
 
-    ghost invariant = { λ l. IsLimiter (record { settings = l.settings; moment = l.moment; last = l.last; over = l.over; under = l.under }) };
+    ghost invariant = { λ l.
+        IsLimiter (record {
+          settings = l.settings;
+          moment = l.moment;
+          last = l.last;
+          over = l.over;
+          under = l.under;
+        }) };
 }
 
 impl Limiter {
     /// Returns a new limiter without samples. Does not allocate.
     #[tactic(auto, using(crate::proofs::Firing::count_of_none))]
     pub fn new(alloc: Global) -> Limiter
-        ensures state { result ≡ record { settings = new_settings; moment = None; last = 0; over = no_run; under = no_run } }
+        ensures state { result
+            ≡ record {
+              settings = new_settings;
+              moment = None;
+              last = 0;
+              over = no_run;
+              under = no_run;
+            } }
         ensures rows { Keeps result [] }
     {
         Limiter::of(Settings::new(alloc), None)
@@ -50,7 +70,13 @@ impl Limiter {
     /// 2000), without samples. Does not allocate.
     pub fn of(settings: Settings, moment: Option<u32>) -> Limiter
         requires { length settings.groups ≤ MAX_GROUPS }
-        ensures { result ≡ record { settings = settings; moment = moment; last = 0; over = no_run; under = no_run } }
+        ensures { result ≡ record {
+          settings = settings;
+          moment = moment;
+          last = 0;
+          over = no_run;
+          under = no_run;
+        } }
     {
         Limiter {
             settings,
@@ -64,8 +90,10 @@ impl Limiter {
     /// Takes a sample, in watts, and returns what it fires.
     #[tactic(auto, using(crate::proofs::Firing::fire_counted, crate::proofs::Firing::counted))]
     pub fn sample(&mut self, value: u32) -> Fire
-        ensures rows { (rows : List Row) → Keeps self.old rows → Keeps self.new (row_of (limits_of self.old) value ∷ rows) }
-        ensures fire { (rows : List Row) → Keeps self.old rows → result ≡ fire_of (row_of (limits_of self.old) value ∷ rows) }
+        ensures rows { (rows : List Row) → Keeps self.old rows
+            → Keeps self.new (row_of (limits_of self.old) value ∷ rows) }
+        ensures fire { (rows : List Row) → Keeps self.old rows
+            → result ≡ fire_of (row_of (limits_of self.old) value ∷ rows) }
         ensures settings { self.new.settings ≡ self.old.settings }
         ensures moment { self.new.moment ≡ self.old.moment }
         ensures last { self.new.last ≡ value }
@@ -98,8 +126,8 @@ impl Limiter {
         self.under = ended;
     }
 
-    /// Returns the number of further samples of a kind that do not fire, or `u64::MAX` if none
-    /// would ever fire.
+    // Returns the number of further samples of a kind that do not fire, or `u64::MAX` if none
+    // would ever fire.
     fn quiet_samples(&self, kind: Kind) -> u64
         ensures count { result ≡ quiet_count kind self.now }
         ensures limiter { IsLimiter self.now }
@@ -121,19 +149,23 @@ impl Limiter {
     #[tactic(auto, using(crate::proofs::Skipping::quiet_up_to, crate::proofs::Skipping::quiet_for_ever, crate::proofs::Skipping::fires_next))]
     pub fn before_fire(&self, kind: Kind) -> u64
         ensures count { result ≡ quiet_count kind self.now }
-        ensures quiet { (rows : List Row) (values : List ℕ) → Keeps self.now rows → AreOfKind kind (limits_of self.now).threshold values
+        ensures quiet { (rows : List Row) (values : List ℕ) → Keeps self.now rows
+            → AreOfKind kind (limits_of self.now).threshold values
             → length values ≤ result → IsQuiet (limits_of self.now) values rows }
         ensures next { (rows : List Row) (values : List ℕ) (value : ℕ) → Keeps self.now rows
-            → AreOfKind kind (limits_of self.now).threshold values → kind_of (limits_of self.now).threshold value ≡ kind
+            → AreOfKind kind (limits_of self.now).threshold values
+            → kind_of (limits_of self.now).threshold value ≡ kind
             → length values ≡ result → result < 2 ^ 64 - 1
-            → fire_of (row_of (limits_of self.now) value ∷ rows_after (limits_of self.now) values rows) ≡ fire_on kind }
-        ensures never { (rows : List Row) (values : List ℕ) → Keeps self.now rows → AreOfKind kind (limits_of self.now).threshold values
+            → fire_of (row_of (limits_of self.now) value
+            ∷ rows_after (limits_of self.now) values rows) ≡ fire_on kind }
+        ensures never { (rows : List Row) (values : List ℕ) → Keeps self.now rows
+            → AreOfKind kind (limits_of self.now).threshold values
             → result ≡ 2 ^ 64 - 1 → IsQuiet (limits_of self.now) values rows }
     {
         self.quiet_samples(kind)
     }
 
-    /// Counts `n` samples of a kind that do not fire; `last` is the last of them.
+    // Counts `n` samples of a kind that do not fire; `last` is the last of them.
     #[tactic(auto, using(crate::proofs::Skipping::skip_fits))]
     fn jump(&mut self, kind: Kind, n: u64, last: u32)
         requires some { 0 < n }
@@ -165,9 +197,11 @@ impl Limiter {
     pub fn skip_run(&mut self, kind: Kind, n: u64, last: u32)
         requires quiet { n ≤ quiet_count kind self.old }
         requires last { 0 < n → kind_of (limits_of self.old).threshold last ≡ kind }
-        ensures rows { (rows : List Row) (values : List ℕ) → Keeps self.old rows → AreOfKind kind (limits_of self.old).threshold values
+        ensures rows { (rows : List Row) (values : List ℕ) → Keeps self.old rows
+            → AreOfKind kind (limits_of self.old).threshold values
             → length values ≡ n → Keeps self.new (rows_after (limits_of self.old) values rows) }
-        ensures quiet { (rows : List Row) (values : List ℕ) → Keeps self.old rows → AreOfKind kind (limits_of self.old).threshold values
+        ensures quiet { (rows : List Row) (values : List ℕ) → Keeps self.old rows
+            → AreOfKind kind (limits_of self.old).threshold values
             → length values ≡ n → IsQuiet (limits_of self.old) values rows }
         ensures settings { self.new.settings ≡ self.old.settings }
         ensures moment { self.new.moment ≡ self.old.moment }
@@ -232,7 +266,8 @@ impl Limiter {
 
     /// Sets `threshold_normal` (attribute 4), in watts. The runs do not change.
     pub fn set_normal_threshold(&mut self, threshold: u32)
-        ensures { self.new ≡ record self.old { settings = record self.old.settings { normal_threshold = threshold } } }
+        ensures { self.new ≡ record self.old
+            { settings = record self.old.settings { normal_threshold = threshold } } }
     {
         self.settings.normal_threshold = threshold;
     }
@@ -246,7 +281,8 @@ impl Limiter {
 
     /// Sets `threshold_emergency` (attribute 5), in watts. The runs do not change.
     pub fn set_emergency_threshold(&mut self, threshold: u32)
-        ensures { self.new ≡ record self.old { settings = record self.old.settings { emergency_threshold = threshold } } }
+        ensures { self.new ≡ record self.old
+            { settings = record self.old.settings { emergency_threshold = threshold } } }
     {
         self.settings.emergency_threshold = threshold;
     }
@@ -260,7 +296,8 @@ impl Limiter {
 
     /// Sets `min_over_threshold_duration` (attribute 6), in seconds. The runs do not change.
     pub fn set_min_over_duration(&mut self, seconds: u32)
-        ensures { self.new ≡ record self.old { settings = record self.old.settings { min_over_duration = seconds } } }
+        ensures { self.new ≡ record self.old
+            { settings = record self.old.settings { min_over_duration = seconds } } }
     {
         self.settings.min_over_duration = seconds;
     }
@@ -274,7 +311,8 @@ impl Limiter {
 
     /// Sets `min_under_threshold_duration` (attribute 7), in seconds. The runs do not change.
     pub fn set_min_under_duration(&mut self, seconds: u32)
-        ensures { self.new ≡ record self.old { settings = record self.old.settings { min_under_duration = seconds } } }
+        ensures { self.new ≡ record self.old
+            { settings = record self.old.settings { min_under_duration = seconds } } }
     {
         self.settings.min_under_duration = seconds;
     }
@@ -288,7 +326,8 @@ impl Limiter {
 
     /// Sets `emergency_profile` (attribute 8). The runs do not change.
     pub fn set_profile(&mut self, profile: Profile)
-        ensures { self.new ≡ record self.old { settings = record self.old.settings { profile = profile } } }
+        ensures { self.new ≡ record self.old
+            { settings = record self.old.settings { profile = profile } } }
     {
         self.settings.profile = profile;
     }
@@ -302,7 +341,8 @@ impl Limiter {
 
     /// Sets `actions` (attribute 11). The runs do not change.
     pub fn set_actions(&mut self, actions: Actions)
-        ensures { self.new ≡ record self.old { settings = record self.old.settings { actions = actions } } }
+        ensures { self.new ≡ record self.old
+            { settings = record self.old.settings { actions = actions } } }
     {
         self.settings.actions = actions;
     }
@@ -319,7 +359,8 @@ impl Limiter {
     /// nothing changes.
     pub fn set_groups(&mut self, alloc: Global, ids: &[u16]) -> Result<(), AllocError>
         requires { length ids.now ≤ MAX_GROUPS }
-        ensures ok { OnOk result (self.new ≡ record self.old { settings = record self.old.settings { groups = ids.now } }) }
+        ensures ok { OnOk result (self.new
+            ≡ record self.old { settings = record self.old.settings { groups = ids.now } }) }
         ensures err { OnErr result (self.new ≡ self.old) }
     {
         let ids = Vec::from_slice(alloc, ids)?;
@@ -330,8 +371,16 @@ impl Limiter {
     /// Swaps the `emergency_profile_group_id_list` (attribute 9) of two limiters. Does not
     /// allocate.
     pub fn swap_groups(&mut self, other: &mut Limiter)
-        ensures own { self.new ≡ record self.old { settings = record self.old.settings { groups = other.old.settings.groups } } }
-        ensures other { other.new ≡ record other.old { settings = record other.old.settings { groups = self.old.settings.groups } } }
+        ensures own { self.new
+            ≡ record self.old {
+              settings = record self.old.settings
+                  { groups = other.old.settings.groups };
+            } }
+        ensures other { other.new
+            ≡ record other.old {
+              settings = record other.old.settings
+                  { groups = self.old.settings.groups };
+            } }
     {
         mem::swap(&mut self.settings.groups, &mut other.settings.groups);
     }
@@ -369,7 +418,8 @@ impl Limiter {
     /// runs, or `None` if no samples give these runs.
     pub fn with_runs(self, last: u32, over: Count, under: Count) -> Option<Limiter>
         ensures fit { IsSome result ↔ IsFit last over under }
-        ensures state { IfSome result (λ limiter. limiter ≡ record self { last = last; over = over; under = under }) }
+        ensures state { IfSome result (λ limiter. limiter
+            ≡ record self { last = last; over = over; under = under }) }
         ensures rows { IfSome result (λ limiter. Keeps limiter (opened_rows last over under)) }
     {
         if !are_fit(last, over, under) {

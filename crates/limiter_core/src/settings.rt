@@ -8,7 +8,7 @@ use std::alloc::{AllocError, Global};
 /// The maximum number of group ids that a limiter holds.
 pub const MAX_GROUPS: usize = 32;
 
-/// Samples per second.
+// Samples per second.
 const SAMPLES_PER_SECOND: u64 = 10;
 
 /// `emergency_profile` (attribute 8): the group of meters that it is for, its first moment, and its
@@ -52,8 +52,8 @@ pub struct Settings {
     pub actions: Actions,
 }
 
-/// Whether a moment is from `start` to `start + duration`, the end excluded. False before the first
-/// moment of the clock and if `start` names no second.
+// Whether a moment is from `start` to `start + duration`, the end excluded. False before the first
+// moment of the clock and if `start` names no second.
 fn is_in_time(moment: Option<u32>, start: Option<u32>, duration: u32) -> bool
     ensures { result ≡ is_within moment start duration }
 {
@@ -65,7 +65,7 @@ fn is_in_time(moment: Option<u32>, start: Option<u32>, duration: u32) -> bool
     }
 }
 
-/// Returns the number of samples that a duration in seconds needs: ten a second, and at least one.
+// Returns the number of samples that a duration in seconds needs: ten a second, and at least one.
 pub(crate) fn samples_of(duration: u32) -> u64
     ensures { result ≡ need_of duration }
 {
@@ -109,8 +109,8 @@ impl Settings {
         })
     }
 
-    /// Whether the emergency profile is active at a moment of the clock, in seconds since 1 January
-    /// 2000.
+    // Whether the emergency profile is active at a moment of the clock, in seconds since 1 January
+    // 2000.
     #[tactic(auto, unfolding(crate::specs::Settings::is_active))]
     pub(crate) fn is_active(&self, moment: Option<u32>) -> bool
         ensures { result ≡ is_active self.now moment }
@@ -120,7 +120,7 @@ impl Settings {
         among && is_in_time(moment, start, self.profile.duration)
     }
 
-    /// Returns the threshold that is active at a moment of the clock, in watts.
+    // Returns the threshold that is active at a moment of the clock, in watts.
     #[tactic(auto, unfolding(crate::specs::Settings::active_threshold))]
     pub(crate) fn active_threshold(&self, moment: Option<u32>) -> u32
         ensures { result ≡ active_threshold self.now moment }

@@ -18,7 +18,7 @@ use std::process::ExitCode;
 use std::rt::Env;
 use std::{env, io};
 
-/// Returns the fault of a command line that cannot be read.
+// Returns the fault of a command line that cannot be read.
 fn words_fault(kind: io::ErrorKind) -> Fault
     ensures { is_of_words result ≡ true }
 {
@@ -50,7 +50,8 @@ pub fn with_argument<'a>(
     argument: Arg<'a>,
 ) -> Result<Command<'a>, AllocError>
     ensures made { IfOk result (λ _. IsOk made.entry) }
-    ensures added { IfOk result (λ command. IfOk made.entry (λ before. AddsArg before argument.entry command)) }
+    ensures added { IfOk result
+        (λ command. IfOk made.entry (λ before. AddsArg before argument.entry command)) }
 {
     match made {
         Ok(command) => command.arg(argument),
@@ -61,14 +62,16 @@ pub fn with_argument<'a>(
     }
 }
 
-/// Adds a subcommand to a program's command. On an error of `made`, or if out of memory, drops the
-/// command and returns the error.
+// Adds a subcommand to a program's command. On an error of `made`, or if out of memory, drops the
+// command and returns the error.
 fn with_made<'a>(
     program: Command<'a>,
     made: Result<Command<'a>, AllocError>,
 ) -> Result<Command<'a>, AllocError>
     ensures made { IfOk result (λ _. IsOk made.entry) }
-    ensures added { IfOk result (λ command. IfOk made.entry (λ subcommand. AddsSubcommand program.entry subcommand command)) }
+    ensures added { IfOk result
+        (λ command. IfOk made.entry
+        (λ subcommand. AddsSubcommand program.entry subcommand command)) }
 {
     match made {
         Ok(subcommand) => program.subcommand(subcommand),
@@ -87,7 +90,9 @@ pub fn with_subcommand<'a>(
 ) -> Result<Command<'a>, AllocError>
     ensures program { IfOk result (λ _. IsOk program.entry) }
     ensures made { IfOk result (λ _. IsOk made.entry) }
-    ensures added { IfOk result (λ command. IfOk program.entry (λ before. IfOk made.entry (λ subcommand. AddsSubcommand before subcommand command))) }
+    ensures added { IfOk result
+        (λ command. IfOk program.entry
+        (λ before. IfOk made.entry (λ subcommand. AddsSubcommand before subcommand command))) }
 {
     match program {
         Ok(program) => with_made(program, made),
@@ -139,7 +144,7 @@ pub fn first_fault(first: Result<(), Fault>, second: Result<(), Fault>) -> Resul
     }
 }
 
-/// Returns the line that reports a fault, without its line end.
+// Returns the line that reports a fault, without its line end.
 fn fault_line(fault: Fault) -> &'static str
     ensures { result.now ≡ fault_line fault }
 {

@@ -46,7 +46,7 @@ pub enum Event {
 /// Events in order.
 pub type Events = Listed<Event>;
 
-/// Returns a copy of a parameter, if there is one.
+// Returns a copy of a parameter, if there is one.
 fn copied_parameter(alloc: Global, parameter: &Option<Data>) -> Result<Option<Data>, AllocError>
     ensures { IfOk result (λ copy. copy ≡ parameter.now) }
 {

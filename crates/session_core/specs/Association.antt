@@ -16,19 +16,28 @@ use Rattle.wrapper_frame.specs.declared.parts.Frame.{Frame}
 -- the longest PDU that is sent to a client: the size it proposed, limited to 64 to 1,024 bytes, or
 -- 1,024 if it proposed 0 (no limit)
 abbrev pub limit_of : ℕ → ℕ
-limit_of proposed = if proposed == 0 then greatest_pdu else max least_pdu (min proposed greatest_pdu)
+limit_of proposed = if proposed == 0 then greatest_pdu
+    else max least_pdu (min proposed greatest_pdu)
 
 -- the association of a client that is accepted, with its wrapper port
 abbrev pub link_by : ℕ → Verdict → Option Link
-link_by source (Accepted level bits limit) = Some (record { source = source; level = level; conformance = record { 0 = bits }; limit = limit_of limit })
+link_by source (Accepted level bits limit) =
+    Some (record {
+      source = source;
+      level = level;
+      conformance = record { 0 = bits };
+      limit = limit_of limit;
+    })
 link_by source (Rejected diagnostic) = None
 link_by source (InitiateError error) = None
 
 -- the answer to an AARQ, by its verdict; the server receives PDUs of up to 1,024 bytes
 abbrev pub aare_by : Verdict → Aare
-aare_by (Accepted level bits limit) = record { result = accepted; diagnostic = null_diagnostic; info = Response bits greatest_pdu }
+aare_by (Accepted level bits limit) =
+    record { result = accepted; diagnostic = null_diagnostic; info = Response bits greatest_pdu }
 aare_by (Rejected diagnostic) = record { result = rejected; diagnostic = diagnostic; info = Absent }
-aare_by (InitiateError error) = record { result = rejected; diagnostic = no_reason_given; info = info.InitiateError error }
+aare_by (InitiateError error) =
+    record { result = rejected; diagnostic = no_reason_given; info = info.InitiateError error }
 
 -- the association that an AARQ from a port opens, if it was readable and is accepted
 abbrev pub link_from : List ℕ → ℕ → Result Aarq AcseFault → Option Link

@@ -49,7 +49,8 @@ unreleased (Some link) later = if list_any (is_closing link) later then None els
 -- the association before a frame: the one that the last AARQ opened, if it was accepted and no
 -- later frame released it
 unfoldable pub link_of : List ℕ → List Frame → Option Link
-link_of password earlier = unreleased (option_and_then (opened_by password) (find opens earlier)) (since opens earlier)
+link_of password earlier =
+    unreleased (option_and_then (opened_by password) (find opens earlier)) (since opens earlier)
 
 -- the roles of the client's requests since its association was opened
 abbrev pub heard : Link → List Frame → List Role
@@ -96,28 +97,42 @@ raw_of (Some block) = block.raw
 -- last block
 abbrev pub in_order : LongService → List Role → Bool
 in_order service [] = true
-in_order service (role ∷ later) = in_order service later && goes_on (blocks_so_far later + 1) (block_of service role)
+in_order service (role ∷ later) =
+    in_order service later && goes_on (blocks_so_far later + 1) (block_of service role)
 
 -- the bytes of all blocks, concatenated
 abbrev pub joined_so_far : LongService → List ℕ → List Role → List ℕ
 joined_so_far service first [] = first
-joined_so_far service first (role ∷ later) = joined_so_far service first later ++ raw_of (block_of service role)
+joined_so_far service first (role ∷ later) =
+    joined_so_far service first later ++ raw_of (block_of service role)
 
 -- the transfer of a first request and the later requests, if they are in order and not too long
 abbrev pub incoming_by : List Role → First → Option Incoming
 incoming_by later first =
-    if goes_on 1 (Some first.block) && in_order (service_of first.purpose) later && not (nat_lt max_joined (length (joined_so_far (service_of first.purpose) first.block.raw later)))
-    then Some (record { purpose = first.purpose; blocks = record { number = blocks_so_far later; bytes = joined_so_far (service_of first.purpose) first.block.raw later; is_open = true } })
+    if goes_on 1 (Some first.block) && in_order (service_of first.purpose) later &&
+    not (nat_lt max_joined
+    (length (joined_so_far (service_of first.purpose) first.block.raw later)))
+    then Some (record {
+      purpose = first.purpose;
+      blocks = record {
+        number = blocks_so_far later;
+        bytes = joined_so_far (service_of first.purpose) first.block.raw later;
+        is_open = true;
+      };
+    })
     else None
 
 -- the transfer before a request: the last request that was not a later one is its first, and all
 -- requests after that are its later ones
 abbrev pub incoming_among : List Role → Option Incoming
-incoming_among roles = option_and_then (incoming_by (since is_no_later_form roles)) (option_and_then first_of (find is_no_later_form roles))
+incoming_among roles =
+    option_and_then (incoming_by (since is_no_later_form roles))
+    (option_and_then first_of (find is_no_later_form roles))
 
 -- the long SET or ACTION in progress before a frame
 unfoldable pub incoming_of : List ℕ → List Frame → Option Incoming
-incoming_of password earlier = option_and_then (λ link. incoming_among (heard link earlier)) (link_of password earlier)
+incoming_of password earlier =
+    option_and_then (λ link. incoming_among (heard link earlier)) (link_of password earlier)
 
 -- ---- a long GET
 
@@ -137,7 +152,9 @@ frames_past past = map (λ p. p.frame) past
 
 -- the client's requests since its association was opened, with the replies
 abbrev pub heard_past : Link → List Past → List Heard
-heard_past link past = map (λ p. record { role = role_in link p.frame; reply = p.reply }) (filter (λ p. is_heard link p.frame) (since (λ p. opens p.frame) past))
+heard_past link past =
+    map (λ p. record { role = role_in link p.frame; reply = p.reply })
+    (filter (λ p. is_heard link p.frame) (since (λ p. opens p.frame) past))
 
 -- whether a request is not a GET-next
 abbrev pub is_no_next : Role → Bool
@@ -156,7 +173,8 @@ names_in_order (h ∷ later) = names_in_order later && names (blocks_so_far late
 
 -- the text to send in blocks, if the reply to a GET is too long for one PDU
 abbrev pub begun_by_role : Link → Role → Option Reply → Option Sending
-begun_by_role link (gets form) reply = option_and_then (begun_by (record { link = link; form = form })) reply
+begun_by_role link (gets form) reply =
+    option_and_then (begun_by (record { link = link; form = form })) reply
 begun_by_role link _ reply = None
 
 -- the transfer of a text after these GET-nexts, if they were in order and blocks are left
@@ -171,7 +189,9 @@ outgoing_among link calls =
 
 -- the long GET in progress before a frame
 unfoldable pub outgoing_of : List ℕ → List Past → Option Sending
-outgoing_of password past = option_and_then (λ link. outgoing_among link (heard_past link past)) (link_of password (frames_past past))
+outgoing_of password past =
+    option_and_then (λ link. outgoing_among link (heard_past link past))
+    (link_of password (frames_past past))
 
 -- ---- a whole session
 
@@ -182,13 +202,16 @@ to_server frames = filter (λ f. f.dst == management_device) frames
 -- the events of frames that follow these, in order
 abbrev pub asks_after : List ℕ → List Frame → List Frame → List Event
 asks_after password = asks_along
-    (λ earlier f. turn_event (turn_of password (link_of password earlier) (incoming_of password earlier) f))
+    (λ earlier f. turn_event
+    (turn_of password (link_of password earlier) (incoming_of password earlier) f))
     (λ earlier f. f ∷ earlier)
 
 -- the answers to frames that follow these, in order
 abbrev pub answers_after : List ℕ → List Past → List Frame → List Reply → List (List ℕ)
 answers_after password = answers_along
-    (λ past f. resolved (outgoing_of password past) (turn_of password (link_of password (frames_past past)) (incoming_of password (frames_past past)) f))
+    (λ past f. resolved (outgoing_of password past)
+    (turn_of password (link_of password (frames_past past))
+    (incoming_of password (frames_past past)) f))
     (λ past f reply. record { frame = f; reply = reply } ∷ past)
 
 -- the events of an input, in order

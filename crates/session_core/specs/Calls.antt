@@ -28,7 +28,8 @@ is_opening payload = tag_is aarq_tag payload
 
 -- whether the payload is a release or a service, readable or not
 abbrev pub is_call : List ℕ → Bool
-is_call payload = tag_is rlrq_tag payload || tag_is get_tag payload || tag_is set_tag payload || tag_is action_tag payload
+is_call payload = tag_is rlrq_tag payload || tag_is get_tag payload || tag_is set_tag payload ||
+    tag_is action_tag payload
 
 -- the form of a request with this tag and choice number, if there is one
 unfoldable pub request_form : ℕ → ℕ → Option RequestForm
@@ -53,15 +54,20 @@ call_by (Err fault) = Refused Unreadable
 abbrev pub request_call : ℕ → List ℕ → Call
 request_call conformance [] = Refused Unreadable
 request_call conformance (tag ∷ []) = Refused Unreadable
-request_call conformance (tag ∷ form ∷ body) = if is_negotiated conformance tag form then call_by (request_of (tag ∷ form ∷ body)) else Refused Unknown
+request_call conformance (tag ∷ form ∷ body) = if is_negotiated conformance tag form
+    then call_by (request_of (tag ∷ form ∷ body)) else Refused Unknown
 
 -- the request in a payload, given the negotiated conformance bits
 unfoldable pub call_of : ℕ → List ℕ → Call
 call_of conformance payload =
-    if tag_is rlrq_tag payload then (if is_release_text payload then Release else Refused Unreadable) else request_call conformance payload
+    if tag_is rlrq_tag payload
+    then (if is_release_text payload then Release else Refused Unreadable)
+    else request_call conformance payload
 
 -- The payload is a GET of this attribute, whole and without selective access.
-pub record IsSingleGet (conformance : ℕ) (payload : List ℕ) (id : InvokeId) (attr : AttrRef) : Type 0 where
+pub record IsSingleGet (conformance : ℕ) (payload : List ℕ) (id : InvokeId) (attr : AttrRef) : Type
+    0 where
   pub opens : is_opening payload ≡ false
   pub calls : is_call payload ≡ true
-  pub call : call_of conformance payload ≡ Service (Get id (record { attr = attr; selected = false }))
+  pub call : call_of conformance payload
+      ≡ Service (Get id (record { attr = attr; selected = false }))

@@ -81,8 +81,11 @@ form_by (purpose.Action method) id number = form.Action id
 
 -- the outcome of the joined bytes: an event if they are exactly one Data, else a refusal
 abbrev pub whole_by_data : Joined → Option Data → Outcome
-whole_by_data j (Some value) = asks (event_by j.link.level j.purpose value) (record { link = j.link; form = form_by j.purpose j.id j.number })
-whole_by_data j None = says j.link.source (Service (refused (service_of j.purpose) j.id j.number OtherReason))
+whole_by_data j (Some value) =
+    asks (event_by j.link.level j.purpose value)
+    (record { link = j.link; form = form_by j.purpose j.id j.number })
+whole_by_data j None =
+    says j.link.source (Service (refused (service_of j.purpose) j.id j.number OtherReason))
 
 unfoldable pub whole_outcome : Joined → Outcome
 whole_outcome j = whole_by_data j (whole_data j.bytes)
@@ -104,21 +107,33 @@ no_blocks = record { number = 0; bytes = []; is_open = true }
 
 -- the whole transfer, once its last block is added
 abbrev pub joined_by : Link → InvokeId → Purpose → Block → Joining → Joined
-joined_by link id purpose block j = record { link = link; purpose = purpose; id = id; number = block.number; bytes = j.bytes ++ block.raw }
+joined_by link id purpose block j =
+    record {
+      link = link;
+      purpose = purpose;
+      id = id;
+      number = block.number;
+      bytes = j.bytes ++ block.raw;
+    }
 
-abbrev pub outcome_by_fault : Link → InvokeId → Purpose → Block → Joining → Option BlockFault → Outcome
-outcome_by_fault link id purpose block j (Some fault) = says link.source (Service (refused (service_of purpose) id block.number (block_code (service_of purpose) fault)))
+abbrev pub outcome_by_fault : Link → InvokeId → Purpose → Block → Joining → Option BlockFault
+    → Outcome
+outcome_by_fault link id purpose block j (Some fault) =
+    says link.source (Service
+    (refused (service_of purpose) id block.number (block_code (service_of purpose) fault)))
 outcome_by_fault link id purpose block j None =
     if block.last then whole_outcome (joined_by link id purpose block j)
     else says link.source (Service (received (service_of purpose) id block.number))
 
 -- the outcome of a block
 unfoldable pub block_outcome_of : Link → InvokeId → Purpose → Block → Joining → Outcome
-block_outcome_of link id purpose block j = outcome_by_fault link id purpose block j (fault_of block j)
+block_outcome_of link id purpose block j =
+    outcome_by_fault link id purpose block j (fault_of block j)
 
 abbrev pub after_by_fault : Purpose → Block → Joining → Option BlockFault → Option Incoming
 after_by_fault purpose block j (Some fault) = None
-after_by_fault purpose block j None = if block.last then None else Some (record { purpose = purpose; blocks = after_added false block.raw j })
+after_by_fault purpose block j None = if block.last then None
+    else Some (record { purpose = purpose; blocks = after_added false block.raw j })
 
 -- the transfer after a block: a refusal and the last block end it
 unfoldable pub block_after : Purpose → Block → Joining → Option Incoming
@@ -139,8 +154,10 @@ transfer_of service (Some incoming) = if is_of service incoming.purpose then Som
 
 -- the outcome of a later block of a transfer
 abbrev pub later_outcome : Link → LongService → InvokeId → Block → Option Incoming → Outcome
-later_outcome link service id block None = says link.source (Service (refused service id block.number (block_code service NoTransfer)))
-later_outcome link service id block (Some incoming) = block_outcome_of link id incoming.purpose block incoming.blocks
+later_outcome link service id block None =
+    says link.source (Service (refused service id block.number (block_code service NoTransfer)))
+later_outcome link service id block (Some incoming) =
+    block_outcome_of link id incoming.purpose block incoming.blocks
 
 -- the transfer after a later block
 abbrev pub later_after : Block → Option Incoming → Option Incoming

@@ -33,7 +33,8 @@ use Rattle.xdlms_blocks.specs.declared.fault.BlockFault.TheVariants.{NoTransfer,
 
 -- a transfer after `number` blocks were sent, or none if that is the whole text
 abbrev pub sent : ℕ → Sending → Option Sending
-sent number s = if nat_le (length s.text) (number * s.size) then None else Some (record { text = s.text; number = number; size = s.size; is_open = true })
+sent number s = if nat_le (length s.text) (number * s.size) then None
+    else Some (record { text = s.text; number = number; size = s.size; is_open = true })
 
 -- the result code of a fault
 abbrev pub get_code : BlockFault → ResultCode
@@ -43,14 +44,17 @@ get_code _ = OtherReason
 
 -- why there is no next block after this one: there is no transfer, or another block was sent last
 abbrev pub next_fault : ℕ → Sending → Option BlockFault
-next_fault number s = if not s.is_open then Some NoTransfer else if number == s.number then None else Some WrongNumber
+next_fault number s = if not s.is_open then Some NoTransfer else if number == s.number then None
+    else Some WrongNumber
 
 -- the answer that carries a block
 abbrev pub block_response : InvokeId → Piece → Response
-block_response id piece = response.GetBlock id (record { last = piece.last; number = piece.number; raw = piece.raw })
+block_response id piece =
+    response.GetBlock id (record { last = piece.last; number = piece.number; raw = piece.raw })
 
 abbrev pub response_by_fault : InvokeId → ℕ → Sending → Option BlockFault → Response
-response_by_fault id number s (Some fault) = response.GetBlockRefused id true number (get_code fault)
+response_by_fault id number s (Some fault) =
+    response.GetBlockRefused id true number (get_code fault)
 response_by_fault id number s None = block_response id (next_piece s)
 
 -- the answer to a GET-next, which names the block last received
@@ -80,10 +84,12 @@ pub record LongAnswer : Type 0 where
   pub raw : List ℕ
 
 abbrev pub value_answer : InvokeId → Data → LongAnswer
-value_answer id value = record { id = id; normal = response.Get id (result.Value value); raw = data_text value }
+value_answer id value =
+    record { id = id; normal = response.Get id (result.Value value); raw = data_text value }
 
 abbrev pub values_answer : InvokeId → List GetResult → LongAnswer
-values_answer id results = record { id = id; normal = response.GetList id results; raw = list_text result_text results }
+values_answer id results =
+    record { id = id; normal = response.GetList id results; raw = list_text result_text results }
 
 -- the answer with a reply's values, if the form is of a GET and the reply has values
 abbrev pub long_answer : ReplyForm → Reply → Option LongAnswer
@@ -129,13 +135,16 @@ has_room link normal = nat_le (length (response_text normal)) link.limit
 -- whether bytes can be sent to the client in blocks: block transfer was negotiated, and the block
 -- numbers suffice
 abbrev pub can_go_in_blocks : Link → List ℕ → Bool
-can_go_in_blocks link raw = bit_and link.conformance.0 get_in_blocks == get_in_blocks && nat_le (length raw) (max_blocks * (link.limit - block_header))
+can_go_in_blocks link raw =
+    bit_and link.conformance.0 get_in_blocks == get_in_blocks && nat_le (length raw) (max_blocks
+    * (link.limit - block_header))
 
 -- the answer with values: whole if it fits, else its first block, else other-reason
 abbrev pub long_response : Link → LongAnswer → Response
 long_response link answer =
     if has_room link answer.normal then answer.normal
-    else if can_go_in_blocks link answer.raw then block_response answer.id (next_piece (unsent_by link.limit answer.raw))
+    else if can_go_in_blocks link answer.raw
+    then block_response answer.id (next_piece (unsent_by link.limit answer.raw))
     else response.Get answer.id (result.Code OtherReason)
 
 -- the text that the answer begins to send in blocks, if it does
@@ -167,15 +176,18 @@ outgoing_by asked reply = option_and_then (sent 1) (begun_by asked reply)
 -- other-reason
 abbrev pub response_in_blocks : Link → InvokeId → List ℕ → Response
 response_in_blocks link id raw =
-    if can_go_in_blocks link raw then block_response id (next_piece (unsent_by link.limit raw)) else response.Get id (result.Code OtherReason)
+    if can_go_in_blocks link raw then block_response id (next_piece (unsent_by link.limit raw))
+    else response.Get id (result.Code OtherReason)
 
 -- the text that this answer begins to send in blocks, if it does
 abbrev pub text_in_blocks : Link → List ℕ → Option Sending
-text_in_blocks link raw = if can_go_in_blocks link raw then Some (unsent_by link.limit raw) else None
+text_in_blocks link raw = if can_go_in_blocks link raw then Some (unsent_by link.limit raw)
+    else None
 
 -- an answer whose first `header` bytes are not sent in blocks
 abbrev pub answer_cut : InvokeId → Response → ℕ → LongAnswer
-answer_cut id normal header = record { id = id; normal = normal; raw = drop header (response_text normal) }
+answer_cut id normal header =
+    record { id = id; normal = normal; raw = drop header (response_text normal) }
 
 -- the reply whose values a response has
 abbrev pub reply_in : Response → Reply

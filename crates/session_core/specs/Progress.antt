@@ -28,7 +28,8 @@ use Rattle.session_core.specs.declared.task.Task.TheVariants as task
 -- A session has yet to do what a session with this password does, whatever its input is.
 pub record Owes (password : List ℕ) (s : Session) : Type 0 where
   pub asks : (input : List ℕ) → still_asks s input ≡ Asks password input
-  pub sends : (input : List ℕ) (replies : List Reply) → still_sends s input replies ≡ Answers password input replies
+  pub sends : (input : List ℕ) (replies : List Reply)
+      → still_sends s input replies ≡ Answers password input replies
   pub ends : (input : List ℕ) → still_ends s input ≡ end_of input
   pub silent : is_asking s ≡ false
   pub goes_on : is_finished s ≡ false
@@ -36,7 +37,8 @@ pub record Owes (password : List ℕ) (s : Session) : Type 0 where
 -- Bytes were fed.
 pub record Feeds (old : Session) (bytes : List ℕ) (new : Session) : Type 0 where
   pub asks : (more : List ℕ) → still_asks new more ≡ still_asks old (bytes ++ more)
-  pub sends : (more : List ℕ) (replies : List Reply) → still_sends new more replies ≡ still_sends old (bytes ++ more) replies
+  pub sends : (more : List ℕ) (replies : List Reply)
+      → still_sends new more replies ≡ still_sends old (bytes ++ more) replies
   pub ends : (more : List ℕ) → still_ends new more ≡ still_ends old (bytes ++ more)
   pub asking : is_asking new ≡ is_asking old
   pub over : ended new ≡ ended old
@@ -45,23 +47,27 @@ pub record Feeds (old : Session) (bytes : List ℕ) (new : Session) : Type 0 whe
 -- The input has ended.
 pub record Finishes (old new : Session) : Type 0 where
   pub asks : (more : List ℕ) → still_asks new more ≡ still_asks old []
-  pub sends : (more : List ℕ) (replies : List Reply) → still_sends new more replies ≡ still_sends old [] replies
+  pub sends : (more : List ℕ) (replies : List Reply)
+      → still_sends new more replies ≡ still_sends old [] replies
   pub ends : (more : List ℕ) → still_ends new more ≡ still_ends old []
   pub asking : is_asking new ≡ is_asking old
   pub over : ended new ≡ ended old
   pub finished : is_finished new ≡ true
 
 -- These events were asked and these texts sent.
-pub record Steps (old : Session) (asked : List Event) (sent : List (List ℕ)) (new : Session) : Type 0 where
+pub record Steps (old : Session) (asked : List Event) (sent : List (List ℕ)) (new : Session) : Type
+    0 where
   pub asks : (more : List ℕ) → still_asks old more ≡ asked ++ still_asks new more
-  pub sends : (more : List ℕ) (replies : List Reply) → still_sends old more replies ≡ sent ++ still_sends new more replies
+  pub sends : (more : List ℕ) (replies : List Reply)
+      → still_sends old more replies ≡ sent ++ still_sends new more replies
   pub ends : (more : List ℕ) → still_ends old more ≡ still_ends new more
   pub finished : is_finished new ≡ is_finished old
 
 -- A reply was taken in.
 pub record Takes (old : Session) (reply : Reply) (new : Session) : Type 0 where
   pub asks : (more : List ℕ) → still_asks new more ≡ still_asks old more
-  pub sends : (more : List ℕ) (replies : List Reply) → still_sends new more replies ≡ still_sends old more (reply ∷ replies)
+  pub sends : (more : List ℕ) (replies : List Reply)
+      → still_sends new more replies ≡ still_sends old more (reply ∷ replies)
   pub ends : (more : List ℕ) → still_ends new more ≡ still_ends old more
   pub silent : is_asking new ≡ false
   pub finished : is_finished new ≡ is_finished old
@@ -129,7 +135,8 @@ Leaves old (End end) new = IsOver end new
 -- the effect of a task
 abbrev pub WorksBy : {E : Type 0} → Session → Result (Option Next) E → Session → Type 0
 WorksBy old (Ok None) new = Steps old [] [] new × ((is_asking new ≡ false) × (load new < load old))
-WorksBy old (Ok (Some next)) new = Steps old (asked_by next) (sent_by next) new × Leaves old next new
+WorksBy old (Ok (Some next)) new = Steps old (asked_by next) (sent_by next) new
+    × Leaves old next new
 WorksBy old (Err error) new = Steps old [] [] new
 
 -- the task that a step leads to, and below, what it returns to the caller

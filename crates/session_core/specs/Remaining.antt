@@ -40,7 +40,8 @@ frames_ahead s more = to_server (frames_of (bytes_ahead s more))
 -- the events of a task and of the frames after it
 abbrev pub asks_of : List ℕ → State → Task → List Frame → List Event
 asks_of password state Listen fs = asks_on password (known_in state) fs
-asks_of password state (Read joined) fs = option_to_list (event_of (whole_outcome joined)) ++ asks_on password (known_in state) fs
+asks_of password state (Read joined) fs =
+    option_to_list (event_of (whole_outcome joined)) ++ asks_on password (known_in state) fs
 asks_of password state (Await asked) fs = asks_on password (known_in state) fs
 asks_of password state (Say due) fs = asks_on password (known_in state) fs
 asks_of password state (Send text) fs = asks_on password (known_in state) fs
@@ -54,7 +55,8 @@ still_asks s more = asks_of s.password s.state s.task (frames_ahead s more)
 
 -- the state after the reply to an event: with the long GET that the answer begins
 abbrev pub replied : Asked → Reply → State → State
-replied asked reply state = record { link = state.link; incoming = state.incoming; outgoing = outgoing_by asked reply }
+replied asked reply state =
+    record { link = state.link; incoming = state.incoming; outgoing = outgoing_by asked reply }
 
 -- the state after an outcome, and after the reply to its event
 abbrev pub after_outcome : Outcome → Option Reply → State → State
@@ -64,19 +66,24 @@ after_outcome (asks event asked) (Some reply) state = replied asked reply state
 
 -- the texts from an outcome on
 abbrev pub texts_from : List ℕ → State → Outcome → List Frame → List Reply → List (List ℕ)
-texts_from password state outcome fs replies = answers_from outcome (λ reply rest. answers_on password (after_outcome outcome reply state) fs rest) replies
+texts_from password state outcome fs replies =
+    answers_from outcome
+    (λ reply rest. answers_on password (after_outcome outcome reply state) fs rest) replies
 
 -- the texts from a reply on
 abbrev pub texts_after : List ℕ → State → Asked → List Frame → List Reply → List (List ℕ)
 texts_after password state asked fs [] = []
-texts_after password state asked fs (reply ∷ replies) = reply_text asked reply ∷ answers_on password (replied asked reply state) fs replies
+texts_after password state asked fs (reply ∷ replies) =
+    reply_text asked reply ∷ answers_on password (replied asked reply state) fs replies
 
 -- the texts of a task and of the frames after it
 abbrev pub texts_of : List ℕ → State → Task → List Frame → List Reply → List (List ℕ)
 texts_of password state Listen fs replies = answers_on password state fs replies
-texts_of password state (Read joined) fs replies = texts_from password state (whole_outcome joined) fs replies
+texts_of password state (Read joined) fs replies =
+    texts_from password state (whole_outcome joined) fs replies
 texts_of password state (Await asked) fs replies = texts_after password state asked fs replies
-texts_of password state (Say due) fs replies = due_text due.to (answer_text due.answer) ∷ answers_on password state fs replies
+texts_of password state (Say due) fs replies =
+    due_text due.to (answer_text due.answer) ∷ answers_on password state fs replies
 texts_of password state (Send text) fs replies = text ∷ answers_on password state fs replies
 texts_of password state (Over end) fs replies = []
 

@@ -95,27 +95,41 @@ opening_answer password source (Err fault) = exception_answer Unreadable
 
 -- the outcome of a request that was read
 abbrev pub request_turn : Link → Option Incoming → Request → Turn
-request_turn link incoming (request.Get id target) = settled (asks (event.Get link.level target.attr target.selected) (record { link = link; form = form.Get id }))
+request_turn link incoming (request.Get id target) =
+    settled (asks (event.Get link.level target.attr target.selected)
+    (record { link = link; form = form.Get id }))
 request_turn link incoming (request.GetNext id number) = continues link.source id number
-request_turn link incoming (request.GetList id targets) = settled (asks (event.GetList link.level targets) (record { link = link; form = form.GetList id }))
-request_turn link incoming (request.Set id target value) = settled (asks (event.Set link.level target.attr target.selected value) (record { link = link; form = form.Set id }))
-request_turn link incoming (request.SetFirst id target block) = settled (block_outcome_of link id (purpose.Set target) block no_blocks)
-request_turn link incoming (request.SetNext id block) = settled (later_outcome link service.Set id block (transfer_of service.Set incoming))
-request_turn link incoming (request.Action id method parameter) = settled (asks (event.Execute link.level method parameter) (record { link = link; form = form.Action id }))
-request_turn link incoming (request.ActionFirst id method block) = settled (block_outcome_of link id (purpose.Action method) block no_blocks)
-request_turn link incoming (request.ActionNext id block) = settled (later_outcome link service.Action id block (transfer_of service.Action incoming))
+request_turn link incoming (request.GetList id targets) =
+    settled (asks (event.GetList link.level targets)
+    (record { link = link; form = form.GetList id }))
+request_turn link incoming (request.Set id target value) =
+    settled (asks (event.Set link.level target.attr target.selected value)
+    (record { link = link; form = form.Set id }))
+request_turn link incoming (request.SetFirst id target block) =
+    settled (block_outcome_of link id (purpose.Set target) block no_blocks)
+request_turn link incoming (request.SetNext id block) =
+    settled (later_outcome link service.Set id block (transfer_of service.Set incoming))
+request_turn link incoming (request.Action id method parameter) =
+    settled (asks (event.Execute link.level method parameter)
+    (record { link = link; form = form.Action id }))
+request_turn link incoming (request.ActionFirst id method block) =
+    settled (block_outcome_of link id (purpose.Action method) block no_blocks)
+request_turn link incoming (request.ActionNext id block) =
+    settled (later_outcome link service.Action id block (transfer_of service.Action incoming))
 
 -- the outcome of the client's request
 abbrev pub call_turn : Link → Option Incoming → Call → Turn
 call_turn link incoming call.Release = settled (says link.source Release)
 call_turn link incoming (call.Service request) = request_turn link incoming request
-call_turn link incoming (call.Refused exception) = settled (says link.source (exception_answer exception))
+call_turn link incoming (call.Refused exception) =
+    settled (says link.source (exception_answer exception))
 
 -- the outcome of a frame that is a release or a service
 abbrev pub turn_in : Option Link → Option Incoming → Frame → Turn
 turn_in None incoming f = settled (says f.src (exception_answer NotAllowed))
 turn_in (Some link) incoming f =
-    if link.source == f.src then call_turn link incoming (call_in link f) else settled (says f.src (exception_answer NotAllowed))
+    if link.source == f.src then call_turn link incoming (call_in link f)
+    else settled (says f.src (exception_answer NotAllowed))
 
 -- the outcome of a frame
 unfoldable pub turn_of : List ℕ → Option Link → Option Incoming → Frame → Turn
@@ -142,7 +156,8 @@ incoming_by_role _ incoming = None
 
 abbrev pub incoming_in : Option Link → Frame → Option Incoming → Option Incoming
 incoming_in None f incoming = incoming
-incoming_in (Some link) f incoming = if is_heard link f then incoming_by_role (role_in link f) incoming else incoming
+incoming_in (Some link) f incoming = if is_heard link f
+    then incoming_by_role (role_in link f) incoming else incoming
 
 unfoldable pub incoming_after : Option Link → Frame → Option Incoming → Option Incoming
 incoming_after link f incoming = if opens f then None else incoming_in link f incoming
@@ -161,7 +176,8 @@ outgoing_by_role link _ reply outgoing = None
 
 abbrev pub outgoing_in : Option Link → Frame → Option Reply → Option Sending → Option Sending
 outgoing_in None f reply outgoing = outgoing
-outgoing_in (Some link) f reply outgoing = if is_heard link f then outgoing_by_role link (role_in link f) reply outgoing else outgoing
+outgoing_in (Some link) f reply outgoing = if is_heard link f
+    then outgoing_by_role link (role_in link f) reply outgoing else outgoing
 
 unfoldable pub outgoing_after : Option Link → Frame → Option Reply → Option Sending → Option Sending
 outgoing_after link f reply outgoing = if opens f then None else outgoing_in link f reply outgoing
@@ -171,7 +187,8 @@ outgoing_after link f reply outgoing = if opens f then None else outgoing_in lin
 -- the outcome of a turn, once the long GET is known
 abbrev pub resolved : Option Sending → Turn → Outcome
 resolved outgoing (settled outcome) = outcome
-resolved outgoing (continues to id number) = says to (Service (continued_response id number outgoing))
+resolved outgoing (continues to id number) =
+    says to (Service (continued_response id number outgoing))
 
 -- the outcome of a frame
 abbrev pub outcome_at : List ℕ → State → Frame → Outcome
@@ -179,7 +196,12 @@ outcome_at password s f = resolved s.outgoing (turn_of password s.link s.incomin
 
 -- the state after a frame, and after the reply to its event
 abbrev pub state_after : List ℕ → State → Frame → Option Reply → State
-state_after password s f reply = record { link = link_after password f s.link; incoming = incoming_after s.link f s.incoming; outgoing = outgoing_after s.link f reply s.outgoing }
+state_after password s f reply =
+    record {
+      link = link_after password f s.link;
+      incoming = incoming_after s.link f s.incoming;
+      outgoing = outgoing_after s.link f reply s.outgoing;
+    }
 
 -- the state after a request
 abbrev pub state_by_call : Link → Call → State → State
@@ -191,7 +213,8 @@ state_by_call link call s = record {
 
 -- the frame with the answer to a reply
 abbrev pub reply_text : Asked → Reply → List ℕ
-reply_text asked reply = due_text asked.link.source (answer_text (Service (reply_response asked reply)))
+reply_text asked reply =
+    due_text asked.link.source (answer_text (Service (reply_response asked reply)))
 
 -- the outcome of a step of the code, which may still have to decode the joined bytes
 abbrev pub step_outcome : Step → Outcome
@@ -206,7 +229,9 @@ is_settled (Say due) = true
 is_settled (Join joined) = false
 
 -- A frame asks for this attribute and ends the transfers, whatever the password is.
-pub record HearsGet (old : State) (f : Frame) (asked : Asked) (attr : AttrRef) (new : State) : Type 0 where
-  pub outcome : (password : List ℕ) → outcome_at password old f ≡ asks (event.Get asked.link.level attr false) asked
+pub record HearsGet (old : State) (f : Frame) (asked : Asked) (attr : AttrRef) (new : State) : Type
+    0 where
+  pub outcome : (password : List ℕ)
+      → outcome_at password old f ≡ asks (event.Get asked.link.level attr false) asked
   pub after : (password : List ℕ) → new ≡ state_after password old f None
   pub form : asks_value asked.form ≡ true

@@ -21,7 +21,8 @@ event_at password k f = turn_event (turn_of password k.link k.incoming f)
 
 -- that part of the state after a frame
 abbrev pub known_after : List ℕ → Known → Frame → Known
-known_after password k f = record { link = link_after password f k.link; incoming = incoming_after k.link f k.incoming }
+known_after password k f =
+    record { link = link_after password f k.link; incoming = incoming_after k.link f k.incoming }
 
 -- that part of a state
 abbrev pub known_in : State → Known

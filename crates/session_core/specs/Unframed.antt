@@ -18,18 +18,26 @@ use Rattle.xdlms_apdu.specs.declared.response.Exception.TheVariants.{Unknown}
 -- the association assumed for such a request: management, all services that the meter offers, and
 -- PDUs of 1,024 bytes
 abbrev pub unframed_link : Link
-unframed_link = record { source = management_client; level = Management; conformance = record { 0 = offered }; limit = limit_of greatest_pdu }
+unframed_link = record {
+  source = management_client;
+  level = Management;
+  conformance = record { 0 = offered };
+  limit = limit_of greatest_pdu;
+}
 
 -- whether a payload is a service's tag alone, or a form of a service that needs no session
 abbrev pub is_unframed : List ℕ → Bool
 is_unframed [] = false
 is_unframed (tag ∷ []) = tag == get_tag || tag == set_tag || tag == action_tag
-is_unframed (tag ∷ form ∷ rest) = (tag == get_tag && (form == 1 || form == 3)) || (tag == set_tag && form == 1) || (tag == action_tag && form == 1)
+is_unframed (tag ∷ form ∷ rest) =
+    (tag == get_tag && (form == 1 || form == 3)) || (tag == set_tag && form == 1) ||
+    (tag == action_tag && form == 1)
 
 -- the outcome of such a request
 unfoldable pub unframed_outcome : List ℕ → Outcome
 unframed_outcome payload =
-    if is_unframed payload then resolved None (call_turn unframed_link None (call_of offered payload))
+    if is_unframed payload
+    then resolved None (call_turn unframed_link None (call_of offered payload))
     else says management_client (exception_answer Unknown)
 
 -- the value of the code that means this outcome

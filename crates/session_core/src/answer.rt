@@ -10,32 +10,32 @@ use std::alloc::{AllocError, Global};
 use wrapper_frame::{HEADER_SIZE, framed};
 use xdlms_apdu::{InvokeId, Response, append_response};
 
-/// The wrapper port of the server.
+// The wrapper port of the server.
 pub(crate) const SERVER_PORT: u16 = 1;
-/// The initial capacity of an answer in bytes. Most answers are shorter.
+// The initial capacity of an answer in bytes. Most answers are shorter.
 const ROOM: usize = 64;
 
-/// The tag of a Get-Response; below, the numbers of its form normal and of its choice data (IEC
-/// 62056-5-3, GET).
+// The tag of a Get-Response; below, the numbers of its form normal and of its choice data (IEC
+// 62056-5-3, GET).
 const GET_RESPONSE: u8 = 0xC4;
 
 const NORMAL: u8 = 1;
 
 const DATA: u8 = 0;
 
-/// An answer of the server.
+// An answer of the server.
 #[derive(Drop)]
 pub(crate) enum Answer {
-    /// An AARE, to an AARQ that was readable.
+    // An AARE, to an AARQ that was readable.
     Association(Aare),
-    /// An RLRE.
+    // An RLRE.
     Release,
-    /// The response of a service, or an exception.
+    // The response of a service, or an exception.
     Service(Response),
 }
 
 impl Answer {
-    /// Returns the bytes of the answer, after those reserved for the frame's header.
+    // Returns the bytes of the answer, after those reserved for the frame's header.
     #[tactic(auto, unfolding(crate::specs::Answers::answer_text))]
     pub(crate) fn write(&self, alloc: Global, way: Way) -> Result<Octets, AllocError>
         ensures header { IfOk result (λ text. way_size way ≤ length text) }
@@ -49,12 +49,12 @@ impl Answer {
     }
 }
 
-/// How an answer is sent.
+// How an answer is sent.
 #[derive(Clone, Copy, PartialEq, Eq)]
 pub(crate) enum Way {
-    /// In a frame to the client's port.
+    // In a frame to the client's port.
     Framed,
-    /// Without a frame.
+    // Without a frame.
     Bare,
 }
 
@@ -71,18 +71,19 @@ impl Way {
         Ok(Octets::from_vec(text))
     }
 
-    /// Returns the bytes of a response, after those reserved for the header.
+    // Returns the bytes of a response, after those reserved for the header.
     #[tactic(auto, using(std::proofs::lemmas::List::drop_at))]
     pub(crate) fn write(self, alloc: Global, response: &Response) -> Result<Octets, AllocError>
         ensures header { IfOk result (λ text. way_size self ≤ length text) }
-        ensures payload { IfOk result (λ text. drop (way_size self) text ≡ response_text response.now) }
+        ensures payload { IfOk result (λ text. drop (way_size self) text
+            ≡ response_text response.now) }
     {
         let mut text = self.begin(alloc)?;
         append_response(response, &mut text)?;
         Ok(text)
     }
 
-    /// Returns the bytes of the response with a value, after those reserved for the header.
+    // Returns the bytes of the response with a value, after those reserved for the header.
     #[tactic(auto, unfolding(xdlms_apdu::specs::Text::response_text), using(std::proofs::lemmas::List::drop_at))]
     pub(crate) fn write_value(
         self,
@@ -91,7 +92,8 @@ impl Way {
         value: &Data,
     ) -> Result<Octets, AllocError>
         ensures header { IfOk result (λ text. way_size self ≤ length text) }
-        ensures payload { IfOk result (λ text. drop (way_size self) text ≡ response_text (Response.Get id (GetResult.Value value.now))) }
+        ensures payload { IfOk result (λ text. drop (way_size self) text
+            ≡ response_text (Response.Get id (GetResult.Value value.now))) }
     {
         let mut text = self.begin(alloc)?;
         text.extend_from_slice(&[GET_RESPONSE, NORMAL, id.0, DATA])?;
@@ -110,7 +112,7 @@ impl Way {
         Ok(text)
     }
 
-    /// Returns the payload in bytes that were written for this way.
+    // Returns the payload in bytes that were written for this way.
     pub(crate) fn payload(self, text: &Octets) -> &[u8]
         requires { way_size self ≤ length text.now }
         ensures { result.now ≡ drop (way_size self) text.now }
@@ -121,7 +123,7 @@ impl Way {
         }
     }
 
-    /// Returns the bytes as they are sent: in a frame, fills in the header. Does not allocate.
+    // Returns the bytes as they are sent: in a frame, fills in the header. Does not allocate.
     #[tactic(auto, unfolding(crate::specs::Answers::due_text))]
     pub(crate) fn end(self, to: u16, text: Octets) -> Octets
         requires header { way_size self ≤ length text }

@@ -7,23 +7,23 @@ use std::alloc::{AllocError, Global};
 use xdlms_apdu::tag::{ACTION_REQUEST, GET_REQUEST, SET_REQUEST};
 use xdlms_apdu::{ApduFault, Exception, Request, read_request};
 
-/// The tag of an AARQ, which requests an association.
+// The tag of an AARQ, which requests an association.
 pub(crate) const AARQ: u8 = 0x60;
-/// The tag of an RLRQ, which requests the release of an association.
+// The tag of an RLRQ, which requests the release of an association.
 pub(crate) const RLRQ: u8 = 0x62;
 
-/// A request in a payload from the client of an association.
+// A request in a payload from the client of an association.
 #[derive(Drop)]
 pub(crate) enum Call {
-    /// The release of the association.
+    // The release of the association.
     Release,
-    /// A request for a service.
+    // A request for a service.
     Service(Request),
-    /// Not readable, or not supported.
+    // Not readable, or not supported.
     Refused(Exception),
 }
 
-/// Whether the payload begins with this tag.
+// Whether the payload begins with this tag.
 pub(crate) fn has_tag(tag: u8, payload: &[u8]) -> bool
     ensures { result ≡ tag_is tag payload.now }
 {
@@ -33,7 +33,7 @@ pub(crate) fn has_tag(tag: u8, payload: &[u8]) -> bool
     }
 }
 
-/// Whether the payload begins with the tag of a release or of a service.
+// Whether the payload begins with the tag of a release or of a service.
 pub(crate) fn is_call(payload: &[u8]) -> bool
     ensures { result ≡ is_call payload.now }
 {
@@ -43,8 +43,8 @@ pub(crate) fn is_call(payload: &[u8]) -> bool
         || has_tag(ACTION_REQUEST, payload)
 }
 
-/// Reads the request in a payload, given the negotiated conformance bits. Its form is judged before
-/// its body.
+// Reads the request in a payload, given the negotiated conformance bits. Its form is judged before
+// its body.
 #[tactic(auto, unfolding(crate::specs::Calls::call_of))]
 pub(crate) fn read_call(
     alloc: Global,

@@ -7,7 +7,7 @@ use bitflags::Flags;
 use xdlms_apdu::form;
 use xdlms_apdu::tag::{ACTION_REQUEST, GET_REQUEST, SET_REQUEST};
 
-/// A form of a request: the tag of its service, its number, and the services that it needs.
+// A form of a request: the tag of its service, its number, and the services that it needs.
 #[derive(Clone, Copy)]
 pub(crate) struct RequestForm {
     pub(crate) tag: u8,
@@ -25,7 +25,7 @@ macro_rules! request_form {
     };
 }
 
-/// The forms of requests that the server knows.
+// The forms of requests that the server knows.
 pub(crate) const REQUEST_FORMS: [RequestForm; 9] = [
     request_form!(GET_REQUEST, form::NORMAL; GET),
     request_form!(GET_REQUEST, form::get_request::NEXT; GET | BLOCK_TRANSFER_WITH_GET_OR_READ),
@@ -50,7 +50,7 @@ pub(crate) const REQUEST_FORMS: [RequestForm; 9] = [
     ),
 ];
 
-/// The form of this tag and number, or None where the server knows no such form.
+// The form of this tag and number, or None where the server knows no such form.
 #[tactic(auto, unfolding(crate::specs::Calls::request_form))]
 fn request_form(tag: u8, number: u8) -> Option<RequestForm>
     ensures { result ≡ request_form tag number }
@@ -61,7 +61,7 @@ fn request_form(tag: u8, number: u8) -> Option<RequestForm>
         .find(|form| form.tag == tag && form.number == number)
 }
 
-/// Whether a form is known and all its bits are negotiated.
+// Whether a form is known and all its bits are negotiated.
 #[tactic(auto, unfolding(crate::specs::Calls::is_negotiated))]
 pub(crate) fn is_negotiated(conformance: Conformance, tag: u8, number: u8) -> bool
     ensures { result ≡ is_negotiated conformance.0 tag number }

@@ -9,7 +9,7 @@ use cosem_axdr::Octets;
 use std::alloc::{AllocError, Global};
 use xdlms_apdu::{Exception, Response};
 
-/// An answer that must be sent, and the port that it is sent to. It fits in a PDU.
+// An answer that must be sent, and the port that it is sent to. It fits in a PDU.
 #[derive(Drop)]
 pub(crate) struct Due {
     pub(crate) to: u16,
@@ -18,7 +18,7 @@ pub(crate) struct Due {
 }
 
 impl Due {
-    /// Returns the answer to an AARQ.
+    // Returns the answer to an AARQ.
     #[tactic(auto, using(crate::proofs::Short::short_association))]
     pub(crate) fn association(to: u16, aare: Aare) -> Due
         ensures to { result.to ≡ to }
@@ -30,7 +30,7 @@ impl Due {
         }
     }
 
-    /// Returns the answer to a release.
+    // Returns the answer to a release.
     #[tactic(auto, using(crate::proofs::Short::short_release))]
     pub(crate) fn release(to: u16) -> Due
         ensures to { result.to ≡ to }
@@ -42,7 +42,7 @@ impl Due {
         }
     }
 
-    /// Returns a response without values, or with a block.
+    // Returns a response without values, or with a block.
     #[tactic(auto, using(crate::proofs::Short::short_response))]
     pub(crate) fn response(to: u16, response: Response) -> Due
         requires { IsSmall response }
@@ -55,7 +55,7 @@ impl Due {
         }
     }
 
-    /// Returns an exception.
+    // Returns an exception.
     pub(crate) fn exception(to: u16, exception: Exception) -> Due
         ensures to { result.to ≡ to }
         ensures answer { result.answer ≡ answer.Service (Response.Exception exception) }
@@ -63,22 +63,23 @@ impl Due {
         Due::response(to, Response::Exception(exception))
     }
 
-    /// Returns the frame with the answer.
+    // Returns the frame with the answer.
     pub(crate) fn text(&self, alloc: Global) -> Result<Octets, AllocError>
         ensures { IfOk result (λ text. text ≡ due_text self.now.to (answer_text self.now.answer)) }
     {
         self.text_by(alloc, Way::Framed)
     }
 
-    /// Returns the answer as it is sent this way.
+    // Returns the answer as it is sent this way.
     pub(crate) fn text_by(&self, alloc: Global, way: Way) -> Result<Octets, AllocError>
-        ensures { IfOk result (λ text. text ≡ way_text way self.now.to (answer_text self.now.answer)) }
+        ensures { IfOk result (λ text. text
+            ≡ way_text way self.now.to (answer_text self.now.answer)) }
     {
         let text = self.answer.write(alloc, way)?;
         Ok(way.end(self.to, text))
     }
 
-    /// Consumes the answer and returns it as it is sent this way.
+    // Consumes the answer and returns it as it is sent this way.
     pub(crate) fn into_text(self, alloc: Global, way: Way) -> Result<Octets, AllocError>
         ensures { IfOk result (λ text. text ≡ way_text way self.to (answer_text self.answer)) }
     {

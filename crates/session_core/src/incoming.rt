@@ -11,7 +11,7 @@ use std::alloc::AllocError;
 use xdlms_apdu::{Block, InvokeId, Response};
 use xdlms_blocks::{BlockFault, JoinBlocks};
 
-/// The services whose requests may arrive in blocks.
+// The services whose requests may arrive in blocks.
 #[derive(Clone, Copy, PartialEq, Eq)]
 pub(crate) enum LongService {
     Set,
@@ -19,7 +19,7 @@ pub(crate) enum LongService {
 }
 
 impl LongService {
-    /// Returns the answer to a block that is not the last.
+    // Returns the answer to a block that is not the last.
     pub(crate) fn received(self, id: InvokeId, number: u32) -> Response
         ensures response { result ≡ received self id number }
         ensures small { IsSmall result }
@@ -30,7 +30,7 @@ impl LongService {
         }
     }
 
-    /// Returns the answer that ends a transfer with this result.
+    // Returns the answer that ends a transfer with this result.
     pub(crate) fn refused(self, id: InvokeId, number: u32, code: ResultCode) -> Response
         ensures response { result ≡ refused self id number code }
         ensures small { IsSmall result }
@@ -41,7 +41,7 @@ impl LongService {
         }
     }
 
-    /// Returns the answer to a block that is not added.
+    // Returns the answer to a block that is not added.
     pub(crate) fn fault(self, to: u16, id: InvokeId, number: u32, fault: BlockFault) -> Due
         ensures to { result.to ≡ to }
         ensures answer { result.answer ≡ Service (refused self id number (block_code self fault)) }
@@ -49,7 +49,7 @@ impl LongService {
         Due::response(to, self.refused(id, number, self.code(fault)))
     }
 
-    /// Returns the result code of a fault of a transfer.
+    // Returns the result code of a fault of a transfer.
     pub(crate) fn code(self, fault: BlockFault) -> ResultCode
         ensures { result ≡ block_code self fault }
     {
@@ -63,17 +63,17 @@ impl LongService {
     }
 }
 
-/// The purpose of a request that arrives in blocks.
+// The purpose of a request that arrives in blocks.
 #[derive(Clone, Copy)]
 pub(crate) enum Purpose {
-    /// To set an attribute.
+    // To set an attribute.
     Set(AttributeSelection),
-    /// To execute a method.
+    // To execute a method.
     Action(MethodRef),
 }
 
 impl Purpose {
-    /// Returns the service.
+    // Returns the service.
     pub(crate) fn service(self) -> LongService
         ensures { result ≡ service_of self }
     {
@@ -85,7 +85,7 @@ impl Purpose {
 }
 
 impl Purpose {
-    /// Whether the purpose is one of this service.
+    // Whether the purpose is one of this service.
     pub(crate) fn is_of(self, service: LongService) -> bool
         ensures { result ≡ is_of service self }
     {
@@ -97,26 +97,26 @@ impl Purpose {
     }
 }
 
-/// A long SET or ACTION in progress: some blocks have arrived, but not the last.
+// A long SET or ACTION in progress: some blocks have arrived, but not the last.
 #[derive(Drop)]
 pub(crate) struct Incoming {
     pub(crate) purpose: Purpose,
     pub(crate) blocks: JoinBlocks,
 }
 
-/// The result of adding a block to a transfer.
+// The result of adding a block to a transfer.
 #[derive(Drop)]
 pub(crate) enum Added {
-    /// The transfer continues, with this answer.
+    // The transfer continues, with this answer.
     GoesOn(Due),
-    /// The transfer has ended, with this answer.
+    // The transfer has ended, with this answer.
     Refused(Due),
-    /// The block was the last, and the transfer is complete.
+    // The block was the last, and the transfer is complete.
     Whole(Joined),
 }
 
 impl Added {
-    /// Whether the transfer has ended.
+    // Whether the transfer has ended.
     pub(crate) fn is_over(&self) -> bool
         ensures { result ≡ is_over self.now }
     {
@@ -128,7 +128,7 @@ impl Added {
 }
 
 impl Incoming {
-    /// Adds a block. If out of memory, nothing has changed.
+    // Adds a block. If out of memory, nothing has changed.
     #[tactic(auto, unfolding(crate::specs::Incoming::block_outcome_of, crate::specs::Incoming::block_after))]
     pub(crate) fn add(
         &mut self,
@@ -136,8 +136,10 @@ impl Incoming {
         id: InvokeId,
         block: &Block,
     ) -> Result<Added, AllocError>
-        ensures outcome { IfOk result (λ added. outcome_of_added added ≡ block_outcome_of link id self.old.purpose block.now self.old.blocks) }
-        ensures after { IfOk result (λ added. after_adding added self.new ≡ block_after self.old.purpose block.now self.old.blocks) }
+        ensures outcome { IfOk result (λ added. outcome_of_added added
+            ≡ block_outcome_of link id self.old.purpose block.now self.old.blocks) }
+        ensures after { IfOk result (λ added. after_adding added self.new
+            ≡ block_after self.old.purpose block.now self.old.blocks) }
         ensures err { OnErr result (self.new ≡ self.old) }
     {
         let service = self.purpose.service();
@@ -162,7 +164,7 @@ impl Incoming {
     }
 }
 
-/// Adds a block to a transfer of this service. If out of memory, nothing has changed.
+// Adds a block to a transfer of this service. If out of memory, nothing has changed.
 pub(crate) fn add_to(
     transfer: &mut Option<Incoming>,
     link: Link,
@@ -170,8 +172,10 @@ pub(crate) fn add_to(
     service: LongService,
     block: &Block,
 ) -> Result<Added, AllocError>
-    ensures outcome { IfOk result (λ added. outcome_of_added added ≡ later_outcome link service id block.now (transfer_of service transfer.old)) }
-    ensures after { OnOk result (transfer.new ≡ later_after block.now (transfer_of service transfer.old)) }
+    ensures outcome { IfOk result (λ added. outcome_of_added added
+        ≡ later_outcome link service id block.now (transfer_of service transfer.old)) }
+    ensures after { OnOk result (transfer.new
+        ≡ later_after block.now (transfer_of service transfer.old)) }
     ensures err { OnErr result (transfer.new ≡ transfer.old) }
 {
     match transfer {

@@ -14,20 +14,20 @@ use relay_events::Event;
 use std::alloc::{AllocError, Global};
 use xdlms_apdu::InvokeId;
 
-/// A long SET or ACTION whose blocks have all arrived.
+// A long SET or ACTION whose blocks have all arrived.
 #[derive(Drop)]
 pub(crate) struct Joined {
     pub(crate) link: Link,
     pub(crate) purpose: Purpose,
     pub(crate) id: InvokeId,
-    /// The number of the last block.
+    // The number of the last block.
     pub(crate) number: u32,
-    /// The bytes of all blocks, concatenated.
+    // The bytes of all blocks, concatenated.
     pub(crate) bytes: Octets,
 }
 
 impl Joined {
-    /// Decodes the joined bytes. Unless they are exactly one Data, the request is refused.
+    // Decodes the joined bytes. Unless they are exactly one Data, the request is refused.
     #[tactic(auto, unfolding(crate::specs::Incoming::whole_outcome))]
     pub(crate) fn read(&self, alloc: Global) -> Result<Step, AllocError>
         ensures outcome { IfOk result (λ step. step_outcome step ≡ whole_outcome self.now) }
@@ -45,7 +45,12 @@ impl Joined {
 
     // Returns the event of a transfer that contains this value.
     fn ask(&self, value: Data) -> Step
-        ensures step { step_outcome result ≡ asks (event_by self.now.link.level self.now.purpose value) (record { link = self.now.link; form = form_by self.now.purpose self.now.id self.now.number }) }
+        ensures step { step_outcome result
+            ≡ asks (event_by self.now.link.level self.now.purpose value)
+            (record {
+              link = self.now.link;
+              form = form_by self.now.purpose self.now.id self.now.number;
+            }) }
         ensures settled { IsTrue (is_settled result) }
     {
         let link = self.link;

@@ -5,14 +5,14 @@ ghost use Rattle.xdlms_blocks.specs.Limits.{min_block_size};
 
 use std::marker::Model;
 
-/// The longest PDU that the server sends and receives, in bytes.
+// The longest PDU that the server sends and receives, in bytes.
 pub(crate) const MAX_PDU: u16 = 1024;
-/// The smallest PDU size that a client may propose, in bytes.
+// The smallest PDU size that a client may propose, in bytes.
 pub(crate) const MIN_PDU: u16 = 64;
-/// The length of an answer with a block before the block's raw bytes.
+// The length of an answer with a block before the block's raw bytes.
 pub(crate) const BLOCK_HEADER: u16 = 12;
 
-/// The longest PDU that is sent to a client, in bytes: 64 to 1,024. Contracts see the number.
+// The longest PDU that is sent to a client, in bytes: 64 to 1,024. Contracts see the number.
 #[derive(Clone, Copy, Debug)]
 pub(crate) struct Limit {
     bytes: u16,
@@ -32,7 +32,7 @@ impl Model for Limit {
 }
 
 impl Limit {
-    /// Returns the limit for the size that a client proposed, where 0 means no limit.
+    // Returns the limit for the size that a client proposed, where 0 means no limit.
     pub(crate) fn of(proposed: u16) -> Limit
         ensures { result ≡ limit_of proposed }
     {
@@ -46,14 +46,14 @@ impl Limit {
         Limit { bytes }
     }
 
-    /// Returns the number of bytes.
+    // Returns the number of bytes.
     pub(crate) fn bytes(self) -> u16
         ensures { result ≡ self }
     {
         self.bytes
     }
 
-    /// Returns the largest number of raw bytes of a block that fits in a PDU of this size.
+    // Returns the largest number of raw bytes of a block that fits in a PDU of this size.
     pub(crate) fn raw(self) -> u16
         ensures raw { result ≡ self - block_header }
         ensures room { (min_block_size ≤ result) × (result ≤ greatest_raw) }

@@ -6,20 +6,20 @@ use acse_ber::{Aare, Conformance, Info, Verdict};
 use bitflags::Flags;
 use cosem_names::Level;
 
-/// An open association: what the client and the server agreed on.
+// An open association: what the client and the server agreed on.
 #[derive(Clone, Copy, Debug)]
 pub(crate) struct Link {
-    /// The client's wrapper port.
+    // The client's wrapper port.
     pub(crate) source: u16,
-    /// The client's access rights.
+    // The client's access rights.
     pub(crate) level: Level,
-    /// The negotiated conformance block.
+    // The negotiated conformance block.
     pub(crate) conformance: Conformance,
-    /// The longest PDU that is sent to the client.
+    // The longest PDU that is sent to the client.
     pub(crate) limit: Limit,
 }
 
-/// Returns the association of a client that is accepted.
+// Returns the association of a client that is accepted.
 pub(crate) fn opened(source: u16, verdict: Verdict) -> Option<Link>
     ensures { result ≡ link_by source verdict }
 {
@@ -34,7 +34,7 @@ pub(crate) fn opened(source: u16, verdict: Verdict) -> Option<Link>
     }
 }
 
-/// Returns the answer to an AARQ, by its verdict.
+// Returns the answer to an AARQ, by its verdict.
 pub(crate) fn answer_to(verdict: Verdict) -> Aare
     ensures { result ≡ aare_by verdict }
 {
@@ -60,11 +60,11 @@ pub(crate) fn answer_to(verdict: Verdict) -> Aare
     }
 }
 
-/// Association result accepted (IEC 62056-5-3, AARE).
+// Association result accepted (IEC 62056-5-3, AARE).
 pub(crate) const ACCEPTED: u8 = 0;
-/// Association result rejected-permanent.
+// Association result rejected-permanent.
 pub(crate) const REJECTED: u8 = 1;
-/// Diagnostic null of acse-service-user.
+// Diagnostic null of acse-service-user.
 pub(crate) const NULL_DIAGNOSTIC: u8 = 0;
-/// Diagnostic no-reason-given of acse-service-user.
+// Diagnostic no-reason-given of acse-service-user.
 pub(crate) const NO_REASON_GIVEN: u8 = 1;

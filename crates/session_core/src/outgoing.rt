@@ -14,8 +14,8 @@ use std::marker::Model;
 use xdlms_apdu::{Block, InvokeId, Response};
 use xdlms_blocks::{BlockFault, GetBlocks, Piece};
 
-/// A long answer to a GET, sent in blocks that each fit in a PDU. Contracts see the transfer of
-/// `xdlms_blocks`.
+// A long answer to a GET, sent in blocks that each fit in a PDU. Contracts see the transfer of
+// `xdlms_blocks`.
 #[derive(Drop)]
 pub(crate) struct Outgoing {
     blocks: GetBlocks,
@@ -34,7 +34,7 @@ impl Model for Outgoing {
 }
 
 impl Outgoing {
-    /// Makes a transfer before its first block.
+    // Makes a transfer before its first block.
     pub(crate) fn new(raw: Octets, limit: Limit) -> Outgoing
         requires some { 0 < length raw }
         requires numbered { length raw ≤ max_blocks * (limit - block_header) }
@@ -45,10 +45,11 @@ impl Outgoing {
         }
     }
 
-    /// Returns the next block. `after` is the number of the block sent last.
+    // Returns the next block. `after` is the number of the block sent last.
     pub(crate) fn next(&mut self, alloc: Global, after: u32) -> Result<Piece, BlockFault>
         ensures no_transfer { IsErrOf result BlockFault.NoTransfer ↔ (self.old.is_open ≡ false) }
-        ensures wrong_number { IsErrOf result BlockFault.WrongNumber ↔ ((self.old.is_open ≡ true) × (after ≢ self.old.number)) }
+        ensures wrong_number { IsErrOf result BlockFault.WrongNumber
+            ↔ ((self.old.is_open ≡ true) × (after ≢ self.old.number)) }
         ensures never { result ≢ Err BlockFault.TooLong }
         ensures piece { IfOk result (λ piece. piece ≡ next_piece self.old) }
         ensures room { IfOk result (λ piece. length piece.raw ≤ greatest_raw) }
@@ -59,7 +60,7 @@ impl Outgoing {
     }
 }
 
-/// Returns the result code of a fault of a long GET.
+// Returns the result code of a fault of a long GET.
 fn code(fault: BlockFault) -> ResultCode
     ensures { result ≡ get_code fault }
 {
@@ -70,8 +71,8 @@ fn code(fault: BlockFault) -> ResultCode
     }
 }
 
-/// Returns the answer to a GET-next, which names the block last received. If out of memory, nothing
-/// has changed.
+// Returns the answer to a GET-next, which names the block last received. If out of memory, nothing
+// has changed.
 #[tactic(auto, unfolding(crate::specs::Outgoing::continued_response, crate::specs::Outgoing::continued))]
 pub(crate) fn continue_by(
     transfer: &mut Option<Outgoing>,
@@ -81,7 +82,8 @@ pub(crate) fn continue_by(
     number: u32,
 ) -> Result<Due, AllocError>
     ensures to { IfOk result (λ due. due.to ≡ to) }
-    ensures answer { IfOk result (λ due. due.answer ≡ Service (continued_response id number transfer.old)) }
+    ensures answer { IfOk result (λ due. due.answer
+        ≡ Service (continued_response id number transfer.old)) }
     ensures after { OnOk result (transfer.new ≡ continued number transfer.old) }
     ensures err { OnErr result (transfer.new ≡ transfer.old) }
 {
@@ -103,7 +105,7 @@ pub(crate) fn continue_by(
     }
 }
 
-/// Returns the answer that carries a block.
+// Returns the answer that carries a block.
 pub(crate) fn block_given(to: u16, id: InvokeId, piece: Piece) -> Due
     requires { length piece.raw ≤ greatest_raw }
     ensures to { result.to ≡ to }
@@ -122,7 +124,8 @@ pub(crate) fn block_given(to: u16, id: InvokeId, piece: Piece) -> Due
 // Returns the answer to a GET-next that is refused: it repeats the requested block number.
 fn block_refused(to: u16, id: InvokeId, number: u32, fault: BlockFault) -> Due
     ensures to { result.to ≡ to }
-    ensures answer { result.answer ≡ Service (Response.GetBlockRefused id true number (get_code fault)) }
+    ensures answer { result.answer
+        ≡ Service (Response.GetBlockRefused id true number (get_code fault)) }
 {
     Due::response(
         to,

@@ -5,7 +5,7 @@ use cosem_axdr::Octets;
 use std::alloc::{AllocError, Global};
 use std::marker::Model;
 
-/// The password of the management client: 1 to 32 bytes. Contracts see these bytes.
+// The password of the management client: 1 to 32 bytes. Contracts see these bytes.
 #[derive(Drop)]
 pub(crate) struct Password {
     octets: Octets,
@@ -23,7 +23,7 @@ impl Model for Password {
 }
 
 impl Password {
-    /// Copies a password. Fails if out of memory.
+    // Copies a password. Fails if out of memory.
     pub(crate) fn of(alloc: Global, octets: &Octets) -> Result<Password, AllocError>
         requires { IsPassword octets.now }
         ensures { IfOk result (λ password. password ≡ octets.now) }
@@ -33,7 +33,7 @@ impl Password {
         })
     }
 
-    /// Returns its bytes.
+    // Returns its bytes.
     pub(crate) fn octets(&self) -> &Octets
         ensures octets { result.now ≡ self.now }
         ensures password { IsPassword result.now }

@@ -32,7 +32,8 @@ impl Model for PreparedAnswer {
 
     ghost view = { λ prepared. prepared.form };
 
-    ghost invariant = { λ prepared. prepared.text ≡ answer_text (Service (code_response prepared.form Success)) };
+    ghost invariant = { λ prepared. prepared.text
+        ≡ answer_text (Service (code_response prepared.form Success)) };
 }
 
 impl PreparedAnswer {

@@ -21,19 +21,19 @@ use std::alloc::{AllocError, Global};
 use xdlms_apdu::{InvokeId, Response};
 use xdlms_blocks::{BlockFault, GetBlocks};
 
-/// The length of a Get-Response-Normal before the bytes of its value.
+// The length of a Get-Response-Normal before the bytes of its value.
 const GET_HEADER: usize = 4;
-/// The length of a Get-Response-With-List before the bytes of its results.
+// The length of a Get-Response-With-List before the bytes of its results.
 const GET_LIST_HEADER: usize = 3;
 
-/// The answer to a reply, and the long GET that is in progress after it.
+// The answer to a reply, and the long GET that is in progress after it.
 #[derive(Drop)]
 pub(crate) struct Answered {
     pub(crate) text: Octets,
     pub(crate) outgoing: Option<Outgoing>,
 }
 
-/// Returns the answer to a reply, as it is sent this way. If out of memory, returns the reply too.
+// Returns the answer to a reply, as it is sent this way. If out of memory, returns the reply too.
 #[tactic(auto, unfolding(crate::specs::Outgoing::reply_response, crate::specs::Outgoing::begun_by), using(crate::proofs::Tasks::value_cut, crate::proofs::Tasks::values_cut))]
 pub(crate) fn answer_reply(
     alloc: Global,
@@ -41,7 +41,8 @@ pub(crate) fn answer_reply(
     way: Way,
     reply: Reply,
 ) -> Result<Answered, (AllocError, Reply)>
-    ensures text { IfOk result (λ answered. answered.text ≡ way_text way asked.link.source (answer_text (Service (reply_response asked reply)))) }
+    ensures text { IfOk result (λ answered. answered.text
+        ≡ way_text way asked.link.source (answer_text (Service (reply_response asked reply)))) }
     ensures outgoing { IfOk result (λ answered. answered.outgoing ≡ outgoing_by asked reply) }
     ensures err { IfErr result (λ failed. failed.1 ≡ reply) }
 {
@@ -73,8 +74,8 @@ pub(crate) fn answer_reply(
     }
 }
 
-/// Returns the frame with the answer to the reply to a GET of one attribute. A long GET that it
-/// begins replaces the last one. If out of memory, nothing has changed.
+// Returns the frame with the answer to the reply to a GET of one attribute. A long GET that it
+// begins replaces the last one. If out of memory, nothing has changed.
 #[tactic(auto, unfolding(crate::specs::Outgoing::reply_response, crate::specs::Outgoing::begun_by), using(crate::proofs::Tasks::value_cut))]
 #[inline(always)]
 pub(crate) fn answer_get(
@@ -113,8 +114,13 @@ fn answer_value(
     value: &Data,
     outgoing: &mut Option<Outgoing>,
 ) -> Result<Octets, AllocError>
-    ensures text { IfOk result (λ text. text ≡ due_text link.source (answer_text (Service (long_response link (answer_cut id (Response.Get id (GetResult.Value value.now)) 4))))) }
-    ensures outgoing { OnOk result (outgoing.new ≡ option_and_then (sent 1) (long_text link (answer_cut id (Response.Get id (GetResult.Value value.now)) 4))) }
+    ensures text { IfOk result (λ text. text
+        ≡ due_text link.source
+        (answer_text (Service
+        (long_response link (answer_cut id (Response.Get id (GetResult.Value value.now)) 4))))) }
+    ensures outgoing { OnOk result (outgoing.new
+        ≡ option_and_then (sent 1)
+        (long_text link (answer_cut id (Response.Get id (GetResult.Value value.now)) 4))) }
     ensures err { OnErr result (outgoing.new ≡ outgoing.old) }
 {
     let text = Way::Framed.write_value(alloc, id, value)?;
@@ -140,8 +146,11 @@ fn answer_values(
     header: usize,
 ) -> Result<Answered, (AllocError, Reply)>
     requires { header ≤ 4 }
-    ensures text { IfOk result (λ answered. answered.text ≡ way_text way link.source (answer_text (Service (long_response link (answer_cut id normal header))))) }
-    ensures outgoing { IfOk result (λ answered. answered.outgoing ≡ option_and_then (sent 1) (long_text link (answer_cut id normal header))) }
+    ensures text { IfOk result (λ answered. answered.text
+        ≡ way_text way link.source
+        (answer_text (Service (long_response link (answer_cut id normal header))))) }
+    ensures outgoing { IfOk result (λ answered. answered.outgoing
+        ≡ option_and_then (sent 1) (long_text link (answer_cut id normal header))) }
     ensures err { IfErr result (λ failed. failed.1 ≡ reply_in normal) }
 {
     match answer_long(alloc, link, way, id, &normal, header) {
@@ -179,7 +188,9 @@ fn answer_result(
     way: Way,
     reply: Reply,
 ) -> Result<Answered, (AllocError, Reply)>
-    ensures text { IfOk result (λ answered. answered.text ≡ way_text way asked.link.source (answer_text (Service (code_response asked.form (reply_code reply))))) }
+    ensures text { IfOk result (λ answered. answered.text
+        ≡ way_text way asked.link.source
+        (answer_text (Service (code_response asked.form (reply_code reply))))) }
     ensures outgoing { IfOk result (λ answered. answered.outgoing ≡ None) }
     ensures err { IfErr result (λ failed. failed.1 ≡ reply) }
 {
@@ -189,7 +200,7 @@ fn answer_result(
     }
 }
 
-/// Returns the result code of a reply; OtherReason for a reply of another kind.
+// Returns the result code of a reply; OtherReason for a reply of another kind.
 pub(crate) fn reply_code(reply: &Reply) -> ResultCode
     ensures { result ≡ reply_code reply.now }
 {
@@ -204,14 +215,15 @@ pub(crate) fn reply_code(reply: &Reply) -> ResultCode
     }
 }
 
-/// Returns the answer that has only a result code.
+// Returns the answer that has only a result code.
 pub(crate) fn answer_code(
     alloc: Global,
     asked: Asked,
     way: Way,
     code: ResultCode,
 ) -> Result<Answered, AllocError>
-    ensures text { IfOk result (λ answered. answered.text ≡ way_text way asked.link.source (answer_text (Service (code_response asked.form code)))) }
+    ensures text { IfOk result (λ answered. answered.text
+        ≡ way_text way asked.link.source (answer_text (Service (code_response asked.form code)))) }
     ensures outgoing { IfOk result (λ answered. answered.outgoing ≡ None) }
 {
     let due = Due::response(asked.link.source, code_response(asked.form, code));
@@ -249,8 +261,11 @@ fn answer_long(
     header: usize,
 ) -> Result<Answered, AllocError>
     requires { header ≤ 4 }
-    ensures text { IfOk result (λ answered. answered.text ≡ way_text way link.source (answer_text (Service (long_response link (answer_cut id normal.now header))))) }
-    ensures outgoing { IfOk result (λ answered. answered.outgoing ≡ option_and_then (sent 1) (long_text link (answer_cut id normal.now header))) }
+    ensures text { IfOk result (λ answered. answered.text
+        ≡ way_text way link.source
+        (answer_text (Service (long_response link (answer_cut id normal.now header))))) }
+    ensures outgoing { IfOk result (λ answered. answered.outgoing
+        ≡ option_and_then (sent 1) (long_text link (answer_cut id normal.now header))) }
 {
     let text = way.write(alloc, normal)?;
     if way.payload(&text).len() <= usize::from(link.limit.bytes()) {
@@ -275,8 +290,10 @@ fn answer_in_blocks(
     raw: &[u8],
 ) -> Result<Answered, AllocError>
     requires { 0 < length raw.now }
-    ensures text { IfOk result (λ answered. answered.text ≡ way_text way link.source (answer_text (Service (response_in_blocks link id raw.now)))) }
-    ensures outgoing { IfOk result (λ answered. answered.outgoing ≡ option_and_then (sent 1) (text_in_blocks link raw.now)) }
+    ensures text { IfOk result (λ answered. answered.text
+        ≡ way_text way link.source (answer_text (Service (response_in_blocks link id raw.now)))) }
+    ensures outgoing { IfOk result (λ answered. answered.outgoing
+        ≡ option_and_then (sent 1) (text_in_blocks link raw.now)) }
 {
     if can_go_in_blocks(link, raw) {
         return begin(alloc, link, way, id, Octets::from_slice(alloc, raw)?);
@@ -308,8 +325,11 @@ fn begin(
 ) -> Result<Answered, AllocError>
     requires some { 0 < length raw }
     requires numbered { length raw ≤ max_blocks * (link.limit - block_header) }
-    ensures text { IfOk result (λ answered. answered.text ≡ way_text way link.source (answer_text (Service (block_response id (next_piece (unsent_by link.limit raw)))))) }
-    ensures outgoing { IfOk result (λ answered. answered.outgoing ≡ sent 1 (unsent_by link.limit raw)) }
+    ensures text { IfOk result (λ answered. answered.text
+        ≡ way_text way link.source
+        (answer_text (Service (block_response id (next_piece (unsent_by link.limit raw)))))) }
+    ensures outgoing { IfOk result (λ answered. answered.outgoing
+        ≡ sent 1 (unsent_by link.limit raw)) }
 {
     let mut outgoing = Outgoing::new(raw, link.limit);
     match give_first(alloc, link, way, id, &mut outgoing) {
@@ -334,7 +354,9 @@ fn give_first(
 ) -> Result<(Octets, bool), AllocError>
     requires open { outgoing.now.is_open ≡ true }
     requires first { outgoing.now.number ≡ 0 }
-    ensures text { IfOk result (λ first. first.0 ≡ way_text way link.source (answer_text (Service (block_response id (next_piece outgoing.old))))) }
+    ensures text { IfOk result (λ first. first.0
+        ≡ way_text way link.source
+        (answer_text (Service (block_response id (next_piece outgoing.old))))) }
     ensures last { IfOk result (λ first. first.1 ≡ (next_piece outgoing.old).last) }
     ensures after { OnOk result (outgoing.new ≡ after_next outgoing.old) }
 {

@@ -110,8 +110,10 @@ impl Session {
         ensures steps { StepsBy self.old result self.new }
         ensures leaves { IfOk result (λ next. Leaves self.old next self.new) }
         // While a reply is awaited, and once the session is over, `next` returns the same again.
-        ensures waits { is_asking self.old ≡ true → (result ≡ Ok Next.Wait) × (self.new ≡ self.old) }
-        ensures again { (end : SessionEnd) → ended self.old ≡ Some end → (result ≡ Ok (Next.End end)) × (self.new ≡ self.old) }
+        ensures waits { is_asking self.old ≡ true → (result ≡ Ok Next.Wait)
+            × (self.new ≡ self.old) }
+        ensures again { (end : SessionEnd) → ended self.old ≡ Some end
+            → (result ≡ Ok (Next.End end)) × (self.new ≡ self.old) }
         // If out of memory, no reply is awaited, and the load is no greater than before.
         ensures silent { OnErr result (is_asking self.new ≡ false) }
         ensures kept { OnErr result (load self.new ≤ load self.old) }

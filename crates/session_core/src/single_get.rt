@@ -10,18 +10,18 @@ use xdlms_apdu::InvokeId;
 use xdlms_apdu::form::NORMAL;
 use xdlms_apdu::tag::GET_REQUEST;
 
-/// The byte of an access selection that is not there.
+// The byte of an access selection that is not there.
 const ABSENT: u8 = 0;
 
-/// A GET of one attribute, of which no part is selected.
+// A GET of one attribute, of which no part is selected.
 #[derive(Clone, Copy)]
 pub(crate) struct SingleGet {
     pub(crate) id: InvokeId,
     pub(crate) attr: AttrRef,
 }
 
-/// The single GET that a payload is, where GET was negotiated. It reads what `read_call` reads, with no memory and no large value on the way; all other payloads
-/// are left to that one.
+// The single GET that a payload is, where GET was negotiated. It reads what `read_call` reads, with
+// no memory and no large value on the way; all other payloads are left to that one.
 #[inline(always)]
 pub(crate) fn read_single_get(conformance: Conformance, payload: &[u8]) -> Option<SingleGet>
     ensures { IfSome result (λ get. IsSingleGet conformance.0 payload.now get.id get.attr) }

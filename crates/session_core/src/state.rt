@@ -24,8 +24,8 @@ use std::alloc::{AllocError, Global};
 use xdlms_apdu::{Block, Exception, InvokeId, Request};
 use xdlms_blocks::JoinBlocks;
 
-/// The state that a session keeps from one frame to the next: the association and the transfers in
-/// blocks.
+// The state that a session keeps from one frame to the next: the association and the transfers in
+// blocks.
 #[derive(Drop)]
 pub(crate) struct State {
     pub(crate) link: Option<Link>,
@@ -38,7 +38,7 @@ impl State {
     ghost use Rattle.session_core.specs.Outcome.{asks, says};
     ghost use Rattle.session_core.specs.Outgoing.{continued, continued_response};
 
-    /// Returns the state of a new session: no association and no transfer.
+    // Returns the state of a new session: no association and no transfer.
     pub(crate) fn new() -> State
         ensures { result ≡ record { link = None; incoming = None; outgoing = None } }
     {
@@ -49,7 +49,7 @@ impl State {
         }
     }
 
-    /// Handles a frame for the server. If out of memory, nothing has changed.
+    // Handles a frame for the server. If out of memory, nothing has changed.
     #[tactic(auto, unfolding(crate::specs::Rules::turn_of, crate::specs::Rules::link_after, crate::specs::Rules::incoming_after, crate::specs::Rules::outgoing_after))]
     pub(crate) fn hear(
         &mut self,
@@ -58,8 +58,10 @@ impl State {
         src: u16,
         payload: &[u8],
     ) -> Result<Step, AllocError>
-        ensures outcome { IfOk result (λ step. step_outcome step ≡ outcome_at password.now self.old (heard_frame src payload.now)) }
-        ensures after { OnOk result (self.new ≡ state_after password.now self.old (heard_frame src payload.now) None) }
+        ensures outcome { IfOk result (λ step. step_outcome step
+            ≡ outcome_at password.now self.old (heard_frame src payload.now)) }
+        ensures after { OnOk result (self.new
+            ≡ state_after password.now self.old (heard_frame src payload.now) None) }
         ensures err { OnErr result (self.new ≡ self.old) }
     {
         if has_tag(AARQ, payload) {
@@ -74,12 +76,13 @@ impl State {
         }
     }
 
-    /// Handles a frame for the server that is a GET of one attribute from the client of the
-    /// association. Returns the attribute, and what its answer needs to know. For any other frame
-    /// returns `None` and changes nothing.
+    // Handles a frame for the server that is a GET of one attribute from the client of the
+    // association. Returns the attribute, and what its answer needs to know. For any other frame
+    // returns `None` and changes nothing.
     #[inline(always)]
     pub(crate) fn hear_get(&mut self, src: u16, payload: &[u8]) -> Option<(Asked, AttrRef)>
-        ensures heard { IfSome result (λ heard. HearsGet self.old (heard_frame src payload.now) heard.0 heard.1 self.new) }
+        ensures heard { IfSome result
+            (λ heard. HearsGet self.old (heard_frame src payload.now) heard.0 heard.1 self.new) }
         ensures none { IfNone result (self.new ≡ self.old) }
     {
         let link = self.link?;
@@ -104,8 +107,14 @@ impl State {
         src: u16,
         payload: &[u8],
     ) -> Result<Step, AllocError>
-        ensures outcome { IfOk result (λ step. step_outcome step ≡ says src (opening_answer password.now src (aarq_of payload.now))) }
-        ensures after { OnOk result (self.new ≡ record { link = opened_by password.now (heard_frame src payload.now); incoming = None; outgoing = None }) }
+        ensures outcome { IfOk result (λ step. step_outcome step
+            ≡ says src (opening_answer password.now src (aarq_of payload.now))) }
+        ensures after { OnOk result (self.new
+            ≡ record {
+              link = opened_by password.now (heard_frame src payload.now);
+              incoming = None;
+              outgoing = None;
+            }) }
         ensures err { OnErr result (self.new ≡ self.old) }
     {
         let (link, due) = read_opening(alloc, password, src, payload)?;
@@ -117,15 +126,18 @@ impl State {
         Ok(Step::Say(due))
     }
 
-    /// Handles a request from the client of the association.
+    // Handles a request from the client of the association.
     pub(crate) fn call(
         &mut self,
         alloc: Global,
         link: Link,
         payload: &[u8],
     ) -> Result<Step, AllocError>
-        ensures outcome { IfOk result (λ step. step_outcome step ≡ resolved self.old.outgoing (call_turn link self.old.incoming (call_of link.conformance.0 payload.now))) }
-        ensures after { OnOk result (self.new ≡ state_by_call link (call_of link.conformance.0 payload.now) self.old) }
+        ensures outcome { IfOk result (λ step. step_outcome step
+            ≡ resolved self.old.outgoing
+            (call_turn link self.old.incoming (call_of link.conformance.0 payload.now))) }
+        ensures after { OnOk result (self.new
+            ≡ state_by_call link (call_of link.conformance.0 payload.now) self.old) }
         ensures err { OnErr result (self.new ≡ self.old) }
     {
         match read_call(alloc, link.conformance, payload)? {
@@ -144,8 +156,10 @@ impl State {
 
     // Handles a request for a service.
     fn serve(&mut self, alloc: Global, link: Link, request: Request) -> Result<Step, AllocError>
-        ensures outcome { IfOk result (λ step. step_outcome step ≡ resolved self.old.outgoing (request_turn link self.old.incoming request)) }
-        ensures after { OnOk result (self.new ≡ state_by_call link (Call.Service request) self.old) }
+        ensures outcome { IfOk result (λ step. step_outcome step
+            ≡ resolved self.old.outgoing (request_turn link self.old.incoming request)) }
+        ensures after { OnOk result (self.new
+            ≡ state_by_call link (Call.Service request) self.old) }
         ensures err { OnErr result (self.new ≡ self.old) }
     {
         let level = link.level;
@@ -190,7 +204,8 @@ impl State {
     // Returns the step that asks the meter an event. This ends the transfers.
     fn ask(&mut self, event: Event, link: Link, form: ReplyForm) -> Step
         ensures step { step_outcome result ≡ asks event (record { link = link; form = form }) }
-        ensures after { self.new ≡ record { link = self.old.link; incoming = None; outgoing = None } }
+        ensures after { self.new
+            ≡ record { link = self.old.link; incoming = None; outgoing = None } }
     {
         self.incoming = None;
         self.outgoing = None;
@@ -205,8 +220,14 @@ impl State {
         id: InvokeId,
         number: u32,
     ) -> Result<Step, AllocError>
-        ensures outcome { IfOk result (λ step. step_outcome step ≡ says link.source (Service (continued_response id number self.old.outgoing))) }
-        ensures after { OnOk result (self.new ≡ record { link = self.old.link; incoming = None; outgoing = continued number self.old.outgoing }) }
+        ensures outcome { IfOk result (λ step. step_outcome step
+            ≡ says link.source (Service (continued_response id number self.old.outgoing))) }
+        ensures after { OnOk result (self.new
+            ≡ record {
+              link = self.old.link;
+              incoming = None;
+              outgoing = continued number self.old.outgoing;
+            }) }
         ensures err { OnErr result (self.new ≡ self.old) }
     {
         let due = continue_by(&mut self.outgoing, alloc, link.source, id, number)?;
@@ -223,8 +244,14 @@ impl State {
         purpose: Purpose,
         block: Block,
     ) -> Result<Step, AllocError>
-        ensures outcome { IfOk result (λ step. step_outcome step ≡ block_outcome_of link id purpose block no_blocks) }
-        ensures after { OnOk result (self.new ≡ record { link = self.old.link; incoming = block_after purpose block no_blocks; outgoing = None }) }
+        ensures outcome { IfOk result (λ step. step_outcome step
+            ≡ block_outcome_of link id purpose block no_blocks) }
+        ensures after { OnOk result (self.new
+            ≡ record {
+              link = self.old.link;
+              incoming = block_after purpose block no_blocks;
+              outgoing = None;
+            }) }
         ensures err { OnErr result (self.new ≡ self.old) }
     {
         let mut incoming = Incoming {
@@ -259,8 +286,14 @@ impl State {
         service: LongService,
         block: Block,
     ) -> Result<Step, AllocError>
-        ensures outcome { IfOk result (λ step. step_outcome step ≡ later_outcome link service id block (transfer_of service self.old.incoming)) }
-        ensures after { OnOk result (self.new ≡ record { link = self.old.link; incoming = later_after block (transfer_of service self.old.incoming); outgoing = None }) }
+        ensures outcome { IfOk result (λ step. step_outcome step
+            ≡ later_outcome link service id block (transfer_of service self.old.incoming)) }
+        ensures after { OnOk result (self.new
+            ≡ record {
+              link = self.old.link;
+              incoming = later_after block (transfer_of service self.old.incoming);
+              outgoing = None;
+            }) }
         ensures err { OnErr result (self.new ≡ self.old) }
     {
         let added = add_to(&mut self.incoming, link, id, service, &block);
@@ -302,9 +335,11 @@ fn read_opening(
     src: u16,
     payload: &[u8],
 ) -> Result<(Option<Link>, Due), AllocError>
-    ensures link { IfOk result (λ opening. opening.0 ≡ opened_by password.now (heard_frame src payload.now)) }
+    ensures link { IfOk result (λ opening. opening.0
+        ≡ opened_by password.now (heard_frame src payload.now)) }
     ensures to { IfOk result (λ opening. opening.1.to ≡ src) }
-    ensures answer { IfOk result (λ opening. opening.1.answer ≡ opening_answer password.now src (aarq_of payload.now)) }
+    ensures answer { IfOk result (λ opening. opening.1.answer
+        ≡ opening_answer password.now src (aarq_of payload.now)) }
 {
     match read_aarq(alloc, payload) {
         Ok(aarq) => {

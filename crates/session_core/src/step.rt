@@ -4,14 +4,14 @@ use crate::incoming::Added;
 use crate::joined::Joined;
 use relay_events::Event;
 
-/// The outcome of a frame.
+// The outcome of a frame.
 #[derive(Drop)]
 pub(crate) enum Step {
-    /// An event, whose reply is then awaited.
+    // An event, whose reply is then awaited.
     Ask(Event, Asked),
-    /// An answer, which must be sent.
+    // An answer, which must be sent.
     Say(Due),
-    /// Joined bytes, which must be decoded.
+    // Joined bytes, which must be decoded.
     Join(Joined),
 }
 

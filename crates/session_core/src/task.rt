@@ -4,19 +4,19 @@ use crate::end::SessionEnd;
 use crate::joined::Joined;
 use cosem_axdr::Octets;
 
-/// What a session does next.
+// What a session does next.
 #[derive(Drop)]
 pub(crate) enum Task {
-    /// Takes the next frame.
+    // Takes the next frame.
     Listen,
-    /// Decodes the value that arrived in blocks.
+    // Decodes the value that arrived in blocks.
     Read(Joined),
-    /// Awaits the reply to an event.
+    // Awaits the reply to an event.
     Await(Asked),
-    /// Writes an answer.
+    // Writes an answer.
     Say(Due),
-    /// Returns a frame to its caller.
+    // Returns a frame to its caller.
     Send(Octets),
-    /// Nothing: the session is over.
+    // Nothing: the session is over.
     Over(SessionEnd),
 }

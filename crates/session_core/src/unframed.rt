@@ -25,7 +25,7 @@ use std::alloc::{AllocError, Global};
 use xdlms_apdu::Exception;
 use xdlms_apdu::tag::{ACTION_REQUEST, GET_REQUEST, SET_REQUEST};
 
-/// The wrapper port of the management client.
+// The wrapper port of the management client.
 const MANAGEMENT_PORT: u16 = 1;
 
 /// The outcome of a request without a frame.
@@ -63,7 +63,8 @@ pub fn ask_unframed(alloc: Global, payload: &[u8]) -> Result<Unframed, AllocErro
 
 // Handles a request that no other precedes.
 fn call_alone(alloc: Global, link: Link, payload: &[u8]) -> Result<Step, AllocError>
-    ensures { IfOk result (λ step. step_outcome step ≡ resolved None (call_turn link None (call_of link.conformance.0 payload.now))) }
+    ensures { IfOk result (λ step. step_outcome step
+        ≡ resolved None (call_turn link None (call_of link.conformance.0 payload.now))) }
 {
     let mut state = State::new();
     let step = state.call(alloc, link, payload);

@@ -21,7 +21,8 @@ reply_row (Value value) = codes "value" ∷ data_word value ∷ []
 reply_row (Code code) = codes "code" ∷ decimal (code_of code) ∷ []
 reply_row (Values items) = codes "values" ∷ decimal (length items) ∷ all_words result_words items
 reply_row (Sampled over under) = codes "sampled" ∷ decimal over ∷ decimal under ∷ []
-reply_row (SampledBoth over under export_over export_under) = codes "sampled" ∷ decimal over ∷ decimal under ∷ decimal export_over ∷ decimal export_under ∷ []
+reply_row (SampledBoth over under export_over export_under) =
+    codes "sampled" ∷ decimal over ∷ decimal under ∷ decimal export_over ∷ decimal export_under ∷ []
 reply_row (Ran due) = codes "ran" ∷ decimal due ∷ []
 reply_row (Stale last) = codes "stale" ∷ decimal last ∷ []
 
@@ -33,4 +34,5 @@ supply_text false = codes "off"
 -- the number of an event, the reply to it, and the switch after it
 unfoldable pub line_text : ℕ → Line → List ℕ
 line_text number line =
-    decimal number ++ codes ":" ++ blanked (reply_row line.reply) ++ codes "; state " ++ decimal (state_number line.state) ++ codes "; supply " ++ supply_text line.output
+    decimal number ++ codes ":" ++ blanked (reply_row line.reply) ++ codes "; state "
+    ++ decimal (state_number line.state) ++ codes "; supply " ++ supply_text line.output

@@ -20,7 +20,8 @@ pub record IsNamed (class : ℕ) (name : List ℕ) (number : ℕ) : Type 0 where
 -- each of the attributes
 abbrev pub AreNamed : List AttributeSelection → Type 0
 AreNamed [] = Unit {0}
-AreNamed (item ∷ items) = IsNamed item.attr.class.0 item.attr.name.0 item.attr.number × AreNamed items
+AreNamed (item ∷ items) = IsNamed item.attr.class.0 item.attr.name.0 item.attr.number
+    × AreNamed items
 
 -- samples of 32 bits
 abbrev pub AreSamples : List ℕ → Type 0
@@ -36,10 +37,13 @@ AreExports imports (Some exports) = (length imports ≡ length exports) × AreSa
 abbrev pub IsTraced : Event → Type 0
 IsTraced (Get level attr selected) = IsNamed attr.class.0 attr.name.0 attr.number
 IsTraced (GetList level items) = (length items ≤ 102) × AreNamed items
-IsTraced (Set level attr selected value) = IsNamed attr.class.0 attr.name.0 attr.number × IsHeld value
-IsTraced (Execute level method parameter) = IsNamed method.class.0 method.name.0 method.number × IfSome parameter IsHeld
+IsTraced (Set level attr selected value) = IsNamed attr.class.0 attr.name.0 attr.number
+    × IsHeld value
+IsTraced (Execute level method parameter) = IsNamed method.class.0 method.name.0 method.number
+    × IfSome parameter IsHeld
 IsTraced Button = Unit {0}
-IsTraced (Samples block) = (length block.import ≤ 256) × AreSamples block.import × AreExports block.import block.export
+IsTraced (Samples block) = (length block.import ≤ 256) × AreSamples block.import
+    × AreExports block.import block.export
 IsTraced (Moment now) = now ≤ 4294967295
 
 -- an event within the limits of a line: a list has at most 102 attributes, and a value or a

@@ -24,10 +24,12 @@ level_number Public = 16
 
 -- class, name and number, before other words
 abbrev pub attribute_words : AttrRef → Row → Row
-attribute_words attr words = decimal attr.class.0 ∷ encode_upper attr.name.0 ∷ decimal attr.number ∷ words
+attribute_words attr words =
+    decimal attr.class.0 ∷ encode_upper attr.name.0 ∷ decimal attr.number ∷ words
 
 abbrev pub method_words : MethodRef → Row → Row
-method_words method words = decimal method.class.0 ∷ encode_upper method.name.0 ∷ decimal method.number ∷ words
+method_words method words =
+    decimal method.class.0 ∷ encode_upper method.name.0 ∷ decimal method.number ∷ words
 
 -- an attribute, and whether a part of it is requested, before other words
 abbrev pub selection_words : AttributeSelection → Row → Row
@@ -39,7 +41,8 @@ parameter_word (Some value) = data_word value
 
 -- samples in pairs
 unfoldable pub pairs_words : List ℕ → List ℕ → Row
-pairs_words (import ∷ imports) (export ∷ exports) = decimal import ∷ decimal export ∷ pairs_words imports exports
+pairs_words (import ∷ imports) (export ∷ exports) =
+    decimal import ∷ decimal export ∷ pairs_words imports exports
 pairs_words _ _ = []
 
 -- the kind of a block of samples: import samples alone, or pairs
@@ -63,10 +66,15 @@ kind_of (Moment now) = OfMoment
 
 -- the words after the first one
 unfoldable pub event_words : Event → Row
-event_words (Get level attr selected) = decimal (level_number level) ∷ attribute_words attr (decimal (flag_number selected) ∷ [])
-event_words (GetList level items) = decimal (level_number level) ∷ decimal (length items) ∷ all_words selection_words items
-event_words (Set level attr selected value) = decimal (level_number level) ∷ attribute_words attr (decimal (flag_number selected) ∷ data_word value ∷ [])
-event_words (Execute level method parameter) = decimal (level_number level) ∷ method_words method (parameter_word parameter ∷ [])
+event_words (Get level attr selected) =
+    decimal (level_number level) ∷ attribute_words attr (decimal (flag_number selected) ∷ [])
+event_words (GetList level items) =
+    decimal (level_number level) ∷ decimal (length items) ∷ all_words selection_words items
+event_words (Set level attr selected value) =
+    decimal (level_number level)
+    ∷ attribute_words attr (decimal (flag_number selected) ∷ data_word value ∷ [])
+event_words (Execute level method parameter) =
+    decimal (level_number level) ∷ method_words method (parameter_word parameter ∷ [])
 event_words Button = []
 event_words (Samples block) = samples_words block.import block.export
 event_words (Moment now) = decimal now ∷ []

@@ -13,7 +13,7 @@ use trace_words::{RowFault, TraceFault, TraceLines, labelled, number_in, write_n
 /// The maximum number of events of a trace.
 pub const MAX_EVENTS: u32 = 65_536;
 
-/// Reads the words of the line of the number of events.
+// Reads the words of the line of the number of events.
 fn event_count(words: &mut Words) -> Result<u32, RowFault>
     ensures count { Gives Memory (λ count. count) result (events_from words.old) }
     ensures few { IfOk result (λ count. count ≤ 65536) }
@@ -33,7 +33,8 @@ pub fn read_event_count(lines: &mut TraceLines) -> Result<u32, TraceFault>
 /// Appends the line of the number of events, with the byte 0A that ends it. On an error a part of
 /// it may have been appended.
 pub fn write_event_count(out: &mut Vec<u8>, count: u64) -> Result<(), AllocError>
-    ensures { OnOk result (out.new.items ≡ out.old.items ++ rows_text (number_row (codes "events") count ∷ [])) }
+    ensures { OnOk result (out.new.items ≡ out.old.items
+        ++ rows_text (number_row (codes "events") count ∷ [])) }
 {
     write_number_line(out, b"events", count)
 }

@@ -14,7 +14,7 @@ use std::alloc::{AllocError, Global};
 use trace_text::add_number;
 use trace_words::{add_data, add_flag};
 
-/// Returns the kind of the line of a block of samples: `samples` or `pairs`.
+// Returns the kind of the line of a block of samples: `samples` or `pairs`.
 fn samples_kind(block: &Block) -> Verb
     ensures { result ≡ samples_kind block.now.export }
 {
@@ -24,7 +24,7 @@ fn samples_kind(block: &Block) -> Verb
     }
 }
 
-/// Returns the kind of an event's line.
+// Returns the kind of an event's line.
 fn kind_of(event: &Event) -> Verb
     ensures { result ≡ kind_of event.now }
 {
@@ -39,9 +39,10 @@ fn kind_of(event: &Event) -> Verb
     }
 }
 
-/// Appends the samples of a block.
+// Appends the samples of a block.
 fn add_block(out: &mut Vec<u8>, block: &Block) -> Result<(), AllocError>
-    ensures { OnOk result (out.new.items ≡ out.old.items ++ blanked (samples_words block.now.import block.now.export)) }
+    ensures { OnOk result (out.new.items ≡ out.old.items
+        ++ blanked (samples_words block.now.import block.now.export)) }
 {
     match block.export() {
         Some(exports) => add_pairs(out, block.values(), exports),
@@ -49,8 +50,8 @@ fn add_block(out: &mut Vec<u8>, block: &Block) -> Result<(), AllocError>
     }
 }
 
-/// Appends the client's port, the attribute, and whether a part of it is requested (selective
-/// access).
+// Appends the client's port, the attribute, and whether a part of it is requested (selective
+// access).
 fn add_asked(
     alloc: Global,
     out: &mut Vec<u8>,
@@ -59,14 +60,15 @@ fn add_asked(
     selected: bool,
 ) -> Result<(), AllocError>
     ensures { OnOk result (out.new.items ≡ out.old.items
-        ++ blanked (decimal (level_number level) ∷ attribute_words attr.now (decimal (flag_number selected) ∷ []))) }
+        ++ blanked (decimal (level_number level)
+        ∷ attribute_words attr.now (decimal (flag_number selected) ∷ []))) }
 {
     add_level(out, level)?;
     add_attribute(alloc, out, attr)?;
     add_flag(out, selected)
 }
 
-/// Appends the words after the first one.
+// Appends the words after the first one.
 #[tactic(auto, unfolding(crate::specs::Writing::event_words))]
 fn add_words(alloc: Global, out: &mut Vec<u8>, event: &Event) -> Result<(), AllocError>
     ensures { OnOk result (out.new.items ≡ out.old.items ++ blanked (event_words event.now)) }

@@ -20,7 +20,7 @@ use std::alloc::{AllocError, Global};
 use trace_text::Words;
 use trace_words::{RowFault, Version, data_in, ended, last_word, next_word, number_in};
 
-/// Reads the next word as the port of a client.
+// Reads the next word as the port of a client.
 fn next_level(words: &mut Words) -> Result<Level, RowFault>
     ensures { Reads (λ level. level) result words.new (next_as level_in words.old) }
 {
@@ -72,7 +72,7 @@ fn set(alloc: Global, words: &mut Words) -> Result<Event, RowFault>
     })
 }
 
-/// Reads the parameter of a method, or `-` for none.
+// Reads the parameter of a method, or `-` for none.
 fn parameter(alloc: Global, word: &[u8]) -> Result<Option<Data>, RowFault>
     ensures { Gives Memory (λ parameter. parameter) result (parameter_in word.now) }
 {
@@ -107,14 +107,14 @@ fn samples(alloc: Global, words: &mut Words) -> Result<Event, RowFault>
     }
 }
 
-/// Returns the import values of pairs.
+// Returns the import values of pairs.
 fn import_values(alloc: Global, pairs: &[(u32, u32)]) -> Result<Vec<u32>, AllocError>
     ensures { IfOk result (λ values. values.items ≡ map (λ pair. pair.0) pairs.now) }
 {
     pairs.iter().map(|pair| pair.0).collect(alloc)
 }
 
-/// Returns the export values of pairs.
+// Returns the export values of pairs.
 fn export_values(alloc: Global, pairs: &[(u32, u32)]) -> Result<Vec<u32>, AllocError>
     ensures { IfOk result (λ values. values.items ≡ map (λ pair. pair.1) pairs.now) }
 {
@@ -141,7 +141,7 @@ fn moment(words: &mut Words) -> Result<Event, RowFault>
     Ok(Event::Moment(number_in(last_word(words)?, u32::MAX)?))
 }
 
-/// Reads an event of this kind from the words after the first one.
+// Reads an event of this kind from the words after the first one.
 #[tactic(auto, unfolding(crate::specs::Events::event_from))]
 fn event_from(
     alloc: Global,
@@ -169,7 +169,7 @@ fn event_from(
     }
 }
 
-/// Reads the event of a line of words.
+// Reads the event of a line of words.
 #[tactic(auto, unfolding(crate::specs::Events::event_of))]
 pub(crate) fn event(alloc: Global, version: Version, words: &mut Words) -> Result<Event, RowFault>
     ensures { Gives Memory (λ event. event) result (event_of version words.old) }

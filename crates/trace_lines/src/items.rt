@@ -12,7 +12,7 @@ use trace_words::{RowFault, flag_in, next_long, next_word, number_in};
 /// The maximum number of items of a GET with list.
 pub const MAX_ITEMS: usize = 102;
 
-/// Reads an attribute: class (the word given), name, number.
+// Reads an attribute: class (the word given), name, number.
 fn attribute_from(alloc: Global, word: &[u8], words: &mut Words) -> Result<AttrRef, RowFault>
     ensures { Reads (λ attr. attr) result words.new (attribute_from word.now words.old) }
 {
@@ -26,7 +26,7 @@ fn attribute_from(alloc: Global, word: &[u8], words: &mut Words) -> Result<AttrR
     })
 }
 
-/// Reads a method: class, name, number.
+// Reads a method: class, name, number.
 pub(crate) fn next_method(alloc: Global, words: &mut Words) -> Result<MethodRef, RowFault>
     ensures { Reads (λ method. method) result words.new (method_at words.old) }
 {
@@ -40,8 +40,8 @@ pub(crate) fn next_method(alloc: Global, words: &mut Words) -> Result<MethodRef,
     })
 }
 
-/// Reads an attribute, its class in the word given, and whether a part of it is requested
-/// (selective access).
+// Reads an attribute, its class in the word given, and whether a part of it is requested
+// (selective access).
 #[tactic(auto, unfolding(crate::specs::Reading::selection_from))]
 fn selection_from(
     alloc: Global,
@@ -55,8 +55,8 @@ fn selection_from(
     Ok(AttributeSelection { attr, selected })
 }
 
-/// Reads an attribute, its class in the next word, and whether a part of it is requested (selective
-/// access).
+// Reads an attribute, its class in the next word, and whether a part of it is requested (selective
+// access).
 pub(crate) fn next_selection(
     alloc: Global,
     words: &mut Words,
@@ -67,12 +67,13 @@ pub(crate) fn next_selection(
     selection_from(alloc, word, words)
 }
 
-/// Reads attributes up to the end of the line, at most 102.
+// Reads attributes up to the end of the line, at most 102.
 pub(crate) fn selections(
     alloc: Global,
     words: &mut Words,
 ) -> Result<Vec<AttributeSelection>, RowFault>
-    ensures { Gives Memory (λ items. items.items) result (all_at selection_from MAX_ITEMS words.old) }
+    ensures { Gives Memory (λ items. items.items) result
+        (all_at selection_from MAX_ITEMS words.old) }
 {
     let mut items = Vec::new(alloc);
     'items: while let Some(word) = words.next() {

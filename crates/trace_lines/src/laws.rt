@@ -18,7 +18,8 @@ ghost use Rattle.trace_words.specs.declared.version.Version.TheVariants.{Two};
 #[tactic(auto, using(crate::proofs::EventLaws::event_again, crate::proofs::EventRows::line_again, crate::proofs::EventRows::event_is_row))]
 pub fn written_event_is_read()
     ensures again { (event : Event) → IsTraced event → event_of Two (event_row event) ≡ Ok event }
-    ensures line { (event : Event) → IsTraced event → event_of Two (words_of (line_of (event_row event))) ≡ Ok event }
+    ensures line { (event : Event) → IsTraced event
+        → event_of Two (words_of (line_of (event_row event))) ≡ Ok event }
     ensures row { (event : Event) → IsTraced event → IsTrue (is_row (event_row event)) }
 {}
 
@@ -26,21 +27,30 @@ pub fn written_event_is_read()
 /// one line only, in one spelling.
 #[tactic(auto, using(crate::proofs::EventsBack::event_back, crate::proofs::EventsBack::event_line_back))]
 pub fn read_event_is_written()
-    ensures row { (version : Version) (row : Row) (event : Event) → event_of version row ≡ Ok event → event_row event ≡ row }
-    ensures line { (version : Version) (line : List ℕ) (event : Event) → event_of version (words_of line) ≡ Ok event → line_of (event_row event) ≡ line }
+    ensures row { (version : Version) (row : Row) (event : Event) → event_of version row ≡ Ok event
+        → event_row event ≡ row }
+    ensures line { (version : Version) (line : List ℕ) (event : Event)
+        → event_of version (words_of line) ≡ Ok event → line_of (event_row event) ≡ line }
 {}
 
 /// The line that a number of events is read from is the line that is written for it.
 #[tactic(auto, using(crate::proofs::EventsBack::event_count_back))]
 pub fn read_event_count_is_written()
-    ensures { (row : Row) (count : ℕ) → events_from row ≡ Ok count → number_row (codes "events") count ≡ row }
+    ensures { (row : Row) (count : ℕ) → events_from row ≡ Ok count
+        → number_row (codes "events") count ≡ row }
 {}
 
 /// A number of events is read back from the line that is written for it, which is a line of words.
 #[tactic(auto, using(crate::proofs::EventLaws::event_count_again, crate::proofs::EventRows::event_count_is_row))]
 pub fn written_event_count_is_read()
     ensures again { (count number : ℕ) (rows : List Row) (unended : List ℕ) → count ≤ 65536
-        → line_as events_from (record { number = number; rows = number_row (codes "events") count ∷ rows; unended = unended })
+        → line_as events_from
+        (record {
+          number = number;
+          rows = number_row (codes "events") count ∷ rows;
+          unended = unended;
+        })
         ≡ Ok (count, record { number = suc number; rows = rows; unended = unended }) }
-    ensures row { (count : ℕ) → count ≤ 65536 → IsTrue (is_row (number_row (codes "events") count)) }
+    ensures row { (count : ℕ) → count ≤ 65536
+        → IsTrue (is_row (number_row (codes "events") count)) }
 {}

@@ -87,7 +87,8 @@ fn are_samples(_values: &[u32])
 {}
 
 fn block_is_traced(block: &Block)
-    ensures { (length block.now.import ≤ 256) × AreSamples block.now.import × AreExports block.now.import block.now.export }
+    ensures { (length block.now.import ≤ 256) × AreSamples block.now.import
+        × AreExports block.now.import block.now.export }
 {
     are_samples(block.values());
     match block.export() {

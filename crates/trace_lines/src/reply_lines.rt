@@ -12,30 +12,33 @@ use std::alloc::{AllocError, Global};
 use trace_text::{add_number, add_word, write_number};
 use trace_words::add_data;
 
-/// Appends a word and a number.
+// Appends a word and a number.
 fn add_named(out: &mut Vec<u8>, name: &[u8], number: u64) -> Result<(), AllocError>
-    ensures { OnOk result (out.new.items ≡ out.old.items ++ blanked (name.now ∷ decimal number ∷ [])) }
+    ensures { OnOk result (out.new.items ≡ out.old.items
+        ++ blanked (name.now ∷ decimal number ∷ [])) }
 {
     add_word(out, name)?;
     add_number(out, number)
 }
 
-/// Appends the code of a result.
+// Appends the code of a result.
 fn add_code(out: &mut Vec<u8>, code: ResultCode) -> Result<(), AllocError>
-    ensures { OnOk result (out.new.items ≡ out.old.items ++ blanked (codes "code" ∷ decimal (code_of code) ∷ [])) }
+    ensures { OnOk result (out.new.items ≡ out.old.items
+        ++ blanked (codes "code" ∷ decimal (code_of code) ∷ [])) }
 {
     add_named(out, b"code", u64::from(code.code()))
 }
 
-/// Appends the encoding of a value.
+// Appends the encoding of a value.
 fn add_value(alloc: Global, out: &mut Vec<u8>, value: &Data) -> Result<(), AllocError>
-    ensures { OnOk result (out.new.items ≡ out.old.items ++ blanked (codes "value" ∷ data_word value.now ∷ [])) }
+    ensures { OnOk result (out.new.items ≡ out.old.items
+        ++ blanked (codes "value" ∷ data_word value.now ∷ [])) }
 {
     add_word(out, b"value")?;
     add_data(alloc, out, value)
 }
 
-/// Appends the result of reading one attribute of a list.
+// Appends the result of reading one attribute of a list.
 fn add_result(alloc: Global, out: &mut Vec<u8>, item: &GetResult) -> Result<(), AllocError>
     ensures { OnOk result (out.new.items ≡ out.old.items ++ blanked (result_words item.now [])) }
 {
@@ -45,9 +48,10 @@ fn add_result(alloc: Global, out: &mut Vec<u8>, item: &GetResult) -> Result<(), 
     }
 }
 
-/// Appends the results of reading the attributes of a list.
+// Appends the results of reading the attributes of a list.
 fn add_results(alloc: Global, out: &mut Vec<u8>, items: &[GetResult]) -> Result<(), AllocError>
-    ensures { OnOk result (out.new.items ≡ out.old.items ++ blanked (all_words result_words items.now)) }
+    ensures { OnOk result (out.new.items ≡ out.old.items
+        ++ blanked (all_words result_words items.now)) }
 {
     for item in items {
         add_result(alloc, out, item)?;
@@ -55,16 +59,17 @@ fn add_results(alloc: Global, out: &mut Vec<u8>, items: &[GetResult]) -> Result<
     Ok(())
 }
 
-/// Appends how many times each side of the import limiter has fired.
+// Appends how many times each side of the import limiter has fired.
 fn add_sampled(out: &mut Vec<u8>, over: u64, under: u64) -> Result<(), AllocError>
-    ensures { OnOk result (out.new.items ≡ out.old.items ++ blanked (codes "sampled" ∷ decimal over ∷ decimal under ∷ [])) }
+    ensures { OnOk result (out.new.items ≡ out.old.items
+        ++ blanked (codes "sampled" ∷ decimal over ∷ decimal under ∷ [])) }
 {
     add_named(out, b"sampled", over)?;
     add_number(out, under)
 }
 
-/// Appends how many times each side of the import limiter, and then of the export limiter, has
-/// fired.
+// Appends how many times each side of the import limiter, and then of the export limiter, has
+// fired.
 fn add_sampled_both(
     out: &mut Vec<u8>,
     over: u64,
@@ -72,14 +77,16 @@ fn add_sampled_both(
     export_over: u64,
     export_under: u64,
 ) -> Result<(), AllocError>
-    ensures { OnOk result (out.new.items ≡ out.old.items ++ blanked (codes "sampled" ∷ decimal over ∷ decimal under ∷ decimal export_over ∷ decimal export_under ∷ [])) }
+    ensures { OnOk result (out.new.items ≡ out.old.items
+        ++ blanked (codes "sampled" ∷ decimal over ∷ decimal under ∷ decimal export_over
+        ∷ decimal export_under ∷ [])) }
 {
     add_sampled(out, over, under)?;
     add_number(out, export_over)?;
     add_number(out, export_under)
 }
 
-/// Appends a reply.
+// Appends a reply.
 #[tactic(auto, unfolding(crate::specs::Replies::reply_row))]
 fn add_reply(alloc: Global, out: &mut Vec<u8>, reply: &Reply) -> Result<(), AllocError>
     ensures { OnOk result (out.new.items ≡ out.old.items ++ blanked (reply_row reply.now)) }
@@ -109,7 +116,7 @@ fn add_reply(alloc: Global, out: &mut Vec<u8>, reply: &Reply) -> Result<(), Allo
     }
 }
 
-/// Returns the number of a control state.
+// Returns the number of a control state.
 fn state_number(state: ControlState) -> u64
     ensures { result ≡ state_number state }
 {
@@ -120,11 +127,11 @@ fn state_number(state: ControlState) -> u64
     }
 }
 
-/// The initial capacity of a line, in bytes. It suffices for most lines; a longer line is
-/// reallocated.
+// The initial capacity of a line, in bytes. It suffices for most lines; a longer line is
+// reallocated.
 const USUAL_BYTES: usize = 64;
 
-/// Returns the text of the line of a reply.
+// Returns the text of the line of a reply.
 #[tactic(auto, unfolding(crate::specs::Replies::line_text))]
 fn line_text(alloc: Global, number: u64, line: &Line) -> Result<Vec<u8>, AllocError>
     ensures { IfOk result (λ text. text.items ≡ line_text number line.now) }

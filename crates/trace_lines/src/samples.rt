@@ -11,14 +11,14 @@ use std::alloc::Global;
 use trace_text::Words;
 use trace_words::{RowFault, next_word, number_in};
 
-/// Reads a sample, in watts.
+// Reads a sample, in watts.
 fn value(word: &[u8]) -> Result<u32, RowFault>
     ensures { result ≡ value_in word.now }
 {
     number_in(word, u32::MAX)
 }
 
-/// Reads a pair of samples: the import value (the word given), then the export value.
+// Reads a pair of samples: the import value (the word given), then the export value.
 fn pair_from(word: &[u8], words: &mut Words) -> Result<(u32, u32), RowFault>
     ensures { Reads (λ pair. pair) result words.new (pair_from word.now words.old) }
 {
@@ -27,9 +27,10 @@ fn pair_from(word: &[u8], words: &mut Words) -> Result<(u32, u32), RowFault>
     Ok((import, export))
 }
 
-/// Reads samples up to the end of the line, at most 256.
+// Reads samples up to the end of the line, at most 256.
 pub(crate) fn values(alloc: Global, words: &mut Words) -> Result<Vec<u32>, RowFault>
-    ensures { Gives Memory (λ values. values.items) result (all_at value_from MAX_VALUES words.old) }
+    ensures { Gives Memory (λ values. values.items) result
+        (all_at value_from MAX_VALUES words.old) }
 {
     let mut values = Vec::with_capacity(alloc, MAX_VALUES)?;
     'items: while let Some(word) = words.next() {
@@ -41,7 +42,7 @@ pub(crate) fn values(alloc: Global, words: &mut Words) -> Result<Vec<u32>, RowFa
     Ok(values)
 }
 
-/// Reads pairs of samples up to the end of the line, at most 256.
+// Reads pairs of samples up to the end of the line, at most 256.
 pub(crate) fn pairs(alloc: Global, words: &mut Words) -> Result<Vec<(u32, u32)>, RowFault>
     ensures { Gives Memory (λ pairs. pairs.items) result (all_at pair_from MAX_VALUES words.old) }
 {

@@ -3,29 +3,29 @@ ghost use Rattle.trace_lines.specs.Verbs.{is_word_of, verb_in, verb_word};
 
 use trace_words::RowFault;
 
-/// The first word of an event's line.
+// The first word of an event's line.
 #[derive(Clone, Copy)]
 pub(crate) enum Verb {
-    /// `get`
+    // `get`
     OfGet,
-    /// `getlist`
+    // `getlist`
     OfGetList,
-    /// `set`
+    // `set`
     OfSet,
-    /// `execute`
+    // `execute`
     OfExecute,
-    /// `button`
+    // `button`
     OfButton,
-    /// `samples`
+    // `samples`
     OfSamples,
-    /// `pairs`
+    // `pairs`
     OfPairs,
-    /// `moment`
+    // `moment`
     OfMoment,
 }
 
 impl Verb {
-    /// Returns the word of this kind.
+    // Returns the word of this kind.
     pub(crate) fn word(self) -> &'static [u8]
         ensures { result.now ≡ verb_word self }
     {
@@ -42,14 +42,14 @@ impl Verb {
     }
 }
 
-/// Returns whether a word is that of this kind.
+// Returns whether a word is that of this kind.
 fn is_word_of(kind: Verb, word: &[u8]) -> bool
     ensures { result ≡ is_word_of kind word.now }
 {
     word == kind.word()
 }
 
-/// Returns the kind of event that a first word names. Errors: `Wrong` for any other word.
+// Returns the kind of event that a first word names. Errors: `Wrong` for any other word.
 #[tactic(auto, unfolding(crate::specs::Verbs::verb_in))]
 pub(crate) fn verb_of(word: &[u8]) -> Result<Verb, RowFault>
     ensures { result ≡ verb_in word.now }

@@ -10,7 +10,7 @@ use std::alloc::Global;
 use trace_text::Words;
 use trace_words::{RowFault, bytes_in, next_word, number_in};
 
-/// Reads the access level of a client's port: 1 for the management client, 16 for the public one.
+// Reads the access level of a client's port: 1 for the management client, 16 for the public one.
 pub(crate) fn level(word: &[u8]) -> Result<Level, RowFault>
     ensures { result ≡ level_in word.now }
 {
@@ -21,7 +21,7 @@ pub(crate) fn level(word: &[u8]) -> Result<Level, RowFault>
     }
 }
 
-/// Reads a logical name, six bytes in hexadecimal.
+// Reads a logical name, six bytes in hexadecimal.
 #[tactic(auto, unfolding(crate::specs::Reading::name_in))]
 pub(crate) fn name(alloc: Global, word: &[u8]) -> Result<Obis, RowFault>
     ensures { Gives Memory (λ name. name) result (name_in word.now) }
@@ -35,14 +35,14 @@ pub(crate) fn name(alloc: Global, word: &[u8]) -> Result<Obis, RowFault>
     Ok(Obis(name))
 }
 
-/// Reads the next word as a decimal number of at most 255.
+// Reads the next word as a decimal number of at most 255.
 pub(crate) fn next_byte(words: &mut Words) -> Result<u8, RowFault>
     ensures { Reads (λ number. number) result words.new (next_as (number_in 255) words.old) }
 {
     Ok(number_in(next_word(words)?, 255)? as u8)
 }
 
-/// Reads the next word as a logical name.
+// Reads the next word as a logical name.
 pub(crate) fn next_name(alloc: Global, words: &mut Words) -> Result<Obis, RowFault>
     ensures { Reads (λ name. name) result words.new (next_as name_in words.old) }
 {

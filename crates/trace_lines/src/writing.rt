@@ -8,9 +8,10 @@ use std::alloc::{AllocError, Global};
 use trace_text::{add_hex, add_number, add_word};
 use trace_words::{add_data, add_flag};
 
-/// Appends the port of a client.
+// Appends the port of a client.
 pub(crate) fn add_level(out: &mut Vec<u8>, level: Level) -> Result<(), AllocError>
-    ensures { OnOk result (out.new.items ≡ out.old.items ++ blanked (decimal (level_number level) ∷ [])) }
+    ensures { OnOk result (out.new.items ≡ out.old.items
+        ++ blanked (decimal (level_number level) ∷ [])) }
 {
     add_number(
         out,
@@ -21,7 +22,7 @@ pub(crate) fn add_level(out: &mut Vec<u8>, level: Level) -> Result<(), AllocErro
     )
 }
 
-/// Appends an attribute: class, name, number.
+// Appends an attribute: class, name, number.
 pub(crate) fn add_attribute(
     alloc: Global,
     out: &mut Vec<u8>,
@@ -34,7 +35,7 @@ pub(crate) fn add_attribute(
     add_number(out, u64::from(attr.number))
 }
 
-/// Appends a method: class, name, number.
+// Appends a method: class, name, number.
 pub(crate) fn add_method(
     alloc: Global,
     out: &mut Vec<u8>,
@@ -47,7 +48,7 @@ pub(crate) fn add_method(
     add_number(out, u64::from(method.number))
 }
 
-/// Appends an attribute, and whether a part of it is requested (selective access).
+// Appends an attribute, and whether a part of it is requested (selective access).
 fn add_selection(
     alloc: Global,
     out: &mut Vec<u8>,
@@ -59,13 +60,14 @@ fn add_selection(
     add_flag(out, item.selected)
 }
 
-/// Appends several attributes, each with whether a part of it is requested.
+// Appends several attributes, each with whether a part of it is requested.
 pub(crate) fn add_selections(
     alloc: Global,
     out: &mut Vec<u8>,
     items: &[AttributeSelection],
 ) -> Result<(), AllocError>
-    ensures { OnOk result (out.new.items ≡ out.old.items ++ blanked (all_words selection_words items.now)) }
+    ensures { OnOk result (out.new.items ≡ out.old.items
+        ++ blanked (all_words selection_words items.now)) }
 {
     for item in items {
         add_selection(alloc, out, item)?;
@@ -73,13 +75,14 @@ pub(crate) fn add_selections(
     Ok(())
 }
 
-/// Appends a parameter, or `-` for none.
+// Appends a parameter, or `-` for none.
 pub(crate) fn add_parameter(
     alloc: Global,
     out: &mut Vec<u8>,
     parameter: &Option<Data>,
 ) -> Result<(), AllocError>
-    ensures { OnOk result (out.new.items ≡ out.old.items ++ blanked (parameter_word parameter.now ∷ [])) }
+    ensures { OnOk result (out.new.items ≡ out.old.items
+        ++ blanked (parameter_word parameter.now ∷ [])) }
 {
     match parameter {
         Some(value) => add_data(alloc, out, value),
@@ -87,9 +90,10 @@ pub(crate) fn add_parameter(
     }
 }
 
-/// Appends samples.
+// Appends samples.
 pub(crate) fn add_values(out: &mut Vec<u8>, values: &[u32]) -> Result<(), AllocError>
-    ensures { OnOk result (out.new.items ≡ out.old.items ++ blanked (all_words value_words values.now)) }
+    ensures { OnOk result (out.new.items ≡ out.old.items
+        ++ blanked (all_words value_words values.now)) }
 {
     for value in values {
         add_number(out, u64::from(*value))?;
@@ -97,14 +101,15 @@ pub(crate) fn add_values(out: &mut Vec<u8>, values: &[u32]) -> Result<(), AllocE
     Ok(())
 }
 
-/// Appends pairs of samples.
+// Appends pairs of samples.
 pub(crate) fn add_pairs(
     out: &mut Vec<u8>,
     imports: &[u32],
     exports: &[u32],
 ) -> Result<(), AllocError>
     requires { length imports.now ≡ length exports.now }
-    ensures { OnOk result (out.new.items ≡ out.old.items ++ blanked (pairs_words imports.now exports.now)) }
+    ensures { OnOk result (out.new.items ≡ out.old.items
+        ++ blanked (pairs_words imports.now exports.now)) }
 {
     for i in 0..imports.len() {
         add_number(out, u64::from(imports[i]))?;

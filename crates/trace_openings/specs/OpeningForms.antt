@@ -47,7 +47,9 @@ pub record AreFormsOf (opening : Opening) (forms : Forms) : Type 0 where
 
 -- the line of a schedule whose entries are this Data
 abbrev pub entries_row : ℕ → Schedule → Data → Row
-entries_row number schedule entries = codes "schedule" ∷ decimal number ∷ decimal schedule.selector ∷ decimal (number_of schedule.kind) ∷ data_word entries ∷ []
+entries_row number schedule entries =
+    codes "schedule" ∷ decimal number ∷ decimal schedule.selector
+    ∷ decimal (number_of schedule.kind) ∷ data_word entries ∷ []
 
 -- the 25 lines before that of the script table as they are written, followed by the last five with
 -- these Datas

@@ -88,18 +88,29 @@ pub record IsFitStart (device : List ℕ) (state : ControlState) (mode : Control
   pub control : mode ≡ Mode0 → state ≡ Connected
 
 -- the rest of an opening, from the lines after those of the import limiter
-unfoldable pub opening_behind_import : Version → List ℕ → ControlState → ControlMode → Option ℕ → LimiterOpening → Place → ReadLines Opening
+unfoldable pub opening_behind_import : Version → List ℕ → ControlState → ControlMode → Option ℕ
+    → LimiterOpening → Place → ReadLines Opening
 opening_behind_import version device state mode moment import place = do
   export ← export_from version place
   scripts ← line_as (labelled (codes "scripts") table_in) export.1
   schedules ← schedules_from scripts.1
   Ok (
-    record { device = device; state = state; mode = mode; moment = moment; import = import; export = export.0; scripts = scripts.0; schedules = schedules.0 },
+    record {
+      device = device;
+      state = state;
+      mode = mode;
+      moment = moment;
+      import = import;
+      export = export.0;
+      scripts = scripts.0;
+      schedules = schedules.0;
+    },
     schedules.1,
   )
 
 -- an opening with this device name, state and mode, its other parts from the lines after these
-unfoldable pub opening_with : Version → List ℕ → ControlState → ControlMode → Place → ReadLines Opening
+unfoldable pub opening_with : Version → List ℕ → ControlState → ControlMode → Place
+    → ReadLines Opening
 opening_with version device state mode place = do
   last ← value_line Import place
   moment ← line_as (labelled (codes "now") moment_in) last.1
@@ -108,7 +119,16 @@ opening_with version device state mode place = do
   scripts ← line_as (labelled (codes "scripts") table_in) export.1
   schedules ← schedules_from scripts.1
   Ok (
-    record { device = device; state = state; mode = mode; moment = moment.0; import = import.0; export = export.0; scripts = scripts.0; schedules = schedules.0 },
+    record {
+      device = device;
+      state = state;
+      mode = mode;
+      moment = moment.0;
+      import = import.0;
+      export = export.0;
+      scripts = scripts.0;
+      schedules = schedules.0;
+    },
     schedules.1,
   )
 

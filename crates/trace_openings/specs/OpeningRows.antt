@@ -28,7 +28,9 @@ abbrev pub count_row : Word → Count → Row
 count_row name count = name ∷ decimal count.run ∷ decimal (flag_number count.fired) ∷ []
 
 abbrev pub profile_row : Which → Profile → Row
-profile_row which profile = label which (codes "profile") ∷ decimal profile.id ∷ encode_upper (date_time_bytes profile.start) ∷ decimal profile.duration ∷ []
+profile_row which profile =
+    label which (codes "profile") ∷ decimal profile.id
+    ∷ encode_upper (date_time_bytes profile.start) ∷ decimal profile.duration ∷ []
 
 abbrev pub groups_row : Which → List ℕ → Row
 groups_row which groups = label which (codes "groups") ∷ all_words value_words groups
@@ -46,20 +48,25 @@ settings_rows which settings =
     ∷ number_row (label which (codes "minunder")) settings.min_under_duration
     ∷ profile_row which settings.profile
     ∷ groups_row which settings.groups
-    ∷ (label which (codes "actions") ∷ decimal settings.actions.over ∷ decimal settings.actions.under ∷ [])
+    ∷ (label which (codes "actions") ∷ decimal settings.actions.over
+    ∷ decimal settings.actions.under ∷ [])
     ∷ []
 
 -- a limiter's lines after that of its last sample
 abbrev pub limiter_rows : Which → LimiterOpening → List Row
 limiter_rows which limiter =
-    settings_rows which limiter.settings ++ count_row (label which (codes "over")) limiter.over ∷ count_row (label which (codes "under")) limiter.under ∷ []
+    settings_rows which limiter.settings ++ count_row (label which (codes "over")) limiter.over
+    ∷ count_row (label which (codes "under")) limiter.under ∷ []
 
 abbrev pub schedule_row : ℕ → Schedule → Row
 schedule_row number schedule =
-    codes "schedule" ∷ decimal number ∷ decimal schedule.selector ∷ decimal (number_of schedule.kind) ∷ data_word (entries_data schedule.entries) ∷ []
+    codes "schedule" ∷ decimal number ∷ decimal schedule.selector
+    ∷ decimal (number_of schedule.kind) ∷ data_word (entries_data schedule.entries) ∷ []
 
 abbrev pub schedule_rows : Schedules → List Row
-schedule_rows schedules = schedule_row 0 schedules.first ∷ schedule_row 1 schedules.second ∷ schedule_row 2 schedules.third ∷ schedule_row 3 schedules.fourth ∷ []
+schedule_rows schedules =
+    schedule_row 0 schedules.first ∷ schedule_row 1 schedules.second
+    ∷ schedule_row 2 schedules.third ∷ schedule_row 3 schedules.fourth ∷ []
 
 -- the lines of the version, the device name and the switch
 abbrev pub head_rows : Opening → List Row
@@ -77,4 +84,5 @@ opening_rows opening =
     ++ value_row Import opening.import ∷ (codes "now" ∷ moment_word opening.moment ∷ [])
     ∷ limiter_rows Import opening.import
     ++ value_row Export opening.export ∷ limiter_rows Export opening.export
-    ++ (codes "scripts" ∷ data_word (data_of opening.scripts) ∷ []) ∷ schedule_rows opening.schedules
+    ++ (codes "scripts" ∷ data_word (data_of opening.scripts) ∷ [])
+    ∷ schedule_rows opening.schedules

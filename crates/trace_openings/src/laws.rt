@@ -19,9 +19,14 @@ use limiter_core::fit_runs_mean;
 /// words.
 pub fn written_opening_is_read()
     ensures again { (opening : Opening) (rows : List Row) (unended : List ℕ) → IsWritable opening
-        → opening_from (record { number = 1; rows = opening_rows opening ++ rows; unended = unended })
+        → opening_from (record {
+          number = 1;
+          rows = opening_rows opening ++ rows;
+          unended = unended;
+        })
         ≡ Ok ((Two, opening), record { number = 31; rows = rows; unended = unended }) }
-    ensures rows { (opening : Opening) → IsWritable opening → IsTrue (list_all is_row (opening_rows opening)) }
+    ensures rows { (opening : Opening) → IsWritable opening
+        → IsTrue (list_all is_row (opening_rows opening)) }
 {
     fit_runs_mean();
 }
@@ -32,9 +37,13 @@ pub fn written_opening_is_read()
 /// written.
 #[tactic(auto, using(crate::proofs::OpeningBack::opening_back, crate::proofs::OpeningBack::opening_lines, crate::proofs::OpeningBack::written_rows))]
 pub fn read_opening_is_written()
-    ensures lines { (place behind : Place) (opening : Opening) → opening_from place ≡ Ok ((Two, opening), behind)
-        → (forms : Forms) × AreFormsOf opening forms × (place.rows ≡ rows_with opening forms ++ behind.rows) }
-    ensures behind { (place behind : Place) (opening : Opening) → opening_from place ≡ Ok ((Two, opening), behind)
+    ensures lines { (place behind : Place) (opening : Opening)
+        → opening_from place ≡ Ok ((Two, opening), behind)
+        → (forms : Forms) × AreFormsOf opening forms
+        × (place.rows ≡ rows_with opening forms ++ behind.rows) }
+    ensures behind { (place behind : Place) (opening : Opening)
+        → opening_from place ≡ Ok ((Two, opening), behind)
         → (behind.number ≡ place.number + 30) × (behind.unended ≡ place.unended) }
-    ensures written { (opening : Opening) → rows_with opening (written_forms opening) ≡ opening_rows opening }
+    ensures written { (opening : Opening)
+        → rows_with opening (written_forms opening) ≡ opening_rows opening }
 {}

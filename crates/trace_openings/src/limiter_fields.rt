@@ -20,8 +20,8 @@ use trace_words::{
     RowFault, bytes_in, flag_in, last_word, long_in, next_long, next_word, number_in,
 };
 
-/// Returns whether `word` is the label `name` of one of the limiters. Labels of the export limiter
-/// are preceded by an x.
+// Returns whether `word` is the label `name` of one of the limiters. Labels of the export limiter
+// are preceded by an x.
 fn is_label(which: Which, name: &[u8], word: &[u8]) -> bool
     ensures { result ≡ pointwise nat_eq word.now (label which name.now) }
 {
@@ -34,7 +34,7 @@ fn is_label(which: Which, name: &[u8], word: &[u8]) -> bool
     }
 }
 
-/// Reads the first word of a limiter's line, which must be the label `name`. Errors: `Wrong`.
+// Reads the first word of a limiter's line, which must be the label `name`. Errors: `Wrong`.
 #[tactic(auto, unfolding(trace_words::specs::Labels::behind))]
 fn behind_label(which: Which, name: &[u8], words: &mut Words) -> Result<(), RowFault>
     ensures { Reads (λ done. done) result words.new (behind (label which name.now) words.old) }
@@ -46,15 +46,16 @@ fn behind_label(which: Which, name: &[u8], words: &mut Words) -> Result<(), RowF
     }
 }
 
-/// Reads a line of one value, in watts or seconds.
+// Reads a line of one value, in watts or seconds.
 pub(crate) fn value(which: Which, name: &[u8], words: &mut Words) -> Result<u32, RowFault>
-    ensures { Gives Memory (λ value. value) result (labelled (label which name.now) value_in words.old) }
+    ensures { Gives Memory (λ value. value) result
+        (labelled (label which name.now) value_in words.old) }
 {
     behind_label(which, name, words)?;
     number_in(last_word(words)?, u32::MAX)
 }
 
-/// Reads a date-time, twelve bytes in hexadecimal.
+// Reads a date-time, twelve bytes in hexadecimal.
 #[tactic(auto, unfolding(crate::specs::OpeningFields::start_in))]
 fn start_in(alloc: Global, word: &[u8]) -> Result<DateTimeField, RowFault>
     ensures { Gives Memory (λ start. start) result (start_in word.now) }
@@ -66,7 +67,7 @@ fn start_in(alloc: Global, word: &[u8]) -> Result<DateTimeField, RowFault>
     }
 }
 
-/// Reads the line of the emergency profile: id, start and duration.
+// Reads the line of the emergency profile: id, start and duration.
 #[tactic(auto, unfolding(crate::specs::OpeningFields::profile_from))]
 pub(crate) fn profile(alloc: Global, which: Which, words: &mut Words) -> Result<Profile, RowFault>
     ensures { Gives Memory (λ profile. profile) result (profile_from which words.old) }
@@ -82,7 +83,7 @@ pub(crate) fn profile(alloc: Global, which: Which, words: &mut Words) -> Result<
     })
 }
 
-/// Reads group ids up to the end of the line, at most 32.
+// Reads group ids up to the end of the line, at most 32.
 fn ids(alloc: Global, words: &mut Words) -> Result<Vec<u16>, RowFault>
     ensures ids { Gives Memory (λ ids. ids.items) result (all_at id_from MAX_GROUPS words.old) }
     ensures few { IfOk result (λ ids. length ids.items ≤ MAX_GROUPS) }
@@ -97,7 +98,7 @@ fn ids(alloc: Global, words: &mut Words) -> Result<Vec<u16>, RowFault>
     Ok(ids)
 }
 
-/// Reads the line of the group ids, at most 32.
+// Reads the line of the group ids, at most 32.
 #[tactic(auto, unfolding(crate::specs::OpeningFields::groups_from))]
 pub(crate) fn groups(
     alloc: Global,
@@ -112,7 +113,7 @@ pub(crate) fn groups(
     Ok(Listed::from_vec(ids))
 }
 
-/// Reads the line of the actions: the script selectors over and under the threshold.
+// Reads the line of the actions: the script selectors over and under the threshold.
 #[tactic(auto, unfolding(crate::specs::OpeningFields::actions_from))]
 pub(crate) fn actions(which: Which, words: &mut Words) -> Result<Actions, RowFault>
     ensures { Gives Memory (λ actions. actions) result (actions_from which words.old) }
@@ -123,14 +124,14 @@ pub(crate) fn actions(which: Which, words: &mut Words) -> Result<Actions, RowFau
     Ok(Actions { over, under })
 }
 
-/// Reads the length of a run, in samples.
+// Reads the length of a run, in samples.
 fn run_in(word: &[u8]) -> Result<u64, RowFault>
     ensures { result ≡ number_in cap word.now }
 {
     read_number(word, RUN_LIMIT).ok_or(RowFault::Wrong)
 }
 
-/// Reads a line of a run: its length in samples, and whether it has fired.
+// Reads a line of a run: its length in samples, and whether it has fired.
 #[tactic(auto, unfolding(crate::specs::OpeningFields::count_from))]
 fn count(which: Which, name: &[u8], words: &mut Words) -> Result<Count, RowFault>
     ensures { Gives Memory (λ count. count) result (count_from (label which name.now) words.old) }
@@ -141,8 +142,8 @@ fn count(which: Which, name: &[u8], words: &mut Words) -> Result<Count, RowFault
     Ok(Count { run, fired })
 }
 
-/// Reads the line of the run over the threshold. Errors: `Wrong` if the last sample contradicts the
-/// run; `Memory`.
+// Reads the line of the run over the threshold. Errors: `Wrong` if the last sample contradicts the
+// run; `Memory`.
 #[tactic(auto, unfolding(crate::specs::OpeningFields::over_from))]
 pub(crate) fn over(which: Which, last: u32, words: &mut Words) -> Result<Count, RowFault>
     ensures { Gives Memory (λ over. over) result (over_from which last words.old) }
@@ -155,8 +156,8 @@ pub(crate) fn over(which: Which, last: u32, words: &mut Words) -> Result<Count, 
     }
 }
 
-/// Reads the line of the run under the threshold. Errors: `Wrong` if the last sample or the run
-/// over the threshold contradicts it; `Memory`.
+// Reads the line of the run under the threshold. Errors: `Wrong` if the last sample or the run
+// over the threshold contradicts it; `Memory`.
 #[tactic(auto, unfolding(crate::specs::OpeningFields::under_from))]
 pub(crate) fn under(
     which: Which,

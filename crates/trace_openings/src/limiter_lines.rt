@@ -14,28 +14,30 @@ use relay_core::LimiterOpening;
 use std::alloc::Global;
 use trace_words::{TraceFault, TraceLines, Version};
 
-/// Reads the line of one value of a limiter, with the label `word`.
+// Reads the line of one value of a limiter, with the label `word`.
 fn read_value(which: Which, word: &[u8], lines: &mut TraceLines) -> Result<u32, TraceFault>
-    ensures { ReadsLines (λ value. value) result lines.new (line_as (labelled (label which word.now) value_in) lines.old) }
+    ensures { ReadsLines (λ value. value) result lines.new
+        (line_as (labelled (label which word.now) value_in) lines.old) }
 {
     lines.read(|words| value(which, word, words))
 }
 
-/// Reads the line of a limiter's last sample, in watts.
+// Reads the line of a limiter's last sample, in watts.
 pub(crate) fn read_last(which: Which, lines: &mut TraceLines) -> Result<u32, TraceFault>
     ensures { ReadsLines (λ value. value) result lines.new (value_line which lines.old) }
 {
     read_value(which, b"value", lines)
 }
 
-/// Reads the lines of a limiter's settings.
+// Reads the lines of a limiter's settings.
 #[tactic(auto, unfolding(crate::specs::OpeningReading::settings_from))]
 fn read_settings(
     alloc: Global,
     which: Which,
     lines: &mut TraceLines,
 ) -> Result<Settings, TraceFault>
-    ensures reads { ReadsLines (λ settings. settings) result lines.new (settings_from which lines.old) }
+    ensures reads { ReadsLines (λ settings. settings) result lines.new
+        (settings_from which lines.old) }
     ensures few { IfOk result (λ settings. length settings.groups ≤ 32) }
 {
     let normal_threshold = read_value(which, b"normal", lines)?;
@@ -56,7 +58,7 @@ fn read_settings(
     })
 }
 
-/// Reads the lines of a limiter after that of its last sample, `last`.
+// Reads the lines of a limiter after that of its last sample, `last`.
 #[tactic(auto, unfolding(crate::specs::OpeningReading::limiter_from))]
 pub(crate) fn read_limiter(
     alloc: Global,
@@ -64,7 +66,8 @@ pub(crate) fn read_limiter(
     last: u32,
     lines: &mut TraceLines,
 ) -> Result<LimiterOpening, TraceFault>
-    ensures reads { ReadsLines (λ limiter. limiter) result lines.new (limiter_from which last lines.old) }
+    ensures reads { ReadsLines (λ limiter. limiter) result lines.new
+        (limiter_from which last lines.old) }
     ensures fit { IfOk result IsFitLimiterOpening }
 {
     let settings = read_settings(alloc, which, lines)?;
@@ -79,7 +82,7 @@ pub(crate) fn read_limiter(
     })
 }
 
-/// Returns a new limiter.
+// Returns a new limiter.
 fn new_limiter(alloc: Global) -> LimiterOpening
     ensures new { result ≡ new_limiter }
     ensures fit { IsFitLimiterOpening result }
@@ -92,14 +95,15 @@ fn new_limiter(alloc: Global) -> LimiterOpening
     }
 }
 
-/// Reads the lines of the export limiter. In version 1 there are none, and the limiter is new.
+// Reads the lines of the export limiter. In version 1 there are none, and the limiter is new.
 #[tactic(auto, unfolding(crate::specs::OpeningReading::export_from))]
 pub(crate) fn read_export(
     alloc: Global,
     version: Version,
     lines: &mut TraceLines,
 ) -> Result<LimiterOpening, TraceFault>
-    ensures reads { ReadsLines (λ limiter. limiter) result lines.new (export_from version lines.old) }
+    ensures reads { ReadsLines (λ limiter. limiter) result lines.new
+        (export_from version lines.old) }
     ensures fit { IfOk result IsFitLimiterOpening }
 {
     match version {

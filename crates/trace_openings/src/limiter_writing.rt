@@ -15,7 +15,7 @@ use std::alloc::{AllocError, Global};
 use trace_text::{add_hex, add_number, end_line};
 use trace_words::add_flag;
 
-/// Appends the label of a line of a limiter. Labels of the export limiter begin with an x.
+// Appends the label of a line of a limiter. Labels of the export limiter begin with an x.
 fn write_label(out: &mut Vec<u8>, which: Which, name: &[u8]) -> Result<(), AllocError>
     ensures { OnOk result (out.new.items ≡ out.old.items ++ label which name.now) }
 {
@@ -25,23 +25,25 @@ fn write_label(out: &mut Vec<u8>, which: Which, name: &[u8]) -> Result<(), Alloc
     out.extend_from_slice(name)
 }
 
-/// Appends a line of one number.
+// Appends a line of one number.
 fn write_value(out: &mut Vec<u8>, which: Which, name: &[u8], value: u32) -> Result<(), AllocError>
-    ensures { OnOk result (out.new.items ≡ out.old.items ++ rows_text (number_row (label which name.now) value ∷ [])) }
+    ensures { OnOk result (out.new.items ≡ out.old.items
+        ++ rows_text (number_row (label which name.now) value ∷ [])) }
 {
     write_label(out, which, name)?;
     add_number(out, u64::from(value))?;
     end_line(out)
 }
 
-/// Appends the line of an emergency profile: id, start and duration.
+// Appends the line of an emergency profile: id, start and duration.
 fn write_profile(
     alloc: Global,
     out: &mut Vec<u8>,
     which: Which,
     profile: &Profile,
 ) -> Result<(), AllocError>
-    ensures { OnOk result (out.new.items ≡ out.old.items ++ rows_text (profile_row which profile.now ∷ [])) }
+    ensures { OnOk result (out.new.items ≡ out.old.items
+        ++ rows_text (profile_row which profile.now ∷ [])) }
 {
     write_label(out, which, b"profile")?;
     add_number(out, u64::from(profile.id))?;
@@ -50,9 +52,10 @@ fn write_profile(
     end_line(out)
 }
 
-/// Appends ids, each as a word.
+// Appends ids, each as a word.
 fn add_ids(out: &mut Vec<u8>, ids: &[u16]) -> Result<(), AllocError>
-    ensures { OnOk result (out.new.items ≡ out.old.items ++ blanked (all_words value_words ids.now)) }
+    ensures { OnOk result (out.new.items ≡ out.old.items
+        ++ blanked (all_words value_words ids.now)) }
 {
     for id in ids {
         add_number(out, u64::from(*id))?;
@@ -60,19 +63,21 @@ fn add_ids(out: &mut Vec<u8>, ids: &[u16]) -> Result<(), AllocError>
     Ok(())
 }
 
-/// Appends the line of the group ids.
+// Appends the line of the group ids.
 fn write_groups(out: &mut Vec<u8>, which: Which, groups: &Listed<u16>) -> Result<(), AllocError>
-    ensures { OnOk result (out.new.items ≡ out.old.items ++ rows_text (groups_row which groups.now ∷ [])) }
+    ensures { OnOk result (out.new.items ≡ out.old.items
+        ++ rows_text (groups_row which groups.now ∷ [])) }
 {
     write_label(out, which, b"groups")?;
     add_ids(out, groups.as_slice())?;
     end_line(out)
 }
 
-/// Appends the line of the actions: the script selectors over and under the threshold.
+// Appends the line of the actions: the script selectors over and under the threshold.
 fn write_actions(out: &mut Vec<u8>, which: Which, actions: &Actions) -> Result<(), AllocError>
     ensures { OnOk result (out.new.items ≡ out.old.items
-        ++ rows_text ((label which (codes "actions") ∷ decimal actions.now.over ∷ decimal actions.now.under ∷ []) ∷ [])) }
+        ++ rows_text ((label which (codes "actions") ∷ decimal actions.now.over
+        ∷ decimal actions.now.under ∷ []) ∷ [])) }
 {
     write_label(out, which, b"actions")?;
     add_number(out, u64::from(actions.over))?;
@@ -80,14 +85,15 @@ fn write_actions(out: &mut Vec<u8>, which: Which, actions: &Actions) -> Result<(
     end_line(out)
 }
 
-/// Appends the line of a run: its length in samples, and whether it has fired.
+// Appends the line of a run: its length in samples, and whether it has fired.
 fn write_count(
     out: &mut Vec<u8>,
     which: Which,
     name: &[u8],
     count: &Count,
 ) -> Result<(), AllocError>
-    ensures { OnOk result (out.new.items ≡ out.old.items ++ rows_text (count_row (label which name.now) count.now ∷ [])) }
+    ensures { OnOk result (out.new.items ≡ out.old.items
+        ++ rows_text (count_row (label which name.now) count.now ∷ [])) }
 {
     write_label(out, which, name)?;
     add_number(out, count.run)?;
@@ -95,18 +101,19 @@ fn write_count(
     end_line(out)
 }
 
-/// Appends the line of a limiter's last sample.
+// Appends the line of a limiter's last sample.
 pub(crate) fn write_last(
     out: &mut Vec<u8>,
     which: Which,
     limiter: &LimiterOpening,
 ) -> Result<(), AllocError>
-    ensures { OnOk result (out.new.items ≡ out.old.items ++ rows_text (value_row which limiter.now ∷ [])) }
+    ensures { OnOk result (out.new.items ≡ out.old.items
+        ++ rows_text (value_row which limiter.now ∷ [])) }
 {
     write_value(out, which, b"value", limiter.value)
 }
 
-/// Appends the lines of a limiter's settings.
+// Appends the lines of a limiter's settings.
 #[tactic(auto)]
 fn write_settings(
     alloc: Global,
@@ -114,7 +121,8 @@ fn write_settings(
     which: Which,
     settings: &Settings,
 ) -> Result<(), AllocError>
-    ensures { OnOk result (out.new.items ≡ out.old.items ++ rows_text (settings_rows which settings.now)) }
+    ensures { OnOk result (out.new.items ≡ out.old.items
+        ++ rows_text (settings_rows which settings.now)) }
 {
     write_value(out, which, b"normal", settings.normal_threshold)?;
     write_value(out, which, b"emergency", settings.emergency_threshold)?;
@@ -125,7 +133,7 @@ fn write_settings(
     write_actions(out, which, &settings.actions)
 }
 
-/// Appends a limiter's lines after that of its last sample.
+// Appends a limiter's lines after that of its last sample.
 #[tactic(auto)]
 pub(crate) fn write_limiter(
     alloc: Global,
@@ -133,7 +141,8 @@ pub(crate) fn write_limiter(
     which: Which,
     limiter: &LimiterOpening,
 ) -> Result<(), AllocError>
-    ensures { OnOk result (out.new.items ≡ out.old.items ++ rows_text (limiter_rows which limiter.now)) }
+    ensures { OnOk result (out.new.items ≡ out.old.items
+        ++ rows_text (limiter_rows which limiter.now)) }
 {
     write_settings(alloc, out, which, &limiter.settings)?;
     write_count(out, which, b"over", &limiter.over)?;

@@ -18,7 +18,7 @@ use trace_words::{
     number_in,
 };
 
-/// Reads the version of the format, 1 or 2.
+// Reads the version of the format, 1 or 2.
 fn version_in(word: &[u8]) -> Result<Version, RowFault>
     ensures { result ≡ version_in word.now }
 {
@@ -29,14 +29,14 @@ fn version_in(word: &[u8]) -> Result<Version, RowFault>
     }
 }
 
-/// Reads the line of the version.
+// Reads the line of the version.
 pub(crate) fn version(words: &mut Words) -> Result<Version, RowFault>
     ensures { Gives Memory (λ version. version) result (version_from words.old) }
 {
     labelled(b"RELAYTRACE", words, version_in)
 }
 
-/// Reads a device name, 1 to 16 bytes in hexadecimal.
+// Reads a device name, 1 to 16 bytes in hexadecimal.
 #[tactic(auto, unfolding(crate::specs::OpeningFields::device_in), using(crate::proofs::OpeningLemmas::bytes_some))]
 fn device_in(alloc: Global, word: &[u8]) -> Result<Octets, RowFault>
     ensures device { Gives Memory (λ device. device) result (device_in word.now) }
@@ -50,16 +50,17 @@ fn device_in(alloc: Global, word: &[u8]) -> Result<Octets, RowFault>
     Ok(device)
 }
 
-/// Reads the line of the device name.
+// Reads the line of the device name.
 pub(crate) fn device(alloc: Global, words: &mut Words) -> Result<Octets, RowFault>
-    ensures device { Gives Memory (λ device. device) result (labelled (codes "device") device_in words.old) }
+    ensures device { Gives Memory (λ device. device) result
+        (labelled (codes "device") device_in words.old) }
     ensures some { IfOk result (λ device. 1 ≤ length device) }
     ensures few { IfOk result (λ device. length device ≤ 16) }
 {
     labelled(b"device", words, |word| device_in(alloc, word))
 }
 
-/// Reads a control state (class 70, attribute 3) as a number, 0 to 2.
+// Reads a control state (class 70, attribute 3) as a number, 0 to 2.
 fn state_in(word: &[u8]) -> Result<ControlState, RowFault>
     ensures { result ≡ state_in word.now }
 {
@@ -70,15 +71,15 @@ fn state_in(word: &[u8]) -> Result<ControlState, RowFault>
     }
 }
 
-/// Reads the line of the control state.
+// Reads the line of the control state.
 pub(crate) fn state(words: &mut Words) -> Result<ControlState, RowFault>
     ensures { Gives Memory (λ state. state) result (labelled (codes "state") state_in words.old) }
 {
     labelled(b"state", words, state_in)
 }
 
-/// Reads a control mode (class 70, attribute 4) as a number, 0 to 6. Errors: `Wrong` also if the
-/// mode does not fit `state`.
+// Reads a control mode (class 70, attribute 4) as a number, 0 to 6. Errors: `Wrong` also if the
+// mode does not fit `state`.
 #[tactic(auto, unfolding(crate::specs::OpeningFields::mode_in, disconnect_control::specs::Control::is_mode_fit))]
 fn mode_in(state: ControlState, word: &[u8]) -> Result<ControlMode, RowFault>
     ensures mode { result ≡ mode_in state word.now }
@@ -94,15 +95,16 @@ fn mode_in(state: ControlState, word: &[u8]) -> Result<ControlMode, RowFault>
     }
 }
 
-/// Reads the line of the control mode of a switch in `state`.
+// Reads the line of the control mode of a switch in `state`.
 pub(crate) fn mode(state: ControlState, words: &mut Words) -> Result<ControlMode, RowFault>
-    ensures mode { Gives Memory (λ mode. mode) result (labelled (codes "mode") (mode_in state) words.old) }
+    ensures mode { Gives Memory (λ mode. mode) result
+        (labelled (codes "mode") (mode_in state) words.old) }
     ensures fit { IfOk result (λ mode. mode ≡ Mode0 → state ≡ Connected) }
 {
     labelled(b"mode", words, |word| mode_in(state, word))
 }
 
-/// Reads a moment, in seconds, or `-` for `None`.
+// Reads a moment, in seconds, or `-` for `None`.
 fn moment_in(word: &[u8]) -> Result<Option<u32>, RowFault>
     ensures { result ≡ moment_in word.now }
 {
@@ -112,14 +114,14 @@ fn moment_in(word: &[u8]) -> Result<Option<u32>, RowFault>
     Ok(Some(number_in(word, u32::MAX)?))
 }
 
-/// Reads the line of the clock's last moment.
+// Reads the line of the clock's last moment.
 pub(crate) fn moment(words: &mut Words) -> Result<Option<u32>, RowFault>
     ensures { Gives Memory (λ moment. moment) result (labelled (codes "now") moment_in words.old) }
 {
     labelled(b"now", words, moment_in)
 }
 
-/// Reads a script table, a Data in hexadecimal.
+// Reads a script table, a Data in hexadecimal.
 #[tactic(auto, unfolding(crate::specs::OpeningFields::table_in))]
 fn table_in(alloc: Global, word: &[u8]) -> Result<ScriptTable, RowFault>
     ensures { Gives Memory (λ table. table) result (table_in word.now) }
@@ -135,14 +137,14 @@ fn table_in(alloc: Global, word: &[u8]) -> Result<ScriptTable, RowFault>
     }
 }
 
-/// Reads the line of the script table.
+// Reads the line of the script table.
 pub(crate) fn table(alloc: Global, words: &mut Words) -> Result<ScriptTable, RowFault>
     ensures { Gives Memory (λ table. table) result (labelled (codes "scripts") table_in words.old) }
 {
     labelled(b"scripts", words, |word| table_in(alloc, word))
 }
 
-/// Reads the type of a schedule.
+// Reads the type of a schedule.
 fn type_in(word: &[u8]) -> Result<ScheduleType, RowFault>
     ensures { result ≡ type_in word.now }
 {
@@ -152,7 +154,7 @@ fn type_in(word: &[u8]) -> Result<ScheduleType, RowFault>
     }
 }
 
-/// Returns a schedule with the entries that `word` holds.
+// Returns a schedule with the entries that `word` holds.
 #[tactic(auto, unfolding(crate::specs::OpeningFields::entries_in))]
 fn with_entries(
     alloc: Global,
@@ -181,7 +183,7 @@ fn with_entries(
     }
 }
 
-/// Reads the line of the schedule with this number.
+// Reads the line of the schedule with this number.
 #[tactic(auto, unfolding(crate::specs::OpeningFields::schedule_from))]
 pub(crate) fn schedule(
     alloc: Global,

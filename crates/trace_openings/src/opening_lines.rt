@@ -15,19 +15,20 @@ use relay_core::{LimiterOpening, Opening, Schedules};
 use std::alloc::Global;
 use trace_words::{TraceFault, TraceLines, Version};
 
-/// Reads the line of the schedule with this number, counted from 0.
+// Reads the line of the schedule with this number, counted from 0.
 fn read_schedule(
     alloc: Global,
     number: u32,
     lines: &mut TraceLines,
 ) -> Result<ActionSchedule, TraceFault>
     requires { number ≤ 3 }
-    ensures { ReadsLines (λ schedule. schedule) result lines.new (line_as (schedule_from number) lines.old) }
+    ensures { ReadsLines (λ schedule. schedule) result lines.new
+        (line_as (schedule_from number) lines.old) }
 {
     lines.read(|words| schedule(alloc, number, words))
 }
 
-/// Reads the lines of the four schedules.
+// Reads the lines of the four schedules.
 #[tactic(auto, unfolding(crate::specs::OpeningReading::schedules_from))]
 fn read_schedules(alloc: Global, lines: &mut TraceLines) -> Result<Schedules, TraceFault>
     ensures { ReadsLines (λ schedules. schedules) result lines.new (schedules_from lines.old) }
@@ -47,7 +48,7 @@ fn read_schedules(alloc: Global, lines: &mut TraceLines) -> Result<Schedules, Tr
     })
 }
 
-/// The device name and the switch, from the first lines.
+// The device name and the switch, from the first lines.
 #[derive(Drop)]
 struct Start {
     device: Octets,
@@ -55,7 +56,7 @@ struct Start {
     mode: ControlMode,
 }
 
-/// Reads the lines after those of the import limiter.
+// Reads the lines after those of the import limiter.
 #[tactic(auto, unfolding(crate::specs::OpeningReading::opening_behind_import))]
 fn read_behind_import(
     alloc: Global,
@@ -67,7 +68,9 @@ fn read_behind_import(
 ) -> Result<Opening, TraceFault>
     requires start { IsFitStart start.device start.state start.mode }
     requires import { IsFitLimiterOpening import }
-    ensures reads { ReadsLines (λ opening. opening) result lines.new (opening_behind_import version start.device start.state start.mode moment import lines.old) }
+    ensures reads { ReadsLines (λ opening. opening) result lines.new
+        (opening_behind_import version start.device start.state start.mode moment import
+        lines.old) }
     ensures fit { IfOk result IsFitOpening }
 {
     let ((start, import), export) = beside((start, import), read_export(alloc, version, lines))?;
@@ -96,7 +99,7 @@ fn read_behind_import(
     })
 }
 
-/// Reads the lines after that of the control mode.
+// Reads the lines after that of the control mode.
 #[tactic(auto, unfolding(crate::specs::OpeningReading::opening_with, crate::specs::OpeningReading::opening_behind_import))]
 fn read_behind_mode(
     alloc: Global,
@@ -105,7 +108,8 @@ fn read_behind_mode(
     lines: &mut TraceLines,
 ) -> Result<Opening, TraceFault>
     requires { IsFitStart start.device start.state start.mode }
-    ensures reads { ReadsLines (λ opening. opening) result lines.new (opening_with version start.device start.state start.mode lines.old) }
+    ensures reads { ReadsLines (λ opening. opening) result lines.new
+        (opening_with version start.device start.state start.mode lines.old) }
     ensures fit { IfOk result IsFitOpening }
 {
     let (start, last) = beside(start, read_last(Which::Import, lines))?;
@@ -115,14 +119,15 @@ fn read_behind_mode(
     Ok(opening)
 }
 
-/// Reads the lines after that of the version.
+// Reads the lines after that of the version.
 #[tactic(auto, unfolding(crate::specs::OpeningReading::opening_in))]
 fn read_parts(
     alloc: Global,
     version: Version,
     lines: &mut TraceLines,
 ) -> Result<Opening, TraceFault>
-    ensures reads { ReadsLines (λ opening. opening) result lines.new (opening_in version lines.old) }
+    ensures reads { ReadsLines (λ opening. opening) result lines.new
+        (opening_in version lines.old) }
     ensures fit { IfOk result IsFitOpening }
 {
     let device = lines.read(|words| device(alloc, words))?;

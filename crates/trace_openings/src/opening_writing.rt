@@ -21,33 +21,36 @@ use std::alloc::{AllocError, Global};
 use trace_text::{add_hex, add_number, add_word, end_line};
 use trace_words::{add_data, write_number_line};
 
-/// The version of the format that is written.
+// The version of the format that is written.
 const VERSION: u64 = 2;
 
-/// Appends the line of a device name.
+// Appends the line of a device name.
 fn write_device(alloc: Global, out: &mut Vec<u8>, device: &Octets) -> Result<(), AllocError>
-    ensures { OnOk result (out.new.items ≡ out.old.items ++ rows_text ((codes "device" ∷ encode_upper device.now ∷ []) ∷ [])) }
+    ensures { OnOk result (out.new.items ≡ out.old.items
+        ++ rows_text ((codes "device" ∷ encode_upper device.now ∷ []) ∷ [])) }
 {
     out.extend_from_slice(b"device")?;
     add_hex(alloc, out, device.as_slice())?;
     end_line(out)
 }
 
-/// Appends the line of the control state.
+// Appends the line of the control state.
 fn write_state(out: &mut Vec<u8>, state: ControlState) -> Result<(), AllocError>
-    ensures { OnOk result (out.new.items ≡ out.old.items ++ rows_text (number_row (codes "state") (state_number state) ∷ [])) }
+    ensures { OnOk result (out.new.items ≡ out.old.items
+        ++ rows_text (number_row (codes "state") (state_number state) ∷ [])) }
 {
     write_number_line(out, b"state", u64::from(state.number()))
 }
 
-/// Appends the line of the control mode.
+// Appends the line of the control mode.
 fn write_mode(out: &mut Vec<u8>, mode: ControlMode) -> Result<(), AllocError>
-    ensures { OnOk result (out.new.items ≡ out.old.items ++ rows_text (number_row (codes "mode") (mode_number mode) ∷ [])) }
+    ensures { OnOk result (out.new.items ≡ out.old.items
+        ++ rows_text (number_row (codes "mode") (mode_number mode) ∷ [])) }
 {
     write_number_line(out, b"mode", u64::from(mode.number()))
 }
 
-/// Appends the lines of the version, the device name and the switch.
+// Appends the lines of the version, the device name and the switch.
 #[tactic(auto)]
 fn write_head(alloc: Global, out: &mut Vec<u8>, opening: &Opening) -> Result<(), AllocError>
     ensures { OnOk result (out.new.items ≡ out.old.items ++ rows_text (head_rows opening.now)) }
@@ -58,7 +61,7 @@ fn write_head(alloc: Global, out: &mut Vec<u8>, opening: &Opening) -> Result<(),
     write_mode(out, opening.mode)
 }
 
-/// Appends the clock's last moment, or `-` before the first.
+// Appends the clock's last moment, or `-` before the first.
 fn add_moment(out: &mut Vec<u8>, moment: Option<u32>) -> Result<(), AllocError>
     ensures { OnOk result (out.new.items ≡ out.old.items ++ blanked (moment_word moment ∷ [])) }
 {
@@ -68,18 +71,20 @@ fn add_moment(out: &mut Vec<u8>, moment: Option<u32>) -> Result<(), AllocError>
     }
 }
 
-/// Appends the line of the clock's last moment, or of `-` before the first.
+// Appends the line of the clock's last moment, or of `-` before the first.
 fn write_moment(out: &mut Vec<u8>, moment: Option<u32>) -> Result<(), AllocError>
-    ensures { OnOk result (out.new.items ≡ out.old.items ++ rows_text ((codes "now" ∷ moment_word moment ∷ []) ∷ [])) }
+    ensures { OnOk result (out.new.items ≡ out.old.items
+        ++ rows_text ((codes "now" ∷ moment_word moment ∷ []) ∷ [])) }
 {
     out.extend_from_slice(b"now")?;
     add_moment(out, moment)?;
     end_line(out)
 }
 
-/// Appends a script table as a word.
+// Appends a script table as a word.
 fn add_table(alloc: Global, out: &mut Vec<u8>, scripts: &ScriptTable) -> Result<(), AllocError>
-    ensures { OnOk result (out.new.items ≡ out.old.items ++ blanked (data_word (data_of scripts.now) ∷ [])) }
+    ensures { OnOk result (out.new.items ≡ out.old.items
+        ++ blanked (data_word (data_of scripts.now) ∷ [])) }
 {
     let value = scripts.to_data(alloc)?;
     let added = add_data(alloc, out, &value);
@@ -87,22 +92,24 @@ fn add_table(alloc: Global, out: &mut Vec<u8>, scripts: &ScriptTable) -> Result<
     added
 }
 
-/// Appends the line of the script table.
+// Appends the line of the script table.
 fn write_scripts(alloc: Global, out: &mut Vec<u8>, scripts: &ScriptTable) -> Result<(), AllocError>
-    ensures { OnOk result (out.new.items ≡ out.old.items ++ rows_text ((codes "scripts" ∷ data_word (data_of scripts.now) ∷ []) ∷ [])) }
+    ensures { OnOk result (out.new.items ≡ out.old.items
+        ++ rows_text ((codes "scripts" ∷ data_word (data_of scripts.now) ∷ []) ∷ [])) }
 {
     out.extend_from_slice(b"scripts")?;
     add_table(alloc, out, scripts)?;
     end_line(out)
 }
 
-/// Appends the entries of a schedule as a word.
+// Appends the entries of a schedule as a word.
 fn add_entries(
     alloc: Global,
     out: &mut Vec<u8>,
     schedule: &ActionSchedule,
 ) -> Result<(), AllocError>
-    ensures { OnOk result (out.new.items ≡ out.old.items ++ blanked (data_word (entries_data schedule.now.entries) ∷ [])) }
+    ensures { OnOk result (out.new.items ≡ out.old.items
+        ++ blanked (data_word (entries_data schedule.now.entries) ∷ [])) }
 {
     let entries = schedule.to_data(alloc, ScheduleAttribute::ExecutionTime)?;
     let added = add_data(alloc, out, &entries);
@@ -110,14 +117,15 @@ fn add_entries(
     added
 }
 
-/// Appends the line of a schedule: its number, selector, type and entries.
+// Appends the line of a schedule: its number, selector, type and entries.
 fn write_schedule(
     alloc: Global,
     out: &mut Vec<u8>,
     number: u64,
     schedule: &ActionSchedule,
 ) -> Result<(), AllocError>
-    ensures { OnOk result (out.new.items ≡ out.old.items ++ rows_text (schedule_row number schedule.now ∷ [])) }
+    ensures { OnOk result (out.new.items ≡ out.old.items
+        ++ rows_text (schedule_row number schedule.now ∷ [])) }
 {
     out.extend_from_slice(b"schedule")?;
     add_number(out, number)?;
@@ -127,14 +135,15 @@ fn write_schedule(
     end_line(out)
 }
 
-/// Appends the lines of the four schedules.
+// Appends the lines of the four schedules.
 #[tactic(auto)]
 fn write_schedules(
     alloc: Global,
     out: &mut Vec<u8>,
     schedules: &Schedules,
 ) -> Result<(), AllocError>
-    ensures { OnOk result (out.new.items ≡ out.old.items ++ rows_text (schedule_rows schedules.now)) }
+    ensures { OnOk result (out.new.items ≡ out.old.items
+        ++ rows_text (schedule_rows schedules.now)) }
 {
     write_schedule(alloc, out, 0, &schedules.first)?;
     write_schedule(alloc, out, 1, &schedules.second)?;

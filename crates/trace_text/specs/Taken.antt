@@ -5,5 +5,6 @@ use Rattle.trace_text.specs.Lines.{lines_of, unended_of}
 
 -- the first line of the text is read; if no line is ended, nothing changes
 abbrev pub TakesLine : List ℕ → Option (Bor (List ℕ)) → List ℕ → Type 0
-TakesLine old result new = MatchOption result ((lines_of old ≡ []) × (unended_of old ≡ old) × (new ≡ old))
+TakesLine old result new =
+    MatchOption result ((lines_of old ≡ []) × (unended_of old ≡ old) × (new ≡ old))
     (λ line. (lines_of old ≡ line.now ∷ lines_of new) × (unended_of old ≡ unended_of new))

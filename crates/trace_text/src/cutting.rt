@@ -3,7 +3,7 @@ ghost use Rattle.trace_text.specs.Parts.{parts_at};
 
 use memchr::memchr;
 
-/// Returns the bytes before and after the first byte equal to `byte`, or `None` if there is none.
+// Returns the bytes before and after the first byte equal to `byte`, or `None` if there is none.
 #[tactic(auto, using(crate::proofs::Cuts::parts_whole, crate::proofs::Cuts::parts_cut))]
 pub(crate) fn cut_at(bytes: &[u8], byte: u8) -> Option<(&[u8], &[u8])>
     ensures { MatchOption result (parts_at byte bytes.now ≡ bytes.now ∷ [])

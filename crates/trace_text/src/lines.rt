@@ -9,8 +9,10 @@ use std::marker::Model;
 /// Returns the first line of a text, without the byte 0A that ends it, and the text after it.
 /// Returns `None` if no line is ended.
 pub fn split_line(text: &[u8]) -> Option<(&[u8], &[u8])>
-    ensures lines { MatchOption result (lines_of text.now ≡ []) (λ parts. lines_of text.now ≡ parts.0.now ∷ lines_of parts.1.now) }
-    ensures unended { MatchOption result (unended_of text.now ≡ text.now) (λ parts. unended_of text.now ≡ unended_of parts.1.now) }
+    ensures lines { MatchOption result (lines_of text.now ≡ []) (λ parts. lines_of text.now
+        ≡ parts.0.now ∷ lines_of parts.1.now) }
+    ensures unended { MatchOption result (unended_of text.now ≡ text.now)
+        (λ parts. unended_of text.now ≡ unended_of parts.1.now) }
 {
     cut_at(text, b'\n')
 }

@@ -44,7 +44,8 @@ fn value_of(word: &[u8], limit: u64) -> Option<u64>
 
 // Returns the number with one more digit appended, or `None` if it is above `limit`.
 fn with_digit(number: u64, digit: u8, limit: u64) -> Option<u64>
-    ensures { SomeIff result (IsTrue (is_ascii_digit digit) × (number * 10 + (digit - 48) ≤ limit)) (number * 10 + (digit - 48)) }
+    ensures { SomeIff result (IsTrue (is_ascii_digit digit)
+        × (number * 10 + (digit - 48) ≤ limit)) (number * 10 + (digit - 48)) }
 {
     if !digit.is_ascii_digit() {
         return None;

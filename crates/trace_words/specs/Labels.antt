@@ -27,8 +27,10 @@ labelled label value_in row = do
   last_as value_in words.1
 
 -- whatever this code can return for a word is what the definition says
-abbrev pub IsWordReader : {F X : Type 0} → Once F (Bor Word × Unit {0}) (Result X RowFault) → F → (Word → Result X RowFault) → Type 0
-IsWordReader {F} {X} calls read value_in = (word : Word) (given : Result X RowFault) → FnOnceReturnsAt calls read word given → Gives Memory (λ x. x) given (value_in word)
+abbrev pub IsWordReader : {F X : Type 0} → Once F (Bor Word × Unit {0}) (Result X RowFault) → F
+    → (Word → Result X RowFault) → Type 0
+IsWordReader {F} {X} calls read value_in = (word : Word) (given : Result X RowFault)
+    → FnOnceReturnsAt calls read word given → Gives Memory (λ x. x) given (value_in word)
 
 -- the line of a first word and a number
 abbrev pub number_row : Word → ℕ → Row

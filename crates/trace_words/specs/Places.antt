@@ -33,13 +33,15 @@ abbrev pub ReadLines : Type 0 → Type 0
 ReadLines X = Result (X × Place) TraceFault
 
 -- code returns what the definition says, and leaves the lines after those that it read
-abbrev pub ReadsLines : {X Y : Type 0} → (X → Y) → Result X TraceFault → Place → ReadLines Y → Type 0
+abbrev pub ReadsLines : {X Y : Type 0} → (X → Y) → Result X TraceFault → Place → ReadLines Y
+    → Type 0
 ReadsLines view (Ok x) new given = given ≡ Ok (view x, new)
 ReadsLines view (Err fault) new given = Fails Memory fault given
 
 -- a line that was read, and the place after it
 abbrev pub passed : {X : Type 0} → Result X RowFault → ℕ → List Row → List ℕ → ReadLines X
-passed (Ok x) number rows unended = Ok (x, record { number = suc number; rows = rows; unended = unended })
+passed (Ok x) number rows unended =
+    Ok (x, record { number = suc number; rows = rows; unended = unended })
 passed (Err fault) number rows unended = Err (Line number)
 
 -- the first of these lines as such a value; a line that is missing, or not ended, is a fault
@@ -52,12 +54,19 @@ unfoldable pub line_as : {X : Type 0} → (Row → Result X RowFault) → Place 
 line_as value_in place = first_as value_in place.number place.rows place.unended
 
 -- whatever this code can return for the words of a line is what the definition gives
-abbrev pub IsRowReader : {F X : Type 0} → Once F (MutBor Row × Unit {0}) (Result X RowFault × (MutBor Row × Unit {0})) → F → (Row → Result X RowFault) → Type 0
-IsRowReader {F} {X} calls row value_from = (words after : Row) (read : Result X RowFault) → FnOnceReturnsAtMut calls row words read after → Gives row_fault.Memory (λ x. x) read (value_from words)
+abbrev pub IsRowReader : {F X : Type 0}
+    → Once F (MutBor Row × Unit {0}) (Result X RowFault × (MutBor Row × Unit {0})) → F
+    → (Row → Result X RowFault) → Type 0
+IsRowReader {F} {X} calls row value_from = (words after : Row) (read : Result X RowFault)
+    → FnOnceReturnsAtMut calls row words read after
+    → Gives row_fault.Memory (λ x. x) read (value_from words)
 
 -- whatever this code can return for a line is what the definition gives for the words of the line
-abbrev pub IsLineReader : {F X : Type 0} → Once F (Bor (List ℕ) × Unit {0}) (Result X RowFault) → F → (Row → Result X RowFault) → Type 0
-IsLineReader {F} {X} calls read value_from = (line : List ℕ) (given : Result X RowFault) → FnOnceReturnsAt calls read line given → Gives row_fault.Memory (λ x. x) given (value_from (words_of line))
+abbrev pub IsLineReader : {F X : Type 0} → Once F (Bor (List ℕ) × Unit {0}) (Result X RowFault) → F
+    → (Row → Result X RowFault) → Type 0
+IsLineReader {F} {X} calls read value_from = (line : List ℕ) (given : Result X RowFault)
+    → FnOnceReturnsAt calls read line given
+    → Gives row_fault.Memory (λ x. x) given (value_from (words_of line))
 
 -- the result of reading the words of a line, a fault with the number of the line
 abbrev pub at_line : {X : Type 0} → ℕ → Result X RowFault → Result X TraceFault

@@ -27,7 +27,8 @@ impl Model for HeldLines {
 
     ghost view = { λ l. place_at l.number (drop l.taken l.text.items) };
 
-    ghost invariant = { λ l. (l.taken ≤ length l.text.items) × (l.number + length (rows_of (drop l.taken l.text.items)) < 2 ^ 64) };
+    ghost invariant = { λ l. (l.taken ≤ length l.text.items)
+        × (l.number + length (rows_of (drop l.taken l.text.items)) < 2 ^ 64) };
 }
 
 impl HeldLines {
@@ -46,7 +47,7 @@ impl HeldLines {
         }
     }
 
-    /// Drops the text that has been read if it is at least half of the whole text.
+    // Drops the text that has been read if it is at least half of the whole text.
     fn let_go(&mut self)
         ensures { self.new ≡ self.old }
     {
@@ -63,7 +64,8 @@ impl HeldLines {
         value_in: F,
     ) -> Result<X, TraceFault>
         requires { F.IsAlwaysCallable value_in }
-        ensures { (value_from : Row → Result X RowFault) → IsLineReader F.FnOnce value_in value_from → ReadsLines (λ x. x) result self.new (line_as value_from self.old) }
+        ensures { (value_from : Row → Result X RowFault) → IsLineReader F.FnOnce value_in value_from
+            → ReadsLines (λ x. x) result self.new (line_as value_from self.old) }
     {
         self.let_go();
         let number = self.number;
@@ -92,7 +94,7 @@ impl HeldLines {
     }
 }
 
-/// Removes the first `count` bytes of a text and frees their memory.
+// Removes the first `count` bytes of a text and frees their memory.
 fn remove_front(text: &mut Vec<u8>, count: usize)
     requires { count ≤ length text.old.items }
     ensures { text.new.items ≡ drop count text.old.items }

@@ -30,8 +30,10 @@ pub fn labelled<X: Drop, F: FnOnce(&[u8]) -> Result<X, RowFault>>(
     value_in: F,
 ) -> Result<X, RowFault>
     requires { F.IsAlwaysCallable value_in }
-    ensures reads { (of_word : Word → Result X RowFault) → IsWordReader F.FnOnce value_in of_word → Gives Memory (λ x. x) result (labelled label.now of_word words.old) }
-    ensures answered { IfOk result (λ x. (word : Word) × FnOnceReturnsAt F.FnOnce value_in word (Ok x)) }
+    ensures reads { (of_word : Word → Result X RowFault) → IsWordReader F.FnOnce value_in of_word
+        → Gives Memory (λ x. x) result (labelled label.now of_word words.old) }
+    ensures answered { IfOk result (λ x. (word : Word)
+        × FnOnceReturnsAt F.FnOnce value_in word (Ok x)) }
 {
     behind(label, words)?;
     value_in(last_word(words)?)

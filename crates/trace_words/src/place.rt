@@ -23,7 +23,11 @@ impl<'a> Model for TraceLines<'a> {
 
     ghost Value = { Place };
 
-    ghost view = { λ l. record { number = l.number; rows = rows_of l.lines; unended = unended_of l.lines } };
+    ghost view = { λ l. record {
+      number = l.number;
+      rows = rows_of l.lines;
+      unended = unended_of l.lines;
+    } };
 
     ghost invariant = { λ l. l.number + length (rows_of l.lines) < 2 ^ 64 };
 }
@@ -54,8 +58,8 @@ impl<'a> TraceLines<'a> {
         self.lines.rest()
     }
 
-    /// Returns the words of the next line. Errors: `Line` if no line is left, or the last is not
-    /// ended.
+    // Returns the words of the next line. Errors: `Line` if no line is left, or the last is not
+    // ended.
     #[tactic(auto, unfolding(crate::specs::Places::line_as), using(crate::proofs::PlaceLemmas::row_taken, crate::proofs::PlaceLemmas::none_taken))]
     fn next_words(&mut self) -> Result<Words<'a>, TraceFault>
         ensures { ReadsLines (λ words. words) result self.new (line_as (λ row. Ok row) self.old) }
@@ -76,8 +80,10 @@ impl<'a> TraceLines<'a> {
         row: F,
     ) -> Result<X, TraceFault>
         requires { F.IsAlwaysCallable row }
-        ensures reads { (value_from : Row → Result X RowFault) → IsRowReader F.FnOnce row value_from → ReadsLines (λ x. x) result self.new (line_as value_from self.old) }
-        ensures answered { IfOk result (λ x. (words after : Row) × FnOnceReturnsAtMut F.FnOnce row words (Ok x) after) }
+        ensures reads { (value_from : Row → Result X RowFault) → IsRowReader F.FnOnce row value_from
+            → ReadsLines (λ x. x) result self.new (line_as value_from self.old) }
+        ensures answered { IfOk result (λ x. (words after : Row)
+            × FnOnceReturnsAtMut F.FnOnce row words (Ok x) after) }
     {
         let number = self.number();
         let mut words = self.next_words()?;
@@ -97,7 +103,7 @@ impl<'a> TraceLines<'a> {
     }
 }
 
-/// Returns the fault of a line as a fault of the trace, with the line's number.
+// Returns the fault of a line as a fault of the trace, with the line's number.
 pub(crate) fn at_line<X: Drop>(number: u64, read: Result<X, RowFault>) -> Result<X, TraceFault>
     ensures { result ≡ at_line number read }
 {

@@ -12,7 +12,7 @@ use crate::words::bytes_in;
 use cosem_axdr::{Data, DataFault, Octets, read, write};
 use std::alloc::{AllocError, Global};
 
-/// Returns whether `bytes` is the encoding that is written for a value.
+// Returns whether `bytes` is the encoding that is written for a value.
 fn is_written(alloc: Global, value: &Data, bytes: &[u8]) -> Result<bool, AllocError>
     ensures { IfOk result (λ is. is ≡ pointwise nat_eq (text (tree_of value.now)) bytes.now) }
 {
@@ -21,8 +21,8 @@ fn is_written(alloc: Global, value: &Data, bytes: &[u8]) -> Result<bool, AllocEr
     Ok(text.as_slice() == bytes)
 }
 
-/// Returns `value` if its written encoding is `bytes`, from which it was read. Errors: `Wrong` if
-/// not; `Memory`.
+// Returns `value` if its written encoding is `bytes`, from which it was read. Errors: `Wrong` if
+// not; `Memory`.
 fn as_written(alloc: Global, value: Data, bytes: &[u8]) -> Result<Data, RowFault>
     ensures { Gives Memory (λ value. value) result (spelled bytes.now value) }
 {

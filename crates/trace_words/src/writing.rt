@@ -9,7 +9,8 @@ use trace_text::{add_hex, add_number, end_line};
 
 /// Appends the word `1` for true, `0` for false.
 pub fn add_flag(out: &mut Vec<u8>, flag: bool) -> Result<(), AllocError>
-    ensures { OnOk result (out.new.items ≡ out.old.items ++ blanked (decimal (flag_number flag) ∷ [])) }
+    ensures { OnOk result (out.new.items ≡ out.old.items
+        ++ blanked (decimal (flag_number flag) ∷ [])) }
 {
     add_number(out, if flag { 1 } else { 0 })
 }
@@ -27,7 +28,8 @@ pub fn add_data(alloc: Global, out: &mut Vec<u8>, value: &Data) -> Result<(), Al
 /// of it may have been appended.
 #[tactic(auto, unfolding(trace_text::specs::Lines::rows_text, trace_text::specs::Lines::text_of, trace_text::specs::Words::line_of))]
 pub fn write_number_line(out: &mut Vec<u8>, name: &[u8], number: u64) -> Result<(), AllocError>
-    ensures { OnOk result (out.new.items ≡ out.old.items ++ rows_text (number_row name.now number ∷ [])) }
+    ensures { OnOk result (out.new.items ≡ out.old.items
+        ++ rows_text (number_row name.now number ∷ [])) }
 {
     out.extend_from_slice(name)?;
     add_number(out, number)?;

@@ -14,7 +14,8 @@ IsLegal {E} {R} {O} legal k = (o : O) × (k.origin ≡ Some o) × legal o k.seen
 
 -- The port has seen a legal history that begins with the one it saw before and has no further call
 -- of the port's own number or of a number joined into it.
-pub record Sees {E R O : Type 0} (legal : O → List (Entry E R) → Type 0) (k l : Known E R O) : Type 0 where
+pub record Sees {E R O : Type 0} (legal : O → List (Entry E R)
+    → Type 0) (k l : Known E R O) : Type 0 where
   pub origin : l.origin ≡ k.origin
   pub number : l.number ≡ k.number
   pub splits : l.splits ≡ k.splits
@@ -25,21 +26,24 @@ pub record Sees {E R O : Type 0} (legal : O → List (Entry E R) → Type 0) (k 
   pub own : (q : List ℕ) → IsOwn k q → calls_by q l.seen ≡ calls_by q k.seen
 
 -- The port has seen what `Sees` says, and no port was joined in.
-pub record Watches {E R O : Type 0} (legal : O → List (Entry E R) → Type 0) (k l : Known E R O) : Type 0 where
+pub record Watches {E R O : Type 0} (legal : O → List (Entry E R)
+    → Type 0) (k l : Known E R O) : Type 0 where
   pub sees : Sees legal k l
   pub joined : l.joined ≡ k.joined
 
 -- The port has seen a legal history that begins with the one it saw before and ends with this call,
 -- the only further call of the port's number. No further call has a number that was joined into the
 -- port.
-pub record Called {E R O : Type 0} (legal : O → List (Entry E R) → Type 0) (k : Known E R O) (event : E) (reply : R) (l : Known E R O) : Type 0 where
+pub record Called {E R O : Type 0} (legal : O → List (Entry E R)
+    → Type 0) (k : Known E R O) (event : E) (reply : R) (l : Known E R O) : Type 0 where
   pub origin : l.origin ≡ k.origin
   pub number : l.number ≡ k.number
   pub splits : l.splits ≡ k.splits
   pub joined : l.joined ≡ k.joined
   pub drawn : k.drawn ≤ l.drawn
   pub served : k.served ≤ l.served
-  pub seen : (between : List (Entry E R)) × (l.seen ≡ (k.seen ++ between) ++ entry k.number event reply ∷ [])
+  pub seen : (between : List (Entry E R))
+      × (l.seen ≡ (k.seen ++ between) ++ entry k.number event reply ∷ [])
   pub lawful : IsLegal legal l
   pub own : calls_by k.number l.seen ≡ calls_by k.number k.seen ++ entry k.number event reply ∷ []
   pub others : (q : List ℕ) → IsAmong q k.joined → calls_by q l.seen ≡ calls_by q k.seen
@@ -72,17 +76,28 @@ divided k = record k { splits = k.splits + 1 }
 -- the new port's knowledge after a split: its number is the parent's, followed by the parent's
 -- count of splits before
 abbrev pub born : {E R O : Type 0} → Known E R O → Known E R O
-born k = record { origin = k.origin; number = k.number ++ k.splits ∷ []; splits = 0; joined = []; seen = k.seen; drawn = 0; served = 0 }
+born k = record {
+  origin = k.origin;
+  number = k.number ++ k.splits ∷ [];
+  splits = 0;
+  joined = [];
+  seen = k.seen;
+  drawn = 0;
+  served = 0;
+}
 
 -- The port has seen all that the note has, and both have the same origin.
-pub record Meets {E R O : Type 0} (legal : O → List (Entry E R) → Type 0) (k : Known E R O) (origin : Option O) (note : List (Entry E R)) (l : Known E R O) : Type 0 where
+pub record Meets {E R O : Type 0} (legal : O → List (Entry E R)
+    → Type 0) (k : Known E R O) (origin : Option O) (note : List (Entry E R)) (l : Known E R O)
+    : Type 0 where
   pub watches : Watches legal k l
   pub told : StartsWith l.seen note
   pub same : origin ≡ k.origin
 
 -- The port has taken in the port `u`, which has the same origin: its number, the numbers joined
 -- into it, and all that it had seen. There is no further call of these numbers.
-pub record Joins {E R O : Type 0} (legal : O → List (Entry E R) → Type 0) (k u l : Known E R O) : Type 0 where
+pub record Joins {E R O : Type 0} (legal : O → List (Entry E R)
+    → Type 0) (k u l : Known E R O) : Type 0 where
   pub sees : Sees legal k l
   pub joined : l.joined ≡ k.joined ++ u.number ∷ u.joined
   pub drawn : u.drawn ≤ l.drawn
@@ -92,7 +107,8 @@ pub record Joins {E R O : Type 0} (legal : O → List (Entry E R) → Type 0) (k
 
 -- The value results from a legal history that begins with all that the port had seen and has no
 -- further call of the port's number or of a number joined into it.
-pub record Yields {T E R O : Type 0} (origin : T → O) (stands : T → List (Entry E R) → Type 0) (legal : O → List (Entry E R) → Type 0) (k : Known E R O) (x : T) : Type 0 where
+pub record Yields {T E R O : Type 0} (origin : T → O) (stands : T → List (Entry E R)
+    → Type 0) (legal : O → List (Entry E R) → Type 0) (k : Known E R O) (x : T) : Type 0 where
   pub begun : k.origin ≡ Some (origin x)
   pub whole : List (Entry E R)
   pub stood : stands x whole

@@ -34,7 +34,8 @@ abbrev pub hollow : {T E R : Type 0} → Slot T E R
 hollow = record { value = None; last = None }
 
 -- the seat is a port's, is at this stage and holds these slots
-abbrev pub IsReady : {T E R O : Type 0} → Seat (Slot T E R) (View E R O) → Stage E R O → List (ℕ × Slot T E R) → Type 0
+abbrev pub IsReady : {T E R O : Type 0} → Seat (Slot T E R) (View E R O) → Stage E R O
+    → List (ℕ × Slot T E R) → Type 0
 IsReady s stage carried = (s.me.0.is_port ≡ true) × (s.me.0.stage ≡ stage) × (s.me.1 ≡ carried)
 
 module _ {E R O : Type 0} where
@@ -44,7 +45,19 @@ module _ {E R O : Type 0} where
 
   -- the view of a seat after it was joined into another
   abbrev pub spent_view : View E R O
-  spent_view = record { known = record { origin = None; number = []; splits = 0; joined = []; seen = []; drawn = 0; served = 0 }; is_port = false; stage = Idle }
+  spent_view = record {
+    known = record {
+      origin = None;
+      number = [];
+      splits = 0;
+      joined = [];
+      seen = [];
+      drawn = 0;
+      served = 0;
+    };
+    is_port = false;
+    stage = Idle;
+  }
 
   abbrev pub divided_view : View E R O → View E R O
   divided_view v = record v { known = divided v.known }
@@ -54,7 +67,19 @@ module _ {E R O : Type 0} where
 
   -- the view of a note: the origin and the history, no number
   abbrev pub noted_view : View E R O → View E R O
-  noted_view v = record { known = record { origin = v.known.origin; number = []; splits = 0; joined = []; seen = v.known.seen; drawn = 0; served = 0 }; is_port = false; stage = Idle }
+  noted_view v = record {
+    known = record {
+      origin = v.known.origin;
+      number = [];
+      splits = 0;
+      joined = [];
+      seen = v.known.seen;
+      drawn = 0;
+      served = 0;
+    };
+    is_port = false;
+    stage = Idle;
+  }
 
   -- the view of a seat that has read that `n` turns have ended
   abbrev pub counted_view : View E R O → ℕ → View E R O
@@ -71,21 +96,28 @@ Sat T E R O = Me (Slot T E R) (View E R O)
 
 module _ {T E R O : Type 0} where
   abbrev pub settled : At T E R → Sat T E R O → ℕ → Sat T E R O → Type 0
-  settled st m n m' = (m' ≡ (posed m.0 Idle, m.1)) × (m.0.stage ≡ Young → calls_by m.0.known.number m.0.known.seen ≡ [])
+  settled st m n m' = (m' ≡ (posed m.0 Idle, m.1))
+      × (m.0.stage ≡ Young → calls_by m.0.known.number m.0.known.seen ≡ [])
 
   abbrev pub drew : At T E R → Sat T E R O → ℕ → Sat T E R O → Type 0
   drew st m n m' = (n ≡ st.first → m' ≡ (posed m.0 (Waiting n), m.1)) × (n ≢ st.first → m' ≡ m)
 
   abbrev pub saw : At T E R → Sat T E R O → ℕ → Sat T E R O → Type 0
-  saw st m n m' = (m' ≡ (counted_view m.0 n, m.1)) × (m.0.known.served ≤ n) × (length m.0.known.seen ≤ n) × (n ≤ most_turns + 1)
+  saw st m n m' = (m' ≡ (counted_view m.0 n, m.1)) × (m.0.known.served ≤ n)
+      × (length m.0.known.seen ≤ n) × (n ≤ most_turns + 1)
 
 module _ {E R O : Type 0} (legal : O → List (Entry E R) → Type 0) where
   -- How the end of a turn changes the seat's view.
   pub record Ended (l : Option (Snapshot E × Snapshot R)) (v w : View E R O) : Type 0 where
-    pub view : w ≡ record v { stage = Idle; known = record v.known { seen = v.known.seen ++ added v.known.number l } }
+    pub view : w ≡ record v {
+      stage = Idle;
+      known = record v.known { seen = v.known.seen ++ added v.known.number l };
+    }
     pub lawful : IsLegal legal w.known
-    pub own : calls_by v.known.number w.known.seen ≡ calls_by v.known.number v.known.seen ++ added v.known.number l
-    pub others : (q : List ℕ) → IsAmong q v.known.joined → calls_by q w.known.seen ≡ calls_by q v.known.seen
+    pub own : calls_by v.known.number w.known.seen ≡ calls_by v.known.number v.known.seen
+        ++ added v.known.number l
+    pub others : (q : List ℕ) → IsAmong q v.known.joined
+        → calls_by q w.known.seen ≡ calls_by q v.known.seen
     pub within : (turn : ℕ) → v.stage ≡ Turn turn → length w.known.seen ≤ turn + 1
 
   -- The view after the load that follows a join. `u` is the seat taken in, and `b` whether it was a
@@ -114,9 +146,11 @@ module _ {T E R O : Type 0} (legal : O → List (Entry E R) → Type 0) where
   ended st m n m' = (m'.1 ≡ []) × Ended legal (last_of m.1) m.0 m'.0
 
   abbrev pub merged : At T E R → Sat T E R O → ℕ → Sat T E R O → Type 0
-  merged st m n m' = (m'.1 ≡ m.1) × ((b : Bool) (u : Known E R O) → m.0.stage ≡ Met b u → Merged legal b u m.0.known m'.0)
+  merged st m n m' = (m'.1 ≡ m.1)
+      × ((b : Bool) (u : Known E R O) → m.0.stage ≡ Met b u → Merged legal b u m.0.known m'.0)
 
-module _ {T E R O : Type 0} (origin : T → O) (stands : T → List (Entry E R) → Type 0) (legal : O → List (Entry E R) → Type 0) where
+module _ {T E R O : Type 0} (origin : T → O) (stands : T → List (Entry E R) → Type 0) (legal : O
+    → List (Entry E R) → Type 0) where
   -- The seat has taken the slot, and the value in it results from all that the seat has seen.
   pub record Takes (stage : Stage E R O) (m m' : Sat T E R O) : Type 0 where
     pub watched : Watched legal stage m m'
@@ -127,7 +161,10 @@ module _ {T E R O : Type 0} (origin : T → O) (stands : T → List (Entry E R) 
     pub begun : m.0.known.origin ≡ Some (origin value)
 
   abbrev pub reached : At T E R → Sat T E R O → ℕ → Sat T E R O → Type 0
-  reached st m n m' = (k : ℕ) → m.0.stage ≡ Waiting k → (n ≡ k → Takes (Turn k) m m' × (k < m'.0.known.drawn)) × (n ≢ k → m' ≡ m)
+  reached st m n m' = (k : ℕ) → m.0.stage ≡ Waiting k
+      → (n ≡ k → Takes (Turn k) m m' × (k < m'.0.known.drawn)) × (n ≢ k → m' ≡ m)
 
   abbrev pub closed : At T E R → Sat T E R O → ℕ → Sat T E R O → Type 0
-  closed st m n m' = (n ≡ st.first → Takes Idle m m') × (n ≢ st.first → Watched legal Idle m m' × (m'.1 ≡ m.1) × (st.first < n) × (m'.0.known.drawn ≡ n) × (m'.0.known.served ≡ m.0.known.served))
+  closed st m n m' = (n ≡ st.first → Takes Idle m m')
+      × (n ≢ st.first → Watched legal Idle m m' × (m'.1 ≡ m.1) × (st.first < n)
+      × (m'.0.known.drawn ≡ n) × (m'.0.known.served ≡ m.0.known.served))

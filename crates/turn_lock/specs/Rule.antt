@@ -20,7 +20,15 @@ most_turns = 2 ^ 62
 
 -- the first port's knowledge right after `Shared::new`
 abbrev pub opened : {E R O : Type 0} → O → Known E R O
-opened o = record { origin = Some o; number = []; splits = 0; joined = []; seen = []; drawn = 0; served = 0 }
+opened o = record {
+  origin = Some o;
+  number = [];
+  splits = 0;
+  joined = [];
+  seen = [];
+  drawn = 0;
+  served = 0;
+}
 
 abbrev pub newcomer : {E R O : Type 0} → O → View E R O
 newcomer o = record { known = opened o; is_port = true; stage = New }
@@ -49,7 +57,8 @@ pub record Moment (T E R O : Type 0) : Type 0 where
 module _ {T E R O : Type 0} (origin : T → O) (stands : T → List (Entry E R) → Type 0) where
   -- the value is in the slot and results from the history
   abbrev pub IsHome : Moment T E R O → Type 0
-  IsHome m = (x : T) × (l : Option (Snapshot E × Snapshot R)) × (m.home ≡ some (full x l)) × stands x m.whole × (origin x ≡ m.start) × (m.closed ≡ 0)
+  IsHome m = (x : T) × (l : Option (Snapshot E × Snapshot R)) × (m.home ≡ some (full x l))
+      × stands x m.whole × (origin x ≡ m.start) × (m.closed ≡ 0)
 
   -- seat i drew turn n, which has not ended
   abbrev pub Holds : Moment T E R O → ℕ → ℕ → Type 0
@@ -63,20 +72,26 @@ module _ {T E R O : Type 0} (origin : T → O) (stands : T → List (Entry E R) 
   Staged first m i k (Waiting n) = Holds m i n × (n ≡ m.serving → IsHome m)
   Staged first m i k (Turn n) = Holds m i n × (n ≡ m.serving) × (k.seen ≡ m.whole) × (m.closed ≡ 0)
   Staged first m i k (SawServing n) = n ≤ m.serving
-  Staged first m i k (Met b u) = StartsWith m.whole u.seen × ((o : O) → u.origin ≡ Some o → o ≡ m.start)
+  Staged first m i k (Met b u) = StartsWith m.whole u.seen
+      × ((o : O) → u.origin ≡ Some o → o ≡ m.start)
       × (u.drawn ≤ m.ticket)
-      × (b ≡ true → (q : List ℕ) → IsOwn u q → (m.holder q ≡ i) × (calls_by q m.whole ≡ calls_by q u.seen) × (q ≢ k.number) × ¬ IsFuture k.number k.splits q)
+      × (b ≡ true → (q : List ℕ) → IsOwn u q → (m.holder q ≡ i)
+      × (calls_by q m.whole ≡ calls_by q u.seen) × (q ≢ k.number)
+      × ¬ IsFuture k.number k.splits q)
 
 -- A port has seen all calls of its own numbers. The numbers that its later splits may give have no
 -- calls, and all these numbers are distinct.
-pub record IsPort {E R O : Type 0} (start : O) (holder : List ℕ → ℕ) (i : ℕ) (whole : List (Entry E R)) (k : Known E R O) : Type 0 where
+pub record IsPort {E R O : Type 0} (start : O) (holder : List ℕ
+    → ℕ) (i : ℕ) (whole : List (Entry E R)) (k : Known E R O) : Type 0 where
   pub begun : k.origin ≡ Some start
   pub own : (q : List ℕ) → IsOwn k q → (holder q ≡ i) × (calls_by q whole ≡ calls_by q k.seen)
-  pub future : (q : List ℕ) → IsFuture k.number k.splits q → (holder q ≡ i) × (calls_by q whole ≡ [])
+  pub future : (q : List ℕ) → IsFuture k.number k.splits q → (holder q ≡ i)
+      × (calls_by q whole ≡ [])
   pub apart : (q : List ℕ) → IsAmong q k.joined → (q ≢ k.number) × ¬ IsFuture k.number k.splits q
 
 -- The view of seat i agrees with the moment.
-pub record Fits {T E R O : Type 0} (origin : T → O) (stands : T → List (Entry E R) → Type 0) (first : T) (m : Moment T E R O) (i : ℕ) (v : View E R O) : Type 0 where
+pub record Fits {T E R O : Type 0} (origin : T → O) (stands : T → List (Entry E R)
+    → Type 0) (first : T) (m : Moment T E R O) (i : ℕ) (v : View E R O) : Type 0 where
   pub named : (o : O) → v.known.origin ≡ Some o → o ≡ m.start
   pub seen : StartsWith m.whole v.known.seen
   pub drawn : v.known.drawn ≤ m.ticket
@@ -87,7 +102,9 @@ pub record Fits {T E R O : Type 0} (origin : T → O) (stands : T → List (Entr
 
 -- The longest history is legal and has at most one call for each turn that has ended; the value is
 -- in the slot or a turn is held; each view agrees with the moment.
-pub record Facts {T E R O : Type 0} (origin : T → O) (stands : T → List (Entry E R) → Type 0) (legal : O → List (Entry E R) → Type 0) (first : T) (m : Moment T E R O) (views : List (View E R O)) : Type 0 where
+pub record Facts {T E R O : Type 0} (origin : T → O) (stands : T → List (Entry E R)
+    → Type 0) (legal : O → List (Entry E R)
+    → Type 0) (first : T) (m : Moment T E R O) (views : List (View E R O)) : Type 0 where
   pub range : m.serving ≤ m.ticket
   pub few : m.ticket ≤ most_turns + m.closed
   pub once : m.closed ≤ 1
@@ -97,7 +114,9 @@ pub record Facts {T E R O : Type 0} (origin : T → O) (stands : T → List (Ent
   pub fits : (i : ℕ) (v : View E R O) → get_elem? views i ≡ some v → Fits origin stands first m i v
 
 -- The invariant.
-pub record Keeps {T E R O : Type 0} (origin : T → O) (stands : T → List (Entry E R) → Type 0) (legal : O → List (Entry E R) → Type 0) (first : T) (s : State (Slot T E R) (View E R O)) : Type 0 where
+pub record Keeps {T E R O : Type 0} (origin : T → O) (stands : T → List (Entry E R)
+    → Type 0) (legal : O → List (Entry E R)
+    → Type 0) (first : T) (s : State (Slot T E R) (View E R O)) : Type 0 where
   pub now : Moment T E R O
   pub words_are : s.words ≡ now.ticket ∷ now.serving ∷ []
   pub homes_are : s.homes ≡ now.home ∷ []

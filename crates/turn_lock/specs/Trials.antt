@@ -20,7 +20,8 @@ count_after n [] = n
 count_after n (x ∷ h) = count_after (next n) h
 
 -- The second call is after the first in one legal history, which the port has seen.
-pub record StandsBehind {E R O : Type 0} (legal : O → List (Entry E R) → Type 0) (one two : List ℕ) (e : E) (r : R) (f : E) (s : R) (k : Known E R O) : Type 0 where
+pub record StandsBehind {E R O : Type 0} (legal : O → List (Entry E R)
+    → Type 0) (one two : List ℕ) (e : E) (r : R) (f : E) (s : R) (k : Known E R O) : Type 0 where
   pub before : List (Entry E R)
   pub between : List (Entry E R)
   pub seen : k.seen ≡ ((before ++ entry one e r ∷ []) ++ between) ++ entry two f s ∷ []

@@ -10,13 +10,13 @@ use std::alloc::Global;
 use std::marker::PhantomData;
 use std::snapshot::Snapshot;
 
-/// The word that counts the turns drawn.
+// The word that counts the turns drawn.
 pub(crate) const TICKET: usize = 0;
 
-/// The word that counts the turns ended.
+// The word that counts the turns ended.
 pub(crate) const SERVING: usize = 1;
 
-/// The only slot.
+// The only slot.
 pub(crate) const HOME: usize = 0;
 
 /// The largest bound on turns that a lock may be made with: 2^62.

@@ -50,7 +50,8 @@ fn regain<T: Turned>(table: Board<T>, place: Place<T>) -> T
 // Makes the table and its first seat. If out of memory, returns the value.
 fn lay<T: Turned>(alloc: Global, value: T) -> Result<(Arc<Board<T>, Global>, Place<T>), T>
     requires { T.stands value [] }
-    ensures ok { IfOk result (λ t. (t.1.table_id ≡ (arc_value t.0).shared.table_id) × IsSized t.1.table_id × (t.1.me ≡ (newcomer (T.origin value), []))) }
+    ensures ok { IfOk result (λ t. (t.1.table_id ≡ (arc_value t.0).shared.table_id)
+        × IsSized t.1.table_id × (t.1.me ≡ (newcomer (T.origin value), []))) }
     ensures err { IfErr result (λ x. x ≡ value) }
 {
     let key = Snapshot::of(&value);
@@ -82,7 +83,8 @@ impl<T: Turned> Shared<T> {
     pub fn new(alloc: Global, value: T, bound: u64) -> Result<(Shared<T>, Port<T>), (AllocError, T)>
         requires bound { (0 < bound) × (bound ≤ most_turns) }
         requires empty { T.stands value [] }
-        ensures ok { IfOk result (λ r. (r.0 ≡ r.1.lock) × (r.1.bound ≡ bound) × (r.1.known ≡ opened (T.origin value))) }
+        ensures ok { IfOk result (λ r. (r.0 ≡ r.1.lock) × (r.1.bound ≡ bound)
+            × (r.1.known ≡ opened (T.origin value))) }
         ensures err { IfErr result (λ e. e.1 ≡ value) }
     {
         match lay(alloc, value) {
@@ -112,8 +114,10 @@ impl<T: Turned> Shared<T> {
     pub fn close(self, port: Port<T>) -> Result<T, (Busy, Shared<T>, Port<T>)>
         requires { port.lock ≡ self }
         ensures ok { IfOk result (λ x. Yields T.origin T.stands T.legal port.known x) }
-        ensures err { IfErr result (λ e. IsBusy port.known e.2.known e.0 × Watches T.legal port.known e.2.known) }
-        ensures back { IfErr result (λ e. (e.1 ≡ self) × (e.2.lock ≡ port.lock) × (e.2.bound ≡ port.bound)) }
+        ensures err { IfErr result (λ e. IsBusy port.known e.2.known e.0
+            × Watches T.legal port.known e.2.known) }
+        ensures back { IfErr result (λ e. (e.1 ≡ self) × (e.2.lock ≡ port.lock)
+            × (e.2.bound ≡ port.bound)) }
     {
         let Port {
             table,

@@ -20,7 +20,7 @@ impl<T> Model for Lodged<T> {
 }
 
 impl<T> Lodged<T> {
-    /// Allocates memory for the value. If out of memory, returns the value.
+    // Allocates memory for the value. If out of memory, returns the value.
     pub(crate) fn new(alloc: Global, value: T) -> Result<Lodged<T>, AllocFailed<T>>
         ensures ok { IfOk result (λ lodged. lodged ≡ value) }
         ensures err { IfErr result (λ failed. failed.value ≡ value) }
@@ -29,7 +29,7 @@ impl<T> Lodged<T> {
         Ok(Lodged { inner })
     }
 
-    /// Returns the value and frees its memory.
+    // Returns the value and frees its memory.
     pub(crate) fn into_value(self) -> T
         ensures { result ≡ self }
     {
@@ -38,11 +38,13 @@ impl<T> Lodged<T> {
 }
 
 impl<T: Turned> Lodged<T> {
-    /// Applies an event to the value, as [`Turned::turn`] does.
+    // Applies an event to the value, as [`Turned::turn`] does.
     pub(crate) fn turn(&mut self, alloc: Global, event: T::Event) -> Result<T::Reply, AllocError>
         ensures same { T.origin self.new ≡ T.origin self.old }
-        ensures ok { IfOk result (λ r. (by : List ℕ) (h : List (Entry T.Event T.Reply)) → T.stands self.old h → T.stands self.new (h ++ entry by event r ∷ [])) }
-        ensures err { IfErr result (λ _. (h : List (Entry T.Event T.Reply)) → T.stands self.old h → T.stands self.new h) }
+        ensures ok { IfOk result (λ r. (by : List ℕ) (h : List (Entry T.Event T.Reply))
+            → T.stands self.old h → T.stands self.new (h ++ entry by event r ∷ [])) }
+        ensures err { IfErr result (λ _. (h : List (Entry T.Event T.Reply)) → T.stands self.old h
+            → T.stands self.new h) }
         ensures unsure { IfErr result (λ _. ¬ T.sure event) }
     {
         self.inner.turn(alloc, event)

@@ -5,7 +5,7 @@ use crate::turned::Turned;
 use atomic_table::{Join, Play, Split};
 use std::marker::PhantomData;
 
-/// A seat's first load.
+// A seat's first load.
 pub(crate) struct Settle;
 
 impl<T, E, R, O> Play<Slot<T, E, R>, View<E, R, O>> for Settle {
@@ -14,7 +14,7 @@ impl<T, E, R, O> Play<Slot<T, E, R>, View<E, R, O>> for Settle {
     ghost then = { settled };
 }
 
-/// A load of the count of drawn turns.
+// A load of the count of drawn turns.
 pub(crate) struct Look<T> {
     value: PhantomData<T>,
 }
@@ -25,7 +25,7 @@ impl<T: Turned> Play<Slot<T, T::Event, T::Reply>, View<T::Event, T::Reply, T::Or
     ghost then = { looked T.legal };
 }
 
-/// A compare-exchange that draws a turn.
+// A compare-exchange that draws a turn.
 pub(crate) struct Draw;
 
 impl<T, E, R, O> Play<Slot<T, E, R>, View<E, R, O>> for Draw {
@@ -34,7 +34,7 @@ impl<T, E, R, O> Play<Slot<T, E, R>, View<E, R, O>> for Draw {
     ghost then = { drew };
 }
 
-/// A load of the count of ended turns, which takes the slot if the seat's turn has come.
+// A load of the count of ended turns, which takes the slot if the seat's turn has come.
 pub(crate) struct Reach<T> {
     value: PhantomData<T>,
 }
@@ -46,7 +46,7 @@ impl<T: Turned> Play<Slot<T, T::Event, T::Reply>, View<T::Event, T::Reply, T::Or
     ghost then = { reached T.origin T.stands T.legal };
 }
 
-/// The end of a turn, which returns the slot.
+// The end of a turn, which returns the slot.
 pub(crate) struct End<T> {
     value: PhantomData<T>,
 }
@@ -57,7 +57,7 @@ impl<T: Turned> Play<Slot<T, T::Event, T::Reply>, View<T::Event, T::Reply, T::Or
     ghost then = { ended T.legal };
 }
 
-/// A load of the count of ended turns, before a lock is closed.
+// A load of the count of ended turns, before a lock is closed.
 pub(crate) struct SeeServing;
 
 impl<T, E, R, O> Play<Slot<T, E, R>, View<E, R, O>> for SeeServing {
@@ -66,7 +66,7 @@ impl<T, E, R, O> Play<Slot<T, E, R>, View<E, R, O>> for SeeServing {
     ghost then = { saw };
 }
 
-/// A compare-exchange that draws the last turn, which never ends.
+// A compare-exchange that draws the last turn, which never ends.
 pub(crate) struct Close<T> {
     value: PhantomData<T>,
 }
@@ -78,7 +78,7 @@ impl<T: Turned> Play<Slot<T, T::Event, T::Reply>, View<T::Event, T::Reply, T::Or
     ghost then = { closed T.origin T.stands T.legal };
 }
 
-/// The load after a seat was taken in.
+// The load after a seat was taken in.
 pub(crate) struct Merge<T> {
     value: PhantomData<T>,
 }
@@ -90,7 +90,7 @@ impl<T: Turned> Play<Slot<T, T::Event, T::Reply>, View<T::Event, T::Reply, T::Or
     ghost then = { merged T.legal };
 }
 
-/// The split of a seat for a new port.
+// The split of a seat for a new port.
 pub(crate) struct Cut;
 
 impl<E, R, O> Split<View<E, R, O>> for Cut {
@@ -101,7 +101,7 @@ impl<E, R, O> Split<View<E, R, O>> for Cut {
     ghost right = { born_view };
 }
 
-/// The split of a seat for a note.
+// The split of a seat for a note.
 pub(crate) struct Tell;
 
 impl<E, R, O> Split<View<E, R, O>> for Tell {
@@ -112,7 +112,7 @@ impl<E, R, O> Split<View<E, R, O>> for Tell {
     ghost right = { noted_view };
 }
 
-/// The join of a port's or a note's seat.
+// The join of a port's or a note's seat.
 pub(crate) struct TakeIn;
 
 impl<E, R, O> Join<View<E, R, O>> for TakeIn {

@@ -32,9 +32,15 @@ impl<T: Turned> Model for Port<T> {
 
     ghost Value = { ShownPort T.Event T.Reply T.Origin };
 
-    ghost view = { λ p. record { lock = p.place.table_id; bound = p.bound; known = p.place.me.0.known } };
+    ghost view = { λ p. record {
+      lock = p.place.table_id;
+      bound = p.bound;
+      known = p.place.me.0.known;
+    } };
 
-    ghost invariant = { λ p. (p.place.table_id ≡ (arc_value p.table).shared.table_id) × IsSized p.place.table_id × IsReady p.place Idle [] × IsLegal T.legal p.place.me.0.known × (p.bound ≤ most_turns) };
+    ghost invariant = { λ p. (p.place.table_id ≡ (arc_value p.table).shared.table_id)
+        × IsSized p.place.table_id × IsReady p.place Idle [] × IsLegal T.legal p.place.me.0.known
+        × (p.bound ≤ most_turns) };
 }
 
 /// A record of the history that a port had seen, for another port of the same lock to read.
@@ -50,9 +56,14 @@ impl<T: Turned> Model for Note<T> {
 
     ghost Value = { ShownNote T.Event T.Reply T.Origin };
 
-    ghost view = { λ n. record { lock = n.place.table_id; origin = n.place.me.0.known.origin; seen = n.place.me.0.known.seen } };
+    ghost view = { λ n. record {
+      lock = n.place.table_id;
+      origin = n.place.me.0.known.origin;
+      seen = n.place.me.0.known.seen;
+    } };
 
-    ghost invariant = { λ n. (n.place.me.1 ≡ []) × (n.place.me.0.is_port ≡ false) × IsLegal T.legal n.place.me.0.known };
+    ghost invariant = { λ n. (n.place.me.1 ≡ []) × (n.place.me.0.is_port ≡ false)
+        × IsLegal T.legal n.place.me.0.known };
 }
 
 impl<T: Turned> Port<T> {
@@ -78,7 +89,8 @@ impl<T: Turned> Port<T> {
     ) -> Result<T::Reply, CallFault>
         ensures lock { (self.new.lock ≡ self.old.lock) × (self.new.bound ≡ self.old.bound) }
         ensures ok { IfOk result (λ r. Called T.legal self.old.known event r self.new.known) }
-        ensures err { IfErr result (λ f. Watches T.legal self.old.known self.new.known × IsCause T.sure event self.old.bound self.new.known f) }
+        ensures err { IfErr result (λ f. Watches T.legal self.old.known self.new.known
+            × IsCause T.sure event self.old.bound self.new.known f) }
         ensures within { OnOk result (length self.new.known.seen ≤ self.old.bound) }
         ensures turn { EndsTurn self.old.known self.new.known result }
     {
@@ -93,7 +105,8 @@ impl<T: Turned> Port<T> {
     pub fn split(&mut self) -> Result<Port<T>, AllocError>
         ensures lock { (self.new.lock ≡ self.old.lock) × (self.new.bound ≡ self.old.bound) }
         ensures this { OnOk result (self.new.known ≡ divided self.old.known) }
-        ensures other { IfOk result (λ p. (p.lock ≡ self.old.lock) × (p.bound ≡ self.old.bound) × (p.known ≡ born self.old.known) × (calls_by p.known.number p.known.seen ≡ [])) }
+        ensures other { IfOk result (λ p. (p.lock ≡ self.old.lock) × (p.bound ≡ self.old.bound)
+            × (p.known ≡ born self.old.known) × (calls_by p.known.number p.known.seen ≡ [])) }
         ensures err { OnErr result (self.new.known ≡ self.old.known) }
     {
         match Arc::try_clone(&self.table) {
@@ -112,7 +125,8 @@ impl<T: Turned> Port<T> {
     /// Writes a note of all that this port has seen.
     pub fn tell(&mut self) -> Note<T>
         ensures this { self.new ≡ self.old }
-        ensures note { (result.lock ≡ self.old.lock) × (result.origin ≡ self.old.known.origin) × (result.seen ≡ self.old.known.seen) }
+        ensures note { (result.lock ≡ self.old.lock) × (result.origin ≡ self.old.known.origin)
+            × (result.seen ≡ self.old.known.seen) }
     {
         let table = &self.table;
         let place = write_note(&table.shared, &mut self.place);

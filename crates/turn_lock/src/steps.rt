@@ -19,19 +19,21 @@ use std::snapshot::Snapshot;
 use std::sync::Wait;
 use std::time::Duration;
 
-/// The longest sleep of a waiting call between two reads of the word, in microseconds.
+// The longest sleep of a waiting call between two reads of the word, in microseconds.
 const NAP: u64 = 50;
 
-/// Takes a seat's first step.
+// Takes a seat's first step.
 pub(crate) fn settle<T: Turned>(top: &Top<T>, place: &mut Place<T>)
     requires table { (place.old.table_id ≡ top.now.table_id) × IsSized top.now.table_id }
-    ensures seat { (place.new.table_id ≡ place.old.table_id) × (place.new.me ≡ (posed place.old.me.0 Idle, place.old.me.1)) }
-    ensures young { place.old.me.0.stage ≡ Young → calls_by place.old.me.0.known.number place.old.me.0.known.seen ≡ [] }
+    ensures seat { (place.new.table_id ≡ place.old.table_id)
+        × (place.new.me ≡ (posed place.old.me.0 Idle, place.old.me.1)) }
+    ensures young { place.old.me.0.stage ≡ Young
+        → calls_by place.old.me.0.known.number place.old.me.0.known.seen ≡ [] }
 {
     top.load::<Settle>(place, SERVING);
 }
 
-/// Returns the number of turns drawn.
+// Returns the number of turns drawn.
 fn look<T: Turned>(top: &Top<T>, place: &mut Place<T>) -> u64
     requires table { (place.old.table_id ≡ top.now.table_id) × IsSized top.now.table_id }
     requires ready { IsReady place.old Idle [] }
@@ -42,19 +44,20 @@ fn look<T: Turned>(top: &Top<T>, place: &mut Place<T>) -> u64
     top.load::<Look<T>>(place, TICKET)
 }
 
-/// Draws turn number `turn`, unless it has been drawn already. Returns whether it did.
+// Draws turn number `turn`, unless it has been drawn already. Returns whether it did.
 fn try_draw<T: Turned>(top: &Top<T>, place: &mut Place<T>, turn: u64) -> bool
     requires table { (place.old.table_id ≡ top.now.table_id) × IsSized top.now.table_id }
     requires bound { turn < most_turns }
     ensures seat { place.new.table_id ≡ place.old.table_id }
-    ensures yes { IsTrue result → place.new.me ≡ (posed place.old.me.0 (Waiting turn), place.old.me.1) }
+    ensures yes { IsTrue result
+        → place.new.me ≡ (posed place.old.me.0 (Waiting turn), place.old.me.1) }
     ensures no { IsFalse result → place.new.me ≡ place.old.me }
 {
     top.compare_exchange::<Draw>(place, TICKET, turn, turn + 1) == turn
 }
 
-/// Waits for a moment: spins at first, then yields the processor, then sleeps until the count of
-/// ended turns is no longer `served`, for at most `NAP`, because the end of a turn wakes nobody.
+// Waits for a moment: spins at first, then yields the processor, then sleeps until the count of
+// ended turns is no longer `served`, for at most `NAP`, because the end of a turn wakes nobody.
 fn pause<T: Turned, W: Wait>(top: &Top<T>, rt: &W, backoff: &Backoff, served: u64)
     requires { IsSized top.now.table_id }
 {
@@ -70,8 +73,8 @@ fn pause<T: Turned, W: Wait>(top: &Top<T>, rt: &W, backoff: &Backoff, served: u6
     }
 }
 
-/// Draws a turn, or returns `None` if `bound` turns were drawn. Draws only when all drawn turns
-/// have ended, so that a thread that is not running never blocks the others.
+// Draws a turn, or returns `None` if `bound` turns were drawn. Draws only when all drawn turns
+// have ended, so that a thread that is not running never blocks the others.
 pub(crate) fn draw<T: Turned, W: Wait>(
     top: &Top<T>,
     place: &mut Place<T>,
@@ -85,7 +88,8 @@ pub(crate) fn draw<T: Turned, W: Wait>(
     ensures watches { Watches T.legal place.old.me.0.known place.new.me.0.known }
     ensures some { IfSome result (λ n. IsReady place.new (Waiting n) [] × (n < bound)) }
     ensures next { IfSome result (λ n. place.old.me.0.known.drawn ≤ n) }
-    ensures none { IfNone result (IsReady place.new Idle [] × (bound ≤ place.new.me.0.known.drawn)) }
+    ensures none { IfNone result (IsReady place.new Idle []
+        × (bound ≤ place.new.me.0.known.drawn)) }
 {
     let backoff = Backoff::new();
     for _ in rt.forever() {
@@ -102,24 +106,28 @@ pub(crate) fn draw<T: Turned, W: Wait>(
     unreachable!()
 }
 
-/// Takes the slot if the seat's turn has come. Returns whether it did.
+// Takes the slot if the seat's turn has come. Returns whether it did.
 fn try_reach<T: Turned>(top: &Top<T>, place: &mut Place<T>, turn: u64) -> bool
     requires table { (place.old.table_id ≡ top.now.table_id) × IsSized top.now.table_id }
     requires waiting { IsReady place.old (Waiting turn) [] }
     ensures seat { place.new.table_id ≡ place.old.table_id }
-    ensures yes { IsTrue result → Takes T.origin T.stands T.legal (Turn turn) place.old.me place.new.me }
+    ensures yes { IsTrue result
+        → Takes T.origin T.stands T.legal (Turn turn) place.old.me place.new.me }
     ensures drawn { IsTrue result → turn < place.new.me.0.known.drawn }
     ensures no { IsFalse result → place.new.me ≡ place.old.me }
 {
     top.load::<Reach<T>>(place, SERVING) == turn
 }
 
-/// Takes the value out of the slot, which the seat holds.
+// Takes the value out of the slot, which the seat holds.
 fn take_out<T: Turned>(top: &Top<T>, place: &mut Place<T>) -> Lodged<T>
     requires table { (place.old.table_id ≡ top.now.table_id) × IsSized top.now.table_id }
-    requires holds { (x : T) × (l : Option (Snapshot T.Event × Snapshot T.Reply)) × (place.old.me.1 ≡ (0, full x l) ∷ []) }
-    ensures seat { (place.new.table_id ≡ place.old.table_id) × (place.new.me ≡ (place.old.me.0, (0, hollow) ∷ [])) }
-    ensures value { (l : Option (Snapshot T.Event × Snapshot T.Reply)) × (place.old.me.1 ≡ (0, full result l) ∷ []) }
+    requires holds { (x : T) × (l : Option (Snapshot T.Event × Snapshot T.Reply))
+        × (place.old.me.1 ≡ (0, full x l) ∷ []) }
+    ensures seat { (place.new.table_id ≡ place.old.table_id)
+        × (place.new.me ≡ (place.old.me.0, (0, hollow) ∷ [])) }
+    ensures value { (l : Option (Snapshot T.Event × Snapshot T.Reply))
+        × (place.old.me.1 ≡ (0, full result l) ∷ []) }
 {
     let empty = Slot {
         value: None,
@@ -128,16 +136,17 @@ fn take_out<T: Turned>(top: &Top<T>, place: &mut Place<T>) -> Lodged<T>
     top.exchange(place, HOME, empty).value.unwrap()
 }
 
-/// Puts `slot` into the slot, which the seat holds.
+// Puts `slot` into the slot, which the seat holds.
 fn put_back<T: Turned>(top: &Top<T>, place: &mut Place<T>, slot: Slot<T, T::Event, T::Reply>)
     requires table { (place.old.table_id ≡ top.now.table_id) × IsSized top.now.table_id }
     requires holds { place.old.me.1 ≡ (0, hollow) ∷ [] }
-    ensures { (place.new.table_id ≡ place.old.table_id) × (place.new.me ≡ (place.old.me.0, (0, slot) ∷ [])) }
+    ensures { (place.new.table_id ≡ place.old.table_id)
+        × (place.new.me ≡ (place.old.me.0, (0, slot) ∷ [])) }
 {
     drop(top.exchange(place, HOME, slot));
 }
 
-/// Waits for the turn and takes the value. A turn that `draw` returned has come at the first look.
+// Waits for the turn and takes the value. A turn that `draw` returned has come at the first look.
 pub(crate) fn reach<T: Turned, W: Wait>(
     top: &Top<T>,
     place: &mut Place<T>,
@@ -146,10 +155,12 @@ pub(crate) fn reach<T: Turned, W: Wait>(
 ) -> Lodged<T>
     requires table { (place.old.table_id ≡ top.now.table_id) × IsSized top.now.table_id }
     requires waiting { IsReady place.old (Waiting turn) [] }
-    ensures seat { (place.new.table_id ≡ place.old.table_id) × IsReady place.new (Turn turn) ((0, hollow) ∷ []) }
+    ensures seat { (place.new.table_id ≡ place.old.table_id)
+        × IsReady place.new (Turn turn) ((0, hollow) ∷ []) }
     ensures watches { Watches T.legal place.old.me.0.known place.new.me.0.known }
     ensures drawn { turn < place.new.me.0.known.drawn }
-    ensures value { (place.new.me.0.known.origin ≡ Some (T.origin result)) × T.stands result place.new.me.0.known.seen }
+    ensures value { (place.new.me.0.known.origin ≡ Some (T.origin result))
+        × T.stands result place.new.me.0.known.seen }
 {
     let backoff = Backoff::new();
     for _ in rt.forever() {
@@ -161,7 +172,7 @@ pub(crate) fn reach<T: Turned, W: Wait>(
     unreachable!()
 }
 
-/// Puts the value back and ends the turn, adding the entry in `last`, if any, to the history.
+// Puts the value back and ends the turn, adding the entry in `last`, if any, to the history.
 pub(crate) fn end_turn<T: Turned>(
     top: &Top<T>,
     place: &mut Place<T>,
@@ -171,7 +182,8 @@ pub(crate) fn end_turn<T: Turned>(
 )
     requires table { (place.old.table_id ≡ top.now.table_id) × IsSized top.now.table_id }
     requires taken { IsReady place.old (Turn turn) ((0, hollow) ∷ []) }
-    requires value { (place.old.me.0.known.origin ≡ Some (T.origin value)) × T.stands value (place.old.me.0.known.seen ++ added place.old.me.0.known.number last) }
+    requires value { (place.old.me.0.known.origin ≡ Some (T.origin value))
+        × T.stands value (place.old.me.0.known.seen ++ added place.old.me.0.known.number last) }
     ensures seat { (place.new.table_id ≡ place.old.table_id) × (place.new.me.1 ≡ []) }
     ensures ended { Ended T.legal last place.old.me.0 place.new.me.0 }
     ensures within { length place.new.me.0.known.seen ≤ turn + 1 }
@@ -184,7 +196,7 @@ pub(crate) fn end_turn<T: Turned>(
     top.fetch_add::<End<T>>(place, SERVING, 1);
 }
 
-/// Makes one call: draws a turn, waits for it, applies the event to the value, and ends the turn.
+// Makes one call: draws a turn, waits for it, applies the event to the value, and ends the turn.
 pub(crate) fn call_at<T: Turned, W: Wait>(
     top: &Top<T>,
     place: &mut Place<T>,
@@ -196,9 +208,12 @@ pub(crate) fn call_at<T: Turned, W: Wait>(
     requires table { (place.old.table_id ≡ top.now.table_id) × IsSized top.now.table_id }
     requires bound { bound ≤ most_turns }
     requires ready { IsReady place.old Idle [] × IsLegal T.legal place.old.me.0.known }
-    ensures seat { (place.new.table_id ≡ place.old.table_id) × IsReady place.new Idle [] × IsLegal T.legal place.new.me.0.known }
-    ensures ok { IfOk result (λ r. Called T.legal place.old.me.0.known event r place.new.me.0.known) }
-    ensures err { IfErr result (λ f. Watches T.legal place.old.me.0.known place.new.me.0.known × IsCause T.sure event bound place.new.me.0.known f) }
+    ensures seat { (place.new.table_id ≡ place.old.table_id) × IsReady place.new Idle []
+        × IsLegal T.legal place.new.me.0.known }
+    ensures ok { IfOk result
+        (λ r. Called T.legal place.old.me.0.known event r place.new.me.0.known) }
+    ensures err { IfErr result (λ f. Watches T.legal place.old.me.0.known place.new.me.0.known
+        × IsCause T.sure event bound place.new.me.0.known f) }
     ensures within { OnOk result (length place.new.me.0.known.seen ≤ bound) }
     ensures turn { EndsTurn place.old.me.0.known place.new.me.0.known result }
 {
@@ -220,12 +235,14 @@ pub(crate) fn call_at<T: Turned, W: Wait>(
     }
 }
 
-/// Splits off a port's seat.
+// Splits off a port's seat.
 pub(crate) fn divide<T: Turned>(top: &Top<T>, place: &mut Place<T>) -> Place<T>
     requires table { (place.old.table_id ≡ top.now.table_id) × IsSized top.now.table_id }
     requires ready { IsReady place.old Idle [] }
-    ensures seat { (place.new.table_id ≡ place.old.table_id) × (place.new.me ≡ (divided_view place.old.me.0, [])) }
-    ensures child { (result.table_id ≡ place.old.table_id) × (result.me ≡ (posed (born_view place.old.me.0) Idle, [])) }
+    ensures seat { (place.new.table_id ≡ place.old.table_id)
+        × (place.new.me ≡ (divided_view place.old.me.0, [])) }
+    ensures child { (result.table_id ≡ place.old.table_id)
+        × (result.me ≡ (posed (born_view place.old.me.0) Idle, [])) }
     ensures young { calls_by result.me.0.known.number result.me.0.known.seen ≡ [] }
 {
     let mut child = top.split_seat::<Cut>(place);
@@ -233,35 +250,40 @@ pub(crate) fn divide<T: Turned>(top: &Top<T>, place: &mut Place<T>) -> Place<T>
     child
 }
 
-/// Splits off a note's seat, which has seen what the port has seen.
+// Splits off a note's seat, which has seen what the port has seen.
 pub(crate) fn write_note<T: Turned>(top: &Top<T>, place: &mut Place<T>) -> Place<T>
     requires table { (place.old.table_id ≡ top.now.table_id) × IsSized top.now.table_id }
     requires ready { IsReady place.old Idle [] }
     ensures seat { (place.new.table_id ≡ place.old.table_id) × (place.new.me ≡ place.old.me) }
-    ensures note { (result.table_id ≡ place.old.table_id) × (result.me ≡ (noted_view place.old.me.0, [])) }
+    ensures note { (result.table_id ≡ place.old.table_id)
+        × (result.me ≡ (noted_view place.old.me.0, [])) }
 {
     top.split_seat::<Tell>(place)
 }
 
-/// Joins another seat into this one, which has then seen all that the other had seen.
+// Joins another seat into this one, which has then seen all that the other had seen.
 pub(crate) fn take_in<T: Turned>(top: &Top<T>, place: &mut Place<T>, other: Place<T>)
-    requires table { (place.old.table_id ≡ top.now.table_id) × (other.table_id ≡ top.now.table_id) × IsSized top.now.table_id }
+    requires table { (place.old.table_id ≡ top.now.table_id) × (other.table_id ≡ top.now.table_id)
+        × IsSized top.now.table_id }
     requires ready { IsReady place.old Idle [] × (other.me.1 ≡ []) }
     ensures seat { (place.new.table_id ≡ place.old.table_id) × (place.new.me.1 ≡ []) }
-    ensures merged { Merged T.legal other.me.0.is_port other.me.0.known place.old.me.0.known place.new.me.0 }
+    ensures merged { Merged T.legal other.me.0.is_port other.me.0.known place.old.me.0.known
+        place.new.me.0 }
 {
     top.join_seat::<TakeIn>(place, other);
     top.load::<Merge<T>>(place, SERVING);
 }
 
-/// Draws the last turn if all drawn turns have ended, and takes the value. Else returns `Busy`.
+// Draws the last turn if all drawn turns have ended, and takes the value. Else returns `Busy`.
 pub(crate) fn draw_last<T: Turned>(top: &Top<T>, place: &mut Place<T>) -> Result<T, Busy>
     requires table { (place.old.table_id ≡ top.now.table_id) × IsSized top.now.table_id }
     requires ready { IsReady place.old Idle [] }
     ensures seat { place.new.table_id ≡ place.old.table_id }
     ensures watches { Watches T.legal place.old.me.0.known place.new.me.0.known }
-    ensures ok { IfOk result (λ x. (place.new.me.0.known.origin ≡ Some (T.origin x)) × T.stands x place.new.me.0.known.seen) }
-    ensures err { IfErr result (λ b. IsReady place.new Idle [] × IsBusy place.old.me.0.known place.new.me.0.known b) }
+    ensures ok { IfOk result (λ x. (place.new.me.0.known.origin ≡ Some (T.origin x))
+        × T.stands x place.new.me.0.known.seen) }
+    ensures err { IfErr result (λ b. IsReady place.new Idle []
+        × IsBusy place.old.me.0.known place.new.me.0.known b) }
 {
     let served = top.load::<SeeServing>(place, SERVING);
     let drawn = top.compare_exchange::<Close<T>>(place, TICKET, served, served + 1);

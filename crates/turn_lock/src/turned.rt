@@ -40,9 +40,12 @@ pub trait Turned: Drop {
     /// from the histories it resulted from before.
     fn turn(&mut self, alloc: Global, event: Self::Event) -> Result<Self::Reply, AllocError>
         ensures same { origin self.new ≡ origin self.old }
-        ensures ok { IfOk result (λ r. (by : List ℕ) (h : List (Entry Self.Event Self.Reply)) → stands self.old h → stands self.new (h ++ entry by event r ∷ [])) }
-        ensures err { IfErr result (λ _. (h : List (Entry Self.Event Self.Reply)) → stands self.old h → stands self.new h) }
+        ensures ok { IfOk result (λ r. (by : List ℕ) (h : List (Entry Self.Event Self.Reply))
+            → stands self.old h → stands self.new (h ++ entry by event r ∷ [])) }
+        ensures err { IfErr result (λ _. (h : List (Entry Self.Event Self.Reply))
+            → stands self.old h → stands self.new h) }
         ensures unsure { IfErr result (λ _. ¬ sure event) };
 
-    ghost is_legal: { (x : Self) (h : List (Entry Self.Event Self.Reply)) → stands x h → legal (origin x) h };
+    ghost is_legal: { (x : Self) (h : List (Entry Self.Event Self.Reply)) → stands x h
+        → legal (origin x) h };
 }

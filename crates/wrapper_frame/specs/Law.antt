@@ -11,7 +11,8 @@ IsFound = (bytes : List ℕ) → AreBytes bytes → Messages bytes (frames_of by
 
 -- bytes are the texts of no other frames
 abbrev pub IsOnly : Type 0
-IsOnly = (bytes : List ℕ) (frames : List Frame) (rest : List ℕ) → AreBytes bytes → Messages bytes frames rest → (frames ≡ frames_of bytes) × (rest ≡ rest_of bytes)
+IsOnly = (bytes : List ℕ) (frames : List Frame) (rest : List ℕ) → AreBytes bytes
+    → Messages bytes frames rest → (frames ≡ frames_of bytes) × (rest ≡ rest_of bytes)
 
 -- the rest is part of a frame, or begins with a header of another version or of too long a payload
 abbrev pub HasEnd : Type 0
@@ -20,4 +21,5 @@ HasEnd = (bytes : List ℕ) → IsEnd (head_of (rest_of bytes))
 -- the text of a frame is read back as that frame, whatever bytes follow
 abbrev pub IsReadBack : Type 0
 IsReadBack = (frame : Frame) (more : List ℕ) → IsFrame frame
-    → (frames_of (frame_text frame ++ more) ≡ frame ∷ frames_of more) × (rest_of (frame_text frame ++ more) ≡ rest_of more)
+    → (frames_of (frame_text frame ++ more) ≡ frame ∷ frames_of more)
+    × (rest_of (frame_text frame ++ more) ≡ rest_of more)

@@ -17,7 +17,8 @@ pub record Cut : Type 0 where
 
 -- the frame at the front, with a payload of n bytes
 abbrev pub first_frame : ℕ → List ℕ → Frame
-first_frame n bytes = record { src = src_of bytes; dst = dst_of bytes; payload = take n (drop header_size bytes) }
+first_frame n bytes =
+    record { src = src_of bytes; dst = dst_of bytes; payload = take n (drop header_size bytes) }
 
 -- the bytes after the frame at the front
 abbrev pub after_first : ℕ → List ℕ → List ℕ
@@ -59,7 +60,8 @@ AreFrames (frame ∷ frames) = IsFrame frame × AreFrames frames
 
 -- bytes that do not begin with the text of a frame
 abbrev pub BeginsWithNone : List ℕ → Type 0
-BeginsWithNone bytes = (frame : Frame) (more : List ℕ) → IsFrame frame → bytes ≢ frame_text frame ++ more
+BeginsWithNone bytes = (frame : Frame) (more : List ℕ) → IsFrame frame
+    → bytes ≢ frame_text frame ++ more
 
 -- bytes are the texts of these frames, followed by a rest that begins with none
 pub record Messages (bytes : List ℕ) (frames : List Frame) (rest : List ℕ) : Type 0 where

@@ -6,7 +6,8 @@ use Rattle.wrapper_frame.specs.Header.{wrapper_version, max_payload}
 
 -- a header: version, source port, destination port and length of the payload
 abbrev pub header_text : ℕ → ℕ → ℕ → List ℕ
-header_text src dst size = big_bytes 2 wrapper_version ++ big_bytes 2 src ++ big_bytes 2 dst ++ big_bytes 2 size
+header_text src dst size =
+    big_bytes 2 wrapper_version ++ big_bytes 2 src ++ big_bytes 2 dst ++ big_bytes 2 size
 
 -- the bytes of a frame: its header, followed by its payload
 unfoldable pub frame_text : Frame → List ℕ

@@ -11,7 +11,8 @@ use std::alloc::Global;
 /// Returns the bytes of a frame: its header, followed by its payload of at most 1,024 bytes.
 #[tactic(auto, unfolding(crate::specs::Text::frame_text))]
 pub fn frame(alloc: Global, src: u16, dst: u16, payload: &[u8]) -> Result<Octets, WrapperFault>
-    ensures text { IfOk result (λ text. text ≡ frame_text (record { src = src; dst = dst; payload = payload.now })) }
+    ensures text { IfOk result (λ text. text
+        ≡ frame_text (record { src = src; dst = dst; payload = payload.now })) }
     ensures too_long { IsErrOf result WrapperFault.TooLong ↔ (max_payload < length payload.now) }
     ensures never { result ≢ Err WrapperFault.Version }
 {
@@ -30,7 +31,8 @@ pub fn frame(alloc: Global, src: u16, dst: u16, payload: &[u8]) -> Result<Octets
 pub fn framed(src: u16, dst: u16, text: Octets) -> Octets
     requires header { header_size ≤ length text }
     requires payload { length (drop header_size text) ≤ max_payload }
-    ensures { result ≡ frame_text (record { src = src; dst = dst; payload = drop header_size text }) }
+    ensures { result ≡ frame_text
+        (record { src = src; dst = dst; payload = drop header_size text }) }
 {
     let mut bytes = text.into_vec();
     let size = bytes.as_slice()[HEADER_SIZE..].len();

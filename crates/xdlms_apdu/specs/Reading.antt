@@ -49,14 +49,16 @@ abbrev pub one_at : {X Y : Type 0} → (X → Y) → (List ℕ → Read X) → L
 one_at make field bytes = read_as make (field bytes)
 
 -- two fields that form one value
-abbrev pub two_at : {X Y Z : Type 0} → (X → Y → Z) → (List ℕ → Read X) → (List ℕ → Read Y) → List ℕ → Read Z
+abbrev pub two_at : {X Y Z : Type 0} → (X → Y → Z) → (List ℕ → Read X) → (List ℕ → Read Y) → List ℕ
+    → Read Z
 two_at make first second bytes = do
   x ← first bytes
   y ← second x.1
   Ok (make x.0 y.0, y.1)
 
 -- three fields that form one value
-abbrev pub three_at : {W X Y Z : Type 0} → (W → X → Y → Z) → (List ℕ → Read W) → (List ℕ → Read X) → (List ℕ → Read Y) → List ℕ → Read Z
+abbrev pub three_at : {W X Y Z : Type 0} → (W → X → Y → Z) → (List ℕ → Read W) → (List ℕ → Read X)
+    → (List ℕ → Read Y) → List ℕ → Read Z
 three_at make first second third bytes = do
   w ← first bytes
   x ← second w.1
@@ -130,21 +132,27 @@ name_at bytes = one_at (λ name. record { 0 = name }) (bytes_at 6) bytes
 
 -- an attribute: its class, the logical name of the object and its number
 unfoldable pub attribute_at : List ℕ → Read AttrRef
-attribute_at bytes = three_at (λ class name number. record { class = class; name = name; number = number }) class_at name_at byte_at bytes
+attribute_at bytes =
+    three_at (λ class name number. record { class = class; name = name; number = number }) class_at
+    name_at byte_at bytes
 
 -- a method: its class, the logical name of the object and its number
 unfoldable pub method_at : List ℕ → Read MethodRef
-method_at bytes = three_at (λ class name number. record { class = class; name = name; number = number }) class_at name_at byte_at bytes
+method_at bytes = three_at
+    (λ class name number. record { class = class; name = name; number = number }) class_at name_at
+    byte_at bytes
 
 -- whether there is an access selection. Its selector and its parameters, a Data, are discarded
 unfoldable pub selection_at : List ℕ → Read Bool
 selection_at bytes = do
   present ← flag_at bytes
-  if present.0 then two_at (λ selector parameters. true) byte_at data_at present.1 else Ok (false, present.1)
+  if present.0 then two_at (λ selector parameters. true) byte_at data_at present.1
+      else Ok (false, present.1)
 
 -- an attribute and its access selection
 unfoldable pub target_at : List ℕ → Read AttributeSelection
-target_at bytes = two_at (λ attribute selected. record { attr = attribute; selected = selected }) attribute_at selection_at bytes
+target_at bytes = two_at (λ attribute selected. record { attr = attribute; selected = selected })
+    attribute_at selection_at bytes
 
 -- the optional parameter of a method
 unfoldable pub parameter_at : List ℕ → Read (Option Data)
@@ -154,7 +162,8 @@ parameter_at bytes = do
 
 -- whether a block is the last, its number and its bytes
 unfoldable pub block_at : List ℕ → Read Block
-block_at bytes = three_at (λ last number raw. record { last = last; number = number; raw = raw }) flag_at number_at raw_at bytes
+block_at bytes = three_at (λ last number raw. record { last = last; number = number; raw = raw })
+    flag_at number_at raw_at bytes
 
 -- 00 and a value, or 01 and a result
 unfoldable pub result_at : List ℕ → Read GetResult
@@ -214,8 +223,11 @@ get_block_at bytes = do
   last ← flag_at id.1
   number ← number_at last.1
   choice ← byte_at number.1
-  if choice.0 == 0 then one_at (λ raw. response.GetBlock id.0 (record { last = last.0; number = number.0; raw = raw })) raw_at choice.1 else
-      if choice.0 == 1 then one_at (response.GetBlockRefused id.0 last.0 number.0) code_at choice.1 else
+  if choice.0 == 0 then one_at
+      (λ raw. response.GetBlock id.0 (record { last = last.0; number = number.0; raw = raw }))
+      raw_at choice.1 else
+      if choice.0 == 1 then one_at (response.GetBlockRefused id.0 last.0 number.0) code_at choice.1
+      else
       Err Unreadable
 
 -- the form and the contents of a GET response
@@ -247,7 +259,8 @@ nothing_at bytes = do
 unfoldable pub action_response_at : List ℕ → Read Response
 action_response_at bytes = do
   form ← byte_at bytes
-  if form.0 == 1 then three_at (λ id code nothing. response.Action id code) invoke_id_at code_at nothing_at form.1 else
+  if form.0 == 1 then three_at (λ id code nothing. response.Action id code) invoke_id_at code_at
+      nothing_at form.1 else
       if form.0 == 4 then two_at response.ActionBlock invoke_id_at number_at form.1 else
       Err UnknownForm
 
@@ -256,9 +269,12 @@ unfoldable pub exception_at : List ℕ → Read Response
 exception_at bytes = do
   state ← byte_at bytes
   service ← byte_at state.1
-  if state.0 == 1 && service.0 == 1 then Ok (response.Exception exception.NotAllowed, service.1) else
-      if state.0 == 2 && service.0 == 2 then Ok (response.Exception exception.Unknown, service.1) else
-      if state.0 == 1 && service.0 == 3 then Ok (response.Exception exception.Unreadable, service.1) else
+  if state.0 == 1 && service.0 == 1 then Ok (response.Exception exception.NotAllowed, service.1)
+      else
+      if state.0 == 2 && service.0 == 2 then Ok (response.Exception exception.Unknown, service.1)
+      else
+      if state.0 == 1 && service.0 == 3 then Ok (response.Exception exception.Unreadable, service.1)
+      else
       Err Unreadable
 
 -- ---- whole APDUs

@@ -61,7 +61,8 @@ IsName name bytes = IsFixed 6 bytes name.0
 
 -- a class, a logical name and the number of an attribute or a method
 abbrev pub IsDescriptor : ClassId → Obis → ℕ → List ℕ → Type 0
-IsDescriptor class name number bytes = IsJoined (IsClass class) (IsJoined (IsName name) (IsByte number)) bytes
+IsDescriptor class name number bytes =
+    IsJoined (IsClass class) (IsJoined (IsName name) (IsByte number)) bytes
 
 -- an attribute, and a method
 abbrev pub IsAttribute : AttrRef → List ℕ → Type 0
@@ -93,7 +94,8 @@ IsParameter (Some value) bytes = IsJoined (IsFlag true) (IsData value) bytes
 
 -- a block: whether it is the last, its number and its bytes
 abbrev pub IsBlock : Block → List ℕ → Type 0
-IsBlock block bytes = IsJoined (IsFlag block.last) (IsJoined (IsNumber block.number) (IsRaw block.raw)) bytes
+IsBlock block bytes =
+    IsJoined (IsFlag block.last) (IsJoined (IsNumber block.number) (IsRaw block.raw)) bytes
 
 -- 00 and a value, or 01 and a result
 abbrev pub IsResult : GetResult → List ℕ → Type 0
@@ -107,7 +109,8 @@ AreItems IsItem (x ∷ xs) bytes = IsJoined (IsItem x) (AreItems IsItem xs) byte
 
 -- the number of items, followed by the items
 abbrev pub IsList : {X : Type 0} → (X → List ℕ → Type 0) → List X → List ℕ → Type 0
-IsList IsItem items bytes = IsJoined (λ count. IsLength count (length items)) (AreItems IsItem items) bytes
+IsList IsItem items bytes =
+    IsJoined (λ count. IsLength count (length items)) (AreItems IsItem items) bytes
 
 -- the state-error and the service-error of an exception
 abbrev pub IsException : Exception → List ℕ → Type 0
@@ -121,21 +124,28 @@ IsRequestBody (request.Get id target) body = IsTarget target body
 IsRequestBody (request.GetNext id number) body = IsNumber number body
 IsRequestBody (request.GetList id targets) body = IsList IsTarget targets body
 IsRequestBody (request.Set id target value) body = IsJoined (IsTarget target) (IsData value) body
-IsRequestBody (request.SetFirst id target block) body = IsJoined (IsTarget target) (IsBlock block) body
+IsRequestBody (request.SetFirst id target block) body =
+    IsJoined (IsTarget target) (IsBlock block) body
 IsRequestBody (request.SetNext id block) body = IsBlock block body
-IsRequestBody (request.Action id method parameter) body = IsJoined (IsMethod method) (IsParameter parameter) body
-IsRequestBody (request.ActionFirst id method block) body = IsJoined (IsMethod method) (IsBlock block) body
+IsRequestBody (request.Action id method parameter) body =
+    IsJoined (IsMethod method) (IsParameter parameter) body
+IsRequestBody (request.ActionFirst id method block) body =
+    IsJoined (IsMethod method) (IsBlock block) body
 IsRequestBody (request.ActionNext id block) body = IsBlock block body
 
 -- the rest of a response after its first bytes
 abbrev pub IsResponseBody : Response → List ℕ → Type 0
 IsResponseBody (response.Get id result) body = IsResult result body
-IsResponseBody (response.GetBlock id block) body = IsJoined (IsFlag block.last) (IsJoined (IsNumber block.number) (IsJoined (IsByte 0x00) (IsRaw block.raw))) body
-IsResponseBody (response.GetBlockRefused id last number code) body = IsJoined (IsFlag last) (IsJoined (IsNumber number) (IsJoined (IsByte 0x01) (IsCode code))) body
+IsResponseBody (response.GetBlock id block) body =
+    IsJoined (IsFlag block.last)
+    (IsJoined (IsNumber block.number) (IsJoined (IsByte 0x00) (IsRaw block.raw))) body
+IsResponseBody (response.GetBlockRefused id last number code) body =
+    IsJoined (IsFlag last) (IsJoined (IsNumber number) (IsJoined (IsByte 0x01) (IsCode code))) body
 IsResponseBody (response.GetList id results) body = IsList IsResult results body
 IsResponseBody (response.Set id code) body = IsCode code body
 IsResponseBody (response.SetBlock id number) body = IsNumber number body
-IsResponseBody (response.SetLastBlock id code number) body = IsJoined (IsCode code) (IsNumber number) body
+IsResponseBody (response.SetLastBlock id code number) body =
+    IsJoined (IsCode code) (IsNumber number) body
 IsResponseBody (response.Action id code) body = IsJoined (IsCode code) (IsByte 0x00) body
 IsResponseBody (response.ActionBlock id number) body = IsNumber number body
 IsResponseBody (response.Exception exception) body = IsException exception body

@@ -97,8 +97,10 @@ request_body (request.ActionNext id block) = block_text block
 -- the rest of a response after its first bytes
 abbrev pub response_body : Response → List ℕ
 response_body (response.Get id result) = result_text result
-response_body (response.GetBlock id block) = flag_text block.last ++ (number_text block.number ++ 0x00 ∷ string_text block.raw)
-response_body (response.GetBlockRefused id last number code) = flag_text last ++ (number_text number ++ 0x01 ∷ code_of code ∷ [])
+response_body (response.GetBlock id block) =
+    flag_text block.last ++ (number_text block.number ++ 0x00 ∷ string_text block.raw)
+response_body (response.GetBlockRefused id last number code) =
+    flag_text last ++ (number_text number ++ 0x01 ∷ code_of code ∷ [])
 response_body (response.GetList id results) = list_text result_text results
 response_body (response.Set id code) = code_of code ∷ []
 response_body (response.SetBlock id number) = number_text number

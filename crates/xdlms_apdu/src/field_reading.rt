@@ -12,21 +12,21 @@ use cosem_axdr::{Data, DataFault, Octets, number_of};
 use cosem_names::{AttrRef, AttributeSelection, ClassId, GetResult, MethodRef, Obis, ResultCode};
 use std::alloc::Global;
 
-/// Reads a byte as a boolean: false for 0, true for any other value.
+// Reads a byte as a boolean: false for 0, true for any other value.
 pub(crate) fn read_flag(reader: &mut Reader) -> Result<bool, ApduFault>
     ensures { Reads (λ flag. flag) result reader.new (flag_at reader.old) }
 {
     Ok(reader.byte(ApduFault::Unreadable)? != 0)
 }
 
-/// Reads a block number: four bytes, highest first.
+// Reads a block number: four bytes, highest first.
 pub(crate) fn read_block_number(reader: &mut Reader) -> Result<u32, ApduFault>
     ensures { Reads (λ number. number) result reader.new (number_at reader.old) }
 {
     Ok(BigEndian::read_u32(reader.bytes(4, ApduFault::Unreadable)?))
 }
 
-/// Reads a length or count: one byte below 80 hex, or 81 to 84 hex followed by one to four bytes.
+// Reads a length or count: one byte below 80 hex, or 81 to 84 hex followed by one to four bytes.
 #[tactic(auto, unfolding(crate::specs::Reading::length_at))]
 pub(crate) fn read_length(reader: &mut Reader) -> Result<usize, ApduFault>
     ensures { Reads (λ n. n) result reader.new (length_at reader.old) }
@@ -41,7 +41,7 @@ pub(crate) fn read_length(reader: &mut Reader) -> Result<usize, ApduFault>
     }
 }
 
-/// Reads a length and that number of bytes into a newly allocated buffer.
+// Reads a length and that number of bytes into a newly allocated buffer.
 pub(crate) fn read_raw(alloc: Global, reader: &mut Reader) -> Result<Octets, ApduFault>
     ensures { Reads (λ raw. raw) result reader.new (raw_at reader.old) }
 {
@@ -49,7 +49,7 @@ pub(crate) fn read_raw(alloc: Global, reader: &mut Reader) -> Result<Octets, Apd
     Ok(Octets::from_slice(alloc, reader.bytes(count, ApduFault::Unreadable)?)?)
 }
 
-/// Reads a Data. Its limit on bytes counts from its own tag.
+// Reads a Data. Its limit on bytes counts from its own tag.
 #[tactic(auto, unfolding(crate::specs::Reading::data_at))]
 pub(crate) fn read_data(alloc: Global, reader: &mut Reader) -> Result<Data, ApduFault>
     ensures { Reads (λ value. value) result reader.new (data_at reader.old) }
@@ -64,14 +64,14 @@ pub(crate) fn read_data(alloc: Global, reader: &mut Reader) -> Result<Data, Apdu
     }
 }
 
-/// Reads an Invoke-Id-And-Priority.
+// Reads an Invoke-Id-And-Priority.
 pub(crate) fn read_invoke_id(reader: &mut Reader) -> Result<InvokeId, ApduFault>
     ensures { Reads (λ id. id) result reader.new (invoke_id_at reader.old) }
 {
     Ok(InvokeId(reader.byte(ApduFault::Unreadable)?))
 }
 
-/// Reads a Data-Access-Result or an Action-Result.
+// Reads a Data-Access-Result or an Action-Result.
 #[tactic(auto, unfolding(crate::specs::Reading::code_at))]
 pub(crate) fn read_code(reader: &mut Reader) -> Result<ResultCode, ApduFault>
     ensures { Reads (λ code. code) result reader.new (code_at reader.old) }
@@ -91,7 +91,7 @@ fn read_name(reader: &mut Reader) -> Result<Obis, ApduFault>
     Ok(Obis(reader.array(ApduFault::Unreadable)?))
 }
 
-/// Reads a Cosem-Attribute-Descriptor.
+// Reads a Cosem-Attribute-Descriptor.
 #[tactic(auto, unfolding(crate::specs::Reading::attribute_at))]
 pub(crate) fn read_attribute(reader: &mut Reader) -> Result<AttrRef, ApduFault>
     ensures { Reads (λ attribute. attribute) result reader.new (attribute_at reader.old) }
@@ -103,7 +103,7 @@ pub(crate) fn read_attribute(reader: &mut Reader) -> Result<AttrRef, ApduFault>
     })
 }
 
-/// Reads a Cosem-Method-Descriptor.
+// Reads a Cosem-Method-Descriptor.
 #[tactic(auto, unfolding(crate::specs::Reading::method_at))]
 pub(crate) fn read_method(reader: &mut Reader) -> Result<MethodRef, ApduFault>
     ensures { Reads (λ method. method) result reader.new (method_at reader.old) }
@@ -115,8 +115,8 @@ pub(crate) fn read_method(reader: &mut Reader) -> Result<MethodRef, ApduFault>
     })
 }
 
-/// Reads an optional Selective-Access-Descriptor and returns whether it is present. Its selector
-/// and parameters are discarded.
+// Reads an optional Selective-Access-Descriptor and returns whether it is present. Its selector
+// and parameters are discarded.
 #[tactic(auto, unfolding(crate::specs::Reading::selection_at))]
 pub(crate) fn read_selection(alloc: Global, reader: &mut Reader) -> Result<bool, ApduFault>
     ensures { Reads (λ selected. selected) result reader.new (selection_at reader.old) }
@@ -129,7 +129,7 @@ pub(crate) fn read_selection(alloc: Global, reader: &mut Reader) -> Result<bool,
     Ok(selected)
 }
 
-/// Reads a Cosem-Attribute-Descriptor-With-Selection.
+// Reads a Cosem-Attribute-Descriptor-With-Selection.
 #[tactic(auto, unfolding(crate::specs::Reading::target_at))]
 pub(crate) fn read_target(
     alloc: Global,
@@ -143,7 +143,7 @@ pub(crate) fn read_target(
     })
 }
 
-/// Reads the optional parameter of a method.
+// Reads the optional parameter of a method.
 #[tactic(auto, unfolding(crate::specs::Reading::parameter_at))]
 pub(crate) fn read_parameter(alloc: Global, reader: &mut Reader) -> Result<Option<Data>, ApduFault>
     ensures { Reads (λ parameter. parameter) result reader.new (parameter_at reader.old) }
@@ -155,7 +155,7 @@ pub(crate) fn read_parameter(alloc: Global, reader: &mut Reader) -> Result<Optio
     })
 }
 
-/// Reads a DataBlock-SA.
+// Reads a DataBlock-SA.
 #[tactic(auto, unfolding(crate::specs::Reading::block_at))]
 pub(crate) fn read_block(alloc: Global, reader: &mut Reader) -> Result<Block, ApduFault>
     ensures { Reads (λ block. block) result reader.new (block_at reader.old) }
@@ -167,7 +167,7 @@ pub(crate) fn read_block(alloc: Global, reader: &mut Reader) -> Result<Block, Ap
     })
 }
 
-/// Reads a Get-Data-Result.
+// Reads a Get-Data-Result.
 #[tactic(auto, unfolding(crate::specs::Reading::result_at))]
 pub(crate) fn read_result(alloc: Global, reader: &mut Reader) -> Result<GetResult, ApduFault>
     ensures { Reads (λ result. result) result reader.new (result_at reader.old) }

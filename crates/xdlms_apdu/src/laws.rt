@@ -12,27 +12,35 @@ ghost use Rattle.xdlms_apdu.specs.declared.response.Response.{Response};
 
 /// If any bytes spell a request, its written text spells it.
 pub fn text_of_request_spells()
-    ensures spelled { (bytes : List ℕ) (request : Request) → IsBytes bytes → SpellsRequest bytes request → SpellsRequest (request_text request) request }
+    ensures spelled { (bytes : List ℕ) (request : Request) → IsBytes bytes
+        → SpellsRequest bytes request → SpellsRequest (request_text request) request }
 
     // This holds if the numbers, lengths and each Data are within their limits; the text is then
     // read back as the same request.
-    ensures fit { (request : Request) → IsFitRequest request → SpellsRequest (request_text request) request }
-    ensures read_back { (request : Request) → IsFitRequest request → request_of (request_text request) ≡ Ok request }
+    ensures fit { (request : Request) → IsFitRequest request
+        → SpellsRequest (request_text request) request }
+    ensures read_back { (request : Request) → IsFitRequest request
+        → request_of (request_text request) ≡ Ok request }
 {}
 
 /// If any bytes spell a response, its written text spells it.
 pub fn text_of_response_spells()
-    ensures spelled { (bytes : List ℕ) (response : Response) → IsBytes bytes → SpellsResponse bytes response → SpellsResponse (response_text response) response }
+    ensures spelled { (bytes : List ℕ) (response : Response) → IsBytes bytes
+        → SpellsResponse bytes response → SpellsResponse (response_text response) response }
 
     // This holds if the numbers, lengths and each Data are within their limits; the text is then
     // read back as the same response.
-    ensures fit { (response : Response) → IsFitResponse response → SpellsResponse (response_text response) response }
-    ensures read_back { (response : Response) → IsFitResponse response → response_of (response_text response) ≡ Ok response }
+    ensures fit { (response : Response) → IsFitResponse response
+        → SpellsResponse (response_text response) response }
+    ensures read_back { (response : Response) → IsFitResponse response
+        → response_of (response_text response) ≡ Ok response }
 {}
 
 /// No spelling of a request is a proper prefix of another, and no bytes spell two requests. The
 /// same holds for responses.
 pub fn no_spelling_begins_another()
-    ensures request { (bytes rest : List ℕ) (one other : Request) → SpellsRequest bytes one → SpellsRequest (bytes ++ rest) other → (rest ≡ []) × (one ≡ other) }
-    ensures response { (bytes rest : List ℕ) (one other : Response) → SpellsResponse bytes one → SpellsResponse (bytes ++ rest) other → (rest ≡ []) × (one ≡ other) }
+    ensures request { (bytes rest : List ℕ) (one other : Request) → SpellsRequest bytes one
+        → SpellsRequest (bytes ++ rest) other → (rest ≡ []) × (one ≡ other) }
+    ensures response { (bytes rest : List ℕ) (one other : Response) → SpellsResponse bytes one
+        → SpellsResponse (bytes ++ rest) other → (rest ≡ []) × (one ≡ other) }
 {}

@@ -9,7 +9,7 @@ use cosem_names::{AttributeSelection, GetResult};
 use listed::Listed;
 use std::alloc::Global;
 
-/// Reads a count and that number of attributes.
+// Reads a count and that number of attributes.
 #[tactic(auto, unfolding(crate::specs::Reading::list_at))]
 pub(crate) fn read_targets(
     alloc: Global,
@@ -36,7 +36,7 @@ fn read_target_items(
     Ok(items)
 }
 
-/// Reads a count and that number of results.
+// Reads a count and that number of results.
 #[tactic(auto, unfolding(crate::specs::Reading::list_at))]
 pub(crate) fn read_results(
     alloc: Global,

@@ -8,7 +8,7 @@ use cosem_axdr::{Octets, append_length};
 use cosem_names::{AttributeSelection, GetResult};
 use std::alloc::AllocError;
 
-/// Appends the number of attributes, followed by the attributes.
+// Appends the number of attributes, followed by the attributes.
 pub(crate) fn put_targets(
     targets: &[AttributeSelection],
     out: &mut Octets,
@@ -22,7 +22,7 @@ pub(crate) fn put_targets(
     Ok(())
 }
 
-/// Appends the number of results, followed by the results.
+// Appends the number of results, followed by the results.
 #[tactic(auto, using(cosem_axdr::proofs::Appending::extends_same, cosem_axdr::proofs::Appending::extends_more))]
 pub(crate) fn put_results(results: &[GetResult], out: &mut Octets) -> Result<(), AllocError>
     ensures ok { OnOk result (out.new ≡ out.old ++ list_text result_text results.now) }

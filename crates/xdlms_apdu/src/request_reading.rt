@@ -26,7 +26,8 @@ pub fn read_request(alloc: Global, bytes: &[u8]) -> Result<Request, ApduFault>
     ensures found { IfOk result (SpellsRequest bytes.now) }
 
     // If the bytes spell a request, that request is read, unless out of memory.
-    ensures only { (request : Request) → SpellsRequest bytes.now request → MatchResult result (λ read. read ≡ request) (λ fault. fault ≡ ApduFault.Memory) }
+    ensures only { (request : Request) → SpellsRequest bytes.now request
+        → MatchResult result (λ read. read ≡ request) (λ fault. fault ≡ ApduFault.Memory) }
 
     // The fault is the one that the definition gives, or out of memory.
     ensures exact { Gives ApduFault.Memory (λ read. read) result (request_of bytes.now) }
@@ -75,7 +76,8 @@ fn read_get(alloc: Global, reader: &mut Reader) -> Result<Request, ApduFault>
 
 // Reads a Get-Request-Normal after its form.
 fn read_get_normal(alloc: Global, reader: &mut Reader) -> Result<Request, ApduFault>
-    ensures { Reads (λ request. request) result reader.new (two_at Request.Get invoke_id_at target_at reader.old) }
+    ensures { Reads (λ request. request) result reader.new
+        (two_at Request.Get invoke_id_at target_at reader.old) }
 {
     let id = read_invoke_id(reader)?;
     let target = read_target(alloc, reader)?;
@@ -84,7 +86,8 @@ fn read_get_normal(alloc: Global, reader: &mut Reader) -> Result<Request, ApduFa
 
 // Reads a Get-Request-Next after its form.
 fn read_get_next(reader: &mut Reader) -> Result<Request, ApduFault>
-    ensures { Reads (λ request. request) result reader.new (two_at Request.GetNext invoke_id_at number_at reader.old) }
+    ensures { Reads (λ request. request) result reader.new
+        (two_at Request.GetNext invoke_id_at number_at reader.old) }
 {
     let id = read_invoke_id(reader)?;
     let number = read_block_number(reader)?;
@@ -93,7 +96,8 @@ fn read_get_next(reader: &mut Reader) -> Result<Request, ApduFault>
 
 // Reads a Get-Request-With-List after its form.
 fn read_get_list(alloc: Global, reader: &mut Reader) -> Result<Request, ApduFault>
-    ensures { Reads (λ request. request) result reader.new (two_at Request.GetList invoke_id_at (list_at target_at) reader.old) }
+    ensures { Reads (λ request. request) result reader.new
+        (two_at Request.GetList invoke_id_at (list_at target_at) reader.old) }
 {
     let id = read_invoke_id(reader)?;
     let targets = read_targets(alloc, reader)?;
@@ -115,7 +119,8 @@ fn read_set(alloc: Global, reader: &mut Reader) -> Result<Request, ApduFault>
 
 // Reads a Set-Request-Normal after its form.
 fn read_set_normal(alloc: Global, reader: &mut Reader) -> Result<Request, ApduFault>
-    ensures { Reads (λ request. request) result reader.new (three_at Request.Set invoke_id_at target_at data_at reader.old) }
+    ensures { Reads (λ request. request) result reader.new
+        (three_at Request.Set invoke_id_at target_at data_at reader.old) }
 {
     let id = read_invoke_id(reader)?;
     let target = read_target(alloc, reader)?;
@@ -125,7 +130,8 @@ fn read_set_normal(alloc: Global, reader: &mut Reader) -> Result<Request, ApduFa
 
 // Reads a Set-Request-With-First-Datablock after its form.
 fn read_set_first(alloc: Global, reader: &mut Reader) -> Result<Request, ApduFault>
-    ensures { Reads (λ request. request) result reader.new (three_at Request.SetFirst invoke_id_at target_at block_at reader.old) }
+    ensures { Reads (λ request. request) result reader.new
+        (three_at Request.SetFirst invoke_id_at target_at block_at reader.old) }
 {
     let id = read_invoke_id(reader)?;
     let target = read_target(alloc, reader)?;
@@ -135,7 +141,8 @@ fn read_set_first(alloc: Global, reader: &mut Reader) -> Result<Request, ApduFau
 
 // Reads a Set-Request-With-Datablock after its form.
 fn read_set_next(alloc: Global, reader: &mut Reader) -> Result<Request, ApduFault>
-    ensures { Reads (λ request. request) result reader.new (two_at Request.SetNext invoke_id_at block_at reader.old) }
+    ensures { Reads (λ request. request) result reader.new
+        (two_at Request.SetNext invoke_id_at block_at reader.old) }
 {
     let id = read_invoke_id(reader)?;
     let block = read_block(alloc, reader)?;
@@ -157,7 +164,8 @@ fn read_action(alloc: Global, reader: &mut Reader) -> Result<Request, ApduFault>
 
 // Reads an Action-Request-Normal after its form.
 fn read_action_normal(alloc: Global, reader: &mut Reader) -> Result<Request, ApduFault>
-    ensures { Reads (λ request. request) result reader.new (three_at Request.Action invoke_id_at method_at parameter_at reader.old) }
+    ensures { Reads (λ request. request) result reader.new
+        (three_at Request.Action invoke_id_at method_at parameter_at reader.old) }
 {
     let id = read_invoke_id(reader)?;
     let method = read_method(reader)?;
@@ -171,7 +179,8 @@ fn read_action_normal(alloc: Global, reader: &mut Reader) -> Result<Request, Apd
 
 // Reads an Action-Request-With-First-Pblock after its form.
 fn read_action_first(alloc: Global, reader: &mut Reader) -> Result<Request, ApduFault>
-    ensures { Reads (λ request. request) result reader.new (three_at Request.ActionFirst invoke_id_at method_at block_at reader.old) }
+    ensures { Reads (λ request. request) result reader.new
+        (three_at Request.ActionFirst invoke_id_at method_at block_at reader.old) }
 {
     let id = read_invoke_id(reader)?;
     let method = read_method(reader)?;
@@ -181,7 +190,8 @@ fn read_action_first(alloc: Global, reader: &mut Reader) -> Result<Request, Apdu
 
 // Reads an Action-Request-With-Pblock after its form.
 fn read_action_next(alloc: Global, reader: &mut Reader) -> Result<Request, ApduFault>
-    ensures { Reads (λ request. request) result reader.new (two_at Request.ActionNext invoke_id_at block_at reader.old) }
+    ensures { Reads (λ request. request) result reader.new
+        (two_at Request.ActionNext invoke_id_at block_at reader.old) }
 {
     let id = read_invoke_id(reader)?;
     let block = read_block(alloc, reader)?;

@@ -28,7 +28,8 @@ pub fn read_response(alloc: Global, bytes: &[u8]) -> Result<Response, ApduFault>
     ensures found { IfOk result (SpellsResponse bytes.now) }
 
     // If the bytes spell a response, that response is read, unless out of memory.
-    ensures only { (response : Response) → SpellsResponse bytes.now response → MatchResult result (λ read. read ≡ response) (λ fault. fault ≡ ApduFault.Memory) }
+    ensures only { (response : Response) → SpellsResponse bytes.now response
+        → MatchResult result (λ read. read ≡ response) (λ fault. fault ≡ ApduFault.Memory) }
 
     // The fault is the one that the definition gives, or out of memory.
     ensures exact { Gives ApduFault.Memory (λ read. read) result (response_of bytes.now) }
@@ -79,7 +80,8 @@ fn read_get(alloc: Global, reader: &mut Reader) -> Result<Response, ApduFault>
 
 // Reads a Get-Response-Normal after its form.
 fn read_get_normal(alloc: Global, reader: &mut Reader) -> Result<Response, ApduFault>
-    ensures { Reads (λ response. response) result reader.new (two_at Response.Get invoke_id_at result_at reader.old) }
+    ensures { Reads (λ response. response) result reader.new
+        (two_at Response.Get invoke_id_at result_at reader.old) }
 {
     let id = read_invoke_id(reader)?;
     let result = read_result(alloc, reader)?;
@@ -88,7 +90,8 @@ fn read_get_normal(alloc: Global, reader: &mut Reader) -> Result<Response, ApduF
 
 // Reads a Get-Response-With-List after its form.
 fn read_get_list(alloc: Global, reader: &mut Reader) -> Result<Response, ApduFault>
-    ensures { Reads (λ response. response) result reader.new (two_at Response.GetList invoke_id_at (list_at result_at) reader.old) }
+    ensures { Reads (λ response. response) result reader.new
+        (two_at Response.GetList invoke_id_at (list_at result_at) reader.old) }
 {
     let id = read_invoke_id(reader)?;
     let results = read_results(alloc, reader)?;
@@ -118,7 +121,9 @@ fn read_block_raw(
     number: u32,
     reader: &mut Reader,
 ) -> Result<Response, ApduFault>
-    ensures { Reads (λ response. response) result reader.new (one_at (λ raw. Response.GetBlock id (record { last = last; number = number; raw = raw })) raw_at reader.old) }
+    ensures { Reads (λ response. response) result reader.new
+        (one_at (λ raw. Response.GetBlock id (record { last = last; number = number; raw = raw }))
+        raw_at reader.old) }
 {
     let raw = read_raw(alloc, reader)?;
     Ok(Response::GetBlock {
@@ -134,7 +139,8 @@ fn read_block_refusal(
     number: u32,
     reader: &mut Reader,
 ) -> Result<Response, ApduFault>
-    ensures { Reads (λ response. response) result reader.new (one_at (Response.GetBlockRefused id last number) code_at reader.old) }
+    ensures { Reads (λ response. response) result reader.new
+        (one_at (Response.GetBlockRefused id last number) code_at reader.old) }
 {
     let code = read_code(reader)?;
     Ok(Response::GetBlockRefused {
@@ -160,7 +166,8 @@ fn read_set(reader: &mut Reader) -> Result<Response, ApduFault>
 
 // Reads a Set-Response-Normal after its form.
 fn read_set_normal(reader: &mut Reader) -> Result<Response, ApduFault>
-    ensures { Reads (λ response. response) result reader.new (two_at Response.Set invoke_id_at code_at reader.old) }
+    ensures { Reads (λ response. response) result reader.new
+        (two_at Response.Set invoke_id_at code_at reader.old) }
 {
     let id = read_invoke_id(reader)?;
     let code = read_code(reader)?;
@@ -169,7 +176,8 @@ fn read_set_normal(reader: &mut Reader) -> Result<Response, ApduFault>
 
 // Reads a Set-Response-Datablock after its form.
 fn read_set_block(reader: &mut Reader) -> Result<Response, ApduFault>
-    ensures { Reads (λ response. response) result reader.new (two_at Response.SetBlock invoke_id_at number_at reader.old) }
+    ensures { Reads (λ response. response) result reader.new
+        (two_at Response.SetBlock invoke_id_at number_at reader.old) }
 {
     let id = read_invoke_id(reader)?;
     let number = read_block_number(reader)?;
@@ -178,7 +186,8 @@ fn read_set_block(reader: &mut Reader) -> Result<Response, ApduFault>
 
 // Reads a Set-Response-Last-Datablock after its form.
 fn read_set_last(reader: &mut Reader) -> Result<Response, ApduFault>
-    ensures { Reads (λ response. response) result reader.new (three_at Response.SetLastBlock invoke_id_at code_at number_at reader.old) }
+    ensures { Reads (λ response. response) result reader.new
+        (three_at Response.SetLastBlock invoke_id_at code_at number_at reader.old) }
 {
     let id = read_invoke_id(reader)?;
     let code = read_code(reader)?;
@@ -200,7 +209,9 @@ fn read_action(reader: &mut Reader) -> Result<Response, ApduFault>
 
 // Reads an Action-Response-Normal after its form.
 fn read_action_normal(reader: &mut Reader) -> Result<Response, ApduFault>
-    ensures { Reads (λ response. response) result reader.new (three_at (λ id code nothing. Response.Action id code) invoke_id_at code_at nothing_at reader.old) }
+    ensures { Reads (λ response. response) result reader.new
+        (three_at (λ id code nothing. Response.Action id code) invoke_id_at code_at nothing_at
+        reader.old) }
 {
     let id = read_invoke_id(reader)?;
     let code = read_code(reader)?;
@@ -210,7 +221,8 @@ fn read_action_normal(reader: &mut Reader) -> Result<Response, ApduFault>
 
 // Reads an Action-Response-Next-Pblock after its form.
 fn read_action_block(reader: &mut Reader) -> Result<Response, ApduFault>
-    ensures { Reads (λ response. response) result reader.new (two_at Response.ActionBlock invoke_id_at number_at reader.old) }
+    ensures { Reads (λ response. response) result reader.new
+        (two_at Response.ActionBlock invoke_id_at number_at reader.old) }
 {
     let id = read_invoke_id(reader)?;
     let number = read_block_number(reader)?;

@@ -107,7 +107,9 @@ fn put_response_body(response: &Response, out: &mut Octets) -> Result<(), AllocE
 // Appends a DataBlock-G with raw data.
 #[tactic(auto, using(cosem_axdr::proofs::Appending::extends_same, cosem_axdr::proofs::Appending::extends_more))]
 fn put_get_block(block: &Block, out: &mut Octets) -> Result<(), AllocError>
-    ensures ok { OnOk result (out.new ≡ out.old ++ (flag_text block.now.last ++ (number_text block.now.number ++ 0x00 ∷ string_text block.now.raw))) }
+    ensures ok { OnOk result (out.new ≡ out.old
+        ++ (flag_text block.now.last
+        ++ (number_text block.now.number ++ 0x00 ∷ string_text block.now.raw))) }
     ensures extends { OnErr result (Extends out.old out.new) }
 {
     put_flag(block.last, out)?;
@@ -124,7 +126,8 @@ fn put_refusal(
     code: ResultCode,
     out: &mut Octets,
 ) -> Result<(), AllocError>
-    ensures ok { OnOk result (out.new ≡ out.old ++ (flag_text last ++ (number_text number ++ 0x01 ∷ code_of code ∷ []))) }
+    ensures ok { OnOk result (out.new ≡ out.old
+        ++ (flag_text last ++ (number_text number ++ 0x01 ∷ code_of code ∷ []))) }
     ensures extends { OnErr result (Extends out.old out.new) }
 {
     put_flag(last, out)?;

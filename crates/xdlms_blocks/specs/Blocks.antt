@@ -16,8 +16,11 @@ use Rattle.xdlms_blocks.specs.Joining.{added_text, after_added}
 
 -- pieces are the blocks of `size` bytes that follow the first `number` blocks
 pub data AreBlocks (size : ℕ) : ℕ → List Piece → Type 0 where
-  last_block : (number : ℕ) (raw : List ℕ) → 0 < length raw → length raw ≤ size → AreBlocks size number (record { last = true; number = number + 1; raw = raw } ∷ [])
-  full_block : (number : ℕ) (raw : List ℕ) (pieces : List Piece) → length raw ≡ size → AreBlocks size (number + 1) pieces → AreBlocks size number (record { last = false; number = number + 1; raw = raw } ∷ pieces)
+  last_block : (number : ℕ) (raw : List ℕ) → 0 < length raw → length raw ≤ size
+      → AreBlocks size number (record { last = true; number = number + 1; raw = raw } ∷ [])
+  full_block : (number : ℕ) (raw : List ℕ) (pieces : List Piece) → length raw ≡ size
+      → AreBlocks size (number + 1) pieces
+      → AreBlocks size number (record { last = false; number = number + 1; raw = raw } ∷ pieces)
 
 -- the concatenation of the parts of a text
 abbrev pub joined : List Piece → List ℕ
@@ -49,5 +52,8 @@ pub record IsDue (j : Joining) (piece : Piece) : Type 0 where
 -- adding pieces in order, from this state on, returns no text before the last and this text at the
 -- last
 pub data Joins : Joining → List Piece → List ℕ → Type 0 where
-  at_last : (j : Joining) (piece : Piece) (text : List ℕ) → IsDue j piece → added_text piece.last piece.raw j ≡ Some text → Joins j (piece ∷ []) text
-  goes_on : (j : Joining) (piece : Piece) (pieces : List Piece) (text : List ℕ) → IsDue j piece → added_text piece.last piece.raw j ≡ None → Joins (after_added piece.last piece.raw j) pieces text → Joins j (piece ∷ pieces) text
+  at_last : (j : Joining) (piece : Piece) (text : List ℕ) → IsDue j piece
+      → added_text piece.last piece.raw j ≡ Some text → Joins j (piece ∷ []) text
+  goes_on : (j : Joining) (piece : Piece) (pieces : List Piece) (text : List ℕ) → IsDue j piece
+      → added_text piece.last piece.raw j ≡ None
+      → Joins (after_added piece.last piece.raw j) pieces text → Joins j (piece ∷ pieces) text

@@ -10,7 +10,12 @@ added_text last raw j = if last then Some (j.bytes ++ raw) else None
 
 -- the transfer after a block was added; after the last block it keeps no bytes
 abbrev pub after_added : Bool → List ℕ → Joining → Joining
-after_added last raw j = record { number = j.number + 1; bytes = (if last then [] else j.bytes ++ raw); is_open = not last }
+after_added last raw j =
+    record {
+      number = j.number + 1;
+      bytes = (if last then [] else j.bytes ++ raw);
+      is_open = not last;
+    }
 
 -- a transfer that has ended
 abbrev pub over : Joining → Joining

@@ -6,16 +6,20 @@ use Rattle.xdlms_blocks.specs.Blocks.{AreBlocks, joined, pieces_of, unjoined, Jo
 
 -- the pieces that a transfer returns are the blocks of the text
 abbrev pub IsCut : Type 0
-IsCut = (text : List ℕ) (size : ℕ) → 0 < length text → 0 < size → AreBlocks size 0 (pieces_of text size)
+IsCut = (text : List ℕ) (size : ℕ) → 0 < length text → 0 < size
+    → AreBlocks size 0 (pieces_of text size)
 
 -- their concatenation is the text
 abbrev pub IsWhole : Type 0
-IsWhole = (text : List ℕ) (size : ℕ) → 0 < length text → 0 < size → joined (pieces_of text size) ≡ text
+IsWhole = (text : List ℕ) (size : ℕ) → 0 < length text → 0 < size
+    → joined (pieces_of text size) ≡ text
 
 -- no other pieces are the blocks of the text
 abbrev pub IsOnly : Type 0
-IsOnly = (size : ℕ) (pieces : List Piece) → 0 < size → AreBlocks size 0 pieces → pieces ≡ pieces_of (joined pieces) size
+IsOnly = (size : ℕ) (pieces : List Piece) → 0 < size → AreBlocks size 0 pieces
+    → pieces ≡ pieces_of (joined pieces) size
 
 -- blocks that arrive in order give the text that was cut
 abbrev pub IsJoined : Type 0
-IsJoined = (size : ℕ) (pieces : List Piece) → AreBlocks size 0 pieces → length (joined pieces) ≤ max_joined → Joins unjoined pieces (joined pieces)
+IsJoined = (size : ℕ) (pieces : List Piece) → AreBlocks size 0 pieces
+    → length (joined pieces) ≤ max_joined → Joins unjoined pieces (joined pieces)

@@ -16,11 +16,20 @@ is_last s = nat_le (length s.text) ((s.number + 1) * s.size)
 
 -- the next block
 abbrev pub next_piece : Sending → Piece
-next_piece s = record { last = is_last s; number = s.number + 1; raw = block_after s.number s.size s.text }
+next_piece s = record {
+  last = is_last s;
+  number = s.number + 1;
+  raw = block_after s.number s.size s.text;
+}
 
 -- the transfer after the next block was returned
 abbrev pub after_next : Sending → Sending
-after_next s = record { text = s.text; number = s.number + 1; size = s.size; is_open = not (is_last s) }
+after_next s = record {
+  text = s.text;
+  number = s.number + 1;
+  size = s.size;
+  is_open = not (is_last s);
+}
 
 -- a transfer that has ended
 abbrev pub over : Sending → Sending

@@ -1,8 +1,8 @@
 use octets::Octets;
 
-/// The maximum number of blocks of a text.
+// The maximum number of blocks of a text.
 pub(crate) const MAX_BLOCKS: usize = 4_294_967_295;
-/// The maximum length of a joined text, in bytes.
+// The maximum length of a joined text, in bytes.
 pub(crate) const MAX_JOINED: usize = 8192;
 
 /// One block of a long text (IEC 62056-5-3, DataBlock).

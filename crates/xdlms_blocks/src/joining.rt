@@ -24,7 +24,11 @@ impl Model for JoinBlocks {
 
     ghost Value = { Joining };
 
-    ghost view = { λ j. record { number = j.number; bytes = unwrap_or j.bytes []; is_open = is_some j.bytes } };
+    ghost view = { λ j. record {
+      number = j.number;
+      bytes = unwrap_or j.bytes [];
+      is_open = is_some j.bytes;
+    } };
 
     ghost invariant = { λ j. length (unwrap_or j.bytes []) ≤ max_joined };
 }
@@ -47,9 +51,11 @@ impl JoinBlocks {
     /// `TooLong` if the text would be longer than 8,192 bytes, `Memory` if out of memory.
     pub fn add(&mut self, last: bool, number: u32, raw: &[u8]) -> Result<Option<Octets>, BlockFault>
         ensures no_transfer { IsErrOf result BlockFault.NoTransfer ↔ (self.old.is_open ≡ false) }
-        ensures wrong_number { IsErrOf result BlockFault.WrongNumber ↔ ((self.old.is_open ≡ true) × (number ≢ self.old.number + 1)) }
+        ensures wrong_number { IsErrOf result BlockFault.WrongNumber
+            ↔ ((self.old.is_open ≡ true) × (number ≢ self.old.number + 1)) }
         ensures too_long { IsErrOf result BlockFault.TooLong
-            ↔ ((self.old.is_open ≡ true) × (number ≡ self.old.number + 1) × (max_joined < length self.old.bytes + length raw.now)) }
+            ↔ ((self.old.is_open ≡ true) × (number ≡ self.old.number + 1)
+            × (max_joined < length self.old.bytes + length raw.now)) }
         ensures text { IfOk result (λ text. text ≡ added_text last raw.now self.old) }
         ensures ok { OnOk result (self.new ≡ after_added last raw.now self.old) }
 

@@ -24,9 +24,15 @@ impl Model for GetBlocks {
 
     ghost Value = { Sending };
 
-    ghost view = { λ g. record { text = g.text; number = g.number; size = g.size; is_open = g.is_open } };
+    ghost view = { λ g. record {
+      text = g.text;
+      number = g.number;
+      size = g.size;
+      is_open = g.is_open;
+    } };
 
-    ghost invariant = { λ g. CanGoOn (record { text = g.text; number = g.number; size = g.size; is_open = g.is_open }) };
+    ghost invariant = { λ g.
+        CanGoOn (record { text = g.text; number = g.number; size = g.size; is_open = g.is_open }) };
 }
 
 impl GetBlocks {
@@ -60,7 +66,8 @@ impl GetBlocks {
     /// `after` is another number, `Memory` if out of memory.
     pub fn next(&mut self, alloc: Global, after: u32) -> Result<Piece, BlockFault>
         ensures no_transfer { IsErrOf result BlockFault.NoTransfer ↔ (self.old.is_open ≡ false) }
-        ensures wrong_number { IsErrOf result BlockFault.WrongNumber ↔ ((self.old.is_open ≡ true) × (after ≢ self.old.number)) }
+        ensures wrong_number { IsErrOf result BlockFault.WrongNumber
+            ↔ ((self.old.is_open ≡ true) × (after ≢ self.old.number)) }
         ensures never { result ≢ Err BlockFault.TooLong }
         ensures piece { IfOk result (λ piece. piece ≡ next_piece self.old) }
         ensures ok { OnOk result (self.new ≡ after_next self.old) }
