@@ -4,4 +4,3 @@ pub mod Decoded
 pub mod RequestLemmas
 pub mod Digits
 pub mod AnswerLemmas
-pub mod Played

@@ -3,6 +3,8 @@ use Rattle.program_fault.specs.declared.Fault.{Fault}
 use Rattle.program_fault.specs.declared.Fault.TheVariants as program
 use Rattle.hex_commands.specs.declared.telling.InputFault.{InputFault}
 use Rattle.hex_commands.specs.declared.telling.InputFault.TheVariants as fault
+use Rattle.session_serving.specs.declared.fault.TextFault.{TextFault}
+use Rattle.session_serving.specs.declared.fault.TextFault.TheVariants as text
 
 -- input that is wrong, and what is not: a failed read, a failed write, memory that ran out
 abbrev pub fault_of : InputFault → Fault
@@ -16,3 +18,11 @@ fault_of fault.Device = program.Input
 fault_of fault.Read = program.Read
 fault_of fault.Write = program.Write
 fault_of fault.Memory = program.Memory
+
+-- the fault of a stream that gave no bytes
+abbrev pub input_fault_of : TextFault → InputFault
+input_fault_of (text.Digit character) = fault.Digit character
+input_fault_of text.OddDigits = fault.OddDigits
+input_fault_of text.TooLong = fault.TooLong
+input_fault_of text.Read = fault.Read
+input_fault_of text.Memory = fault.Memory

@@ -1,13 +1,13 @@
 -- What `meter_server hex` makes of its input.
 --     digit_fault    what is wrong with a text that is no bytes in hexadecimal
+--     PlaysInput     the bytes of a session were played, and this came of it
 --     PlaysBytes     a text that was read was played, and this came of it
 --     PlaysText      options were judged and a text was played, and this came of it
-use Rattle.std.specs.Prelude.{◌≡◌, ◌⊎◌, ◌≤◌, ◌<◌, ◌+◌, ◌==◌, ◌||◌, ℕ, Bool, not, position, Option, Some, None, List, [], length, Result, Ok, Err}
+use Rattle.std.specs.Prelude.{◌≡◌, ◌⊎◌, ◌≤◌, ◌<◌, ◌+◌, ℕ, not, position, Option, Some, None, List, [], length, Result, Ok, Err}
 use Rattle.std.specs.Io.KnownBytes.{Appends, Consumes, IsAtEnd}
 use Rattle.acse_ber.specs.Password.{IsPassword}
-use Rattle.hex.specs.Hex.{is_hex_digit}
 use Rattle.relay_core.specs.World.{IsDeviceName}
-use Rattle.session_serving.specs.Hexadecimal.{IsHex, RunsShort, hex_output}
+use Rattle.session_serving.specs.Hexadecimal.{IsHex, RunsShort, hex_output, is_taken}
 use Rattle.hex_commands.specs.Apdu.{most_bytes}
 use Rattle.hex_commands.specs.declared.telling.InputFault.{InputFault}
 use Rattle.hex_commands.specs.declared.telling.InputFault.TheVariants as fault
@@ -15,10 +15,6 @@ use Rattle.hex_commands.specs.declared.telling.InputFault.TheVariants as fault
 -- the fault of an option's text of this length: that of a text of no byte or of too many, or memory ran out
 abbrev pub IsOptionFault : InputFault → ℕ → ℕ → InputFault → Type 0
 IsOptionFault wrong count longest given = (given ≡ fault.Memory) ⊎ ((given ≡ wrong) × ((count ≡ 0) ⊎ (longest < count)))
-
--- a character is a digit, or one that is skipped: a blank, a line feed, a carriage return
-abbrev pub is_taken : ℕ → Bool
-is_taken character = is_hex_digit character || character == 0x20 || character == 0x0A || character == 0x0D
 
 abbrev pub fault_at : Option ℕ → InputFault
 fault_at (Some index) = fault.Digit (index + 1)
@@ -31,6 +27,15 @@ digit_fault text = fault_at (position (λ character. not (is_taken character)) t
 -- a text is no pairs of digits: this is what is wrong with it, and nothing was written
 abbrev pub IsNoHex : List ℕ → InputFault → Option (List ℕ) → Option (List ℕ) → Type 0
 IsNoHex text given written written' = (given ≡ digit_fault text) × ((input : List ℕ) → ¬ (IsHex text input)) × Appends written written' []
+
+-- what came of the bytes of a session; the numbers are those of the writes that failed before and
+-- after
+abbrev pub PlaysInput : List ℕ → List ℕ → List ℕ → Option (List ℕ) → ℕ → Result (Unit {0}) InputFault → Option (List ℕ) → ℕ → Type 0
+PlaysInput device password input written failed (Ok done) written' failed' = Appends written written' (hex_output device password input)
+PlaysInput device password input written failed (Err fault.Write) written' failed' = failed < failed'
+PlaysInput device password input written failed (Err fault.Memory) written' failed' =
+    Appends written written' [] ⊎ RunsShort device password input written written'
+PlaysInput device password input written failed (Err other) written' failed' = ⊥
 
 -- what came of a text that was read; the numbers are those of the writes that failed before and after
 abbrev pub PlaysBytes : List ℕ → List ℕ → List ℕ → Option (List ℕ) → ℕ → Result (Unit {0}) InputFault → Option (List ℕ) → ℕ → Type 0

@@ -1,10 +1,9 @@
 //! The command `hex`.
-ghost use Rattle.std.specs.Prelude.{◌≡◌, ◌≤◌, length, not, position, IfOk, IfErr};
+ghost use Rattle.std.specs.Prelude.{◌≡◌, ◌≤◌, length, IfOk, IfErr};
 ghost use Rattle.acse_ber.specs.Password.{IsPassword};
 ghost use Rattle.relay_core.specs.World.{IsDeviceName};
-ghost use Rattle.hex_commands.specs.Sessions.{IsOptionFault, PlaysBytes, PlaysText, digit_fault, is_taken};
+ghost use Rattle.hex_commands.specs.Sessions.{IsOptionFault, PlaysInput, PlaysText};
 
-use crate::input::read_all;
 use crate::telling::InputFault;
 use acse_ber::MAX_PASSWORD;
 use byte_streams::{Reader, Writer};
@@ -12,7 +11,7 @@ use cosem_axdr::Octets;
 use program_fault::Fault;
 use relay_core::MAX_DEVICE_NAME;
 use server_options::octets_of;
-use session_serving::{HexFault, play_hex};
+use session_serving::{HexFault, play_session, read_hex};
 use std::alloc::Global;
 
 /// The bytes of an option's text. `wrong` is the fault of a text of no byte or of more than `longest`.
@@ -33,36 +32,10 @@ fn option_bytes(
     }
 }
 
-/// Whether a character is a hexadecimal digit, a blank or a part of a line end.
-fn is_taken(character: u8) -> bool
-    ensures { result ≡ is_taken character }
-{
-    character.is_ascii_hexdigit() || matches!(character, b' ' | b'\n' | b'\r')
-}
-
-/// The place of the first character that is neither a digit nor skipped.
-fn first_wrong(text: &[u8]) -> Option<usize>
-    ensures { result ≡ position (λ character. not (is_taken character)) text.now }
-{
-    text.iter().position(|character| !is_taken(*character))
-}
-
-/// What is wrong with a stream that is no bytes in hexadecimal: its first character that is neither a digit nor skipped, else the
-/// number of its digits.
-#[tactic(auto, using(crate::proofs::Played::place_within))]
-fn digit_fault(text: &[u8]) -> InputFault
-    ensures { result ≡ digit_fault text.now }
-{
-    match first_wrong(text) {
-        Some(index) => InputFault::Digit(index + 1),
-        None => InputFault::OddDigits,
-    }
-}
-
-/// Plays the session of a text that was read.
+/// Plays the session of a client whose bytes are these.
 fn play<W: Writer>(
     alloc: Global,
-    text: &[u8],
+    input: &[u8],
     writer: &mut W,
     device: &Octets,
     password: &Octets,
@@ -70,14 +43,13 @@ fn play<W: Writer>(
     requires writable { W.can_write writer.now }
     requires named { IsDeviceName device.now }
     requires password { IsPassword password.now }
-    ensures { PlaysBytes device.now password.now text.now (W.contents writer.old) (W.failures writer.old) result (W.contents writer.new) (W.failures writer.new) }
+    ensures { PlaysInput device.now password.now input.now (W.contents writer.old) (W.failures writer.old) result (W.contents writer.new) (W.failures writer.new) }
 {
-    match play_hex(alloc, text, writer, device, password) {
+    match play_session(alloc, input, writer, device, password) {
         Ok(()) => Ok(()),
-        Err(HexFault::Digits) => Err(digit_fault(text)),
         Err(HexFault::Write) => Err(InputFault::Write),
         Err(HexFault::Memory) => Err(InputFault::Memory),
-        Err(HexFault::TooLong | HexFault::Read) => unreachable!(),
+        Err(HexFault::Digits | HexFault::TooLong | HexFault::Read) => unreachable!(),
     }
 }
 
@@ -101,6 +73,8 @@ pub fn play_text<R: Reader, W: Writer>(
 {
     let password = option_bytes(alloc, password, MAX_PASSWORD, InputFault::Password)?;
     let device = option_bytes(alloc, device, MAX_DEVICE_NAME, InputFault::Device)?;
-    let text = read_all(alloc, reader)?;
-    play(alloc, text.as_slice(), writer, &device, &password)
+    match read_hex(alloc, reader) {
+        Ok(input) => play(alloc, input.as_slice(), writer, &device, &password),
+        Err(fault) => Err(InputFault::from(fault)),
+    }
 }

@@ -1,4 +1,4 @@
-//! Standard input, as both commands read it.
+//! Standard input, as `apdu` reads it.
 ghost use Rattle.std.specs.Prelude.{◌≤◌, length, IfOk, IfErr};
 ghost use Rattle.std.specs.Io.KnownBytes.{Consumes, IsAtEnd};
 ghost use Rattle.hex_commands.specs.Input.{StopsReading};

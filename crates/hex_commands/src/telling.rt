@@ -1,8 +1,9 @@
 //! Why the commands `apdu` and `hex` have no input or output, and how that is reported.
 ghost use Rattle.std.specs.Prelude.{◌≡◌};
-ghost use Rattle.hex_commands.specs.Faults.{fault_of};
+ghost use Rattle.hex_commands.specs.Faults.{fault_of, input_fault_of};
 
 use program_fault::Fault;
+use session_serving::TextFault;
 use thiserror::Error;
 
 /// Why the commands `apdu` and `hex` have no input, or no output.
@@ -40,6 +41,21 @@ pub enum InputFault {
     /// Out of memory.
     #[error("out of memory")]
     Memory,
+}
+
+/// The fault of a stream that gave no bytes.
+impl From<TextFault> for InputFault {
+    ghost from_gives = { λ text fault. fault ≡ input_fault_of text };
+
+    fn from(fault: TextFault) -> InputFault {
+        match fault {
+            TextFault::Digit(character) => InputFault::Digit(character),
+            TextFault::OddDigits => InputFault::OddDigits,
+            TextFault::TooLong => InputFault::TooLong,
+            TextFault::Read => InputFault::Read,
+            TextFault::Memory => InputFault::Memory,
+        }
+    }
 }
 
 impl InputFault {

@@ -6,7 +6,7 @@ use crate::repeated::repeated;
 use crate::sessions::{Input, Output, PUBLIC_AARE, PUBLIC_AARQ, PUBLIC_GET, PUBLIC_STATE};
 use byte_streams::Counted;
 use cosem_axdr::Octets;
-use session_serving::{HexFault, run_hex};
+use session_serving::{HexFault, TextFault, read_hex, run_hex};
 use std::alloc::{AllocError, Global};
 use std::io;
 use std::io::Read;
@@ -210,4 +210,64 @@ fn a_read_or_a_write_fails(rt: HostRuntime) -> Result<(), Fail> {
     drop(text);
     checked?;
     Ok(())
+}
+
+/// What a text gives, read byte by byte.
+fn read(alloc: Global, text: &str) -> Result<Vec<u8>, TextFault> {
+    let mut reader = Counted::new(Input {
+        rest: text.as_bytes(),
+        piece: 1,
+        reads: 0,
+        failing: 0,
+    });
+    let bytes = read_hex(alloc, &mut reader);
+    drop(reader);
+    bytes
+}
+
+/// Whether a text gives these bytes.
+fn reads(alloc: Global, text: &str, expected: &[u8]) -> bool {
+    match read(alloc, text) {
+        Ok(bytes) => {
+            let is_so = bytes.as_slice() == expected;
+            drop(bytes);
+            is_so
+        }
+        Err(_) => false,
+    }
+}
+
+/// Why a text gives no bytes, if it gives none.
+fn fault_of(alloc: Global, text: &str) -> Option<TextFault> {
+    match read(alloc, text) {
+        Ok(bytes) => {
+            drop(bytes);
+            None
+        }
+        Err(fault) => Some(fault),
+    }
+}
+
+/// Texts that give no bytes, and why. A wrong character comes before an odd number of digits.
+static WRONG_TEXTS: [(&str, TextFault); 5] = [
+    ("0", TextFault::OddDigits),
+    ("00 0\r\n", TextFault::OddDigits),
+    ("G", TextFault::Digit(1)),
+    ("0001001000010001CA0G", TextFault::Digit(20)),
+    ("00 \r\n0\t0G", TextFault::Digit(7)),
+];
+
+#[test]
+fn the_first_wrong_character_is_reported(rt: HostRuntime) {
+    for (text, fault) in &WRONG_TEXTS {
+        assert!(rt; fault_of(rt.alloc(), text) == Some(*fault), "in {text:?}");
+        assert!(rt; u8::from(HexFault::from(*fault)) == 1);
+    }
+}
+
+#[test]
+fn digits_are_read_in_pairs(rt: HostRuntime) {
+    assert!(rt; reads(rt.alloc(), " 0a\r\nFf 1\n2", &[0x0A, 0xFF, 0x12]));
+    assert!(rt; reads(rt.alloc(), "", &[]));
+    assert!(rt; HexFault::from(TextFault::TooLong) == HexFault::TooLong);
 }

@@ -5,3 +5,4 @@ pub mod HexSessions
 pub mod Ordering
 pub mod Sent
 pub mod Valueless
+pub mod HexTexts

@@ -3,18 +3,21 @@
 --     hex_line      the line of a frame
 --     hex_output    the lines of a whole session of a new meter
 --     PlayedOn      the effect of a session's bytes on a meter, by the result
---     Played        the same for a new meter
---     PlayedHex     the effect of a text that was read, by the result
+--     Played        that effect on a new meter
+--     ReadsHex      a text was read to its end and decoded
+--     StopsReading  a text gave no bytes, by the fault
 --     Hexed         the effect of reading and playing a text, by the result
-use Rattle.std.specs.Prelude.{◌≡◌, ◌⊎◌, ◌<◌, ◌≤◌, ℕ, Bool, ◌==◌, ◌||◌, not, Option, List, [], ◌∷◌, ◌++◌, length, map, filter, ⊤, Result, Ok, Err}
+use Rattle.std.specs.Prelude.{◌≡◌, ◌⊎◌, ◌<◌, ◌≤◌, ℕ, Bool, ◌+◌, ◌==◌, ◌||◌, not, Option, Some, None, List, [], ◌∷◌, ◌++◌, length, map, filter, position, ⊤, Result, Ok, Err}
 use Rattle.std.specs.List.{flat_map}
 use Rattle.std.specs.Io.KnownBytes.{Appends, Consumes, IsAtEnd}
-use Rattle.hex.specs.Hex.{decode_of, encode_upper}
+use Rattle.hex.specs.Hex.{decode_of, encode_upper, is_hex_digit}
 use Rattle.hex.specs.declared.error.FromHexError.{FromHexError}
 use Rattle.session_serving.specs.Meters.{CoreSteps}
 use Rattle.session_serving.specs.Served.{DoesAll, StopsShort}
 use Rattle.session_serving.specs.declared.fault.HexFault.{HexFault}
 use Rattle.session_serving.specs.declared.fault.HexFault.TheVariants as fault
+use Rattle.session_serving.specs.declared.fault.TextFault.{TextFault}
+use Rattle.session_serving.specs.declared.fault.TextFault.TheVariants as text_fault
 use Rattle.relay_events.specs.declared.event.Event.{Event}
 use Rattle.relay_events.specs.declared.reply.Reply.{Reply}
 use Rattle.relay_core.specs.declared.relay.RelayCore.{RelayCore}
@@ -52,27 +55,65 @@ replies_of events w = map (λ line. line.reply) (lines_of events w)
 abbrev pub hex_output : List ℕ → List ℕ → List ℕ → List ℕ
 hex_output device password input = flat_map hex_line (Answers password input (replies_of (Asks password input) (new_world device)))
 
--- how reading a text fails after these characters
-abbrev pub FailsToRead : List ℕ → ℕ → HexFault → ℕ → Type 0
-FailsToRead text failed fault.Digits failed' = ⊥
-FailsToRead text failed fault.TooLong failed' = most_characters < length text
-FailsToRead text failed fault.Read failed' = (length text ≤ most_characters) × (failed < failed')
-FailsToRead text failed fault.Write failed' = ⊥
-FailsToRead text failed fault.Memory failed' = ⊤
+-- a character is a digit, or is skipped
+abbrev pub is_taken : ℕ → Bool
+is_taken character = is_hex_digit character || is_blank character
 
--- The text was not read to its end.
-pub record StopsReading (left : Option (List ℕ)) (failed : ℕ) (f : HexFault) (left' : Option (List ℕ)) (failed' : ℕ) : Type 0 where
+abbrev pub fault_at : Option ℕ → TextFault
+fault_at (Some index) = text_fault.Digit (index + 1)
+fault_at None = text_fault.OddDigits
+
+-- what is wrong with a text that has no digits of bytes: its first character that is not taken,
+-- counted from 1, else the number of its digits
+abbrev pub digit_fault : List ℕ → TextFault
+digit_fault text = fault_at (position (λ character. not (is_taken character)) text)
+
+-- a text has no digits of bytes, and this is what is wrong with it
+abbrev pub IsNoHex : List ℕ → TextFault → Type 0
+IsNoHex text given = (given ≡ digit_fault text) × ((input : List ℕ) → ¬ (IsHex text input))
+
+-- a text has no digits of bytes, or memory ran out
+abbrev pub IsUndecoded : List ℕ → TextFault → Type 0
+IsUndecoded text (text_fault.Digit character) = IsNoHex text (text_fault.Digit character)
+IsUndecoded text text_fault.OddDigits = IsNoHex text text_fault.OddDigits
+IsUndecoded text text_fault.TooLong = ⊥
+IsUndecoded text text_fault.Read = ⊥
+IsUndecoded text text_fault.Memory = ⊤
+
+-- a text was read to its end, and has the digits of these bytes
+pub record ReadsHex (left left' : Option (List ℕ)) (input : List ℕ) : Type 0 where
   pub text : List ℕ
   pub read : Consumes left left' text
-  pub cause : FailsToRead text failed f failed'
+  pub at_end : IsAtEnd left'
+  pub within : length text ≤ most_characters
+  pub is_hex : IsHex text input
 
--- the text's digits can't be decoded, or out of memory
-abbrev pub IsUndecoded : List ℕ → HexFault → Type 0
-IsUndecoded text fault.Digits = (input : List ℕ) → ¬ (IsHex text input)
-IsUndecoded text fault.TooLong = ⊥
-IsUndecoded text fault.Read = ⊥
-IsUndecoded text fault.Write = ⊥
-IsUndecoded text fault.Memory = ⊤
+-- a whole text has no digits of bytes
+abbrev pub IsWrongWhole : List ℕ → TextFault → Option (List ℕ) → Type 0
+IsWrongWhole text given left' = IsNoHex text given × (length text ≤ most_characters) × IsAtEnd left'
+
+-- why a text gave no bytes, after these characters; the numbers are those of the reads that failed
+-- before and after
+abbrev pub FailsToRead : List ℕ → ℕ → TextFault → Option (List ℕ) → ℕ → Type 0
+FailsToRead text failed (text_fault.Digit character) left' failed' = IsWrongWhole text (text_fault.Digit character) left'
+FailsToRead text failed text_fault.OddDigits left' failed' = IsWrongWhole text text_fault.OddDigits left'
+FailsToRead text failed text_fault.TooLong left' failed' = most_characters < length text
+FailsToRead text failed text_fault.Read left' failed' = (length text ≤ most_characters) × (failed < failed')
+FailsToRead text failed text_fault.Memory left' failed' = ⊤
+
+-- a text gave no bytes
+pub record StopsReading (left : Option (List ℕ)) (failed : ℕ) (f : TextFault) (left' : Option (List ℕ)) (failed' : ℕ) : Type 0 where
+  pub text : List ℕ
+  pub read : Consumes left left' text
+  pub cause : FailsToRead text failed f left' failed'
+
+-- the fault of a session whose text gave no bytes
+abbrev pub hex_fault_of : TextFault → HexFault
+hex_fault_of (text_fault.Digit character) = fault.Digits
+hex_fault_of text_fault.OddDigits = fault.Digits
+hex_fault_of text_fault.TooLong = fault.TooLong
+hex_fault_of text_fault.Read = fault.Read
+hex_fault_of text_fault.Memory = fault.Memory
 
 -- The session of an input ran out of memory: a new meter was asked the first of the events, and the
 -- first of the lines were written.
@@ -102,19 +143,6 @@ Played device password input written failed (Err fault.Read) written' failed' = 
 Played device password input written failed (Err fault.Write) written' failed' = failed < failed'
 Played device password input written failed (Err fault.Memory) written' failed' =
     Appends written written' [] ⊎ RunsShort device password input written written'
-
--- the effect of a text that was read, by the result
-abbrev pub PlayedHex : List ℕ → List ℕ → List ℕ → Option (List ℕ) → ℕ → Result (Unit {0}) HexFault → Option (List ℕ) → ℕ → Type 0
-PlayedHex device password text written failed (Ok done) written' failed' =
-    (input : List ℕ) × IsHex text input × Appends written written' (hex_output device password input)
-PlayedHex device password text written failed (Err fault.Digits) written' failed' =
-    ((input : List ℕ) → ¬ (IsHex text input)) × Appends written written' []
-PlayedHex device password text written failed (Err fault.TooLong) written' failed' = ⊥
-PlayedHex device password text written failed (Err fault.Read) written' failed' = ⊥
-PlayedHex device password text written failed (Err fault.Write) written' failed' =
-    (input : List ℕ) × IsHex text input × (failed < failed')
-PlayedHex device password text written failed (Err fault.Memory) written' failed' =
-    Appends written written' [] ⊎ ((input : List ℕ) × IsHex text input × RunsShort device password input written written')
 
 module _ {R W : Type 0}
     (remaining : R → Option (List ℕ)) (read_failures : R → ℕ)

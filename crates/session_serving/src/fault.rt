@@ -1,8 +1,10 @@
 ghost use Rattle.std.specs.Prelude.{◌≡◌};
 ghost use Rattle.session_serving.specs.Numbers.{serve_number, hex_number};
+ghost use Rattle.session_serving.specs.Hexadecimal.{hex_fault_of};
 ghost use Rattle.session_serving.specs.Settling.{fault_of};
 ghost use Rattle.session_serving.specs.declared.fault.HexFault.TheVariants as hex_fault;
 ghost use Rattle.session_serving.specs.declared.fault.ServeFault.TheVariants as serve_fault;
+ghost use Rattle.session_serving.specs.declared.fault.TextFault.TheVariants as text_fault;
 
 use call_fault::CallFault;
 use std::alloc::AllocError;
@@ -90,5 +92,47 @@ impl From<HexFault> for u8 {
 
     fn from(fault: HexFault) -> u8 {
         fault as u8
+    }
+}
+
+/// Why a text gave no bytes. Characters count from 1.
+#[derive(Clone, Copy, Debug, PartialEq, Eq, Error)]
+pub enum TextFault {
+    /// The character of this number is not a hexadecimal digit, a blank or part of a line end.
+    #[error("character {0} is not a hexadecimal digit")]
+    Digit(usize),
+    /// The number of digits is odd.
+    #[error("an odd number of hexadecimal digits")]
+    OddDigits,
+    /// The text has more than 1,048,576 characters.
+    #[error("a text of more than 1,048,576 characters")]
+    TooLong,
+    /// A read failed.
+    #[error("a read failed")]
+    Read,
+    /// Out of memory.
+    #[error("out of memory")]
+    Memory,
+}
+
+impl From<AllocError> for TextFault {
+    ghost from_gives = { λ _ fault. fault ≡ text_fault.Memory };
+
+    fn from(_error: AllocError) -> TextFault {
+        TextFault::Memory
+    }
+}
+
+/// `Digits` of both faults of the digits.
+impl From<TextFault> for HexFault {
+    ghost from_gives = { λ text fault. fault ≡ hex_fault_of text };
+
+    fn from(fault: TextFault) -> HexFault {
+        match fault {
+            TextFault::Digit(_) | TextFault::OddDigits => HexFault::Digits,
+            TextFault::TooLong => HexFault::TooLong,
+            TextFault::Read => HexFault::Read,
+            TextFault::Memory => HexFault::Memory,
+        }
     }
 }

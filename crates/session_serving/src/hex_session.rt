@@ -1,10 +1,10 @@
 ghost use Rattle.acse_ber.specs.Password.{IsPassword};
-ghost use Rattle.session_serving.specs.Hexadecimal.{Hexed, Played, PlayedHex, PlayedOn};
+ghost use Rattle.session_serving.specs.Hexadecimal.{Hexed, Played, PlayedOn};
 ghost use Rattle.relay_core.specs.World.{IsDeviceName};
 
 use crate::fault::{HexFault, ServeFault};
 use crate::form::AsHexLine;
-use crate::hex_text::{decode, read_text};
+use crate::hex_text::read_hex;
 use crate::serving::end_input;
 use crate::watch::Unwatched;
 use byte_streams::{Reader, Writer};
@@ -50,9 +50,13 @@ fn play_on<W: Writer>(
     }
 }
 
-/// Serves the session of an input on a new meter, and writes each frame as a line.
+/// Serves the session of an input on a new meter of this device name, and writes each frame as a
+/// line of hexadecimal in capitals. The management client has this password. The session ends
+/// where the input does, or at a wrong header.
+///
+/// Errors: `Write`; `Memory`. Never `Digits`, `TooLong` or `Read`.
 #[tactic(auto, using(crate::proofs::HexSessions::played_new))]
-fn play<W: Writer>(
+pub fn play_session<W: Writer>(
     alloc: Global,
     input: &[u8],
     writer: &mut W,
@@ -68,25 +72,6 @@ fn play<W: Writer>(
     let played = play_on(alloc, input, writer, &mut core, password);
     drop(core);
     played
-}
-
-/// Serves the session whose bytes a text has in hexadecimal, as [`run_hex`] does, of a text that was read.
-///
-/// Errors: `Digits` if the text is no pairs of digits, before anything is written; `Write`; `Memory`. Never `TooLong` or `Read`.
-pub fn play_hex<W: Writer>(
-    alloc: Global,
-    text: &[u8],
-    writer: &mut W,
-    device: &Octets,
-    password: &Octets,
-) -> Result<(), HexFault>
-    requires writable { W.can_write writer.now }
-    requires named { IsDeviceName device.now }
-    requires password { IsPassword password.now }
-    ensures { PlayedHex device.now password.now text.now (W.contents writer.old) (W.failures writer.old) result (W.contents writer.new) (W.failures writer.new) }
-{
-    let input = decode(alloc, text)?;
-    play(alloc, input.as_slice(), writer, device, password)
 }
 
 /// Serves a session whose bytes a text has in hexadecimal: pairs of digits in either case, with blanks and line ends passed over, at most 1,048,576 characters.
@@ -107,6 +92,8 @@ pub fn run_hex<R: Reader, W: Writer>(
     requires password { IsPassword password.now }
     ensures { Hexed R.remaining R.failures W.contents W.failures device.now password.now reader.old writer.old result reader.new writer.new }
 {
-    let text = read_text(alloc, reader)?;
-    play_hex(alloc, text.as_slice(), writer, device, password)
+    match read_hex(alloc, reader) {
+        Ok(input) => play_session(alloc, input.as_slice(), writer, device, password),
+        Err(fault) => Err(HexFault::from(fault)),
+    }
 }

@@ -12,8 +12,9 @@ mod serving;
 mod watch;
 
 pub use answering::answer_apdu;
-pub use fault::{HexFault, ServeFault};
-pub use hex_session::{play_hex, run_hex};
+pub use fault::{HexFault, ServeFault, TextFault};
+pub use hex_session::{play_session, run_hex};
+pub use hex_text::read_hex;
 pub use meter::Meter;
 pub use serving::{serve_session, watch_session};
 pub use watch::Watch;
