@@ -169,7 +169,7 @@ CASES = [
      FAULT_INPUT, 2),
     ("no trace to resume from", "meter_server_cli", SERVE + ["--resume", "--listen", "nowhere"], b"", b"", FAULT_INPUT, 2),
     ("why a server does not listen", "meter_server_cli", SERVE + ["--verbose", "--listen", "nowhere"], b"", b"",
-     b"nowhere: expected HOST:PORT\n" + FAULT_LISTEN, 3),
+     b"nowhere: expected HOST:PORT with a port of at most 65535\n" + FAULT_LISTEN, 3),
     ("that a server's password is empty", "meter_server_cli", ["serve", "--verbose", "--password", ""], b"", b"",
      b"password: must be 1 to 32 bytes\n" + FAULT_INPUT, 2),
     ("that a server's device name is too long", "meter_server_cli", SERVE + ["--verbose", "--device", "d" * 17], b"", b"",

@@ -28,7 +28,7 @@ pub(crate) fn why_not_listening(kind: ErrorKind) -> &'static str {
         ErrorKind::AddrInUse => "the address is in use",
         ErrorKind::AddrNotAvailable => "the address is not one of this machine",
         ErrorKind::PermissionDenied => "permission denied",
-        ErrorKind::InvalidInput => "expected HOST:PORT",
+        ErrorKind::InvalidInput => "expected HOST:PORT with a port of at most 65535",
         _ => "listening failed",
     }
 }
