@@ -73,7 +73,7 @@ def silent_clients_are_closed(name):
     seen = one_more(server)
     status, trace, errors = server.ended()
     check(f"{name}: then another is served", status == 0 and played(trace) == seen, status, errors)
-    check(f"{name}: told", errors.count("nothing came in time") == SESSIONS, errors)
+    check(f"{name}: told", errors.count("a read failed or timed out") == SESSIONS, errors)
 
 
 def a_slow_client_holds_one_place(name):
@@ -92,7 +92,7 @@ def a_slow_client_holds_one_place(name):
             time.sleep(0.6)
     except OSError:
         pass
-    told = server.wait_for(b"nothing came in time")
+    told = server.wait_for(b"a read failed or timed out")
     check(f"{name}: closed when its session is over", told and slow.is_closed() and 2 <= sent < 12, sent, server.errors)
     seen = one_more(server)
     status, trace, errors = server.ended()
@@ -316,7 +316,7 @@ def hostile_clients_beside_a_good_one(name):
     status, trace, errors = server.ended()
     check(f"{name}: end", status == 0 and "fault" not in errors, status, errors[-500:])
     check(f"{name}: what the good client saw last stands in the trace", stands_in(good.seen[-50:], played(trace)))
-    check(f"{name}: one who took no answer was closed", "nothing was taken in time" in errors)
+    check(f"{name}: one who took no answer was closed", "a write failed or timed out" in errors)
     print(f"{name}: {errors.count('connected')} connections, {len(good.seen)} answers to the good one, the slowest in {slowest:.2f} s, "
           f"resident {watch.first[2]} to {max(sizes)} KiB, {time.monotonic() - begun:.1f} s")
 

@@ -1,8 +1,13 @@
 #!/usr/bin/env python3
-"""Refuses each allocation in turn, over the executables that the gate left: in the tests of `refusal_tests` (the recorder's `apply`, a port's `call`, `serve_session`,
-`play`), in a test of the sampler, in the programs, in a campaign, and in a meter that serves two clients; of that meter each thread too. Prints how many were refused in each and what stood afterwards.
+"""Refuses each allocation in turn, over the executables that the gate left, and looks at what stands
+afterwards. Prints how many were refused in each place, and what came of them.
 
-usage: tests/refused_memory.py [--long]     (--long: every allocation, in place of the first, the last and some between)"""
+Each allocation is refused in the six calls that have to stand it, which takes less than a minute: the
+tests of `refusal_tests` (the recorder's `apply`, a port's `call`, `serve_session`, `serve_all`, `play`)
+and a campaign of four jobs; and in a test of the sampler. In the programs, and in a meter that serves
+two clients, the first, the last and some between are refused; of that meter each thread too.
+
+usage: tests/refused_memory.py [--long]     (--long: each allocation everywhere)"""
 
 import argparse
 import collections
@@ -37,9 +42,10 @@ def told(name, found, word="refused"):
     print(f"{name}: {sum(found.values())} {word}: " + ", ".join(f"{count} {what}" for what, count in sorted(found.items())))
 
 
-def each_refusal(run, count):
-    """What `run` tells of each allocation's refusal, counted. It is given the number of the allocation."""
-    return collections.Counter(run(number) for number in turns(count, is_long))
+def each_refusal(run, count, is_each=False):
+    """What `run` returns for each allocation that is refused, counted. It receives the number of the
+    allocation. Unless `is_each` or `--long` is set, some are left out."""
+    return collections.Counter(run(number) for number in turns(count, is_long or is_each))
 
 
 def verdict(ran):
@@ -58,7 +64,7 @@ def calls_are_refused_memory(name):
     check(f"{name}: five calls", len(names) == 5, names)
     for one in names:
         ample = refusing.run([CALLS, one])
-        found = each_refusal(lambda number: verdict(refusing.run([CALLS, one], refuse_memory=number)), ample.allocations)
+        found = each_refusal(lambda number: verdict(refusing.run([CALLS, one], refuse_memory=number)), ample.allocations, is_each=True)
         told(one, found)
         check(f"{name}: {one}: ample memory", ample.status == 0, ample)
         check(f"{name}: {one}", found["in the call, and all stood"] > 0 and not found["WRONG"], found)
@@ -66,8 +72,7 @@ def calls_are_refused_memory(name):
 
 def a_read_of_thresholds_is_refused_memory(name):
     ample = refusing.run([RUNS, SAMPLER])
-    # (each allocation in turn, also in the short form: a read makes few of them)
-    found = collections.Counter(verdict(refusing.run([RUNS, SAMPLER], refuse_memory=number)) for number in range(1, ample.allocations + 1))
+    found = each_refusal(lambda number: verdict(refusing.run([RUNS, SAMPLER], refuse_memory=number)), ample.allocations, is_each=True)
     told("a sampler that reads the thresholds", found)
     check(f"{name}: ample memory", ample.status == 0, ample)
     check(name, found["in the call, and all stood"] > 0 and not found["WRONG"], found)
@@ -149,7 +154,7 @@ def a_campaign_is_refused_memory(name):
     ample = refusing.run([HEAD_END, "run", "--password", PASSWORD, "--workers", "2", "--timeout", "5"], jobs)
     wanted = "".join(f"m{number} {row}\n" for number, (_, row) in enumerate(METERS, 1)).encode()
     check(f"{name}: ample memory", (ample.status, ample.output) == (0, wanted), ample)
-    found = each_refusal(lambda number: campaign_refused(jobs, number), ample.allocations)
+    found = each_refusal(lambda number: campaign_refused(jobs, number), ample.allocations, is_each=True)
     told("a campaign of four jobs", found)
     check(name, found["whole: no connection"] and found["one job's row"] and not any("WRONG" in what for what in found), found)
     for meter in meters:
@@ -190,6 +195,8 @@ def served_refused(number, what="refuse_memory"):
     is_fault = status == 4 and "fault: memory\n" in errors
     if not is_fault and (status != 0 or "fault" in errors):
         return f"WRONG: status {status}, {errors}"
+    if not whole and ": connected" in errors:
+        return f"WRONG: 0 of 2 clients with all answers after an accept, {errors}"
     if not trace:
         return f"the fault, {whole} of 2 clients with all answers" if is_fault else "WRONG: no trace"
     history = played(trace)
@@ -241,7 +248,7 @@ def a_press_is_not_made_without_its_thread(name):
 def main():
     global is_long, refusing
     parser = argparse.ArgumentParser()
-    parser.add_argument("--long", action="store_true", help="every allocation")
+    parser.add_argument("--long", action="store_true", help="each allocation everywhere")
     is_long = parser.parse_args().long
     for executable in (CALLS, RUNS, SERVER, PLAYER, HEAD_END):
         if not os.access(executable, os.X_OK):
