@@ -76,7 +76,7 @@ def silent_clients_are_closed(name):
     seen = one_more(server)
     status, trace, errors = server.ended()
     check(f"{name}: another is served then", status == 0 and played(trace) == seen, status, errors)
-    check(f"{name}: reported", errors.count("nothing came in time") == SESSIONS, errors)
+    check(f"{name}: reported", errors.count("a read failed or timed out") == SESSIONS, errors)
 
 
 def a_slow_client_holds_one_place(name):
@@ -95,7 +95,7 @@ def a_slow_client_holds_one_place(name):
             time.sleep(0.6)
     except OSError:
         pass
-    told = server.wait_for(b"nothing came in time")
+    told = server.wait_for(b"a read failed or timed out")
     check(f"{name}: closed when its session is over", told and slow.is_closed() and 2 <= sent < 12, sent, server.errors)
     seen = one_more(server)
     status, trace, errors = server.ended()
@@ -323,7 +323,7 @@ def hostile_clients_beside_a_good_one(name):
     status, trace, errors = server.ended()
     check(f"{name}: end", status == 0 and "fault" not in errors, status, errors[-500:])
     check(f"{name}: the trace has what the good client saw last", stands_in(good.seen[-50:], played(trace)))
-    check(f"{name}: a client that does not read is closed", "nothing was taken in time" in errors)
+    check(f"{name}: a client that does not read is closed", "a write failed or timed out" in errors)
     print(f"{name}: {errors.count('connected')} connections, {len(good.seen)} answers to the good one, the slowest in {slowest:.2f} s, "
           f"resident {watch.first[2]} to {max(sizes)} KiB, {time.monotonic() - begun:.1f} s")
 

@@ -1,10 +1,14 @@
 #!/usr/bin/env python3
-"""Makes each allocation in turn fail, in the executables that the gate left: the tests of
-`refusal_tests` (the recorder's `apply`, a port's `call`, `serve_session`, `play`), a test of the
-sampler, the programs, a campaign, and a meter that serves two clients; for that meter also the
-start of each thread. Prints the number of failed allocations of each, and the results.
+"""Makes each allocation in turn fail, in the executables that the gate left, and checks what holds
+afterwards. Prints the number of failed allocations of each, and the results.
 
-usage: tests/refused_memory.py [--long]     (--long: every allocation, instead of the first, the last and some between)"""
+Every allocation is refused in the six calls whose state after it is promised, which takes less than a
+minute: the tests of `refusal_tests` (the recorder's `apply`, a port's `call`, `serve_session`,
+`serve_all`, `play`) and a campaign of four jobs; and in a test of the sampler. In the programs, and in
+a meter that serves two clients, the first, the last and some between are refused; for that meter also
+the start of each thread.
+
+usage: tests/refused_memory.py [--long]     (--long: every allocation everywhere)"""
 
 import argparse
 import collections
@@ -39,10 +43,10 @@ def print_counts(name, found, word="allocations refused"):
     print(f"{name}: {sum(found.values())} {word}: " + ", ".join(f"{count} {what}" for what, count in sorted(found.items())))
 
 
-def each_refusal(run, count):
-    """Counts the results of `run` over the refused allocations. `run` takes the number of the
-    allocation."""
-    return collections.Counter(run(number) for number in turns(count, is_long))
+def each_refusal(run, count, is_each=False):
+    """What `run` returns for each allocation that is refused, counted. It receives the number of the
+    allocation. Unless `is_each` or `--long` is set, some are left out."""
+    return collections.Counter(run(number) for number in turns(count, is_long or is_each))
 
 
 def verdict(ran):
@@ -61,7 +65,7 @@ def calls_are_refused_memory(name):
     check(f"{name}: five calls", len(names) == 5, names)
     for one in names:
         ample = refusing.run([CALLS, one])
-        found = each_refusal(lambda number: verdict(refusing.run([CALLS, one], refuse_memory=number)), ample.allocations)
+        found = each_refusal(lambda number: verdict(refusing.run([CALLS, one], refuse_memory=number)), ample.allocations, is_each=True)
         print_counts(one, found)
         check(f"{name}: {one}: ample memory", ample.status == 0, ample)
         check(f"{name}: {one}", found["in the call, and nothing changed"] > 0 and not found["WRONG"], found)
@@ -69,8 +73,7 @@ def calls_are_refused_memory(name):
 
 def a_read_of_thresholds_is_refused_memory(name):
     ample = refusing.run([RUNS, SAMPLER])
-    # (every allocation even without --long: a read makes few)
-    found = collections.Counter(verdict(refusing.run([RUNS, SAMPLER], refuse_memory=number)) for number in range(1, ample.allocations + 1))
+    found = each_refusal(lambda number: verdict(refusing.run([RUNS, SAMPLER], refuse_memory=number)), ample.allocations, is_each=True)
     print_counts("a sampler that reads the thresholds", found)
     check(f"{name}: ample memory", ample.status == 0, ample)
     check(name, found["in the call, and nothing changed"] > 0 and not found["WRONG"], found)
@@ -154,7 +157,7 @@ def a_campaign_is_refused_memory(name):
     ample = refusing.run([HEAD_END, "run", "--password", PASSWORD, "--workers", "2", "--timeout", "5"], jobs)
     wanted = "".join(f"m{number} {row}\n" for number, (_, row) in enumerate(METERS, 1)).encode()
     check(f"{name}: ample memory", (ample.status, ample.output) == (0, wanted), ample)
-    found = each_refusal(lambda number: campaign_refused(jobs, number), ample.allocations)
+    found = each_refusal(lambda number: campaign_refused(jobs, number), ample.allocations, is_each=True)
     print_counts("a campaign of four jobs", found)
     check(name, found["whole: no connection"] and found["one job's row"] and not any("WRONG" in what for what in found), found)
     for meter in meters:
@@ -197,6 +200,8 @@ def served_refused(number, what="refuse_memory"):
     is_fault = status == 4 and "fault: memory\n" in errors
     if not is_fault and (status != 0 or "fault" in errors):
         return f"WRONG: status {status}, {errors}"
+    if not whole and ": connected" in errors:
+        return f"WRONG: 0 of 2 clients with all answers after an accept, {errors}"
     if not trace:
         return f"the fault, {whole} of 2 clients with all answers" if is_fault else "WRONG: no trace"
     history = played(trace)
@@ -250,7 +255,7 @@ def a_press_is_not_made_without_its_thread(name):
 def main():
     global is_long, refusing
     parser = argparse.ArgumentParser()
-    parser.add_argument("--long", action="store_true", help="every allocation")
+    parser.add_argument("--long", action="store_true", help="each allocation everywhere")
     is_long = parser.parse_args().long
     for executable in (CALLS, RUNS, SERVER, PLAYER, HEAD_END):
         if not os.access(executable, os.X_OK):

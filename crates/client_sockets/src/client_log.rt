@@ -6,7 +6,7 @@ use std::sync::atomic::{AtomicBool, Ordering};
 
 /// Reports one client on standard error, if this is enabled: one line when it connects, and one
 /// when its session ends or it is turned away.
-pub struct ClientLog<R: Eprint + Copy> {
+pub(crate) struct ClientLog<R: Eprint + Copy> {
     rt: R,
     address: SocketAddr,
     is_verbose: bool,

@@ -10,7 +10,6 @@ mod listening;
 #[cfg(test)]
 mod tests;
 
-pub use client_log::ClientLog;
 pub use closing::Closing;
 pub use deadline_stream::DeadlineStream;
 pub use limits::Limits;

@@ -93,6 +93,10 @@ pub served_same : {R W : Type 0} (remaining : R → Option (List ℕ)) (reads re
 served_same remaining reads read_failures contents write_failures password r w p result r' w' q served =
     did_on PortSteps IsSame is_same same_on step_same remaining reads read_failures contents write_failures password served.seen r w p result r' w' q served.did
 
+-- ports are related if their equals are
+pub between : (P : MeterPort → MeterPort → Type 0) (p m n q : MeterPort) → m ≡ p → q ≡ n → P m n → P p q
+between P p m n q first last holds = subst (λ x. P x q) first (subst (P m) (sym last) holds)
+
 -- the calls of a port are extended by the events that it passed on
 pub entered : (p : MeterPort) (events : List Event) (replies : List Reply) (q : MeterPort) → Replied PortSteps p events replies q → Enters p events replies q
 entered p [] [] q same = subst (λ (q : MeterPort). Enters p [] [] q) (sym same) (sym (append-nil (calls_by p.known.number p.known.seen)))

@@ -52,7 +52,7 @@ impl<'a, W: Wait> PortMeter<'a, W> {
 
     /// Returns the port, with all calls that it has seen.
     pub fn into_port(self) -> Port<Kept>
-        ensures { result ≡ self }
+        ensures { result ≡ self.entry }
     {
         let PortMeter { rt: _, port } = self;
         port

@@ -204,7 +204,7 @@ const BOTH: Served = Served {
 fn serve_all_opens_two_sessions(rt: HostRuntime) -> Result<(), Fail> {
     let alloc = rt.alloc();
     let password = Octets::from_slice(alloc, b"12345678")?;
-    let clients = Arc::new(alloc, Clients::new())?;
+    let clients = Arc::new(alloc, Clients::new()).map_err(|_| AllocError)?;
     let came = open(&rt, alloc, &clients, &password);
     let counts = clients.counts();
     drop(clients);
