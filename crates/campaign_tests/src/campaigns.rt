@@ -2,15 +2,14 @@ ghost use Rattle.std.specs.Prelude.{◌≤◌, length, IfOk};
 ghost use Rattle.acse_ber.specs.Password.{IsPassword};
 ghost use Rattle.head_end.specs.Rows.{AreLines};
 
-use crate::meters::{DONE, REJECTED, add_job, job, password};
+use crate::meters::{DONE, REJECTED, job, jobs_named, password};
 use crate::scripts::{Everywhere, Meters};
 use client_core::{Job, Outcome};
 use cosem_axdr::Octets;
 use head_end::{
-    Attempt, Connector, Line, Row, Watcher, jobs_may_be_cut, places_for, report,
+    Attempt, Connector, Jobs, Report, Row, Watcher, jobs_may_be_cut, places_for, report,
     reports_stand_end_to_end, run_campaign, run_job, run_watched_campaign,
 };
-use listed::Listed;
 use std::alloc::{AllocError, Global};
 use std::sync::atomic::{AtomicU64, Ordering};
 use std::test::Fail;
@@ -18,16 +17,11 @@ use std::thread::Threads;
 
 const REPORT: &[u8] = b"m1 done 0\nm2 rejected 13\nm3 unknown\nm4 refused 2\nm5 unknown\n";
 
-/// Appends jobs for the four meters, and one for an address without a meter.
-pub(crate) fn add_five(alloc: Global, jobs: &mut Listed<Job>) -> Result<(), AllocError> {
-    for name in [b"m1", b"m2", b"m3", b"m4", b"m5"] {
-        add_job(alloc, jobs, name)?;
-    }
-    Ok(())
-}
+/// The four meters, and a name at whose address there is none.
+pub(crate) const FIVE: &[&[u8]] = &[b"m1", b"m2", b"m3", b"m4", b"m5"];
 
-/// Returns whether this is the report of these lines.
-fn reported(alloc: Global, lines: &Listed<Line>, text: &[u8]) -> Result<bool, AllocError> {
+/// Whether this is the text of a report.
+fn reported(alloc: Global, lines: &Report, text: &[u8]) -> Result<bool, AllocError> {
     let told = report(alloc, lines)?;
     let same = told.as_slice() == text;
     drop(told);
@@ -38,11 +32,11 @@ fn reported(alloc: Global, lines: &Listed<Line>, text: &[u8]) -> Result<bool, Al
 pub(crate) fn lines_at<R: Threads + Sync, C: Connector>(
     rt: &R,
     alloc: Global,
-    jobs: &Listed<Job>,
+    jobs: &Jobs,
     meters: &C,
     password: &Octets,
     workers: u8,
-) -> Result<Listed<Line>, AllocError>
+) -> Result<Report, AllocError>
     requires some { 1 ≤ workers }
     requires few { workers ≤ 16 }
     requires password { IsPassword password.now }
@@ -58,10 +52,10 @@ pub(crate) fn lines_at<R: Threads + Sync, C: Connector>(
 fn lines_of<R: Threads + Sync>(
     rt: &R,
     alloc: Global,
-    jobs: &Listed<Job>,
+    jobs: &Jobs,
     workers: u8,
     piece: usize,
-) -> Result<Listed<Line>, AllocError>
+) -> Result<Report, AllocError>
     requires some { 1 ≤ workers }
     requires few { workers ≤ 16 }
 {
@@ -76,7 +70,7 @@ fn lines_of<R: Threads + Sync>(
 fn is_told<R: Threads + Sync>(
     rt: &R,
     alloc: Global,
-    jobs: &Listed<Job>,
+    jobs: &Jobs,
     workers: u8,
     piece: usize,
     text: &[u8],
@@ -95,7 +89,7 @@ fn is_told<R: Threads + Sync>(
 fn are_told<R: Threads + Sync>(
     rt: &R,
     alloc: Global,
-    jobs: &Listed<Job>,
+    jobs: &Jobs,
     text: &[u8],
 ) -> Result<bool, AllocError> {
     Ok(
@@ -107,20 +101,42 @@ fn are_told<R: Threads + Sync>(
 
 /// Returns whether the report of the five jobs is the expected one.
 fn five_are_told<R: Threads + Sync>(rt: &R, alloc: Global) -> Result<bool, AllocError> {
-    let mut jobs = Listed::new(alloc);
-    let added = add_five(alloc, &mut jobs);
+    let jobs = jobs_named(alloc, FIVE)?;
     let told = are_told(rt, alloc, &jobs, REPORT);
     drop(jobs);
-    added?;
     told
 }
 
 /// Returns whether the report of no jobs is empty.
 fn none_is_told<R: Threads + Sync>(rt: &R, alloc: Global) -> Result<bool, AllocError> {
-    let none = Listed::new(alloc);
+    let none = jobs_named(alloc, &[])?;
     let told = is_told(rt, alloc, &none, 4, 1_024, b"");
     drop(none);
     told
+}
+
+/// Whether a report of five lines is the same once its lines were taken out and put back.
+fn is_put_back(alloc: Global, report: Report) -> Result<bool, AllocError> {
+    let has_five = report.len() == 5 && !report.is_empty();
+    let lines = report.into_vec();
+    let has_all = lines.len() == 5;
+    let again = Report::from_vec(lines);
+    let same = reported(alloc, &again, REPORT);
+    drop(again);
+    Ok(has_five && has_all && same?)
+}
+
+/// Whether that holds of the report of the five jobs.
+fn five_are_put_back<R: Threads + Sync>(rt: &R, alloc: Global) -> Result<bool, AllocError> {
+    let jobs = jobs_named(alloc, FIVE)?;
+    let lines = lines_of(rt, alloc, &jobs, 2, 7);
+    drop(jobs);
+    is_put_back(alloc, lines?)
+}
+
+#[test]
+fn a_report_has_a_line_for_each_job(rt: HostRuntime) {
+    assert!(rt; matches!(five_are_put_back(&rt, rt.alloc()), Ok(true)));
 }
 
 #[test]
@@ -234,11 +250,11 @@ impl Watcher for Tally {
 fn watched_at<R: Threads + Sync, C: Connector, W: Watcher>(
     rt: &R,
     alloc: Global,
-    jobs: &Listed<Job>,
+    jobs: &Jobs,
     meters: &C,
     password: &Octets,
     watcher: &W,
-) -> Result<Listed<Line>, AllocError>
+) -> Result<Report, AllocError>
     requires { IsPassword password.now }
 {
     let mut places = places_for(alloc, meters, jobs.len(), 3)?;
@@ -251,9 +267,9 @@ fn watched_at<R: Threads + Sync, C: Connector, W: Watcher>(
 fn watched_lines<R: Threads + Sync>(
     rt: &R,
     alloc: Global,
-    jobs: &Listed<Job>,
+    jobs: &Jobs,
     tally: &Tally,
-) -> Result<Listed<Line>, AllocError> {
+) -> Result<Report, AllocError> {
     let password = password(alloc)?;
     let meters = Meters { piece: 100 };
     let lines = watched_at(rt, alloc, jobs, &meters, &password, tally);
@@ -267,11 +283,9 @@ fn watched_count<R: Threads + Sync>(
     alloc: Global,
     tally: &Tally,
 ) -> Result<usize, AllocError> {
-    let mut jobs = Listed::new(alloc);
-    let added = add_five(alloc, &mut jobs);
+    let jobs = jobs_named(alloc, FIVE)?;
     let lines = watched_lines(rt, alloc, &jobs, tally);
     drop(jobs);
-    added?;
     let lines = lines?;
     let count = lines.len();
     drop(lines);

@@ -2,13 +2,12 @@
 //! one.
 ghost use Rattle.std.specs.Prelude.{◌≤◌};
 
-use crate::campaigns::{add_five, lines_at};
-use crate::meters::{SENT, password};
+use crate::campaigns::{FIVE, lines_at};
+use crate::meters::{SENT, jobs_named, password};
 use crate::scripts::bytes_of;
 use byte_streams::StreamFault;
 use cosem_axdr::Octets;
-use head_end::{ConnectFault, Connection, Connector, Line};
-use listed::Listed;
+use head_end::{ConnectFault, Connection, Connector, Report};
 use std::alloc::{AllocError, Global};
 use std::sync::Arc;
 use std::sync::atomic::{AtomicU64, Ordering};
@@ -106,13 +105,12 @@ fn lines_of<R: Threads + Sync>(
     alloc: Global,
     meters: &Counting,
     workers: u8,
-) -> Result<Listed<Line>, AllocError>
+) -> Result<Report, AllocError>
     requires some { 1 ≤ workers }
     requires few { workers ≤ 16 }
 {
-    let mut jobs = Listed::new(alloc);
-    add_five(alloc, &mut jobs)?;
     let password = password(alloc)?;
+    let jobs = jobs_named(alloc, FIVE)?;
     let lines = lines_at(rt, alloc, &jobs, meters, &password, workers);
     drop(password);
     drop(jobs);

@@ -1,6 +1,7 @@
 //! Lists of jobs that are read.
 use client_core::{Job, Verb};
-use head_end::{JobsFault, read_jobs};
+use head_end::{Jobs, JobsFault, read_jobs};
+use listed::Listed;
 use std::alloc::{AllocError, Global};
 use std::test::Fail;
 
@@ -112,7 +113,34 @@ fn a_thousand_are_read(alloc: Global) -> Result<bool, AllocError> {
     read
 }
 
-/// Returns the number of jobs of 1,048,577 empty lines.
+/// Whether the two jobs of the text are the same as a list, and as jobs again.
+fn are_listed(jobs: Jobs) -> bool {
+    let has_two = jobs.len() == 2 && !jobs.is_empty();
+    let list = jobs.into_listed();
+    let both = are_both(list.as_slice());
+    match Jobs::try_from(list) {
+        Ok(jobs) => {
+            let again = are_both(jobs.as_slice());
+            drop(jobs);
+            has_two && both && again
+        }
+        Err(_) => false,
+    }
+}
+
+#[test]
+fn jobs_are_a_list(rt: HostRuntime) -> Result<(), Fail> {
+    let jobs = read_jobs(
+        rt.alloc(),
+        b"m1 127.0.0.1:4059 disconnect\nm2 127.0.0.1:4060 state\n",
+    )?;
+    assert!(rt; are_listed(jobs));
+    let none: Listed<Job> = Listed::new(rt.alloc());
+    assert!(rt; Jobs::try_from(none)?.is_empty());
+    Ok(())
+}
+
+/// How many jobs 1,048,577 empty lines have.
 fn count_of_a_long_text(alloc: Global) -> Result<Option<usize>, AllocError> {
     let long = vec![in alloc; b'\n'; 1_048_577]?;
     let count = count_of(alloc, long.as_slice());

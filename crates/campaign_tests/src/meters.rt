@@ -4,6 +4,7 @@ ghost use Rattle.acse_ber.specs.Password.{IsPassword};
 
 use client_core::{Job, Verb};
 use cosem_axdr::Octets;
+use head_end::Jobs;
 use listed::Listed;
 use std::alloc::{AllocError, Global};
 
@@ -68,12 +69,8 @@ pub(crate) fn job(alloc: Global, name: &[u8], address: &[u8]) -> Result<Job, All
     job_of(alloc, name, address, Verb::Disconnect)
 }
 
-/// Appends a disconnect job with this name, at the address of the same name.
-pub(crate) fn add_job(
-    alloc: Global,
-    jobs: &mut Listed<Job>,
-    name: &[u8],
-) -> Result<(), AllocError> {
+/// Appends a disconnect job of this name, at the address of the same name.
+fn add_job(alloc: Global, jobs: &mut Listed<Job>, name: &[u8]) -> Result<(), AllocError> {
     let job = job(alloc, name, name)?;
     match jobs.push(job) {
         Ok(()) => Ok(()),
@@ -81,7 +78,27 @@ pub(crate) fn add_job(
     }
 }
 
-/// Returns the password 12345678.
+/// Appends a disconnect job of each name.
+fn add_jobs(alloc: Global, names: &[&[u8]], jobs: &mut Listed<Job>) -> Result<(), AllocError> {
+    for name in names {
+        add_job(alloc, jobs, *name)?;
+    }
+    Ok(())
+}
+
+/// Disconnect jobs of these names, each at the address of its name.
+pub(crate) fn jobs_named(alloc: Global, names: &[&[u8]]) -> Result<Jobs, AllocError> {
+    let mut jobs = Listed::new(alloc);
+    match add_jobs(alloc, names, &mut jobs) {
+        Ok(()) => Jobs::try_from(jobs).map_err(|_| AllocError),
+        Err(error) => {
+            drop(jobs);
+            Err(error)
+        }
+    }
+}
+
+/// The password 12345678.
 pub(crate) fn password(alloc: Global) -> Result<Octets, AllocError>
     ensures { IfOk result IsPassword }
 {

@@ -1,11 +1,10 @@
 //! Two meters, each of which responds only once the other has received its request.
 use crate::campaigns::lines_at;
-use crate::meters::{OPENED, add_job, password};
+use crate::meters::{OPENED, jobs_named, password};
 use byte_streams::StreamFault;
-use client_core::{Job, Outcome};
+use client_core::Outcome;
 use cosem_axdr::Octets;
-use head_end::{ConnectFault, Connection, Connector, Line, Row};
-use listed::Listed;
+use head_end::{ConnectFault, Connection, Connector, Jobs, Line, Report, Row};
 use std::alloc::{AllocError, Global};
 use std::sync::Arc;
 use std::sync::atomic::{AtomicBool, Ordering};
@@ -105,11 +104,7 @@ impl Connector for Two {
 }
 
 /// Returns the lines of the jobs at both meters, run by two workers.
-fn lines_of<R: Threads + Sync>(
-    rt: &R,
-    alloc: Global,
-    jobs: &Listed<Job>,
-) -> Result<Listed<Line>, AllocError> {
+fn lines_of<R: Threads + Sync>(rt: &R, alloc: Global, jobs: &Jobs) -> Result<Report, AllocError> {
     let two = Two::new(alloc)?;
     let password = password(alloc)?;
     let lines = lines_at(rt, alloc, jobs, &two, &password, 2);
@@ -128,18 +123,11 @@ fn two_are_done(lines: &[Line]) -> bool {
     lines.len() == 2
 }
 
-fn add_two(alloc: Global, jobs: &mut Listed<Job>) -> Result<(), AllocError> {
-    add_job(alloc, jobs, b"m1")?;
-    add_job(alloc, jobs, b"m2")
-}
-
 /// Returns whether a job at each meter is done.
 fn both_are_done<R: Threads + Sync>(rt: &R, alloc: Global) -> Result<bool, AllocError> {
-    let mut jobs = Listed::new(alloc);
-    let added = add_two(alloc, &mut jobs);
+    let jobs = jobs_named(alloc, &[b"m1", b"m2"])?;
     let lines = lines_of(rt, alloc, &jobs);
     drop(jobs);
-    added?;
     let lines = lines?;
     let done = two_are_done(lines.as_slice());
     drop(lines);

@@ -11,13 +11,14 @@ ghost use Rattle.head_end.specs.Connections.{Told};
 ghost use Rattle.head_end.specs.Rows.{AreLines};
 
 use crate::connection::Connector;
+use crate::job_list::Jobs;
 use crate::placing::{Place, turns_for};
+use crate::report_lines::Report;
 use crate::row::{Line, Row};
 use crate::running::run_job;
 use crate::watching::{Unwatched, Watcher};
 use client_core::Job;
 use cosem_axdr::Octets;
-use listed::Listed;
 use std::alloc::{AllocError, Global};
 use std::thread;
 use std::thread::Threads;
@@ -31,11 +32,11 @@ use std::thread::Threads;
 pub fn run_campaign<R: Threads + Sync, C: Connector>(
     rt: &R,
     alloc: Global,
-    jobs: &Listed<Job>,
+    jobs: &Jobs,
     places: &mut [Place<C>],
     password: &Octets,
     workers: u8,
-) -> Result<Listed<Line>, AllocError>
+) -> Result<Report, AllocError>
     requires some { 1 ≤ workers }
     requires few { workers ≤ 16 }
     requires password { IsPassword password.now }
@@ -56,12 +57,12 @@ pub fn run_campaign<R: Threads + Sync, C: Connector>(
 pub fn run_watched_campaign<R: Threads + Sync, C: Connector, W: Watcher>(
     rt: &R,
     alloc: Global,
-    jobs: &Listed<Job>,
+    jobs: &Jobs,
     places: &mut [Place<C>],
     password: &Octets,
     workers: u8,
     watcher: &W,
-) -> Result<Listed<Line>, AllocError>
+) -> Result<Report, AllocError>
     requires some { 1 ≤ workers }
     requires few { workers ≤ 16 }
     requires password { IsPassword password.now }
@@ -78,52 +79,97 @@ pub fn run_watched_campaign<R: Threads + Sync, C: Connector, W: Watcher>(
     let workers = usize::from(workers);
     let turns = turns_for(jobs.len(), workers).ok_or(AllocError)?;
     let mut lines = blank_lines(alloc, jobs.as_slice())?;
-    fill(
-        rt,
-        alloc,
-        jobs.as_slice(),
+    let campaign = Campaign {
+        jobs: jobs.as_slice(),
         password,
         turns,
         workers,
         watcher,
-        places,
-        lines.as_mut_slice(),
-    );
-    Ok(Listed::from_vec(lines))
+    };
+    campaign.fill(rt, alloc, places, lines.as_mut_slice());
+    Ok(Report::from_vec(lines))
 }
 
-/// Runs all jobs, and puts their rows into their lines. It allocates nothing but for the
-/// conversations of the jobs.
-fn fill<R: Threads + Sync, C: Connector, W: Watcher>(
-    rt: &R,
-    alloc: Global,
-    jobs: &[Job],
-    password: &Octets,
+// What all workers of a campaign share: `turns` is the number of places of each worker.
+#[derive(Drop)]
+struct Campaign<'a, W: Watcher> {
+    jobs: &'a [Job],
+    password: &'a Octets,
     turns: usize,
     workers: usize,
-    watcher: &W,
-    places: &mut [Place<C>],
-    lines: &mut [Line],
-)
-    requires some { 0 < turns }
-    requires workers { 0 < workers }
-    requires slots { length places.old ≡ turns * workers }
-    requires room { length jobs.now < turns * workers }
-    requires password { IsPassword password.now }
-    requires unused { All (λ place. place.attempt.stage ≡ unused) places.old }
-    requires names { map (λ line. line.id) lines.old ≡ map (λ job. job.id) jobs.now }
-    ensures lines { (tells : List ℕ → Option Told)
-        → All (λ place. C.tells place.attempt.source.value ≡ tells) places.old
-        → AreLines tells jobs.now lines.new }
-    ensures tried { AreTried turns workers jobs.now password.now lines.new
-        (map (λ place. place.attempt.stage) places.new) }
-    ensures len { length lines.new ≡ length lines.old }
-{
-    work(rt, alloc, jobs, password, turns, workers, watcher, places);
-    gather(lines, places, turns, workers);
+    watcher: &'a W,
+    ghost some_turns: { 0 < turns },
+    ghost some_workers: { 0 < workers },
+    ghost fits: { turns * workers < 2 ^ 64 },
+    ghost sized: { IsPassword password.now },
 }
 
-/// A line with the name of each job.
+impl<'a, W: Watcher> Campaign<'a, W> {
+    // Runs all jobs, and stores their rows in their lines. It allocates nothing except for the
+    // conversations of the jobs.
+    fn fill<R: Threads + Sync, C: Connector>(
+        &self,
+        rt: &R,
+        alloc: Global,
+        places: &mut [Place<C>],
+        lines: &mut [Line],
+    )
+        requires slots { length places.old ≡ self.now.turns * self.now.workers }
+        requires room { length self.now.jobs.now < self.now.turns * self.now.workers }
+        requires unused { All (λ place. place.attempt.stage ≡ unused) places.old }
+        requires names { map (λ line. line.id) lines.old ≡ map (λ job. job.id) self.now.jobs.now }
+        ensures lines { (tells : List ℕ → Option Told)
+            → All (λ place. C.tells place.attempt.source.value ≡ tells) places.old
+            → AreLines tells self.now.jobs.now lines.new }
+        ensures tried { AreTried self.now.turns self.now.workers self.now.jobs.now
+            self.now.password.now lines.new (map (λ place. place.attempt.stage) places.new) }
+        ensures len { length lines.new ≡ length lines.old }
+    {
+        self.work(rt, alloc, places);
+        gather(lines, places, self.turns, self.workers);
+    }
+
+    // Runs the jobs of all slots.
+    fn work<R: Threads + Sync, C: Connector>(&self, rt: &R, alloc: Global, places: &mut [Place<C>])
+        requires slots { length places.old ≡ self.now.turns * self.now.workers }
+        requires unused { All (λ place. place.attempt.stage ≡ unused) places.old }
+        ensures { EachChange (λ slot old new. IsRun self.now.turns self.now.workers
+            self.now.jobs.now self.now.password.now slot (C.tells old.attempt.source.value)
+            new.attempt.stage new.row) places.old places.new }
+    {
+        let campaign = self;
+        thread::for_each_mut(
+            rt,
+            places,
+            self.workers,
+            &|slot, place|
+                requires { (slot < campaign.now.turns * campaign.now.workers)
+                    × (place.now.attempt.stage ≡ unused) }
+                ensures { IsRun campaign.entry.now.turns campaign.entry.now.workers
+                    campaign.entry.now.jobs.now campaign.entry.now.password.now slot
+                    (C.tells place.entry.now.attempt.source.value) place.exit.now.attempt.stage
+                    place.exit.now.row }
+            {
+                campaign.work_slot(alloc, slot, place);
+            },
+        );
+    }
+
+    // Runs the job of a slot, if it has one.
+    fn work_slot<C: Connector>(&self, alloc: Global, slot: usize, place: &mut Place<C>)
+        requires slot { slot < self.now.turns * self.now.workers }
+        requires unused { place.old.attempt.stage ≡ unused }
+        ensures { IsRun self.now.turns self.now.workers self.now.jobs.now self.now.password.now
+            slot (C.tells place.old.attempt.source.value) place.new.attempt.stage place.new.row }
+    {
+        if let Some(job) = self.jobs.get(place_of(self.turns, self.workers, slot)) {
+            place.row = run_job(alloc, job, &mut place.attempt, self.password);
+            self.watcher.done(job, place.row);
+        }
+    }
+}
+
+// Returns a line with the name of each job.
 fn blank_lines(alloc: Global, jobs: &[Job]) -> Result<Vec<Line>, AllocError>
     ensures { IfOk result (λ lines. map (λ line. line.id) lines.items ≡ map (λ job. job.id) jobs.now) }
 {
@@ -138,68 +184,7 @@ fn blank_lines(alloc: Global, jobs: &[Job]) -> Result<Vec<Line>, AllocError>
     Ok(lines)
 }
 
-/// Runs the jobs of all slots.
-fn work<R: Threads + Sync, C: Connector, W: Watcher>(
-    rt: &R,
-    alloc: Global,
-    jobs: &[Job],
-    password: &Octets,
-    turns: usize,
-    workers: usize,
-    watcher: &W,
-    places: &mut [Place<C>],
-)
-    requires some { 0 < turns }
-    requires workers { 0 < workers }
-    requires slots { length places.old ≡ turns * workers }
-    requires password { IsPassword password.now }
-    requires unused { All (λ place. place.attempt.stage ≡ unused) places.old }
-    ensures { EachChange (λ slot old new. IsRun turns workers jobs.now password.now slot
-        (C.tells old.attempt.source.value)
-        new.attempt.stage new.row) places.old places.new }
-{
-    thread::for_each_mut(
-        rt,
-        places,
-        workers,
-        &|slot, place|
-            requires { (0 < turns) × (slot < turns * workers) × (turns * workers < 2 ^ 64)
-                × IsPassword password.now × (place.now.attempt.stage ≡ unused) }
-            ensures { IsRun turns workers jobs.entry.now password.entry.now slot
-                (C.tells place.entry.now.attempt.source.value) place.exit.now.attempt.stage
-                place.exit.now.row }
-        {
-            work_slot(alloc, jobs, password, turns, workers, watcher, slot, place);
-        },
-    );
-}
-
-/// Runs the job of a slot, if it has one.
-fn work_slot<C: Connector, W: Watcher>(
-    alloc: Global,
-    jobs: &[Job],
-    password: &Octets,
-    turns: usize,
-    workers: usize,
-    watcher: &W,
-    slot: usize,
-    place: &mut Place<C>,
-)
-    requires some { 0 < turns }
-    requires slot { slot < turns * workers }
-    requires fits { turns * workers < 2 ^ 64 }
-    requires password { IsPassword password.now }
-    requires unused { place.old.attempt.stage ≡ unused }
-    ensures { IsRun turns workers jobs.now password.now slot
-        (C.tells place.old.attempt.source.value) place.new.attempt.stage place.new.row }
-{
-    if let Some(job) = jobs.get(place_of(turns, workers, slot)) {
-        place.row = run_job(alloc, job, &mut place.attempt, password);
-        watcher.done(job, place.row);
-    }
-}
-
-/// The place of the job of a slot.
+// Returns the place of the job of a slot.
 fn place_of(turns: usize, workers: usize, slot: usize) -> usize
     requires some { 0 < turns }
     requires slot { slot < turns * workers }
@@ -209,7 +194,7 @@ fn place_of(turns: usize, workers: usize, slot: usize) -> usize
     slot % turns * workers + slot / turns
 }
 
-/// Puts the rows of the slots into the lines of their jobs.
+// Stores the rows of the slots in the lines of their jobs.
 fn gather<C: Connector>(lines: &mut [Line], places: &[Place<C>], turns: usize, workers: usize)
     requires workers { 0 < workers }
     requires slots { length places.now ≡ turns * workers }
@@ -226,7 +211,7 @@ fn gather<C: Connector>(lines: &mut [Line], places: &[Place<C>], turns: usize, w
     }
 }
 
-/// The slot of the job at a place.
+// Returns the slot of the job at a place.
 fn slot_of(turns: usize, workers: usize, place: usize) -> usize
     requires some { 0 < workers }
     requires place { place < turns * workers }

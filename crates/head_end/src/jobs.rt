@@ -1,37 +1,34 @@
 //! A text of jobs: a line `NAME ADDRESS VERB` for each.
-ghost use Rattle.std.specs.Prelude.{◌≡◌, ◌≤◌, length, IfOk};
+ghost use Rattle.std.specs.Prelude.{◌≡◌, IfOk};
 ghost use Rattle.head_end.specs.Jobs.{verb_of, is_name, is_visible, job_with, job_of, jobs_in, job_lines, jobs_of, ReadsJobs, ReadsLines, AddsJob};
 ghost use Rattle.std.specs.List.{list_all};
 
 use crate::fault::JobsFault;
+use crate::job_list::Jobs;
 use client_core::{Job, Verb};
 use cosem_axdr::Octets;
 use listed::Listed;
 use std::alloc::{AllocError, Global};
 use trace_text::{Words, split_line};
 
-/// The most jobs.
-const MAX_JOBS: usize = 1_000;
 /// The longest name of a job, in bytes.
 pub const MAX_ID: usize = 32;
 /// The longest address, in bytes.
 pub const MAX_ADDRESS: usize = 64;
 
-/// Reads the jobs of a text, one of each line `NAME ADDRESS VERB` with one blank between. The name has 1 to 32 and the address 1 to 64 bytes from 21 to 7E; the verb
-/// is `disconnect`, `reconnect` or `state`. Lines end with the byte 0A, which the last may lack; empty lines are skipped.
+/// Reads the jobs of a text, one on each line `NAME ADDRESS VERB` with one blank between words.
+///
+/// The name has 1 to 32 and the address 1 to 64 bytes from 21 to 7E; the verb is `disconnect`,
+/// `reconnect` or `state`. Lines end with the byte 0A, which the last may lack; empty lines are
+/// skipped.
 ///
 /// Errors: `Line` with the number of the first wrong line, counted from 1, even if there are too
 /// many jobs; `TooMany` if there are more than 1,000 jobs; `Memory` if it runs out.
 #[tactic(auto, unfolding(crate::specs::Jobs::jobs_of))]
-pub fn read_jobs(alloc: Global, text: &[u8]) -> Result<Listed<Job>, JobsFault>
-    ensures read { ReadsJobs text.now result }
-    ensures few { IfOk result (λ jobs. length jobs ≤ 1000) }
+pub fn read_jobs(alloc: Global, text: &[u8]) -> Result<Jobs, JobsFault>
+    ensures { ReadsJobs text.now result }
 {
-    let jobs = read_lines(alloc, text)?;
-    if jobs.len() > MAX_JOBS {
-        return Err(JobsFault::TooMany);
-    }
-    Ok(jobs)
+    Jobs::try_from(read_lines(alloc, text)?)
 }
 
 /// Reads the jobs of all lines.

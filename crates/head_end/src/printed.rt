@@ -10,13 +10,12 @@ ghost use Rattle.head_end.specs.Laws.{Reports};
 use crate::campaign::run_watched_campaign;
 use crate::connection::Connector;
 use crate::fault::JobsFault;
+use crate::job_list::Jobs;
 use crate::jobs::read_jobs;
 use crate::placing::Place;
 use crate::reporting::{add_report, put_number};
 use crate::watching::Watcher;
-use client_core::Job;
 use cosem_axdr::Octets;
-use listed::Listed;
 use std::alloc::{AllocError, Global};
 use std::thread::Threads;
 
@@ -50,7 +49,7 @@ fn count_line(alloc: Global, count: usize) -> Result<Octets, AllocError>
 pub fn report_jobs<R: Threads + Sync, C: Connector, W: Watcher>(
     rt: &R,
     alloc: Global,
-    jobs: &Listed<Job>,
+    jobs: &Jobs,
     places: &mut [Place<C>],
     password: &Octets,
     workers: u8,
@@ -67,8 +66,8 @@ pub fn report_jobs<R: Threads + Sync, C: Connector, W: Watcher>(
 {
     let room = Vec::with_capacity(alloc, jobs.len().saturating_mul(LONGEST_LINE))?;
     let mut text = Octets::from_vec(room);
-    let lines = run_watched_campaign(rt, alloc, jobs, places, password, workers, watcher)?;
-    add_report(&lines, &mut text)?;
-    drop(lines);
+    let report = run_watched_campaign(rt, alloc, jobs, places, password, workers, watcher)?;
+    add_report(&report, &mut text)?;
+    drop(report);
     Ok(text)
 }

@@ -1,34 +1,36 @@
 ghost use Rattle.std.specs.Prelude.{◌≡◌, ◌++◌, ◌∷◌, [], codes, decimal, IfOk, OnOk};
 ghost use Rattle.head_end.specs.Reports.{row_text, line_text, report_text};
 
+use crate::report_lines::Report;
 use crate::row::{Line, Row};
 use client_core::Outcome;
 use cosem_axdr::Octets;
 use itoa::Buffer;
-use listed::Listed;
 use std::alloc::{AllocError, Global};
 
-/// The text of a report: for each job its name, a blank and `done N`, `refused N`, `rejected N`, `unknown` or `memory`, ended by the byte 0A.
-pub fn report(alloc: Global, lines: &Listed<Line>) -> Result<Octets, AllocError>
-    ensures { IfOk result (λ text. text ≡ report_text lines.now) }
+/// Returns the text of a report: for each job its name, a blank and `done N`, `refused N`,
+/// `rejected N`, `unknown` or `memory`, ended by the byte 0A.
+pub fn report(alloc: Global, report: &Report) -> Result<Octets, AllocError>
+    ensures { IfOk result (λ text. text ≡ report_text report.now) }
 {
     let mut out = Octets::new(alloc);
-    add_report(lines, &mut out)?;
+    add_report(report, &mut out)?;
     Ok(out)
 }
 
-/// Adds the text of a report to a text. Where that has room for it, 46 bytes for each job, no memory is taken.
+/// Appends the text of a report to a text. It allocates nothing if the text has capacity for it, 46
+/// bytes for each job.
 #[tactic(auto, unfolding(crate::specs::Reports::report_text))]
-pub fn add_report(lines: &Listed<Line>, out: &mut Octets) -> Result<(), AllocError>
-    ensures { OnOk result (out.new ≡ out.old ++ report_text lines.now) }
+pub fn add_report(report: &Report, out: &mut Octets) -> Result<(), AllocError>
+    ensures { OnOk result (out.new ≡ out.old ++ report_text report.now) }
 {
-    'lines: for line in lines.as_slice() {
+    'lines: for line in report.as_slice() {
         put_line(line, out)?;
     }
     Ok(())
 }
 
-/// One line.
+// Appends a line.
 fn put_line(line: &Line, out: &mut Octets) -> Result<(), AllocError>
     ensures { OnOk result (out.new ≡ out.old ++ line_text line.now) }
 {
@@ -37,7 +39,7 @@ fn put_line(line: &Line, out: &mut Octets) -> Result<(), AllocError>
     out.push(b'\n')
 }
 
-/// What came of a job.
+// Appends what came of a job.
 fn put_row(row: Row, out: &mut Octets) -> Result<(), AllocError>
     ensures { OnOk result (out.new ≡ out.old ++ row_text row) }
 {
@@ -50,7 +52,7 @@ fn put_row(row: Row, out: &mut Octets) -> Result<(), AllocError>
     }
 }
 
-/// A word and a number.
+/// Appends a word and a number.
 pub fn put_number(word: &[u8], number: usize, out: &mut Octets) -> Result<(), AllocError>
     ensures { OnOk result (out.new ≡ out.old ++ (word.now ++ decimal number)) }
 {

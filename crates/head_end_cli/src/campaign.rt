@@ -9,10 +9,8 @@ use crate::jobs_of;
 use crate::progress::{Progress, Watch};
 use acse_ber::MAX_PASSWORD;
 use clap::ArgMatches;
-use client_core::Job;
 use cosem_axdr::Octets;
-use head_end::{Connector, Limits, places_for, report_jobs};
-use listed::Listed;
+use head_end::{Connector, Jobs, Limits, places_for, report_jobs};
 use program_fault::Fault;
 use program_start::print_text;
 use std::alloc::Global;
@@ -27,7 +25,7 @@ pub(crate) const PASSWORD_VARIABLE: &str = "METER_PASSWORD";
 /// What the command line asks for.
 #[derive(Drop)]
 pub(crate) struct Plan {
-    pub(crate) jobs: Listed<Job>,
+    pub(crate) jobs: Jobs,
     pub(crate) password: Octets,
     pub(crate) workers: u8,
     pub(crate) limits: Limits,

@@ -15,9 +15,7 @@ use crate::telling::{ListFault, input_fault, jobs_fault};
 use crate::warnings::warn;
 use byte_streams::{Counted, read_to_end_within};
 use clap::ArgMatches;
-use client_core::Job;
-use head_end::{JobsFault, TcpConnector, count_jobs, read_jobs};
-use listed::Listed;
+use head_end::{Jobs, JobsFault, TcpConnector, count_jobs, read_jobs};
 use program_fault::Fault;
 use program_start::{ended, print_text, without_work, words};
 use std::env;
@@ -57,7 +55,7 @@ pub(crate) fn jobs_of<I: Read + Drop>(
     rt: &HostRuntime,
     input: I,
     is_verbose: bool,
-) -> Result<Listed<Job>, Fault> {
+) -> Result<Jobs, Fault> {
     let text = text_of(rt, input, is_verbose)?;
     match read_jobs(rt.alloc(), text.as_slice()) {
         Ok(jobs) => {

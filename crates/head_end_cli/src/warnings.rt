@@ -1,12 +1,12 @@
 //! Warnings about jobs that their writer may not mean. A warning does not change what is run.
 use client_core::Job;
-use listed::Listed;
+use head_end::Jobs;
 use memchr::{memchr, memrchr};
 use std::net::SocketAddr;
 use trace_text::read_number;
 
 /// Writes the warnings about all jobs of a text to standard error, a line each.
-pub(crate) fn warn(rt: &HostRuntime, text: &[u8], jobs: &Listed<Job>) {
+pub(crate) fn warn(rt: &HostRuntime, text: &[u8], jobs: &Jobs) {
     let mut number: u64 = 0;
     let mut rest = jobs.as_slice().iter();
     for line in text.split(|byte| *byte == b'\n') {

@@ -3,8 +3,8 @@ use Rattle.head_end.proofs.printed.report_jobs.Goals as goal
 
 pub returns : goal.returns
 returns g c = record {
-  lines = c.in_ok-lines.lines;
+  lines = c.in_ok-report.report;
   text_is = search rules;
-  lines_are = c.in_ok-lines.ensures.lines;
-  tried = c.in_ok-lines.ensures.tried;
+  lines_are = c.in_ok-report.ensures.lines;
+  tried = c.in_ok-report.ensures.tried;
 }

@@ -1,6 +1,6 @@
 use Rattle.std.proofs.Common.{slice_index_or}
 use Rattle.head_end.proofs.CampaignLemmas.{run_moved}
-use Rattle.head_end.proofs.campaign.work.Goals as goal
+use Rattle.head_end.proofs.campaign.Campaign.work.Goals as goal
 
 pub returns : goal.returns
 returns g c = λ slot place below.
@@ -8,5 +8,5 @@ returns g c = λ slot place below.
     run_moved (slice_index_or c.args.places.now slot place) changes.argument.now
     (slice_index_or c.for_each_mut.new.s slot place) changes.after_call.now
     (λ p. g.C.Connector.tells p.attempt.source.value) (λ p. p.attempt.stage) (λ p. p.row)
-    c.args.turns c.args.workers c.args.jobs.now c.args.password.now slot changes.argument_is
+    c.args.self.now.turns c.args.self.now.workers c.args.self.now.jobs.now c.args.self.now.password.now slot changes.argument_is
     changes.left changes.call

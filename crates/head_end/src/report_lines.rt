@@ -1,0 +1,59 @@
+//! The report of a campaign.
+ghost use Rattle.std.specs.Prelude.{◌≡◌, ◌↔◌, [], length, IsTrue};
+
+use crate::row::Line;
+use std::marker::Model;
+
+/// The report of a campaign: a line for each of its jobs, in their order. Contracts see the list of
+/// the lines.
+#[derive(Debug, Drop)]
+pub struct Report {
+    lines: Vec<Line>,
+}
+
+impl Model for Report {
+    ghost use Rattle.std.specs.Prelude.{List};
+    ghost use Rattle.head_end.specs.declared.row.Line.{Line};
+
+    ghost Value = { List Line };
+
+    ghost view = { λ report. report.lines.items };
+}
+
+impl Report {
+    /// Takes ownership of the lines of a report, and allocates nothing.
+    pub fn from_vec(lines: Vec<Line>) -> Report
+        ensures { result ≡ lines.items }
+    {
+        Report { lines }
+    }
+
+    /// Returns the lines, and allocates nothing.
+    pub fn into_vec(self) -> Vec<Line>
+        ensures { result.items ≡ self }
+    {
+        let Report { lines } = self;
+        lines
+    }
+
+    /// Returns the lines.
+    pub fn as_slice(&self) -> &[Line]
+        ensures { result.now ≡ self.now }
+    {
+        self.lines.as_slice()
+    }
+
+    /// Returns the number of lines.
+    pub fn len(&self) -> usize
+        ensures { result ≡ length self.now }
+    {
+        self.lines.len()
+    }
+
+    /// Returns whether there are no lines.
+    pub fn is_empty(&self) -> bool
+        ensures { IsTrue result ↔ (self.now ≡ []) }
+    {
+        self.lines.is_empty()
+    }
+}
