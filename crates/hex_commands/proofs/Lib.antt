@@ -1,4 +1,3 @@
-pub mod LineCuts
 pub mod Pieces
 pub mod Decoded
 pub mod RequestLemmas

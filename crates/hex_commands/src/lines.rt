@@ -5,7 +5,7 @@ ghost use Rattle.trace_text.specs.Parts.{parts_at};
 use memchr::memchr;
 
 /// The first line of a text, without the byte 0A that ends it, and the text after it. `None` of a text without that byte.
-#[tactic(auto, using(crate::proofs::LineCuts::one_part, crate::proofs::LineCuts::first_part))]
+#[tactic(auto, using(trace_text::proofs::Cuts::parts_whole, trace_text::proofs::Cuts::parts_cut))]
 pub(crate) fn cut_line(text: &[u8]) -> Option<(&[u8], &[u8])>
     ensures { MatchOption result (parts_at 10 text.now ≡ text.now ∷ [])
         (λ parts. parts_at 10 text.now ≡ parts.0.now ∷ parts_at 10 parts.1.now) }
