@@ -102,7 +102,8 @@ impl Everywhere {
 impl Connector for Everywhere {
     type Connection = Telling;
 
-    ghost tells = { λ meter address. Some (record { reads = 65536; bytes = meter.bytes.now; stop = ended }) };
+    ghost tells = { λ meter address.
+        Some (record { reads = 65536; bytes = meter.bytes.now; stop = ended }) };
 
     fn connect(&self, _address: &Octets) -> Result<Telling, ConnectFault> {
         Ok(Telling {

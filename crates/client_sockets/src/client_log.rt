@@ -4,8 +4,8 @@ use std::io;
 use std::net::SocketAddr;
 use std::sync::atomic::{AtomicBool, Ordering};
 
-/// Reports one client on standard error, if this is enabled: one line when it connects, and one
-/// when its session ends or it is turned away.
+// Reports one client on standard error, if this is enabled: one line when it connects, and one
+// when its session ends or it is turned away.
 pub(crate) struct ClientLog<R: Eprint + Copy> {
     rt: R,
     address: SocketAddr,
@@ -14,7 +14,7 @@ pub(crate) struct ClientLog<R: Eprint + Copy> {
 }
 
 impl<R: Eprint + Copy> ClientLog<R> {
-    /// Reports that a client connected, and returns its log.
+    // Reports that a client connected, and returns its log.
     pub(crate) fn new(rt: R, address: SocketAddr, is_verbose: bool) -> ClientLog<R> {
         if is_verbose {
             let _ = eprintln!(rt; "{address}: connected");
@@ -27,7 +27,7 @@ impl<R: Eprint + Copy> ClientLog<R> {
         }
     }
 
-    /// Reports how the client's session ended.
+    // Reports how the client's session ended.
     pub(crate) fn end(&self, end: &Result<SessionEnd, ServeFault>) {
         self.has_ended.store(true, Ordering::SeqCst);
         if !self.is_verbose {
@@ -39,7 +39,7 @@ impl<R: Eprint + Copy> ClientLog<R> {
         };
     }
 
-    /// Reports that the client is turned away because its stream could not be set up.
+    // Reports that the client is turned away because its stream could not be set up.
     pub(crate) fn turn_away(self, error: &io::Error) {
         self.has_ended.store(true, Ordering::SeqCst);
         if self.is_verbose {

@@ -6,7 +6,7 @@ use std::sync::atomic::Ordering;
 use std::thread;
 use std::time::{Clock, Duration};
 
-/// The maximum number of attempts to wake the blocked `accept` by connecting to it.
+// The maximum number of attempts to wake the blocked `accept` by connecting to it.
 const MOST_CALLS_TO_WAKE: u32 = 100;
 
 /// Ends the listening when the console ends, if this is enabled.
@@ -19,7 +19,7 @@ pub struct Closing<R> {
     pub address: Option<SocketAddr>,
 }
 
-/// Wakes a listener that waits for a client at this address, by connecting to it.
+// Wakes a listener that waits for a client at this address, by connecting to it.
 fn wake<R: Net + Clock>(rt: &R, address: SocketAddr) {
     for _ in 0..MOST_CALLS_TO_WAKE {
         if TcpStream::connect(rt, address).is_ok() {

@@ -19,7 +19,7 @@ pub struct DeadlineStream<R: Eprint + Copy> {
 }
 
 impl<R: Clock + Eprint + Copy> DeadlineStream<R> {
-    /// Returns the input and the output of a stream whose session begins now.
+    // Returns the input and the output of a stream whose session begins now.
     pub(crate) fn both_ways(rt: R, stream: TcpStream, limits: Limits) -> io::Result<(Self, Self)> {
         stream.set_nodelay(true)?;
         stream.set_read_timeout(limits.call)?;
@@ -43,14 +43,14 @@ impl<R: Clock + Eprint + Copy> DeadlineStream<R> {
         Ok((input, output))
     }
 
-    /// Returns the stream with this log, which reports the end of its session.
+    // Returns the stream with this log, which reports the end of its session.
     pub(crate) fn with_log(mut self, log: ClientLog<R>) -> Self {
         self.log = Some(log);
         self
     }
 
-    /// Returns the time left for the next call. Fails with `TimedOut` once the session's time is
-    /// over.
+    // Returns the time left for the next call. Fails with `TimedOut` once the session's time is
+    // over.
     fn left(&self) -> io::Result<Option<Duration>> {
         if self.limits.session.is_none() {
             return Ok(self.limits.call);

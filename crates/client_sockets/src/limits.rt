@@ -14,7 +14,7 @@ pub struct Limits {
     pub session: Option<Duration>,
 }
 
-/// Returns the limit of this number of seconds; 0 means no limit.
+// Returns the limit of this number of seconds; 0 means no limit.
 fn limit_of(seconds: u32) -> Option<Duration>
     ensures { IsLimit seconds result }
 {
@@ -25,7 +25,7 @@ fn limit_of(seconds: u32) -> Option<Duration>
     }
 }
 
-/// Returns the shorter of two durations.
+// Returns the shorter of two durations.
 fn shorter(first: Duration, second: Duration) -> Duration
     ensures { nanos_of (Some result) ≡ lesser (nanos_of (Some first)) (nanos_of (Some second)) }
 {
@@ -60,7 +60,8 @@ impl Limits {
     /// Returns the time limit of the next read or write in a session that has lasted this long;
     /// `None` means no limit.
     pub fn left_after(self, lasted: Duration) -> Option<Duration>
-        ensures { nanos_of result ≡ lesser (nanos_of self.call) (rest_of (nanos_of self.session) (as_nanos lasted)) }
+        ensures { nanos_of result
+            ≡ lesser (nanos_of self.call) (rest_of (nanos_of self.session) (as_nanos lasted)) }
     {
         let Some(session) = self.session else {
             return self.call;

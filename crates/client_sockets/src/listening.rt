@@ -56,8 +56,8 @@ impl<R: Clock + Eprint + Copy> Sockets<R> {
         self.has_failed
     }
 
-    /// Returns the input and the output of a client that connected. Returns `None` if its stream
-    /// could not be set up; the client is closed and reported as turned away.
+    // Returns the input and the output of a client that connected. Returns `None` if its stream
+    // could not be set up; the client is closed and reported as turned away.
     fn client(
         &self,
         stream: TcpStream,
@@ -74,7 +74,7 @@ impl<R: Clock + Eprint + Copy> Sockets<R> {
     }
 }
 
-/// Returns whether an error of `accept` is transient: the next call may succeed.
+// Returns whether an error of `accept` is transient: the next call may succeed.
 fn is_transient(kind: ErrorKind) -> bool {
     matches!(kind, ErrorKind::Interrupted | ErrorKind::ConnectionAborted)
 }

@@ -10,13 +10,13 @@ use std::sync::atomic::AtomicBool;
 use std::test::Fail;
 use std::time::{Duration, Instant};
 
-/// No limits.
+// No limits.
 const NO_LIMITS: Limits = Limits {
     call: None,
     session: None,
 };
 
-/// Returns sockets on a free port of the loopback interface, and their address.
+// Returns sockets on a free port of the loopback interface, and their address.
 fn listening(
     rt: HostRuntime,
     limits: Limits,
@@ -29,8 +29,8 @@ fn listening(
     Ok((sockets, address))
 }
 
-/// Returns how long the first read from a silent client takes, which must fail, and whether a
-/// second read fails.
+// Returns how long the first read from a silent client takes, which must fail, and whether a
+// second read fails.
 fn failed_reads(rt: HostRuntime, limits: Limits) -> Result<(Duration, bool), Fail> {
     let (mut sockets, address) = listening(rt, limits, false)?;
     let client = TcpStream::connect(&rt, address)?;

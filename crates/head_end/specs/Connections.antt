@@ -39,7 +39,8 @@ ReadsBy told (suc left) result buffer new = ReadsTold told left result buffer ne
 -- a read into a buffer of 1,024 bytes, while reads are predicted
 abbrev pub ReadTells : Option Told → Result ℕ StreamFault → List ℕ → Option Told → Type 0
 ReadTells None result buffer new = ⊤
-ReadTells (Some told) result buffer new = length buffer ≡ 1024 → ReadsBy told told.reads result buffer new
+ReadTells (Some told) result buffer new = length buffer ≡ 1024
+    → ReadsBy told told.reads result buffer new
 
 -- a write leaves the prediction unchanged; one fails only if no predicted bytes are left
 abbrev pub WriteTells : {X : Type 0} → Option Told → Result X StreamFault → Option Told → Type 0
@@ -49,7 +50,9 @@ WriteTells (Some told) (Err fault) new = (told.bytes ≡ []) × (told.stop ≡ f
 
 -- a connect returns a connection with this prediction of its first 65,536 reads; a connect that
 -- fails counts as a connection that fails without bytes
-abbrev pub ConnectTells : {K : Type 0} → Option Told → (K → Option Told) → Result K ConnectFault → Type 0
+abbrev pub ConnectTells : {K : Type 0} → Option Told → (K → Option Told) → Result K ConnectFault
+    → Type 0
 ConnectTells None told_of result = ⊤
-ConnectTells (Some told) told_of (Ok connection) = (told_of connection ≡ Some told) × (told.reads ≡ 65536)
+ConnectTells (Some told) told_of (Ok connection) = (told_of connection ≡ Some told)
+    × (told.reads ≡ 65536)
 ConnectTells (Some told) told_of (Err fault) = (told.bytes ≡ []) × (told.stop ≡ failed)

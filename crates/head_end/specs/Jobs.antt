@@ -36,7 +36,8 @@ verb_of word =
 -- the job of a name, an address and a verb
 abbrev pub job_with : List ℕ → List ℕ → Option Verb → Option Job
 job_with id address None = None
-job_with id address (Some verb) = if is_name 32 id && is_name 64 address then Some (record { id = id; address = address; verb = verb }) else None
+job_with id address (Some verb) = if is_name 32 id && is_name 64 address
+    then Some (record { id = id; address = address; verb = verb }) else None
 
 -- the job of three words; none of any other number
 abbrev pub job_words : List (List ℕ) → Option Job
@@ -62,7 +63,8 @@ jobs_at number (byte ∷ bytes) None = Err number
 -- the jobs of lines numbered from here, or the number of the first invalid line
 unfoldable pub jobs_in : ℕ → List (List ℕ) → Result (List Job) ℕ
 jobs_in number [] = Ok []
-jobs_in number (line ∷ lines) = joined_jobs (jobs_at number line (job_of line)) (jobs_in (suc number) lines)
+jobs_in number (line ∷ lines) =
+    joined_jobs (jobs_at number line (job_of line)) (jobs_in (suc number) lines)
 
 -- the jobs, if there are at most 1,000
 abbrev pub limited_jobs : Result (List Job) ℕ → Result (List Job) JobsFault
@@ -98,7 +100,8 @@ ReadsLines number lines (Err fault.Memory) = Unit {0}
 ReadsLines number lines (Err fault.TooMany) = ⊥
 
 abbrev pub AddsJob : {X : Type 0} → ℕ → List ℕ → List Job → Result X JobsFault → List Job → Type 0
-AddsJob number line old (Ok x) new = (added : List Job) × (jobs_at number line (job_of line) ≡ Ok added) × (new ≡ old ++ added)
+AddsJob number line old (Ok x) new = (added : List Job)
+    × (jobs_at number line (job_of line) ≡ Ok added) × (new ≡ old ++ added)
 AddsJob number line old (Err (fault.Line wrong)) new = jobs_at number line (job_of line) ≡ Err wrong
 AddsJob number line old (Err fault.Memory) new = Unit {0}
 AddsJob number line old (Err fault.TooMany) new = ⊥

@@ -44,23 +44,27 @@ campaign_text tells jobs = report_text (map (line_told tells) jobs)
 
 -- the concatenated reports of parts are the report of the whole
 abbrev pub ReportsJoin : Type 0
-ReportsJoin = (lines others : List Line) → report_text (lines ++ others) ≡ report_text lines ++ report_text others
+ReportsJoin = (lines others : List Line)
+    → report_text (lines ++ others) ≡ report_text lines ++ report_text others
 
 -- lines of parts of the jobs are lines of all
 abbrev pub LinesJoin : Type 0
-LinesJoin = (tells : List ℕ → Option Told) (jobs rest : List Job) (lines others : List Line) → AreLines tells jobs lines → AreLines tells rest others
+LinesJoin = (tells : List ℕ → Option Told) (jobs rest : List Job) (lines others : List Line)
+    → AreLines tells jobs lines → AreLines tells rest others
     → AreLines tells (jobs ++ rest) (lines ++ others)
 
 -- if all reads are predicted and no job ran out of memory, the report is a function of the jobs,
 -- whatever the workers, the machines and the parts
 abbrev pub IsTheReport : Type 0
-IsTheReport = (tells : List ℕ → Option Told) (jobs : List Job) (lines : List Line) → AreLines tells jobs lines → AreTold tells jobs → HaveMemory lines
+IsTheReport = (tells : List ℕ → Option Told) (jobs : List Job) (lines : List Line)
+    → AreLines tells jobs lines → AreTold tells jobs → HaveMemory lines
     → report_text lines ≡ campaign_text tells jobs
 
 -- the jobs of a text whose last line is ended and of another text, in order, are those of both
 -- texts concatenated
 abbrev pub JobsJoin : Type 0
-JobsJoin = (text rest : List ℕ) (jobs others : List Job) → unended_of text ≡ [] → jobs_in 1 (job_lines text) ≡ Ok jobs → jobs_in 1 (job_lines rest) ≡ Ok others
+JobsJoin = (text rest : List ℕ) (jobs others : List Job) → unended_of text ≡ []
+    → jobs_in 1 (job_lines text) ≡ Ok jobs → jobs_in 1 (job_lines rest) ≡ Ok others
     → jobs_in 1 (job_lines (text ++ rest)) ≡ Ok (jobs ++ others)
 
 -- the text is the report of lines that are those of the jobs, each of which used its attempt

@@ -171,7 +171,8 @@ impl<'a, W: Watcher> Campaign<'a, W> {
 
 // Returns a line with the name of each job.
 fn blank_lines(alloc: Global, jobs: &[Job]) -> Result<Vec<Line>, AllocError>
-    ensures { IfOk result (λ lines. map (λ line. line.id) lines.items ≡ map (λ job. job.id) jobs.now) }
+    ensures { IfOk result (λ lines. map (λ line. line.id) lines.items
+        ≡ map (λ job. job.id) jobs.now) }
 {
     let mut lines = Vec::new(alloc);
     'jobs: for job in jobs {
@@ -202,7 +203,8 @@ fn gather<C: Connector>(lines: &mut [Line], places: &[Place<C>], turns: usize, w
     ensures rows { (i : ℕ) (line : Line) (row : Row) → i < length lines.old
         → (slice_index_or lines.new i line).row
         ≡ slice_index_or (map (λ place. place.row) places.now) (slot_at turns workers i) row }
-    ensures ids { (i : ℕ) (line : Line) → i < length lines.old → (slice_index_or lines.new i line).id ≡ (slice_index_or lines.old i line).id }
+    ensures ids { (i : ℕ) (line : Line) → i < length lines.old
+        → (slice_index_or lines.new i line).id ≡ (slice_index_or lines.old i line).id }
     ensures len { length lines.new ≡ length lines.old }
 {
     for i in 0..lines.len() {

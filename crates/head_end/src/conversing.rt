@@ -6,11 +6,11 @@ use crate::connection::Connection;
 use client_core::{Client, Outcome};
 use std::alloc::{AllocError, Global};
 
-/// The size of the read buffer in bytes.
+// The size of the read buffer in bytes.
 const MAX_READ: usize = 1_024;
-/// The maximum number of reads of one connection. If they do not settle the outcome, it is unknown.
+// The maximum number of reads of one connection. If they do not settle the outcome, it is unknown.
 const MAX_READS: u32 = 65_536;
-/// The number of messages of a job: the AARQ, the request and the release.
+// The number of messages of a job: the AARQ, the request and the release.
 const MAX_TEXTS: u32 = 3;
 
 /// Sends the client's messages and reads until the outcome is settled, the connection ends or
@@ -38,15 +38,17 @@ pub fn converse<K: Connection>(
     Ok(give_up(client))
 }
 
-/// Reads once and sends the messages that may then be sent. Returns the outcome, if it is settled
-/// or nothing more can be read.
+// Reads once and sends the messages that may then be sent. Returns the outcome, if it is settled
+// or nothing more can be read.
 fn take_turn<K: Connection>(
     alloc: Global,
     client: &mut Client,
     connection: &mut K,
     buffer: &mut [u8; MAX_READ],
 ) -> Result<Option<Outcome>, AllocError>
-    ensures told { IfOk result (λ outcome. Turns client.old (K.told connection.old) outcome client.new (K.told connection.new)) }
+    ensures told { IfOk result
+        (λ outcome. Turns client.old (K.told connection.old) outcome client.new
+        (K.told connection.new)) }
     ensures log { TakesTurn client.old (K.log connection.old) result client.new
         (K.log connection.new) }
 {
@@ -62,9 +64,10 @@ fn take_turn<K: Connection>(
     Ok(client.outcome())
 }
 
-/// Writes all messages that may be sent. Returns false if a write fails.
+// Writes all messages that may be sent. Returns false if a write fails.
 fn send_due<K: Connection>(client: &mut Client, connection: &mut K) -> bool
-    ensures told { SendsAll client.old (K.told connection.old) result client.new (K.told connection.new) }
+    ensures told { SendsAll client.old (K.told connection.old) result client.new
+        (K.told connection.new) }
     ensures log { Sends client.old (K.log connection.old) result client.new (K.log connection.new) }
 {
     'texts: for _ in 0..MAX_TEXTS {

@@ -31,7 +31,7 @@ pub fn read_jobs(alloc: Global, text: &[u8]) -> Result<Jobs, JobsFault>
     Jobs::try_from(read_lines(alloc, text)?)
 }
 
-/// Reads the jobs of all lines.
+// Reads the jobs of all lines.
 fn read_lines(alloc: Global, text: &[u8]) -> Result<Listed<Job>, JobsFault>
     ensures { ReadsLines 1 (job_lines text.now) result }
 {
@@ -52,7 +52,7 @@ fn read_lines(alloc: Global, text: &[u8]) -> Result<Listed<Job>, JobsFault>
     }
 }
 
-/// Adds the job of a line, if the line is not empty.
+// Adds the job of a line, if the line is not empty.
 fn add_job(alloc: Global, number: u64, line: &[u8], jobs: &mut Listed<Job>) -> Result<(), JobsFault>
     ensures { AddsJob number line.now jobs.old result jobs.new }
 {
@@ -68,7 +68,7 @@ fn add_job(alloc: Global, number: u64, line: &[u8], jobs: &mut Listed<Job>) -> R
     }
 }
 
-/// The job of a line, or none where the line is wrong.
+// The job of a line, or none where the line is wrong.
 #[tactic(auto, unfolding(crate::specs::Jobs::job_of))]
 fn read_job(alloc: Global, line: &[u8]) -> Result<Option<Job>, AllocError>
     ensures { IfOk result (λ job. job ≡ job_of line.now) }
@@ -89,7 +89,7 @@ fn read_job(alloc: Global, line: &[u8]) -> Result<Option<Job>, AllocError>
     job_with(alloc, id, address, verb_of(verb))
 }
 
-/// The job of a name, an address and a verb, or none where one of them is wrong.
+// The job of a name, an address and a verb, or none where one of them is wrong.
 fn job_with(
     alloc: Global,
     id: &[u8],
@@ -111,7 +111,7 @@ fn job_with(
     }))
 }
 
-/// What a word asks for.
+// What a word asks for.
 fn verb_of(word: &[u8]) -> Option<Verb>
     ensures { result ≡ verb_of word.now }
 {
@@ -126,14 +126,14 @@ fn verb_of(word: &[u8]) -> Option<Verb>
     }
 }
 
-/// Whether a word has a byte, no more than so many, and none that is not seen.
+// Whether a word has a byte, no more than so many, and none that is not seen.
 fn is_name(word: &[u8], most: usize) -> bool
     ensures { result ≡ is_name most word.now }
 {
     !word.is_empty() && word.len() <= most && all_visible(word)
 }
 
-/// Whether each byte is one from 21 to 7E.
+// Whether each byte is one from 21 to 7E.
 fn all_visible(word: &[u8]) -> bool
     ensures { result ≡ list_all is_visible word.now }
 {

@@ -19,7 +19,7 @@ use cosem_axdr::Octets;
 use std::alloc::{AllocError, Global};
 use std::thread::Threads;
 
-/// A line of a report has at most 46 bytes: a name of 32, and ` rejected 255` with its end.
+// A line of a report has at most 46 bytes: a name of 32, and ` rejected 255` with its end.
 const LONGEST_LINE: usize = 46;
 
 /// Returns the line `jobs N` with the number of jobs of a text, ended by the byte 0A. Errors as

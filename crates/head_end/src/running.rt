@@ -34,7 +34,7 @@ pub fn run_job<C: Connector>(
     }
 }
 
-/// Runs a job. The messages are allocated before it connects.
+// Runs a job. The messages are allocated before it connects.
 fn try_job<C: Connector>(
     alloc: Global,
     job: &Job,

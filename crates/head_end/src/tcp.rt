@@ -65,7 +65,7 @@ impl LimitedStream for TcpStream {
     }
 }
 
-/// Opens a connection to one of the IP addresses of an address.
+// Opens a connection to one of the IP addresses of an address.
 fn open<R: Net<Stream = TcpStream> + Clock + Clone + Drop>(
     rt: &R,
     address: &Octets,
@@ -80,7 +80,7 @@ fn open<R: Net<Stream = TcpStream> + Clock + Clone + Drop>(
     Some(LimitedConnection::new(own, stream, opened, limits.answer))
 }
 
-/// Connects to the IP addresses of a text in turn, and returns the first stream that opens.
+// Connects to the IP addresses of a text in turn, and returns the first stream that opens.
 fn reach<R: Net<Stream = TcpStream>>(rt: &R, text: &str, within: Duration) -> Option<TcpStream> {
     for place in text.to_socket_addrs(rt).ok()? {
         if let Ok(stream) = TcpStream::connect_timeout(rt, &place, within) {

@@ -14,7 +14,8 @@ use Rattle.head_end.specs.declared.tcp.Limits.{Limits}
 -- the number of the option of this name, which is written in decimal and fits this number of bits
 abbrev pub IsNumber : ℕ → Found → List ℕ → ℕ → Type 0
 IsNumber bits found name number = (text : List ℕ) → one_text found name ≡ Some text
-    → IsNumeral 10 (without_leading_plus text) → digits_value 10 (without_leading_plus text) < 2 ^ bits
+    → IsNumeral 10 (without_leading_plus text)
+    → digits_value 10 (without_leading_plus text) < 2 ^ bits
     → number ≡ digits_value 10 (without_leading_plus text)
 
 -- the seconds of a limit; 0 stands for the most that there are, 2^32 - 1

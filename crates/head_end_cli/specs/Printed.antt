@@ -10,7 +10,9 @@ use Rattle.head_end.specs.Rows.{AreLines}
 use Rattle.head_end.specs.declared.row.Line.{Line}
 
 -- the jobs were run, and the lines of all of them were printed
-pub record PrintsReport (tells : List ℕ → Option Told) (workers : ℕ) (jobs : List Job) (password : List ℕ) (written written' : Option (List ℕ)) : Type 0 where
+pub record PrintsReport (tells : List ℕ
+    → Option Told) (workers : ℕ) (jobs : List Job) (password : List ℕ)
+    (written written' : Option (List ℕ)) : Type 0 where
   pub lines : List Line
   pub stages : List State
   pub lines_are : AreLines tells jobs lines

@@ -3,7 +3,7 @@ use clap::{Arg, ArgAction, Command, value_parser};
 use program_start::{with_argument, with_subcommand};
 use std::alloc::{AllocError, Global};
 
-/// The end of `--help`.
+// The end of `--help`.
 const LIMITS_AND_STATUSES: &str = "\
 Limits: a list has at most 1,000 jobs and 1,048,576 bytes.
 A fault is the line `fault: WORD` on standard error. \
@@ -12,7 +12,7 @@ Exit status: 0 success, whatever the rows of the report say; \
 2 the command line or the input is wrong; 3 reading or writing failed; 4 out of memory.
 Example: echo m1 127.0.0.1:4059 state | head_end check";
 
-/// The end of `run --help`: the rows of the report.
+// The end of `run --help`: the rows of the report.
 const REPORT: &str = "\
 Rows of the report, one for each job:
   NAME done N        success: N is 0, or the control state (0 disconnected, 1 connected, \
@@ -23,7 +23,7 @@ N is the diagnostic of its AARE
   NAME unknown       no valid answer came; the meter may have carried out the request
   NAME memory        out of memory; the request may have been sent";
 
-/// The option `--verbose`.
+// The option `--verbose`.
 fn verbose<'a>(alloc: Global) -> Arg<'a> {
     Arg::new(alloc, "verbose")
         .long("verbose")
@@ -31,7 +31,7 @@ fn verbose<'a>(alloc: Global) -> Arg<'a> {
         .action(ArgAction::SetTrue)
 }
 
-/// The option `--password`.
+// The option `--password`.
 fn password<'a>(alloc: Global, is_required: bool) -> Arg<'a> {
     Arg::new(alloc, "password")
         .long("password")
@@ -41,7 +41,7 @@ fn password<'a>(alloc: Global, is_required: bool) -> Arg<'a> {
         .action(ArgAction::Set)
 }
 
-/// The option `--workers`.
+// The option `--workers`.
 fn workers<'a>(alloc: Global) -> Arg<'a> {
     Arg::new(alloc, "workers")
         .long("workers")
@@ -51,7 +51,7 @@ fn workers<'a>(alloc: Global) -> Arg<'a> {
         .default_value("4")
 }
 
-/// The option `--timeout`.
+// The option `--timeout`.
 fn timeout<'a>(alloc: Global) -> Arg<'a> {
     Arg::new(alloc, "timeout")
         .long("timeout")
@@ -61,7 +61,7 @@ fn timeout<'a>(alloc: Global) -> Arg<'a> {
         .default_value("60")
 }
 
-/// The option `--connect-timeout`.
+// The option `--connect-timeout`.
 fn connect_timeout<'a>(alloc: Global) -> Arg<'a> {
     Arg::new(alloc, "connect-timeout")
         .long("connect-timeout")
@@ -71,7 +71,7 @@ fn connect_timeout<'a>(alloc: Global) -> Arg<'a> {
         .default_value("10")
 }
 
-/// The option `--progress`.
+// The option `--progress`.
 fn progress<'a>(alloc: Global) -> Arg<'a> {
     Arg::new(alloc, "progress")
         .long("progress")
@@ -79,7 +79,7 @@ fn progress<'a>(alloc: Global) -> Arg<'a> {
         .action(ArgAction::SetTrue)
 }
 
-/// The command `run`. The password is required if the environment has none.
+// The command `run`. The password is required if the environment has none.
 fn run_command<'a>(alloc: Global, has_password: bool) -> Result<Command<'a>, AllocError> {
     let made = Ok(
         Command::new(alloc, "run")
@@ -96,7 +96,7 @@ fn run_command<'a>(alloc: Global, has_password: bool) -> Result<Command<'a>, All
     with_argument(made, verbose(alloc))
 }
 
-/// The command `check`.
+// The command `check`.
 fn check_command<'a>(alloc: Global) -> Result<Command<'a>, AllocError> {
     Command::new(alloc, "check")
         .about(
@@ -105,7 +105,7 @@ fn check_command<'a>(alloc: Global) -> Result<Command<'a>, AllocError> {
         .arg(verbose(alloc))
 }
 
-/// The program, without its commands.
+// The program, without its commands.
 fn program<'a>(alloc: Global) -> Result<Command<'a>, AllocError> {
     let program = Command::new(alloc, "head_end")
         .bin_name("head_end")?

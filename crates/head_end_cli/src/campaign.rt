@@ -19,10 +19,10 @@ use std::io::{IsTerminal, Write};
 use std::thread::Threads;
 use std::time::Duration;
 
-/// The variable of the environment that may have the password.
+// The variable of the environment that may have the password.
 pub(crate) const PASSWORD_VARIABLE: &str = "METER_PASSWORD";
 
-/// What the command line asks for.
+// What the command line asks for.
 #[derive(Drop)]
 pub(crate) struct Plan {
     pub(crate) jobs: Jobs,
@@ -35,15 +35,15 @@ pub(crate) struct Plan {
     ghost few: { workers ≤ 16 },
 }
 
-/// The seconds of an option.
+// The seconds of an option.
 fn seconds_of(matches: &ArgMatches<'_>, name: &str) -> u32
     ensures { IsNumber 32 (found_of matches.now) name.now result }
 {
     matches.get_one::<u32>(name).unwrap_or(0)
 }
 
-/// The limit of time of an option; 0 seconds stand for none, which is as long as 32 bits of seconds
-/// are.
+// The limit of time of an option; 0 seconds stand for none, which is as long as 32 bits of seconds
+// are.
 fn limit(matches: &ArgMatches<'_>, name: &str) -> Duration
     ensures { IsLimit (found_of matches.now) name.now result }
 {
@@ -51,7 +51,7 @@ fn limit(matches: &ArgMatches<'_>, name: &str) -> Duration
     Duration::from_secs(u64::from(if seconds == 0 { u32::MAX } else { seconds }))
 }
 
-/// The limit of a connect, and that of a connection as a whole.
+// The limit of a connect, and that of a connection as a whole.
 fn limits_of(matches: &ArgMatches<'_>) -> Limits
     ensures { AreLimits (found_of matches.now) result }
 {
@@ -61,21 +61,21 @@ fn limits_of(matches: &ArgMatches<'_>) -> Limits
     }
 }
 
-/// The number of the option `--workers`.
+// The number of the option `--workers`.
 fn number_of_workers(matches: &ArgMatches<'_>) -> u8
     ensures { IsNumber 8 (found_of matches.now) (codes "workers") result }
 {
     matches.get_one::<u8>("workers").unwrap_or(4)
 }
 
-/// How many workers there are to be, 1 to 16.
+// How many workers there are to be, 1 to 16.
 fn workers(matches: &ArgMatches<'_>) -> u8
     ensures { AreWorkers (found_of matches.now) result }
 {
     number_of_workers(matches).clamp(1, 16)
 }
 
-/// A password of 1 to 32 bytes.
+// A password of 1 to 32 bytes.
 fn judged(alloc: Global, text: &str) -> Result<Octets, Fault>
     ensures { IfOk result IsPassword }
 {
@@ -89,7 +89,7 @@ fn judged(alloc: Global, text: &str) -> Result<Octets, Fault>
     }
 }
 
-/// The password of the command line, or else of the environment.
+// The password of the command line, or else of the environment.
 fn password(rt: &HostRuntime, matches: &ArgMatches<'_>) -> Result<Octets, Fault>
     ensures { IfOk result IsPassword }
 {
@@ -102,7 +102,7 @@ fn password(rt: &HostRuntime, matches: &ArgMatches<'_>) -> Result<Octets, Fault>
     }
 }
 
-/// What the command line asks for, with the jobs on standard input.
+// What the command line asks for, with the jobs on standard input.
 pub(crate) fn planned(rt: &HostRuntime, matches: &ArgMatches<'_>) -> Result<Plan, Fault>
     ensures limits { IfOk result (λ plan. AreLimits (found_of matches.now) plan.limits) }
     ensures workers { IfOk result (λ plan. AreWorkers (found_of matches.now) plan.workers) }
@@ -127,7 +127,7 @@ pub(crate) fn planned(rt: &HostRuntime, matches: &ArgMatches<'_>) -> Result<Plan
     })
 }
 
-/// Runs the jobs and prints the report.
+// Runs the jobs and prints the report.
 pub(crate) fn run<R: Threads + Sync, C: Connector, W: Write>(
     rt: &HostRuntime,
     threads: &R,
@@ -135,7 +135,9 @@ pub(crate) fn run<R: Threads + Sync, C: Connector, W: Write>(
     plan: &Plan,
     output: &mut W,
 ) -> Result<(), Fault>
-    ensures { OnOk result (PrintsReport (C.tells connector.now) plan.now.workers plan.now.jobs plan.now.password (W.contents output.old) (W.contents output.new)) }
+    ensures { OnOk result
+        (PrintsReport (C.tells connector.now) plan.now.workers plan.now.jobs plan.now.password
+        (W.contents output.old) (W.contents output.new)) }
 {
     let progress = Progress::new(rt, plan.jobs.len());
     let watch = Watch {

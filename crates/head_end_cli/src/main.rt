@@ -1,6 +1,8 @@
-//! The program `head_end`: `head_end check` counts the jobs of a list, `head_end run` runs them and prints the report.
+//! The program `head_end`: `head_end check` counts the jobs of a list, `head_end run` runs them and
+//! prints the report.
 //!
-//! The jobs, the campaign and the report are those of the crate `head_end`; this one has the command line, the standard streams and the exit status.
+//! The jobs, the campaign and the report are those of the crate `head_end`; this one has the
+//! command line, the standard streams and the exit status.
 #![tactic(auto)]
 
 mod arguments;
@@ -23,11 +25,11 @@ use std::env::VarError;
 use std::io::Read;
 use std::process::ExitCode;
 
-/// The greatest number of bytes of a list of jobs.
+// The greatest number of bytes of a list of jobs.
 const MAX_INPUT: usize = 1_048_576;
 
-/// Returns the text on standard input. On an error, if `is_verbose`, a line on standard error says
-/// where and why.
+// Returns the text on standard input. On an error, if `is_verbose`, a line on standard error says
+// where and why.
 fn text_of<I: Read + Drop>(rt: &HostRuntime, input: I, is_verbose: bool) -> Result<Vec<u8>, Fault> {
     let mut reader = Counted::new(input);
     match read_to_end_within(rt.alloc(), &mut reader, MAX_INPUT) {
@@ -41,8 +43,8 @@ fn text_of<I: Read + Drop>(rt: &HostRuntime, input: I, is_verbose: bool) -> Resu
     }
 }
 
-/// Returns the fault of a text that is no list of jobs. If `is_verbose`, a line on standard error
-/// says where and why.
+// Returns the fault of a text that is no list of jobs. If `is_verbose`, a line on standard error
+// says where and why.
 fn told_fault(rt: &HostRuntime, text: &[u8], fault: JobsFault, is_verbose: bool) -> Fault {
     if is_verbose {
         let _ = eprintln!(rt; "{}", ListFault::from_jobs(text, fault));
@@ -50,7 +52,7 @@ fn told_fault(rt: &HostRuntime, text: &[u8], fault: JobsFault, is_verbose: bool)
     jobs_fault(fault)
 }
 
-/// Returns the jobs on standard input.
+// Returns the jobs on standard input.
 pub(crate) fn jobs_of<I: Read + Drop>(
     rt: &HostRuntime,
     input: I,
@@ -66,7 +68,7 @@ pub(crate) fn jobs_of<I: Read + Drop>(
     }
 }
 
-/// Writes the warnings about the jobs of a text, if it is a list of jobs.
+// Writes the warnings about the jobs of a text, if it is a list of jobs.
 fn warn_of_text(rt: &HostRuntime, text: &[u8]) {
     if let Ok(jobs) = read_jobs(rt.alloc(), text) {
         warn(rt, text, &jobs);
@@ -74,7 +76,7 @@ fn warn_of_text(rt: &HostRuntime, text: &[u8]) {
     }
 }
 
-/// Counts the jobs on standard input.
+// Counts the jobs on standard input.
 fn check(rt: &HostRuntime, is_verbose: bool) -> Result<(), Fault> {
     let text = text_of(rt, rt.stdin(), is_verbose)?;
     warn_of_text(rt, text.as_slice());
@@ -84,16 +86,16 @@ fn check(rt: &HostRuntime, is_verbose: bool) -> Result<(), Fault> {
     }
 }
 
-/// What is to be done once the command line is read.
+// What is to be done once the command line is read.
 #[derive(Drop)]
 enum Next {
-    /// Nothing more: the exit status.
+    // Nothing more: the exit status.
     Ended(u8),
-    /// A campaign.
+    // A campaign.
     Campaign(Plan),
 }
 
-/// Does what was chosen, up to a campaign.
+// Does what was chosen, up to a campaign.
 fn begin_chosen(rt: &HostRuntime, matches: &ArgMatches<'_>) -> Result<Next, Fault> {
     match matches.subcommand() {
         Some(("check", matches)) => {
@@ -105,7 +107,8 @@ fn begin_chosen(rt: &HostRuntime, matches: &ArgMatches<'_>) -> Result<Next, Faul
     }
 }
 
-/// Reads the command line and does what it asks for, up to a campaign. The exit status is 2 for a command line that is wrong.
+// Reads the command line and does what it asks for, up to a campaign. The exit status is 2 for a
+// command line that is wrong.
 fn begin(rt: &HostRuntime) -> Result<Next, Fault> {
     let alloc = rt.alloc();
     let words = words(rt)?;

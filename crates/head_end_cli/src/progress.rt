@@ -4,7 +4,7 @@ use head_end::{Row, Watcher};
 use std::sync::atomic::{AtomicUsize, Ordering};
 use std::time::Instant;
 
-/// The number of jobs done by all workers, and the time of the start.
+// The number of jobs done by all workers, and the time of the start.
 #[derive(Drop)]
 pub(crate) struct Progress {
     all: usize,
@@ -14,7 +14,7 @@ pub(crate) struct Progress {
 }
 
 impl Progress {
-    /// Progress of `all` jobs: none is done, and the clock starts now.
+    // Progress of `all` jobs: none is done, and the clock starts now.
     pub(crate) fn new(rt: &HostRuntime, all: usize) -> Progress {
         Progress {
             all,
@@ -24,7 +24,8 @@ impl Progress {
         }
     }
 
-    /// An estimate of the seconds that remain, from the mean of the `done` jobs; `None` without a clock.
+    // An estimate of the seconds that remain, from the mean of the `done` jobs; `None` without a
+    // clock.
     fn seconds_to_go(&self, rt: &HostRuntime, done: usize) -> Option<u64> {
         let began = self.began?;
         let Ok(passed) = began.elapsed(rt) else {
@@ -38,7 +39,7 @@ impl Progress {
     }
 }
 
-/// Counts each job and, if `is_shown`, reports the progress.
+// Counts each job and, if `is_shown`, reports the progress.
 #[derive(Drop)]
 pub(crate) struct Watch<'a> {
     pub(crate) rt: &'a HostRuntime,
@@ -67,7 +68,7 @@ impl<'a> Watcher for Watch<'a> {
 }
 
 impl<'a> Watch<'a> {
-    /// Writes a line of progress to standard error.
+    // Writes a line of progress to standard error.
     fn tell(&self, done: usize, unknown: usize) {
         let all = self.progress.all;
         let _ = match self.progress.seconds_to_go(self.rt, done) {

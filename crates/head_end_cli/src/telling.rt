@@ -8,7 +8,7 @@ use program_fault::Fault;
 use thiserror::Error;
 use trace_text::{Lines, Words};
 
-/// The fault of the program if standard input cannot be read.
+// The fault of the program if standard input cannot be read.
 pub(crate) fn input_fault(fault: InputFault) -> Fault
     ensures { result ≡ input_fault fault }
 {
@@ -19,7 +19,7 @@ pub(crate) fn input_fault(fault: InputFault) -> Fault
     }
 }
 
-/// The fault of the program if a text is not a list of jobs.
+// The fault of the program if a text is not a list of jobs.
 pub(crate) fn jobs_fault(fault: JobsFault) -> Fault
     ensures { result ≡ jobs_fault fault }
 {
@@ -29,9 +29,9 @@ pub(crate) fn jobs_fault(fault: JobsFault) -> Fault
     }
 }
 
-/// Why standard input is not a list of jobs. Its message is the line that `--verbose` writes.
-///
-/// Lines, bytes and jobs count from 1.
+// Why standard input is not a list of jobs. Its message is the line that `--verbose` writes.
+//
+// Lines, bytes and jobs count from 1.
 #[derive(Clone, Copy, Debug, PartialEq, Eq, Error)]
 pub(crate) enum ListFault {
     #[error("byte 1048577: the list has more than 1,048,576 bytes")]
@@ -46,31 +46,31 @@ pub(crate) enum ListFault {
     Memory,
 }
 
-/// Why a line is not a job: the first of its words that is missing or wrong, or a word too many.
+// Why a line is not a job: the first of its words that is missing or wrong, or a word too many.
 #[derive(Clone, Copy, Debug, PartialEq, Eq, Error)]
 pub(crate) enum LineFault {
-    /// The line ends before the word of this name.
+    // The line ends before the word of this name.
     #[error("{0} is missing")]
     Missing(&'static str),
-    /// Two blanks, or a blank at the start or at the end of the line.
+    // Two blanks, or a blank at the start or at the end of the line.
     #[error("{0} is empty (one blank separates two words)")]
     Empty(&'static str),
-    /// The word has more than this number of bytes.
+    // The word has more than this number of bytes.
     #[error("{0} has more than {1} bytes")]
     TooLong(&'static str, usize),
-    /// The word has this byte.
+    // The word has this byte.
     #[error("{0} has the byte 0x{1:02X}, which is not visible ASCII")]
     Invisible(&'static str, u8),
-    /// The third word is not a verb.
+    // The third word is not a verb.
     #[error("VERB must be disconnect, reconnect or state")]
     Verb,
-    /// There is a fourth word.
+    // There is a fourth word.
     #[error("unexpected extra word")]
     Surplus,
 }
 
 impl ListFault {
-    /// Returns why standard input was not read.
+    // Returns why standard input was not read.
     pub(crate) fn from_input(fault: InputFault) -> ListFault {
         match fault {
             InputFault::TooLong => ListFault::TooLong,
@@ -79,7 +79,7 @@ impl ListFault {
         }
     }
 
-    /// Returns why a text is not a list of jobs.
+    // Returns why a text is not a list of jobs.
     pub(crate) fn from_jobs(text: &[u8], fault: JobsFault) -> ListFault {
         match fault {
             JobsFault::Line(number) => ListFault::Line(number, why_no_job(line_of(text, number))),
@@ -89,8 +89,8 @@ impl ListFault {
     }
 }
 
-/// Returns the line of a text with that number, counted from 1. A text with fewer ended lines has its
-/// last line after them.
+// Returns the line of a text with that number, counted from 1. A text with fewer ended lines has
+// its last line after them.
 fn line_of(text: &[u8], number: u64) -> &[u8] {
     let mut lines = Lines::new(text);
     for _ in 1..number {
@@ -99,7 +99,7 @@ fn line_of(text: &[u8], number: u64) -> &[u8] {
     lines.next().unwrap_or(lines.rest())
 }
 
-/// Returns why a line is not a job.
+// Returns why a line is not a job.
 fn why_no_job(line: &[u8]) -> LineFault {
     match check_words(line) {
         Ok(()) => LineFault::Surplus,
@@ -107,7 +107,7 @@ fn why_no_job(line: &[u8]) -> LineFault {
     }
 }
 
-/// Checks the first three words of a line.
+// Checks the first three words of a line.
 fn check_words(line: &[u8]) -> Result<(), LineFault> {
     let mut words = Words::new(line);
     check_word("NAME", words.next(), MAX_ID)?;
@@ -120,7 +120,7 @@ fn check_words(line: &[u8]) -> Result<(), LineFault> {
     }
 }
 
-/// Checks that a word has 1 to `most` bytes of visible ASCII, and returns it.
+// Checks that a word has 1 to `most` bytes of visible ASCII, and returns it.
 fn check_word<'a>(
     name: &'static str,
     word: Option<&'a [u8]>,
@@ -139,7 +139,7 @@ fn check_word<'a>(
     }
 }
 
-/// Whether a word is a verb.
+// Whether a word is a verb.
 fn is_verb(word: &[u8]) -> bool {
     word == b"disconnect".as_slice()
         || word == b"reconnect".as_slice()

@@ -5,7 +5,7 @@ use memchr::{memchr, memrchr};
 use std::net::SocketAddr;
 use trace_text::read_number;
 
-/// Writes the warnings about all jobs of a text to standard error, a line each.
+// Writes the warnings about all jobs of a text to standard error, a line each.
 pub(crate) fn warn(rt: &HostRuntime, text: &[u8], jobs: &Jobs) {
     let mut number: u64 = 0;
     let mut rest = jobs.as_slice().iter();
@@ -21,7 +21,7 @@ pub(crate) fn warn(rt: &HostRuntime, text: &[u8], jobs: &Jobs) {
     }
 }
 
-/// Writes the warnings about a job by itself.
+// Writes the warnings about a job by itself.
 fn warn_of_job(rt: &HostRuntime, number: u64, job: &Job) {
     if job.id.as_slice().starts_with(b"#") {
         let _ = eprintln!(rt;
@@ -33,7 +33,7 @@ fn warn_of_job(rt: &HostRuntime, number: u64, job: &Job) {
     }
 }
 
-/// Writes the warnings about a name or an address that an earlier line has too.
+// Writes the warnings about a name or an address that an earlier line has too.
 fn warn_of_earlier(rt: &HostRuntime, number: u64, text: &[u8], job: &Job) {
     if let Some(first) = first_with(text, number, 0, job.id.as_slice()) {
         let _ = eprintln!(rt; "line {number}: warning: line {first} has the same name");
@@ -45,7 +45,7 @@ fn warn_of_earlier(rt: &HostRuntime, number: u64, text: &[u8], job: &Job) {
     }
 }
 
-/// The number of the first line before `end` that has this word at that place.
+// The number of the first line before `end` that has this word at that place.
 fn first_with(text: &[u8], end: u64, place: usize, word: &[u8]) -> Option<u64> {
     let mut number: u64 = 0;
     for line in text.split(|byte| *byte == b'\n') {
@@ -60,8 +60,8 @@ fn first_with(text: &[u8], end: u64, place: usize, word: &[u8]) -> Option<u64> {
     None
 }
 
-/// Why a text cannot be the address of a meter; `None` if it can. An address is an IP address or the
-/// name of a host, a colon, and a port from 1 to 65535.
+// Why a text cannot be the address of a meter; `None` if it can. An address is an IP address or the
+// name of a host, a colon, and a port from 1 to 65535.
 fn why_no_address(text: &[u8]) -> Option<&'static str> {
     if let Ok(address) = SocketAddr::parse_ascii(text) {
         return why_no_port(address.port() != 0);
@@ -78,7 +78,7 @@ fn why_no_address(text: &[u8]) -> Option<&'static str> {
     None
 }
 
-/// What is wrong with the port of an address, if it is not valid.
+// What is wrong with the port of an address, if it is not valid.
 fn why_no_port(is_valid: bool) -> Option<&'static str> {
     if is_valid {
         None
@@ -87,7 +87,7 @@ fn why_no_port(is_valid: bool) -> Option<&'static str> {
     }
 }
 
-/// Whether a text can be the name of a host: it has no colon, and a byte that no IPv4 address has.
+// Whether a text can be the name of a host: it has no colon, and a byte that no IPv4 address has.
 fn is_name(host: &[u8]) -> bool {
     memchr(b':', host).is_none()
         && host
@@ -95,7 +95,7 @@ fn is_name(host: &[u8]) -> bool {
             .any(|byte| !byte.is_ascii_digit() && *byte != b'.')
 }
 
-/// Whether a text is a number from 1 to 65535.
+// Whether a text is a number from 1 to 65535.
 fn is_port(text: &[u8]) -> bool {
     matches!(read_number(text, 65_535), Some(port) if port != 0)
 }

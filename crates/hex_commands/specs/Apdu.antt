@@ -17,21 +17,25 @@ use Rattle.hex_commands.specs.declared.telling.InputFault.TheVariants as fault
 -- the answers to requests, one after the other, each a line of hexadecimal in capitals
 unfoldable pub answer_lines : World → List (List ℕ) → List ℕ
 answer_lines world [] = []
-answer_lines world (request ∷ requests) = hex_line (answered request world).text ++ answer_lines (answered request world).world requests
+answer_lines world (request ∷ requests) =
+    hex_line (answered request world).text ++ answer_lines (answered request world).world requests
 
 -- the answers of a new meter, whose device name is RELAY1
 abbrev pub new_answers : List (List ℕ) → List ℕ
 new_answers requests = answer_lines (new_world (codes "RELAY1")) requests
 
 -- a core answered a request, and its answer was appended as a line
-pub record AddsAnswer (request : List ℕ) (old new : RelayCore) (before after : List ℕ) : Type 0 where
-  pub world : (w : World) → StandsFor old w → StandsFor new (answered request w).world
-  pub text : (w : World) → StandsFor old w → after ≡ before ++ hex_line (answered request w).text
+pub record AddsAnswer (request : List ℕ) (old new : RelayCore) (before after : List ℕ) : Type 0
+  where
+    pub world : (w : World) → StandsFor old w → StandsFor new (answered request w).world
+    pub text : (w : World) → StandsFor old w → after ≡ before ++ hex_line (answered request w).text
 
 -- of these requests a core answered all but the last, and its answers were appended as lines
-pub record AnswersOn (requests last : List (List ℕ)) (old new : RelayCore) (before after : List ℕ) : Type 0 where
+pub record AnswersOn (requests last : List (List ℕ)) (old new : RelayCore) (before after : List ℕ)
+    : Type 0 where
   pub on : (w : World) → StandsFor old w
-      → (w' : World) × StandsFor new w' × (before ++ answer_lines w requests ≡ after ++ answer_lines w' last)
+      → (w' : World) × StandsFor new w'
+      × (before ++ answer_lines w requests ≡ after ++ answer_lines w' last)
 
 -- standard input has at most this many bytes
 abbrev pub most_bytes : ℕ
@@ -47,14 +51,18 @@ module _ {R W : Type 0}
   -- what came of the bytes that were read
   abbrev pub AnswersBytes : List ℕ → R → W → Result (Unit {0}) InputFault → R → W → Type 0
   AnswersBytes text r w (Ok done) r' w' =
-      (requests : List (List ℕ)) × (requests_of text ≡ Ok requests) × IsWholeText text r' × Appends (contents w) (contents w') (new_answers requests)
+      (requests : List (List ℕ)) × (requests_of text ≡ Ok requests) × IsWholeText text r'
+      × Appends (contents w) (contents w') (new_answers requests)
   AnswersBytes text r w (Err fault.TooLong) r' w' = (most_bytes < length text) × (w' ≡ w)
-  AnswersBytes text r w (Err fault.Read) r' w' = (length text ≤ most_bytes) × (read_failures r < read_failures r') × (w' ≡ w)
-  AnswersBytes text r w (Err (fault.Odd number)) r' w' = (requests_of text ≡ Err (fault.Odd number)) × IsWholeText text r' × (w' ≡ w)
+  AnswersBytes text r w (Err fault.Read) r' w' = (length text ≤ most_bytes)
+      × (read_failures r < read_failures r') × (w' ≡ w)
+  AnswersBytes text r w (Err (fault.Odd number)) r' w' = (requests_of text ≡ Err (fault.Odd number))
+      × IsWholeText text r' × (w' ≡ w)
   AnswersBytes text r w (Err (fault.Character number byte)) r' w' =
       (requests_of text ≡ Err (fault.Character number byte)) × IsWholeText text r' × (w' ≡ w)
   AnswersBytes text r w (Err fault.Write) r' w' =
-      (requests : List (List ℕ)) × (requests_of text ≡ Ok requests) × IsWholeText text r' × (write_failures w < write_failures w')
+      (requests : List (List ℕ)) × (requests_of text ≡ Ok requests) × IsWholeText text r'
+      × (write_failures w < write_failures w')
   AnswersBytes text r w (Err fault.Memory) r' w' = w' ≡ w
   AnswersBytes text r w (Err (fault.Digit byte)) r' w' = ⊥
   AnswersBytes text r w (Err fault.OddDigits) r' w' = ⊥
@@ -62,7 +70,8 @@ module _ {R W : Type 0}
   AnswersBytes text r w (Err fault.Device) r' w' = ⊥
 
   -- a text was answered: these bytes were read, and this came of them
-  pub record AnswersText (r : R) (w : W) (result : Result (Unit {0}) InputFault) (r' : R) (w' : W) : Type 0 where
+  pub record AnswersText (r : R) (w : W) (result : Result (Unit {0}) InputFault) (r' : R) (w' : W)
+      : Type 0 where
     pub text : List ℕ
     pub read : Consumes (remaining r) (remaining r') text
     pub did : AnswersBytes text r w result r' w'

@@ -12,7 +12,8 @@ FailsToRead bytes failed fault.Memory failed' = ⊤
 FailsToRead bytes failed other failed' = ⊥
 
 -- an input was not read to its end
-pub record StopsReading (left : Option (List ℕ)) (failed : ℕ) (f : InputFault) (left' : Option (List ℕ)) (failed' : ℕ) : Type 0 where
+pub record StopsReading (left : Option (List ℕ)) (failed : ℕ) (f : InputFault)
+    (left' : Option (List ℕ)) (failed' : ℕ) : Type 0 where
   pub bytes : List ℕ
   pub read : Consumes left left' bytes
   pub cause : FailsToRead bytes failed f failed'

@@ -11,7 +11,8 @@ use Rattle.trace_text.specs.Parts.{parts_at}
 use Rattle.hex_commands.specs.declared.telling.InputFault.{InputFault}
 use Rattle.hex_commands.specs.declared.telling.InputFault.TheVariants as fault
 
--- what is wrong with the line of this number, whose characters are no pairs of digits; both count from 1
+-- what is wrong with the line of this number, whose characters are no pairs of digits; both count
+-- from 1
 abbrev pub line_fault : ℕ → FromHexError → InputFault
 line_fault number (hex_fault.InvalidHexCharacter c index) = fault.Character number (index + 1)
 line_fault number hex_fault.OddLength = fault.Odd number
@@ -27,7 +28,8 @@ unfoldable pub line_request : ℕ → List ℕ → Result (List ℕ) InputFault
 line_request number line = request_by number (decode_of line)
 
 -- a request before others; what is wrong with it comes first
-abbrev pub before_others : Result (List ℕ) InputFault → Result (List (List ℕ)) InputFault → Result (List (List ℕ)) InputFault
+abbrev pub before_others : Result (List ℕ) InputFault → Result (List (List ℕ)) InputFault
+    → Result (List (List ℕ)) InputFault
 before_others (Err wrong) others = Err wrong
 before_others (Ok request) (Err wrong) = Err wrong
 before_others (Ok request) (Ok requests) = Ok (request ∷ requests)
@@ -36,7 +38,8 @@ before_others (Ok request) (Ok requests) = Ok (request ∷ requests)
 unfoldable pub requests_from : ℕ → List (List ℕ) → Result (List (List ℕ)) InputFault
 requests_from number [] = Ok []
 requests_from number ([] ∷ lines) = requests_from (suc number) lines
-requests_from number ((byte ∷ bytes) ∷ lines) = before_others (line_request number (byte ∷ bytes)) (requests_from (suc number) lines)
+requests_from number ((byte ∷ bytes) ∷ lines) =
+    before_others (line_request number (byte ∷ bytes)) (requests_from (suc number) lines)
 
 -- the requests of a text: of what is before, between and after its bytes 0A
 abbrev pub requests_of : List ℕ → Result (List (List ℕ)) InputFault
@@ -47,7 +50,8 @@ abbrev pub ReadsLines : ℕ → List (List ℕ) → Result (List (List ℕ)) Inp
 ReadsLines number lines (Ok requests) = requests_from number lines ≡ Ok requests
 ReadsLines number lines (Err fault.Memory) = ⊤
 ReadsLines number lines (Err (fault.Odd at)) = requests_from number lines ≡ Err (fault.Odd at)
-ReadsLines number lines (Err (fault.Character at byte)) = requests_from number lines ≡ Err (fault.Character at byte)
+ReadsLines number lines (Err (fault.Character at byte)) =
+    requests_from number lines ≡ Err (fault.Character at byte)
 ReadsLines number lines (Err wrong) = ⊥
 
 -- a text was read
@@ -65,15 +69,19 @@ pieces_of [] bytes = []
 pieces_of (count ∷ counts) bytes = take count bytes ∷ pieces_of counts (drop count bytes)
 
 -- a request was appended, or what is wrong with its line was found, or memory ran out
-abbrev pub AddsRequest : {X : Type 0} → ℕ → List ℕ → List (List ℕ) → Result X InputFault → List (List ℕ) → Type 0
-AddsRequest number line old (Ok done) new = (request : List ℕ) × (line_request number line ≡ Ok request) × (new ≡ old ++ request ∷ [])
+abbrev pub AddsRequest : {X : Type 0} → ℕ → List ℕ → List (List ℕ) → Result X InputFault
+    → List (List ℕ) → Type 0
+AddsRequest number line old (Ok done) new = (request : List ℕ)
+    × (line_request number line ≡ Ok request) × (new ≡ old ++ request ∷ [])
 AddsRequest number line old (Err fault.Memory) new = ⊤
 AddsRequest number line old (Err (fault.Odd at)) new = line_request number line ≡ Err (fault.Odd at)
-AddsRequest number line old (Err (fault.Character at byte)) new = line_request number line ≡ Err (fault.Character at byte)
+AddsRequest number line old (Err (fault.Character at byte)) new =
+    line_request number line ≡ Err (fault.Character at byte)
 AddsRequest number line old (Err wrong) new = ⊥
 
 -- the same of the line of a text, which may be empty
-abbrev pub AddsLine : {X : Type 0} → ℕ → List ℕ → List (List ℕ) → Result X InputFault → List (List ℕ) → Type 0
+abbrev pub AddsLine : {X : Type 0} → ℕ → List ℕ → List (List ℕ) → Result X InputFault
+    → List (List ℕ) → Type 0
 AddsLine number [] old (Ok done) new = new ≡ old
 AddsLine number [] old (Err wrong) new = ⊥
 AddsLine number (byte ∷ bytes) old result new = AddsRequest number (byte ∷ bytes) old result new

@@ -12,43 +12,58 @@ use Rattle.hex_commands.specs.Apdu.{most_bytes}
 use Rattle.hex_commands.specs.declared.telling.InputFault.{InputFault}
 use Rattle.hex_commands.specs.declared.telling.InputFault.TheVariants as fault
 
--- the fault of an option's text of this length: that of a text of no byte or of too many, or memory ran out
+-- the fault of an option's text of this length: that of a text of no byte or of too many, or memory
+-- ran out
 abbrev pub IsOptionFault : InputFault → ℕ → ℕ → InputFault → Type 0
-IsOptionFault wrong count longest given = (given ≡ fault.Memory) ⊎ ((given ≡ wrong) × ((count ≡ 0) ⊎ (longest < count)))
+IsOptionFault wrong count longest given = (given ≡ fault.Memory)
+    ⊎ ((given ≡ wrong) × ((count ≡ 0) ⊎ (longest < count)))
 
 abbrev pub fault_at : Option ℕ → InputFault
 fault_at (Some index) = fault.Digit (index + 1)
 fault_at None = fault.OddDigits
 
--- what is wrong with a text that is no bytes in hexadecimal: its first character that is not taken, counted from 1, else the number of its digits
+-- what is wrong with a text that is no bytes in hexadecimal: its first character that is not taken,
+-- counted from 1, else the number of its digits
 abbrev pub digit_fault : List ℕ → InputFault
 digit_fault text = fault_at (position (λ character. not (is_taken character)) text)
 
 -- a text is no pairs of digits: this is what is wrong with it, and nothing was written
 abbrev pub IsNoHex : List ℕ → InputFault → Option (List ℕ) → Option (List ℕ) → Type 0
-IsNoHex text given written written' = (given ≡ digit_fault text) × ((input : List ℕ) → ¬ (IsHex text input)) × Appends written written' []
+IsNoHex text given written written' = (given ≡ digit_fault text)
+    × ((input : List ℕ) → ¬ (IsHex text input)) × Appends written written' []
 
 -- what came of the bytes of a session; the numbers are those of the writes that failed before and
 -- after
-abbrev pub PlaysInput : List ℕ → List ℕ → List ℕ → Option (List ℕ) → ℕ → Result (Unit {0}) InputFault → Option (List ℕ) → ℕ → Type 0
-PlaysInput device password input written failed (Ok done) written' failed' = Appends written written' (hex_output device password input)
-PlaysInput device password input written failed (Err fault.Write) written' failed' = failed < failed'
+abbrev pub PlaysInput : List ℕ → List ℕ → List ℕ → Option (List ℕ) → ℕ
+    → Result (Unit {0}) InputFault → Option (List ℕ) → ℕ → Type 0
+PlaysInput device password input written failed (Ok done) written' failed' =
+    Appends written written' (hex_output device password input)
+PlaysInput device password input written failed (Err fault.Write) written' failed' =
+    failed < failed'
 PlaysInput device password input written failed (Err fault.Memory) written' failed' =
     Appends written written' [] ⊎ RunsShort device password input written written'
 PlaysInput device password input written failed (Err other) written' failed' = ⊥
 
--- what came of a text that was read; the numbers are those of the writes that failed before and after
-abbrev pub PlaysBytes : List ℕ → List ℕ → List ℕ → Option (List ℕ) → ℕ → Result (Unit {0}) InputFault → Option (List ℕ) → ℕ → Type 0
+-- what came of a text that was read; the numbers are those of the writes that failed before and
+-- after
+abbrev pub PlaysBytes : List ℕ → List ℕ → List ℕ → Option (List ℕ) → ℕ
+    → Result (Unit {0}) InputFault → Option (List ℕ) → ℕ → Type 0
 PlaysBytes device password text written failed (Ok done) written' failed' =
-    (input : List ℕ) × IsHex text input × Appends written written' (hex_output device password input)
-PlaysBytes device password text written failed (Err (fault.Digit character)) written' failed' = IsNoHex text (fault.Digit character) written written'
-PlaysBytes device password text written failed (Err fault.OddDigits) written' failed' = IsNoHex text fault.OddDigits written written'
-PlaysBytes device password text written failed (Err fault.Write) written' failed' = (input : List ℕ) × IsHex text input × (failed < failed')
+    (input : List ℕ) × IsHex text input
+    × Appends written written' (hex_output device password input)
+PlaysBytes device password text written failed (Err (fault.Digit character)) written' failed' =
+    IsNoHex text (fault.Digit character) written written'
+PlaysBytes device password text written failed (Err fault.OddDigits) written' failed' =
+    IsNoHex text fault.OddDigits written written'
+PlaysBytes device password text written failed (Err fault.Write) written' failed' = (input : List ℕ)
+    × IsHex text input × (failed < failed')
 PlaysBytes device password text written failed (Err fault.Memory) written' failed' =
-    Appends written written' [] ⊎ ((input : List ℕ) × IsHex text input × RunsShort device password input written written')
+    Appends written written' []
+    ⊎ ((input : List ℕ) × IsHex text input × RunsShort device password input written written')
 PlaysBytes device password text written failed (Err fault.TooLong) written' failed' = ⊥
 PlaysBytes device password text written failed (Err (fault.Odd line)) written' failed' = ⊥
-PlaysBytes device password text written failed (Err (fault.Character line byte)) written' failed' = ⊥
+PlaysBytes device password text written failed (Err (fault.Character line byte)) written' failed' =
+    ⊥
 PlaysBytes device password text written failed (Err fault.Password) written' failed' = ⊥
 PlaysBytes device password text written failed (Err fault.Device) written' failed' = ⊥
 PlaysBytes device password text written failed (Err fault.Read) written' failed' = ⊥
@@ -65,13 +80,16 @@ module _ {R W : Type 0}
     pub within : length text ≤ most_bytes
 
   -- a whole text was played
-  pub record PlaysWhole (password device : List ℕ) (r : R) (w : W) (result : Result (Unit {0}) InputFault) (r' : R) (w' : W) : Type 0 where
+  pub record PlaysWhole (password device : List ℕ) (r : R) (w : W)
+      (result : Result (Unit {0}) InputFault) (r' : R) (w' : W) : Type 0 where
     pub text : List ℕ
     pub reads : ReadsWhole password device r r' text
-    pub plays : PlaysBytes device password text (contents w) (write_failures w) result (contents w') (write_failures w')
+    pub plays : PlaysBytes device password text (contents w) (write_failures w) result (contents w')
+        (write_failures w')
 
   -- the options are fit, and a text was not read to its end
-  pub record StopsReading (password device : List ℕ) (r : R) (w : W) (r' : R) (w' : W) (Cause : List ℕ → Type 0) : Type 0 where
+  pub record StopsReading (password device : List ℕ) (r : R) (w : W) (r' : R) (w' : W)
+      (Cause : List ℕ → Type 0) : Type 0 where
     pub password_fits : IsPassword password
     pub device_fits : IsDeviceName device
     pub text : List ℕ
@@ -81,15 +99,23 @@ module _ {R W : Type 0}
 
   -- options were judged, a text was read and played
   abbrev pub PlaysText : List ℕ → List ℕ → R → W → Result (Unit {0}) InputFault → R → W → Type 0
-  PlaysText password device r w (Err fault.Password) r' w' = ((length password ≡ 0) ⊎ (32 < length password)) × (r' ≡ r) × (w' ≡ w)
-  PlaysText password device r w (Err fault.Device) r' w' = IsPassword password × ((length device ≡ 0) ⊎ (16 < length device)) × (r' ≡ r) × (w' ≡ w)
-  PlaysText password device r w (Err fault.TooLong) r' w' = StopsReading password device r w r' w' (λ text. most_bytes < length text)
+  PlaysText password device r w (Err fault.Password) r' w' =
+      ((length password ≡ 0) ⊎ (32 < length password)) × (r' ≡ r) × (w' ≡ w)
+  PlaysText password device r w (Err fault.Device) r' w' = IsPassword password
+      × ((length device ≡ 0) ⊎ (16 < length device)) × (r' ≡ r) × (w' ≡ w)
+  PlaysText password device r w (Err fault.TooLong) r' w' =
+      StopsReading password device r w r' w' (λ text. most_bytes < length text)
   PlaysText password device r w (Err fault.Read) r' w' =
-      StopsReading password device r w r' w' (λ text. (length text ≤ most_bytes) × (read_failures r < read_failures r'))
-  PlaysText password device r w (Err fault.Memory) r' w' = (w' ≡ w) ⊎ PlaysWhole password device r w (Err fault.Memory) r' w'
+      StopsReading password device r w r' w' (λ text. (length text ≤ most_bytes)
+      × (read_failures r < read_failures r'))
+  PlaysText password device r w (Err fault.Memory) r' w' = (w' ≡ w)
+      ⊎ PlaysWhole password device r w (Err fault.Memory) r' w'
   PlaysText password device r w (Ok done) r' w' = PlaysWhole password device r w (Ok done) r' w'
-  PlaysText password device r w (Err (fault.Digit character)) r' w' = PlaysWhole password device r w (Err (fault.Digit character)) r' w'
-  PlaysText password device r w (Err fault.OddDigits) r' w' = PlaysWhole password device r w (Err fault.OddDigits) r' w'
-  PlaysText password device r w (Err fault.Write) r' w' = PlaysWhole password device r w (Err fault.Write) r' w'
+  PlaysText password device r w (Err (fault.Digit character)) r' w' =
+      PlaysWhole password device r w (Err (fault.Digit character)) r' w'
+  PlaysText password device r w (Err fault.OddDigits) r' w' =
+      PlaysWhole password device r w (Err fault.OddDigits) r' w'
+  PlaysText password device r w (Err fault.Write) r' w' =
+      PlaysWhole password device r w (Err fault.Write) r' w'
   PlaysText password device r w (Err (fault.Odd line)) r' w' = ⊥
   PlaysText password device r w (Err (fault.Character line byte)) r' w' = ⊥

@@ -10,7 +10,7 @@ use relay_core::RelayCore;
 use session_serving::answer_apdu;
 use std::alloc::{AllocError, Global};
 
-/// Writes the digits of bytes, in capitals.
+// Writes the digits of bytes, in capitals.
 #[tactic(auto, using(crate::proofs::Digits::capitals))]
 fn write_digits(bytes: &[u8], digits: &mut [u8])
     requires { length digits.old ≡ 2 * length bytes.now }
@@ -23,7 +23,7 @@ fn write_digits(bytes: &[u8], digits: &mut [u8])
     digits.make_ascii_uppercase();
 }
 
-/// Appends bytes, a line of hexadecimal in capitals. `digits` is memory that is used again.
+// Appends bytes, a line of hexadecimal in capitals. `digits` is memory that is used again.
 fn add_line(bytes: &[u8], digits: &mut Vec<u8>, lines: &mut Vec<u8>) -> Result<(), AllocError>
     ensures { OnOk result (lines.new.items ≡ lines.old.items ++ hex_line bytes.now) }
 {
@@ -35,7 +35,7 @@ fn add_line(bytes: &[u8], digits: &mut Vec<u8>, lines: &mut Vec<u8>) -> Result<(
     Ok(())
 }
 
-/// Appends a core's answer to a request, a line of hexadecimal.
+// Appends a core's answer to a request, a line of hexadecimal.
 fn add_answer(
     alloc: Global,
     core: &mut RelayCore,
@@ -43,20 +43,22 @@ fn add_answer(
     digits: &mut Vec<u8>,
     lines: &mut Vec<u8>,
 ) -> Result<(), AllocError>
-    ensures { OnOk result (AddsAnswer request.now core.old core.new lines.old.items lines.new.items) }
+    ensures { OnOk result
+        (AddsAnswer request.now core.old core.new lines.old.items lines.new.items) }
 {
     let answer = answer_apdu(alloc, core, request)?;
     add_line(answer.as_slice(), digits, lines)
 }
 
-/// Appends a core's answers to requests, a line of hexadecimal each.
+// Appends a core's answers to requests, a line of hexadecimal each.
 fn add_answers(
     alloc: Global,
     core: &mut RelayCore,
     requests: &Requests,
     lines: &mut Vec<u8>,
 ) -> Result<(), AllocError>
-    ensures { OnOk result (AnswersOn requests.now [] core.old core.new lines.old.items lines.new.items) }
+    ensures { OnOk result
+        (AnswersOn requests.now [] core.old core.new lines.old.items lines.new.items) }
 {
     let (bytes, lengths) = requests.parts();
     let mut digits = Vec::new(alloc);
@@ -69,7 +71,7 @@ fn add_answers(
     Ok(())
 }
 
-/// The answers of a new meter to requests, a line of hexadecimal each.
+// The answers of a new meter to requests, a line of hexadecimal each.
 pub(crate) fn answers(alloc: Global, requests: &Requests) -> Result<Vec<u8>, AllocError>
     ensures { IfOk result (λ lines. lines.items ≡ new_answers requests.now) }
 {

@@ -8,12 +8,13 @@ use crate::telling::InputFault;
 use byte_streams::{Reader, Writer};
 use std::alloc::Global;
 
-/// Answers the requests of a text, one of each line, by a new meter, whose device name is RELAY1: an answer is a line of
-/// hexadecimal in capitals. The digits of requests have either case; an empty line is none; the last line may lack its end.
+/// Answers the requests of a text, one of each line, by a new meter, whose device name is RELAY1:
+/// an answer is a line of hexadecimal in capitals. The digits of requests have either case; an
+/// empty line is none; the last line may lack its end.
 ///
-/// The whole text is read and all requests are judged before anything is written. Errors: `TooLong` of more than 1,048,576 bytes
-/// and `Read` while the text is read; `Odd` or `Character` of the first line that is wrong; `Write`; `Memory`. After any of them but
-/// `Write` nothing is written.
+/// The whole text is read and all requests are judged before anything is written. Errors: `TooLong`
+/// of more than 1,048,576 bytes and `Read` while the text is read; `Odd` or `Character` of the
+/// first line that is wrong; `Write`; `Memory`. After any of them but `Write` nothing is written.
 pub fn answer_text<R: Reader, W: Writer>(
     alloc: Global,
     reader: &mut R,
@@ -21,7 +22,8 @@ pub fn answer_text<R: Reader, W: Writer>(
 ) -> Result<(), InputFault>
     requires readable { R.can_read reader.now }
     requires writable { W.can_write writer.now }
-    ensures { AnswersText R.remaining R.failures W.contents W.failures reader.old writer.old result reader.new writer.new }
+    ensures { AnswersText R.remaining R.failures W.contents W.failures reader.old writer.old result
+        reader.new writer.new }
 {
     let text = read_all(alloc, reader)?;
     let requests = read_requests(alloc, text.as_slice())?;

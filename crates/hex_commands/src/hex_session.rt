@@ -14,7 +14,8 @@ use server_options::octets_of;
 use session_serving::{HexFault, play_session, read_hex};
 use std::alloc::Global;
 
-/// The bytes of an option's text. `wrong` is the fault of a text of no byte or of more than `longest`.
+// The bytes of an option's text. `wrong` is the fault of a text of no byte or of more than
+// `longest`.
 fn option_bytes(
     alloc: Global,
     text: &str,
@@ -32,7 +33,7 @@ fn option_bytes(
     }
 }
 
-/// Plays the session of a client whose bytes are these.
+// Plays the session of a client whose bytes are these.
 fn play<W: Writer>(
     alloc: Global,
     input: &[u8],
@@ -43,7 +44,8 @@ fn play<W: Writer>(
     requires writable { W.can_write writer.now }
     requires named { IsDeviceName device.now }
     requires password { IsPassword password.now }
-    ensures { PlaysInput device.now password.now input.now (W.contents writer.old) (W.failures writer.old) result (W.contents writer.new) (W.failures writer.new) }
+    ensures { PlaysInput device.now password.now input.now (W.contents writer.old)
+        (W.failures writer.old) result (W.contents writer.new) (W.failures writer.new) }
 {
     match play_session(alloc, input, writer, device, password) {
         Ok(()) => Ok(()),
@@ -53,13 +55,15 @@ fn play<W: Writer>(
     }
 }
 
-/// Plays the session of a client with a new meter of this device name, 1 to 16 bytes, in which the management client has this
-/// password, 1 to 32 bytes. The text is the client's stream in hexadecimal, in either case, with blanks and line ends skipped; each
-/// frame that the meter sends is written as a line of hexadecimal in capitals.
+/// Plays the session of a client with a new meter of this device name, 1 to 16 bytes, in which the
+/// management client has this password, 1 to 32 bytes. The text is the client's stream in
+/// hexadecimal, in either case, with blanks and line ends skipped; each frame that the meter sends
+/// is written as a line of hexadecimal in capitals.
 ///
-/// Errors, in this order: `Password` and `Device` of texts of another length, before anything is read; `TooLong` of more than
-/// 1,048,576 characters and `Read`; `Digit` or `OddDigits` of a text that is no pairs of digits; `Write`; `Memory` on the way. Nothing is
-/// written before the whole text is read and is pairs of digits.
+/// Errors, in this order: `Password` and `Device` of texts of another length, before anything is
+/// read; `TooLong` of more than 1,048,576 characters and `Read`; `Digit` or `OddDigits` of a text
+/// that is no pairs of digits; `Write`; `Memory` on the way. Nothing is written before the whole
+/// text is read and is pairs of digits.
 pub fn play_text<R: Reader, W: Writer>(
     alloc: Global,
     reader: &mut R,
@@ -69,7 +73,8 @@ pub fn play_text<R: Reader, W: Writer>(
 ) -> Result<(), InputFault>
     requires readable { R.can_read reader.now }
     requires writable { W.can_write writer.now }
-    ensures { PlaysText R.remaining R.failures W.contents W.failures password.now device.now reader.old writer.old result reader.new writer.new }
+    ensures { PlaysText R.remaining R.failures W.contents W.failures password.now device.now
+        reader.old writer.old result reader.new writer.new }
 {
     let password = option_bytes(alloc, password, MAX_PASSWORD, InputFault::Password)?;
     let device = option_bytes(alloc, device, MAX_DEVICE_NAME, InputFault::Device)?;

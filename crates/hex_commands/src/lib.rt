@@ -1,4 +1,5 @@
-//! The commands `apdu` and `hex`: each is one function from a text in hexadecimal to the text that a new meter answers.
+//! The commands `apdu` and `hex`: each is one function from a text in hexadecimal to the text that
+//! a new meter answers.
 #![tactic(auto)]
 
 mod answers;

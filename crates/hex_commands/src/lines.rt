@@ -4,7 +4,8 @@ ghost use Rattle.trace_text.specs.Parts.{parts_at};
 
 use memchr::memchr;
 
-/// The first line of a text, without the byte 0A that ends it, and the text after it. `None` of a text without that byte.
+// The first line of a text, without the byte 0A that ends it, and the text after it. `None` of a
+// text without that byte.
 #[tactic(auto, using(trace_text::proofs::Cuts::parts_whole, trace_text::proofs::Cuts::parts_cut))]
 pub(crate) fn cut_line(text: &[u8]) -> Option<(&[u8], &[u8])>
     ensures { MatchOption result (parts_at 10 text.now ≡ text.now ∷ [])

@@ -10,7 +10,8 @@ use hex::FromHexError;
 use std::alloc::{AllocError, Global};
 use std::marker::Model;
 
-/// Requests in order. Their bytes are adjacent, in one allocation. Contracts see the list of their bytes.
+// Requests in order. Their bytes are adjacent, in one allocation. Contracts see the list of their
+// bytes.
 #[derive(Drop)]
 pub(crate) struct Requests {
     bytes: Vec<u8>,
@@ -29,7 +30,7 @@ impl Model for Requests {
 }
 
 impl Requests {
-    /// No requests.
+    // No requests.
     pub(crate) fn new(alloc: Global) -> Requests
         ensures { result ≡ [] }
     {
@@ -39,7 +40,7 @@ impl Requests {
         }
     }
 
-    /// Appends a request. Out of memory: the requests are as before.
+    // Appends a request. Out of memory: the requests are as before.
     fn push(&mut self, request: &[u8]) -> Result<(), AllocError>
         ensures ok { OnOk result (self.new ≡ self.old ++ request.now ∷ []) }
         ensures err { OnErr result (self.new ≡ self.old) }
@@ -55,7 +56,7 @@ impl Requests {
         }
     }
 
-    /// The bytes of all requests, and the length of each.
+    // The bytes of all requests, and the length of each.
     pub(crate) fn parts(&self) -> (&[u8], &[usize])
         ensures pieces { self.now ≡ pieces_of result.1.now result.0.now }
         ensures lengths { total result.1.now ≡ length result.0.now }
@@ -64,7 +65,7 @@ impl Requests {
     }
 }
 
-/// What is wrong with the line of this number, by the error of its decoding.
+// What is wrong with the line of this number, by the error of its decoding.
 #[tactic(auto, using(crate::proofs::Decoded::place_within))]
 fn line_fault(number: usize, line: &[u8], error: FromHexError) -> InputFault
     requires { decode_of line.now ≡ Err error }
@@ -79,7 +80,7 @@ fn line_fault(number: usize, line: &[u8], error: FromHexError) -> InputFault
     }
 }
 
-/// Decodes a line: the bytes of its pairs of digits.
+// Decodes a line: the bytes of its pairs of digits.
 #[tactic(auto, using(crate::proofs::Decoded::line_decoded, crate::proofs::Decoded::line_undecoded))]
 fn decode_line(line: &[u8], bytes: &mut Vec<u8>) -> Result<(), FromHexError>
     ensures ok { OnOk result (decode_of line.now ≡ Ok bytes.new.items) }
@@ -91,7 +92,7 @@ fn decode_line(line: &[u8], bytes: &mut Vec<u8>) -> Result<(), FromHexError>
     }
 }
 
-/// Appends the request of a line, the line of this number. `bytes` is memory that is used again.
+// Appends the request of a line, the line of this number. `bytes` is memory that is used again.
 #[tactic(auto, using(crate::proofs::Decoded::request_added, crate::proofs::Decoded::request_wrong))]
 fn add_request(
     number: usize,
@@ -112,7 +113,7 @@ fn add_request(
     }
 }
 
-/// Appends the request of a line, the line of this number, unless the line is empty.
+// Appends the request of a line, the line of this number, unless the line is empty.
 fn add_line(
     number: usize,
     line: &[u8],
@@ -127,9 +128,10 @@ fn add_line(
     add_request(number, line, bytes, requests)
 }
 
-/// The requests of a text, one of each line that is not empty. The last line may lack the byte 0A.
-///
-/// Errors: `Odd` or `Character` of the first line that is no pairs of hexadecimal digits; `Memory` on the way.
+// The requests of a text, one of each line that is not empty. The last line may lack the byte 0A.
+//
+// Errors: `Odd` or `Character` of the first line that is no pairs of hexadecimal digits; `Memory`
+// on the way.
 pub(crate) fn read_requests(alloc: Global, text: &[u8]) -> Result<Requests, InputFault>
     requires { length text.now ≤ 1048576 }
     ensures { ReadsRequests text.now result }

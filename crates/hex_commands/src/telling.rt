@@ -72,8 +72,8 @@ impl InputFault {
     }
 }
 
-/// Returns the fault of the program. If `is_verbose`, writes a line on standard error that says what
-/// is wrong.
+/// Returns the fault of the program. If `is_verbose`, writes a line on standard error that says
+/// what is wrong.
 pub fn report_fault<R: Eprint>(rt: &R, is_verbose: bool, fault: InputFault) -> Fault
     ensures { result ≡ fault_of fault }
 {

@@ -19,7 +19,8 @@ told calls = map (λ (call : Entry Event Reply). (call.event, call.reply)) calls
 
 -- the replies are those of the run over the events, from the world of the opening
 abbrev pub IsLegal : Opening → Calls → Type 0
-IsLegal origin calls = replies_of (told calls) ≡ replies_from (opened origin) (events_of (told calls))
+IsLegal origin calls =
+    replies_of (told calls) ≡ replies_from (opened origin) (events_of (told calls))
 
 -- the recorder results from these calls, starting from the world of its origin
 abbrev pub Stands : KeptRecorder → Calls → Type 0

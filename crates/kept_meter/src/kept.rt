@@ -31,11 +31,17 @@ impl Model for Kept {
 
     ghost Value = { KeptRecorder };
 
-    ghost coded = { Prim.hlevel (codes, core_row.the_row.coded, event_row.the_row.coded, opening_row.the_row.coded) };
+    ghost coded = { Prim.hlevel (
+      codes,
+      core_row.the_row.coded,
+      event_row.the_row.coded,
+      opening_row.the_row.coded,
+    ) };
 
     ghost view = { λ k. record { recorder = k.recorder; origin = opening_of k.start.value } };
 
-    ghost invariant = { λ k. HasCalls (record { recorder = k.recorder; origin = opening_of k.start.value }) };
+    ghost invariant = { λ k.
+        HasCalls (record { recorder = k.recorder; origin = opening_of k.start.value }) };
 }
 
 impl Kept {

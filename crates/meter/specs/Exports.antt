@@ -29,7 +29,8 @@ use Rattle.trace_player.specs.Traces.{trace_of}
 
 -- a call on the meter of a handle; if the handle is not open, the result is `NotOpen`, and `shut`
 -- holds
-abbrev pub OnOpen : (shut : Type 0) (does : Metering → ℕ → Metering → Type 0) → Option Metering → ℕ → Option Metering → Type 0
+abbrev pub OnOpen : (shut : Type 0) (does : Metering → ℕ → Metering → Type 0) → Option Metering → ℕ
+    → Option Metering → Type 0
 OnOpen shut does None code new = (code ≡ code_of outcome.NotOpen) × (new ≡ None) × shut
 OnOpen shut does (Some m) code None = ⊥
 OnOpen shut does (Some m) code (Some m') = does m code m'
@@ -47,7 +48,8 @@ pub record AreFit (name password : List ℕ) (kept : ℕ) : Type 0 where
 
 -- the outcomes of opening a meter
 abbrev pub OpensTo : List ℕ → List ℕ → ℕ → Option Metering → Outcome → Option Metering → Type 0
-OpensTo name password kept None outcome.Done (Some m) = AreFit name password kept × IsNew name password kept m
+OpensTo name password kept None outcome.Done (Some m) = AreFit name password kept
+    × IsNew name password kept m
 OpensTo name password kept None outcome.WrongArgument None = ¬ (AreFit name password kept)
 OpensTo name password kept None outcome.NoMemory None = AreFit name password kept
 OpensTo name password kept None _ new = ⊥
@@ -55,7 +57,8 @@ OpensTo name password kept (Some m) outcome.IsOpen new = new ≡ Some m
 OpensTo name password kept (Some m) _ new = ⊥
 
 -- opening a meter, with the number that C receives
-pub record OpenedTo (name password : List ℕ) (kept : ℕ) (old : Option Metering) (code : ℕ) (new : Option Metering) : Type 0 where
+pub record OpenedTo (name password : List ℕ) (kept : ℕ) (old : Option Metering) (code : ℕ)
+    (new : Option Metering) : Type 0 where
   pub outcome : Outcome
   pub does : OpensTo name password kept old outcome new
   pub told : code ≡ code_of outcome
@@ -68,13 +71,15 @@ pub record IsNoTrace (text : List ℕ) : Type 0 where
 -- the outcomes of opening a meter that continues from a trace
 abbrev pub ResumesTo : List ℕ → List ℕ → ℕ → Option Metering → Outcome → Option Metering → Type 0
 ResumesTo text password kept None outcome.Done (Some m) = Resumes text password kept m
-ResumesTo text password kept None outcome.WrongArgument None = (¬ (AreFit (0 ∷ []) password kept)) ⊎ IsNoTrace text
+ResumesTo text password kept None outcome.WrongArgument None = (¬ (AreFit (0 ∷ []) password kept))
+    ⊎ IsNoTrace text
 ResumesTo text password kept None outcome.NoMemory None = AreFit (0 ∷ []) password kept
 ResumesTo text password kept None _ new = ⊥
 ResumesTo text password kept (Some m) outcome.IsOpen new = new ≡ Some m
 ResumesTo text password kept (Some m) _ new = ⊥
 
-pub record ResumedTo (text password : List ℕ) (kept : ℕ) (old : Option Metering) (code : ℕ) (new : Option Metering) : Type 0 where
+pub record ResumedTo (text password : List ℕ) (kept : ℕ) (old : Option Metering) (code : ℕ)
+    (new : Option Metering) : Type 0 where
   pub outcome : Outcome
   pub does : ResumesTo text password kept old outcome new
   pub told : code ≡ code_of outcome
@@ -91,10 +96,12 @@ abbrev pub OpenedAt : ℕ → Metering → ℕ → Metering → Type 0
 OpenedAt session m code m' = DoneTo (λ (r : Result Unit MeterFault). OpensBy m session r m') code
 
 abbrev pub FedAt : ℕ → List ℕ → Metering → ℕ → Metering → Type 0
-FedAt session bytes m code m' = DoneTo (λ (r : Result Unit MeterFault). FeedsBy m session bytes r m') code
+FedAt session bytes m code m' =
+    DoneTo (λ (r : Result Unit MeterFault). FeedsBy m session bytes r m') code
 
 abbrev pub FinishedAt : ℕ → Metering → ℕ → Metering → Type 0
-FinishedAt session m code m' = DoneTo (λ (r : Result Unit MeterFault). FinishesBy m session r m') code
+FinishedAt session m code m' =
+    DoneTo (λ (r : Result Unit MeterFault). FinishesBy m session r m') code
 
 abbrev pub ClosedAt : ℕ → Metering → ℕ → Metering → Type 0
 ClosedAt session m code m' = DoneTo (λ (r : Result Unit MeterFault). ClosesBy m session r m') code
@@ -108,7 +115,8 @@ abbrev pub next_length : Result Given MeterFault → ℕ
 next_length (Ok g) = length_of g
 next_length (Err f) = 0
 
-pub record GivenAt (session : ℕ) (buffer buffer' : List ℕ) (count : ℕ) (m : Metering) (code : ℕ) (m' : Metering) : Type 0 where
+pub record GivenAt (session : ℕ) (buffer buffer' : List ℕ) (count : ℕ) (m : Metering) (code : ℕ)
+    (m' : Metering) : Type 0 where
   pub result : Result Given MeterFault
   pub done : NextBy m session buffer result m' buffer'
   pub told : code ≡ code_of (tells_next result)
@@ -137,9 +145,15 @@ fired_of (Err f) = none_fired
 
 -- the firings that C receives
 abbrev pub firings_of : Fired → Firings
-firings_of fired = record { over = fired.over; under = fired.under; export_over = fired.export_over; export_under = fired.export_under }
+firings_of fired = record {
+  over = fired.over;
+  under = fired.under;
+  export_over = fired.export_over;
+  export_under = fired.export_under;
+}
 
-pub record SampledTo (samples : Samples) (firings : Firings) (m : Metering) (code : ℕ) (m' : Metering) : Type 0 where
+pub record SampledTo (samples : Samples) (firings : Firings) (m : Metering) (code : ℕ)
+    (m' : Metering) : Type 0 where
   pub result : Result Fired MeterFault
   pub done : SamplesBy m samples result m'
   pub told : code ≡ code_of (tells_samples result)
@@ -167,7 +181,8 @@ abbrev pub ModeTo : ℕ → Metering → ℕ → Metering → Type 0
 ModeTo mode m code m' = LooksTo code m m' (λ (w : World). mode ≡ mode_number w.control.mode)
 
 abbrev pub SupplyTo : Bool → Metering → ℕ → Metering → Type 0
-SupplyTo is_on m code m' = LooksTo code m m' (λ (w : World). is_on ≡ is_state w.control.state Connected)
+SupplyTo is_on m code m' =
+    LooksTo code m m' (λ (w : World). is_on ≡ is_state w.control.state Connected)
 
 -- the outcome of reading the last moment: done, or that there was none
 abbrev pub tells_moment : Option ℕ → Outcome
@@ -187,8 +202,10 @@ pub record MomentTo (moment : ℕ) (m : Metering) (code : ℕ) (m' : Metering) :
 
 -- the text was copied to the buffer, or only its length returned
 abbrev pub WritesText : List ℕ → List ℕ → List ℕ → ℕ → Outcome → Type 0
-WritesText text buffer buffer' count outcome.Done = (buffer' ≡ text ++ drop count buffer) × (count ≡ length text)
-WritesText text buffer buffer' count outcome.NoRoom = (buffer' ≡ buffer) × (count ≡ length text) × (length buffer < count)
+WritesText text buffer buffer' count outcome.Done = (buffer' ≡ text ++ drop count buffer)
+    × (count ≡ length text)
+WritesText text buffer buffer' count outcome.NoRoom = (buffer' ≡ buffer) × (count ≡ length text)
+    × (length buffer < count)
 WritesText text buffer buffer' count _ = ⊥
 
 -- the text was copied, only its length returned, or out of memory
@@ -198,7 +215,8 @@ WritesBy (Err error) buffer buffer' count outcome.NoMemory = (buffer' ≡ buffer
 WritesBy (Err error) buffer buffer' count _ = ⊥
 
 -- a trace was returned
-pub record TellsTrace (r : Recording) (buffer buffer' : List ℕ) (count : ℕ) (outcome : Outcome) : Type 0 where
+pub record TellsTrace (r : Recording) (buffer buffer' : List ℕ) (count : ℕ) (outcome : Outcome)
+    : Type 0 where
   pub text : List ℕ
   pub tells : TellsRun r text
   pub writes : WritesText text buffer buffer' count outcome
@@ -207,7 +225,8 @@ abbrev pub ExportsTo : Recording → List ℕ → List ℕ → ℕ → Outcome �
 ExportsTo r buffer buffer' count outcome.NoMemory = (buffer' ≡ buffer) × (count ≡ 0)
 ExportsTo r buffer buffer' count outcome = TellsTrace r buffer buffer' count outcome
 
-pub record ExportedTo (buffer buffer' : List ℕ) (count : ℕ) (m : Metering) (code : ℕ) (m' : Metering) : Type 0 where
+pub record ExportedTo (buffer buffer' : List ℕ) (count : ℕ) (m : Metering) (code : ℕ)
+    (m' : Metering) : Type 0 where
   pub same : m' ≡ m
   pub outcome : Outcome
   pub does : ExportsTo m.recorder buffer buffer' count outcome

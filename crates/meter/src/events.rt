@@ -22,7 +22,8 @@ pub struct Firings {
 /// Applies a press of the meter's button. `code` is its result. Error: `NotOpen`, and `code` is 0.
 #[unsafe(no_mangle)]
 pub extern "C" fn meter_press(alloc: Global, meter: &mut Meter, code: &mut u8) -> u32
-    ensures { OnOpen (code.new ≡ 0) (PressedTo code.new) meter.old.slot.held result meter.new.slot.held }
+    ensures { OnOpen (code.new ≡ 0) (PressedTo code.new) meter.old.slot.held result
+        meter.new.slot.held }
 {
     *code = 0;
     let Some(mut held) = meter.take(alloc) else {
@@ -41,7 +42,9 @@ pub extern "C" fn meter_samples(
     watts: &[u32],
     fired: &mut Firings,
 ) -> u32
-    ensures { OnOpen (fired.new ≡ firings_of none_fired) (SampledTo (values_alone watts.now) fired.new) meter.old.slot.held result meter.new.slot.held }
+    ensures { OnOpen (fired.new ≡ firings_of none_fired)
+        (SampledTo (values_alone watts.now) fired.new) meter.old.slot.held result
+        meter.new.slot.held }
 {
     *fired = no_firings();
     let Some(mut held) = meter.take(alloc) else {
@@ -62,7 +65,9 @@ pub extern "C" fn meter_sample_pairs(
     exported: &[u32],
     fired: &mut Firings,
 ) -> u32
-    ensures { OnOpen (fired.new ≡ firings_of none_fired) (SampledTo (pairs_of imported.now exported.now) fired.new) meter.old.slot.held result meter.new.slot.held }
+    ensures { OnOpen (fired.new ≡ firings_of none_fired)
+        (SampledTo (pairs_of imported.now exported.now) fired.new) meter.old.slot.held result
+        meter.new.slot.held }
 {
     *fired = no_firings();
     let Some(mut held) = meter.take(alloc) else {
@@ -78,7 +83,8 @@ pub extern "C" fn meter_sample_pairs(
 /// of schedules that were due.
 #[unsafe(no_mangle)]
 pub extern "C" fn meter_moment(alloc: Global, meter: &mut Meter, moment: u32, ran: &mut u8) -> u32
-    ensures { OnOpen (ran.new ≡ 0) (TickedTo moment ran.new) meter.old.slot.held result meter.new.slot.held }
+    ensures { OnOpen (ran.new ≡ 0) (TickedTo moment ran.new) meter.old.slot.held result
+        meter.new.slot.held }
 {
     *ran = 0;
     let Some(mut held) = meter.take(alloc) else {

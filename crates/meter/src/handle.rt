@@ -32,7 +32,7 @@ impl Meter {
         }
     }
 
-    /// Takes the meter out if the handle is open, which closes it.
+    // Takes the meter out if the handle is open, which closes it.
     pub(crate) fn take(&mut self, alloc: Global) -> Option<Box<SupplyMeter, Global>>
         ensures taken { IfSome result (λ b. self.old.slot.held ≡ Some b.value) }
         ensures none { result ≡ None → self.old.slot.held ≡ None }
@@ -45,7 +45,7 @@ impl Meter {
         Some(slot.into_parts().into_box())
     }
 
-    /// Puts a meter into the handle, which opens it.
+    // Puts a meter into the handle, which opens it.
     pub(crate) fn put(&mut self, held: Box<SupplyMeter, Global>)
         ensures { self.new.slot.held ≡ Some held.value }
     {

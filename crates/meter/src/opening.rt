@@ -20,14 +20,16 @@ pub extern "C" fn meter_open(
     password: &[u8],
     kept_events: u16,
 ) -> u32
-    ensures { OpenedTo name.now password.now kept_events meter.old.slot.held result meter.new.slot.held }
+    ensures { OpenedTo name.now password.now kept_events meter.old.slot.held result
+        meter.new.slot.held }
 {
     open(alloc, meter, name, password, kept_events).code()
 }
 
 // Opens a new meter, unless the handle holds one.
 fn open(alloc: Global, meter: &mut Meter, name: &[u8], password: &[u8], kept_events: u16) -> Outcome
-    ensures { OpensTo name.now password.now kept_events meter.old.slot.held result meter.new.slot.held }
+    ensures { OpensTo name.now password.now kept_events meter.old.slot.held result
+        meter.new.slot.held }
 {
     if let Some(held) = meter.take(alloc) {
         meter.put(held);
@@ -45,7 +47,7 @@ fn open(alloc: Global, meter: &mut Meter, name: &[u8], password: &[u8], kept_eve
     }
 }
 
-/// Returns whether the lengths of the arguments are in their ranges.
+// Returns whether the lengths of the arguments are in their ranges.
 pub(crate) fn are_fit(name: &[u8], password: &[u8], kept_events: u16) -> bool
     ensures { IsTrue result ↔ AreFit name.now password.now kept_events }
 {

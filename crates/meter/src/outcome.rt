@@ -40,7 +40,7 @@ pub enum Outcome {
 }
 
 impl Outcome {
-    /// Returns the number of the outcome in `meter.h`.
+    // Returns the number of the outcome in `meter.h`.
     pub(crate) fn code(self) -> u32
         ensures { result ≡ code_of self }
     {
@@ -63,7 +63,7 @@ impl Outcome {
         }
     }
 
-    /// Returns the outcome of a fault.
+    // Returns the outcome of a fault.
     pub(crate) fn of_fault(fault: MeterFault) -> Outcome
         ensures { result ≡ of_fault fault }
     {

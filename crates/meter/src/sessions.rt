@@ -59,7 +59,9 @@ pub extern "C" fn meter_next(
     frame: &mut [u8],
     length: &mut usize,
 ) -> u32
-    ensures { OnOpen ((frame.new ≡ frame.old) × (length.new ≡ 0)) (GivenAt session frame.old frame.new length.new) meter.old.slot.held result meter.new.slot.held }
+    ensures { OnOpen ((frame.new ≡ frame.old)
+        × (length.new ≡ 0)) (GivenAt session frame.old frame.new length.new) meter.old.slot.held
+        result meter.new.slot.held }
 {
     *length = 0;
     let Some(mut held) = meter.take(alloc) else {

@@ -22,14 +22,14 @@ impl Model for Slot {
 }
 
 impl Slot {
-    /// Returns a slot without a meter, whatever the pointer is.
+    // Returns a slot without a meter, whatever the pointer is.
     pub(crate) fn of_null(at: *mut u8, alloc: Global) -> Slot
         ensures { result.held ≡ None }
     {
         Slot { at, alloc }
     }
 
-    /// Returns a slot with the meter of these parts of a box.
+    // Returns a slot with the meter of these parts of a box.
     pub(crate) fn of_parts(parts: Parts<SupplyMeter, Global>) -> Slot
         ensures { result.held ≡ Some parts.value }
     {
@@ -40,7 +40,7 @@ impl Slot {
         }
     }
 
-    /// Returns the parts of the box of the meter, which the slot must hold.
+    // Returns the parts of the box of the meter, which the slot must hold.
     pub(crate) fn into_parts(self) -> Parts<SupplyMeter, Global>
         requires { (m : Metering) × (self.held ≡ Some m) }
         ensures { self.held ≡ Some result.value }

@@ -9,7 +9,8 @@ use std::alloc::Global;
 /// Reads the control state (class 70, attribute 3).
 #[unsafe(no_mangle)]
 pub extern "C" fn meter_control_state(alloc: Global, meter: &mut Meter, state: &mut u8) -> u32
-    ensures { OnOpen (state.new ≡ 0) (StateTo state.new) meter.old.slot.held result meter.new.slot.held }
+    ensures { OnOpen (state.new ≡ 0) (StateTo state.new) meter.old.slot.held result
+        meter.new.slot.held }
 {
     *state = 0;
     let Some(held) = meter.take(alloc) else {
@@ -23,7 +24,8 @@ pub extern "C" fn meter_control_state(alloc: Global, meter: &mut Meter, state: &
 /// Reads the control mode (class 70, attribute 4).
 #[unsafe(no_mangle)]
 pub extern "C" fn meter_control_mode(alloc: Global, meter: &mut Meter, mode: &mut u8) -> u32
-    ensures { OnOpen (mode.new ≡ 0) (ModeTo mode.new) meter.old.slot.held result meter.new.slot.held }
+    ensures { OnOpen (mode.new ≡ 0) (ModeTo mode.new) meter.old.slot.held result
+        meter.new.slot.held }
 {
     *mode = 0;
     let Some(held) = meter.take(alloc) else {
@@ -37,7 +39,8 @@ pub extern "C" fn meter_control_mode(alloc: Global, meter: &mut Meter, mode: &mu
 /// Reads whether the supply is on.
 #[unsafe(no_mangle)]
 pub extern "C" fn meter_supply(alloc: Global, meter: &mut Meter, is_on: &mut bool) -> u32
-    ensures { OnOpen (is_on.new ≡ false) (SupplyTo is_on.new) meter.old.slot.held result meter.new.slot.held }
+    ensures { OnOpen (is_on.new ≡ false) (SupplyTo is_on.new) meter.old.slot.held result
+        meter.new.slot.held }
 {
     *is_on = false;
     let Some(held) = meter.take(alloc) else {
@@ -51,7 +54,8 @@ pub extern "C" fn meter_supply(alloc: Global, meter: &mut Meter, is_on: &mut boo
 /// Reads the last moment of the clock.
 #[unsafe(no_mangle)]
 pub extern "C" fn meter_last_moment(alloc: Global, meter: &mut Meter, moment: &mut u32) -> u32
-    ensures { OnOpen (moment.new ≡ 0) (MomentTo moment.new) meter.old.slot.held result meter.new.slot.held }
+    ensures { OnOpen (moment.new ≡ 0) (MomentTo moment.new) meter.old.slot.held result
+        meter.new.slot.held }
 {
     *moment = 0;
     let Some(held) = meter.take(alloc) else {

@@ -18,7 +18,8 @@ pub extern "C" fn meter_resume(
     password: &[u8],
     kept_events: u16,
 ) -> u32
-    ensures { ResumedTo trace.now password.now kept_events meter.old.slot.held result meter.new.slot.held }
+    ensures { ResumedTo trace.now password.now kept_events meter.old.slot.held result
+        meter.new.slot.held }
 {
     resume(alloc, meter, trace, password, kept_events).code()
 }
@@ -31,7 +32,8 @@ fn resume(
     password: &[u8],
     kept_events: u16,
 ) -> Outcome
-    ensures { ResumesTo trace.now password.now kept_events meter.old.slot.held result meter.new.slot.held }
+    ensures { ResumesTo trace.now password.now kept_events meter.old.slot.held result
+        meter.new.slot.held }
 {
     if let Some(held) = meter.take(alloc) {
         meter.put(held);
@@ -69,7 +71,9 @@ pub extern "C" fn meter_export(
     text: &mut [u8],
     length: &mut usize,
 ) -> u32
-    ensures { OnOpen ((text.new ≡ text.old) × (length.new ≡ 0)) (ExportedTo text.old text.new length.new) meter.old.slot.held result meter.new.slot.held }
+    ensures { OnOpen ((text.new ≡ text.old)
+        × (length.new ≡ 0)) (ExportedTo text.old text.new length.new) meter.old.slot.held result
+        meter.new.slot.held }
 {
     *length = 0;
     let Some(held) = meter.take(alloc) else {

@@ -10,7 +10,8 @@ use Rattle.trace_text.specs.Words.{words_of}
 
 -- a press, samples, pairs or a moment; the events that clients request begin with other words
 abbrev pub IsOwnWord : List ℕ → Type 0
-IsOwnWord word = (word ≡ codes "button") ⊎ (word ≡ codes "samples") ⊎ (word ≡ codes "pairs") ⊎ (word ≡ codes "moment")
+IsOwnWord word = (word ≡ codes "button") ⊎ (word ≡ codes "samples") ⊎ (word ≡ codes "pairs")
+    ⊎ (word ≡ codes "moment")
 
 -- the line begins with such a word
 pub record IsOwnLine (line : List ℕ) : Type 0 where

@@ -15,7 +15,8 @@ use Rattle.meter_console.specs.declared.running.ConsoleEnd.{ConsoleEnd}
 abbrev pub Brought : List (List ℕ) → List Event → ℕ → Type 0
 Brought [] events lost = (events ≡ []) × (lost ≡ 0)
 Brought (line ∷ lines) events lost =
-    ((event : Event) × (later : List Event) × Brings line event × (events ≡ event ∷ later) × Brought lines later lost)
+    ((event : Event) × (later : List Event) × Brings line event × (events ≡ event ∷ later)
+    × Brought lines later lost)
     ⊎ (((event : Event) → ¬ (Brings line event)) × Brought lines events lost)
     ⊎ ((others : ℕ) × IsOwnLine line × (lost ≡ suc others) × Brought lines events others)
 
@@ -26,7 +27,8 @@ TakesFrom line lost listed taken = (before : List Event) → listed ≡ Some bef
 
 -- the events of the first lines of an input were passed on, in order, each once; `lost` of these
 -- lines were lost
-pub record HandsOn (input : List ℕ) (before : List Event) (lost : ℕ) (left : Option (List ℕ)) (taken : Option (List Event)) : Type 0 where
+pub record HandsOn (input : List ℕ) (before : List Event) (lost : ℕ) (left : Option (List ℕ))
+    (taken : Option (List Event)) : Type 0 where
   pub read : List (List ℕ)
   pub rest : List ℕ
   pub events : List Event
@@ -36,8 +38,10 @@ pub record HandsOn (input : List ℕ) (before : List Event) (lost : ℕ) (left :
   pub taken_is : taken ≡ Some (before ++ events)
 
 -- `HandsOn` if the bytes of the reader are known and the sink lists its events
-abbrev pub Hands : Option (List ℕ) → Option (List Event) → ℕ → Option (List ℕ) → Option (List Event) → Type 0
-Hands known listed lost left taken = (input : List ℕ) (before : List Event) → known ≡ Some input → listed ≡ Some before → HandsOn input before lost left taken
+abbrev pub Hands : Option (List ℕ) → Option (List Event) → ℕ → Option (List ℕ) → Option (List Event)
+    → Type 0
+Hands known listed lost left taken = (input : List ℕ) (before : List Event) → known ≡ Some input
+    → listed ≡ Some before → HandsOn input before lost left taken
 
 -- a read failed
 abbrev pub has_failed : ConsoleEnd → Bool
@@ -49,7 +53,8 @@ lost_lines end = end.lost
 
 -- the console ended: the events of its lines were passed on, in order, each once; after a failed
 -- read those of the last lines may be missing
-pub record EndsSo (input : List ℕ) (before : List Event) (end : ConsoleEnd) (taken : Option (List Event)) : Type 0 where
+pub record EndsSo (input : List ℕ) (before : List Event) (end : ConsoleEnd)
+    (taken : Option (List Event)) : Type 0 where
   pub read : List (List ℕ)
   pub unread : List (List ℕ)
   pub events : List Event
@@ -60,4 +65,5 @@ pub record EndsSo (input : List ℕ) (before : List Event) (end : ConsoleEnd) (t
 
 -- `EndsSo` if the bytes of the reader are known and the sink lists its events
 abbrev pub Ends : Option (List ℕ) → Option (List Event) → ConsoleEnd → Option (List Event) → Type 0
-Ends known listed end taken = (input : List ℕ) (before : List Event) → known ≡ Some input → listed ≡ Some before → EndsSo input before end taken
+Ends known listed end taken = (input : List ℕ) (before : List Event) → known ≡ Some input
+    → listed ≡ Some before → EndsSo input before end taken

@@ -20,7 +20,10 @@ pub record Queues : Type 0 where
 -- an event of the meter itself was appended to the queue of its kind; an event that a client
 -- requests to none
 abbrev pub Sorts : Event → Queues → Queues → Type 0
-Sorts (event.Samples block) old new = Gains old.blocks block new.blocks × (new ≡ record old { blocks = new.blocks })
-Sorts (event.Moment now) old new = Gains old.moments now new.moments × (new ≡ record old { moments = new.moments })
-Sorts event.Button old new = Gains old.presses tt new.presses × (new ≡ record old { presses = new.presses })
+Sorts (event.Samples block) old new = Gains old.blocks block new.blocks
+    × (new ≡ record old { blocks = new.blocks })
+Sorts (event.Moment now) old new = Gains old.moments now new.moments
+    × (new ≡ record old { moments = new.moments })
+Sorts event.Button old new = Gains old.presses tt new.presses
+    × (new ≡ record old { presses = new.presses })
 Sorts _ old new = new ≡ old

@@ -10,7 +10,7 @@ use relay_events::Event;
 use std::alloc::{AllocError, Global};
 use std::sync::Wait;
 
-/// The maximum number of events that wait for each worker.
+// The maximum number of events that wait for each worker.
 const MAX_WAITING: usize = 64;
 
 /// Blocks of samples from the console.
@@ -60,17 +60,17 @@ pub struct Sources<R> {
     pub presses: ConsolePresses<R>,
 }
 
-/// A queue of values of one kind for their worker.
+// A queue of values of one kind for their worker.
 trait Queue<T> {
-    /// Ghost value: the values given so far, if the queue lists them. The default claims nothing.
+    // Ghost value: the values given so far, if the queue lists them. The default claims nothing.
     ghost given: { Self → Option (List T) } = { λ _. None };
 
-    /// Appends a value. Blocks while the queue is full.
+    // Appends a value. Blocks while the queue is full.
     fn put(&mut self, value: T)
         ensures { Gains (given self.old) value (given self.new) };
 }
 
-/// The sending end of a channel.
+// The sending end of a channel.
 #[derive(Drop)]
 pub(crate) struct Sending<R, T> {
     rt: R,
@@ -84,7 +84,7 @@ impl<R: Wait, T: Drop> Queue<T> for Sending<R, T> {
     }
 }
 
-/// A queue for each worker.
+// A queue for each worker.
 #[derive(Drop)]
 pub(crate) struct Channels<B, M, P> {
     blocks: B,
@@ -93,10 +93,19 @@ pub(crate) struct Channels<B, M, P> {
 }
 
 impl<B: Queue<Block>, M: Queue<u32>, P: Queue<()>> Channels<B, M, P> {
-    /// Appends an event to the queue of its worker. Events that only a client requests are ignored.
+    // Appends an event to the queue of its worker. Events that only a client requests are ignored.
     fn sort(&mut self, event: Event)
-        ensures { Sorts event (record { blocks = B.given self.old.blocks; moments = M.given self.old.moments; presses = P.given self.old.presses })
-            (record { blocks = B.given self.new.blocks; moments = M.given self.new.moments; presses = P.given self.new.presses }) }
+        ensures { Sorts event
+            (record {
+              blocks = B.given self.old.blocks;
+              moments = M.given self.old.moments;
+              presses = P.given self.old.presses;
+            })
+            (record {
+              blocks = B.given self.new.blocks;
+              moments = M.given self.new.moments;
+              presses = P.given self.new.presses;
+            }) }
     {
         match event {
             Event::Samples(block) => self.blocks.put(block),
@@ -114,10 +123,10 @@ impl<B: Queue<Block>, M: Queue<u32>, P: Queue<()>> EventSink for Channels<B, M, 
     }
 }
 
-/// The channels of a console whose threads block by `R`.
+// The channels of a console whose threads block by `R`.
 pub(crate) type WorkerChannels<R> = Channels<Sending<R, Block>, Sending<R, u32>, Sending<R, ()>>;
 
-/// Opens a channel for each worker, and allocates all the memory of the channels.
+// Opens a channel for each worker, and allocates all the memory of the channels.
 pub(crate) fn open_channels<R: Wait + Copy>(
     rt: &R,
     alloc: Global,

@@ -22,8 +22,8 @@ impl<R: Wait + Copy + Drop> Console<R> {
         Ok((Console { buffer, channels }, sources))
     }
 
-    /// Passes the events of an input's lines to the workers, as [`run_console`] does. The sources
-    /// end when it returns.
+    // Passes the events of an input's lines to the workers, as [`run_console`] does. The sources
+    // end when it returns.
     pub(crate) fn run<B: BufRead, E: Eprint>(
         self,
         alloc: Global,

@@ -9,7 +9,7 @@ use trace_lines::read_event;
 use trace_text::Words;
 use trace_words::{RowFault, Version};
 
-/// Returns whether a word is the first word of an event of the meter itself.
+// Returns whether a word is the first word of an event of the meter itself.
 fn is_own_word(word: &[u8]) -> bool
     ensures { IsTrue result ↔ IsOwnWord word.now }
 {
@@ -19,7 +19,7 @@ fn is_own_word(word: &[u8]) -> bool
         || word == b"moment".as_slice()
 }
 
-/// Returns whether a line begins with such a word.
+// Returns whether a line begins with such a word.
 fn is_own_line(line: &[u8]) -> bool
     ensures { IsTrue result ↔ IsOwnLine line.now }
 {
@@ -34,7 +34,8 @@ fn is_own_line(line: &[u8]) -> bool
 /// not begin as one of these, nothing is allocated. Errors: out of memory.
 pub fn console_event(alloc: Global, line: &[u8]) -> Result<Option<Event>, AllocError>
     ensures some { IfOk result (λ brought. IfSome brought (λ event. Brings line.now event)) }
-    ensures none { IfOk result (λ brought. IfNone brought ((event : Event) → ¬ (Brings line.now event))) }
+    ensures none { IfOk result
+        (λ brought. IfNone brought ((event : Event) → ¬ (Brings line.now event))) }
     ensures err { OnErr result (IsOwnLine line.now) }
 {
     if !is_own_line(line) {

@@ -23,7 +23,7 @@ pub struct Reading<R, B, E, N> {
     pub ended: N,
 }
 
-/// Passes on the events of the input's lines, and then calls `ended`.
+// Passes on the events of the input's lines, and then calls `ended`.
 fn read<R: Wait + Copy + Drop, B: BufRead + Drop, E: Eprint + Drop, N: Ended + Drop>(
     alloc: Global,
     reading: Reading<R, B, E, N>,

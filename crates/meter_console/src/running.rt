@@ -32,20 +32,20 @@ impl ConsoleEnd {
     }
 }
 
-/// The result of one line.
+// The result of one line.
 #[derive(Clone, Copy, Debug, PartialEq, Eq, Drop)]
 enum Step {
-    /// Its event was passed on, or it has none.
+    // Its event was passed on, or it has none.
     Passed,
-    /// The line was lost: out of memory.
+    // The line was lost: out of memory.
     Lost,
-    /// There was no further line.
+    // There was no further line.
     End,
-    /// A read failed.
+    // A read failed.
     Failed,
 }
 
-/// Passes on the event of a line, if it has one. Errors: out of memory, and the line is lost.
+// Passes on the event of a line, if it has one. Errors: out of memory, and the line is lost.
 fn hand_line<S: EventSink>(alloc: Global, line: &[u8], sink: &mut S) -> Result<(), AllocError>
     ensures ok { OnOk result (TakesFrom line.now 0 (S.taken sink.old) (S.taken sink.new)) }
     ensures err { OnErr result (TakesFrom line.now 1 (S.taken sink.old) (S.taken sink.new)) }
@@ -60,7 +60,7 @@ fn hand_line<S: EventSink>(alloc: Global, line: &[u8], sink: &mut S) -> Result<(
     }
 }
 
-/// Reads a line and passes on its event.
+// Reads a line and passes on its event.
 fn pass_line<B: BufRead, S: EventSink>(
     alloc: Global,
     input: &mut B,
@@ -69,9 +69,14 @@ fn pass_line<B: BufRead, S: EventSink>(
 ) -> Step
     requires room { 8192 ≤ vec_capacity line.old }
     ensures room { 8192 ≤ vec_capacity line.new }
-    ensures passed { result ≡ Step.Passed → Hands (B.remaining input.old) (S.taken sink.old) 0 (B.remaining input.new) (S.taken sink.new) }
-    ensures lost { result ≡ Step.Lost → Hands (B.remaining input.old) (S.taken sink.old) 1 (B.remaining input.new) (S.taken sink.new) }
-    ensures end { result ≡ Step.End → (bytes : List ℕ) → B.remaining input.old ≡ Some bytes → lines_in bytes ≡ [] }
+    ensures passed { result ≡ Step.Passed
+        → Hands (B.remaining input.old) (S.taken sink.old) 0 (B.remaining input.new)
+        (S.taken sink.new) }
+    ensures lost { result ≡ Step.Lost
+        → Hands (B.remaining input.old) (S.taken sink.old) 1 (B.remaining input.new)
+        (S.taken sink.new) }
+    ensures end { result ≡ Step.End → (bytes : List ℕ) → B.remaining input.old ≡ Some bytes
+        → lines_in bytes ≡ [] }
     ensures end_taken { result ≡ Step.End → S.taken sink.new ≡ S.taken sink.old }
     ensures failed { result ≡ Step.Failed → S.taken sink.new ≡ S.taken sink.old }
 {
@@ -86,12 +91,12 @@ fn pass_line<B: BufRead, S: EventSink>(
     }
 }
 
-/// Reports on standard error that a line was lost.
+// Reports on standard error that a line was lost.
 fn report_lost<E: Eprint>(errors: &E, number: u64) {
     let _ = eprintln!(errors; "console: line {number}: out of memory, the line is lost");
 }
 
-/// Reports on standard error that a read failed.
+// Reports on standard error that a read failed.
 fn report_failure<E: Eprint>(errors: &E) {
     let _ = eprintln!(errors; "console: reading failed, no further line is read");
 }

@@ -42,7 +42,8 @@ events_in number calls = map (λ (call : Entry Event Reply). call.event) (calls_
 -- sampler with its reads, the second port's the moments of the clock, the third port's the presses
 -- of the button, all of them. The calls of each further port are what one session requests for its
 -- bytes. The port from which these were split off made no call.
-pub record AreOfRun (origin : Opening) (given : Given) (served : Result Served ServeFault) (calls : Calls) : Type 0 where
+pub record AreOfRun (origin : Opening) (given : Given) (served : Result Served ServeFault)
+    (calls : Calls) : Type 0 where
   pub lawful : IsLegal origin calls
   pub blocks : OnEnded served (AllBlocks given.blocks (events_in (0 ∷ []) calls))
   pub moments : OnEnded served (AllMoments given.moments (events_in (1 ∷ []) calls))
@@ -54,7 +55,8 @@ pub record AreOfRun (origin : Opening) (given : Given) (served : Result Served S
 
 -- A run of the meter with this recorder: its calls, the recorder that represents them at its end,
 -- and the text of that recorder's trace, which plays to the replies that were given
-pub record IsRun (recorder : Recording) (given : Given) (served : Result Served ServeFault) (text : List ℕ) : Type 0 where
+pub record IsRun (recorder : Recording) (given : Given) (served : Result Served ServeFault)
+    (text : List ℕ) : Type 0 where
   pub kept : KeptRecorder
   pub begun : kept.origin ≡ opening_of recorder.core
   pub calls : Calls
@@ -63,14 +65,18 @@ pub record IsRun (recorder : Recording) (given : Given) (served : Result Served 
   pub traced : TellsRun kept.recorder text
 
 -- port p became port q: clients were served and sources passed on
-pub record ServesAll (given : Given) (p q : MeterPort) (served : Result Served ServeFault) : Type 0 where
-  pub goes : GoesOn p q
-  pub joined : AreJoined p.known.splits q
-  pub sessions : AreSessions given.password (p.known.splits + 3) q
-  pub counted : IfOk served (IsServed (p.known.splits + 3) q.known.splits)
-  pub blocks : OnEnded served (Acted q (child p.known.number p.known.splits) (AllBlocks given.blocks))
-  pub moments : OnEnded served (Acted q (child p.known.number (p.known.splits + 1)) (AllMoments given.moments))
-  pub presses : OnEnded served (Acted q (child p.known.number (p.known.splits + 2)) (AllPresses given.presses))
+pub record ServesAll (given : Given) (p q : MeterPort) (served : Result Served ServeFault) : Type 0
+  where
+    pub goes : GoesOn p q
+    pub joined : AreJoined p.known.splits q
+    pub sessions : AreSessions given.password (p.known.splits + 3) q
+    pub counted : IfOk served (IsServed (p.known.splits + 3) q.known.splits)
+    pub blocks : OnEnded served
+        (Acted q (child p.known.number p.known.splits) (AllBlocks given.blocks))
+    pub moments : OnEnded served
+        (Acted q (child p.known.number (p.known.splits + 1)) (AllMoments given.moments))
+    pub presses : OnEnded served
+        (Acted q (child p.known.number (p.known.splits + 2)) (AllPresses given.presses))
 
 -- the text is that of the trace of the meter in the lock, by what a port of the lock knows
 pub record Traces (k : Known Event Reply Opening) (text : List ℕ) : Type 0 where

@@ -20,7 +20,7 @@ use std::sync::Wait;
 use std::thread::Threads;
 use turn_lock::{Port, Shared};
 
-/// The maximum number of calls in one run: 2^62, the largest bound of a lock.
+// The maximum number of calls in one run: 2^62, the largest bound of a lock.
 const MAX_CALLS: u64 = 4_611_686_018_427_387_904;
 
 /// The sources of the meter's own events: blocks of power samples, moments of the clock, presses of
@@ -75,7 +75,13 @@ fn serve<
 ) -> (Port<Kept>, Result<Served, ServeFault>)
     requires { IsPassword password.now }
     ensures lock { result.0.lock ≡ port.lock }
-    ensures serves { ServesAll (record { blocks = B.told sources.blocks; moments = M.told sources.moments; presses = U.told sources.buttons; password = password.now })
+    ensures serves { ServesAll
+        (record {
+          blocks = B.told sources.blocks;
+          moments = M.told sources.moments;
+          presses = U.told sources.buttons;
+          password = password.now;
+        })
         port result.0 result.1 }
     ensures limit { IfOk result.1 (IsLimit limit) }
     ensures counted { IfOk result.1 (λ served. IsCounted (L.accepted listener.old)
@@ -147,7 +153,12 @@ pub fn run_meter<
     requires unused { recorder.events ≡ [] }
     requires password { IsPassword password.now }
     ensures run { IfOk result.trace (IsRun recorder
-        (record { blocks = B.told sources.blocks; moments = M.told sources.moments; presses = U.told sources.buttons; password = password.now })
+        (record {
+          blocks = B.told sources.blocks;
+          moments = M.told sources.moments;
+          presses = U.told sources.buttons;
+          password = password.now;
+        })
         result.served) }
     ensures limit { IfOk result.served (IsLimit limit) }
     ensures counted { IfOk result.served (λ served. IsCounted (L.accepted listener.old)

@@ -17,10 +17,12 @@ MeterPort = ShownPort Event Reply Opening
 -- no further call of the port, and there is a cause
 abbrev pub Calls : MeterPort → Event → Result Reply CallFault → MeterPort → Type 0
 Calls p event (Ok reply) q = Called IsLegal p.known event reply q.known
-Calls p event (Err fault) q = Watches IsLegal p.known q.known × IsCause IsSure event p.bound q.known fault
+Calls p event (Err fault) q = Watches IsLegal p.known q.known
+    × IsCause IsSure event p.bound q.known fault
 
 -- a step of a port: passing an event on
-pub record PortSteps (p : MeterPort) (event : Event) (result : Result Reply CallFault) (q : MeterPort) : Type 0 where
+pub record PortSteps (p : MeterPort) (event : Event) (result : Result Reply CallFault)
+    (q : MeterPort) : Type 0 where
   pub lock : q.lock ≡ p.lock
   pub bound : q.bound ≡ p.bound
   pub calls : Calls p event result q
@@ -33,4 +35,5 @@ entries by _ _ = []
 -- in the history that the port knows, its own calls are extended by these and by no others
 abbrev pub Enters : MeterPort → List Event → List Reply → MeterPort → Type 0
 Enters p events replies q =
-    calls_by p.known.number q.known.seen ≡ calls_by p.known.number p.known.seen ++ entries p.known.number events replies
+    calls_by p.known.number q.known.seen ≡ calls_by p.known.number p.known.seen
+    ++ entries p.known.number events replies

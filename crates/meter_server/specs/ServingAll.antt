@@ -23,7 +23,8 @@ use Rattle.turn_lock.specs.History.{IsAmong, calls_by}
 -- the events of the calls of the port with this number, in order, in the history that a port has
 -- seen
 abbrev pub events_by : List ℕ → MeterPort → List Event
-events_by number port = map (λ (call : Entry Event Reply). call.event) (calls_by number port.known.seen)
+events_by number port =
+    map (λ (call : Entry Event Reply). call.event) (calls_by number port.known.seen)
 
 -- apart from reads, the events are all blocks of the source's list, in order; the thresholds are
 -- read at most before the first block and after every 64 further ones
@@ -85,7 +86,9 @@ first_of (Ok all) None = Ok all
 
 -- the port that was lent to a worker was returned, and the result is the first of that of the
 -- clients, served in parallel, and of the worker's
-pub record EndsWith (did : MeterPort → MeterPort → Result (Unit {0}) CallFault → Type 0) (lent : MeterPort) (served result : Result Served ServeFault) (before after : MeterPort) : Type 0 where
+pub record EndsWith (did : MeterPort → MeterPort → Result (Unit {0}) CallFault
+    → Type 0) (lent : MeterPort) (served result : Result Served ServeFault)
+    (before after : MeterPort) : Type 0 where
   pub end : Option (Result (Unit {0}) CallFault)
   pub back : ComesBack did lent end before after
   pub first : result ≡ first_of served (worker_fault end)

@@ -9,7 +9,7 @@ use std::alloc::Global;
 use std::sync::Wait;
 use turn_lock::Port;
 
-/// Passes blocks of samples to the meter.
+// Passes blocks of samples to the meter.
 #[derive(Drop)]
 pub(crate) struct Sampler<S> {
     pub(crate) source: S,
@@ -22,7 +22,8 @@ impl<S: BlockSource + Send> Worker<Port<Kept>> for Sampler<S> {
     ghost use Rattle.meter_workers.specs.Handed.{HandsBlocks, StopsFor};
 
     ghost did = { λ sampler p q end. IsSame p q
-        × OnOk end (HandsBlocks (S.told sampler.source) p q × ReadsBetween (S.told sampler.source) p q)
+        × OnOk end (HandsBlocks (S.told sampler.source) p q
+        × ReadsBetween (S.told sampler.source) p q)
         × IfErr end (StopsFor q) };
 
     fn work<W: Wait>(
@@ -36,7 +37,7 @@ impl<S: BlockSource + Send> Worker<Port<Kept>> for Sampler<S> {
     }
 }
 
-/// Passes moments of the clock to the meter.
+// Passes moments of the clock to the meter.
 #[derive(Drop)]
 pub(crate) struct Clock<S> {
     pub(crate) source: S,
@@ -47,7 +48,8 @@ impl<S: MomentSource + Send> Worker<Port<Kept>> for Clock<S> {
     ghost use Rattle.turn_lock.specs.Shown.{IsSame};
     ghost use Rattle.meter_workers.specs.Handed.{HandsMoments, StopsFor};
 
-    ghost did = { λ clock p q end. IsSame p q × OnOk end (HandsMoments (S.told clock.source) p q) × IfErr end (StopsFor q) };
+    ghost did = { λ clock p q end. IsSame p q × OnOk end (HandsMoments (S.told clock.source) p q)
+        × IfErr end (StopsFor q) };
 
     fn work<W: Wait>(
         self,
@@ -60,7 +62,7 @@ impl<S: MomentSource + Send> Worker<Port<Kept>> for Clock<S> {
     }
 }
 
-/// Passes presses of the button to the meter.
+// Passes presses of the button to the meter.
 #[derive(Drop)]
 pub(crate) struct Button<S> {
     pub(crate) source: S,
@@ -71,7 +73,8 @@ impl<S: ButtonSource + Send> Worker<Port<Kept>> for Button<S> {
     ghost use Rattle.turn_lock.specs.Shown.{IsSame};
     ghost use Rattle.meter_workers.specs.Handed.{HandsPresses, StopsFor};
 
-    ghost did = { λ button p q end. IsSame p q × OnOk end (HandsPresses (S.told button.source) p q) × IfErr end (StopsFor q) };
+    ghost did = { λ button p q end. IsSame p q × OnOk end (HandsPresses (S.told button.source) p q)
+        × IfErr end (StopsFor q) };
 
     fn work<W: Wait>(
         self,

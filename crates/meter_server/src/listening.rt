@@ -51,7 +51,7 @@ pub trait Listener {
         ensures accepted_err { OnErr result (RisesBy (accepted self.old) 0 (accepted self.new)) };
 }
 
-/// An accepted client.
+// An accepted client.
 #[derive(Drop)]
 pub(crate) struct Client<I, O> {
     input: I,
@@ -108,7 +108,7 @@ fn prepare_client<I: Drop, O: Drop>(
     }
 }
 
-/// The clients of a listener, with the password of the management client.
+// The clients of a listener, with the password of the management client.
 #[derive(Drop)]
 pub(crate) struct Clients<'a, 'b, L> {
     pub(crate) listener: &'a mut L,

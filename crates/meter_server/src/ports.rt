@@ -37,7 +37,12 @@ impl<'a, W: Wait> Model for PortMeter<'a, W> {
 
     ghost Value = { MeterPort };
 
-    ghost coded = { Prim.hlevel (codes, event_row.the_row.coded, reply_row.the_row.coded, opening_row.the_row.coded) };
+    ghost coded = { Prim.hlevel (
+      codes,
+      event_row.the_row.coded,
+      reply_row.the_row.coded,
+      opening_row.the_row.coded,
+    ) };
 
     ghost view = { λ meter. meter.port };
 }
@@ -70,7 +75,8 @@ impl<'a, W: Wait> Meter for PortMeter<'a, W> {
 /// Consecutive events that a port passed on are in the history that the port then knows, with their
 /// replies and in this order; the history has no other new calls with the port's number.
 pub fn calls_are_entered()
-    ensures { (p : MeterPort) (events : List Event) (replies : List Reply) (q : MeterPort) → Replied PortSteps p events replies q → Enters p events replies q }
+    ensures { (p : MeterPort) (events : List Event) (replies : List Reply) (q : MeterPort)
+        → Replied PortSteps p events replies q → Enters p events replies q }
 {}
 
 /// A session that [`serve_session`] served over a [`PortMeter`] leaves the same port, with the same
@@ -98,7 +104,8 @@ pub fn serve_port<R: Reader, O: Writer, W: Wait>(
     requires readable { R.can_read reader.now }
     requires writable { O.can_write writer.now }
     requires password { IsPassword password.now }
-    ensures served { Served R.remaining R.reads R.failures O.contents O.failures PortSteps password.now reader.old writer.old port result.1 reader.new writer.new result.0 }
+    ensures served { Served R.remaining R.reads R.failures O.contents O.failures PortSteps
+        password.now reader.old writer.old port result.1 reader.new writer.new result.0 }
     ensures same { IsSame port result.0 }
     ensures asks { AsksThrough password.now port result.0 }
 {

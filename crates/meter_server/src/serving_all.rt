@@ -63,7 +63,9 @@ fn serve_clients<L: Listener, R: Threads + Wait + Copy + Send + 'static>(
     ensures joined { AreJoined port.old.known.splits port.new }
     ensures sessions { AreSessions password.now port.old.known.splits port.new }
     ensures limit { IfOk result (IsLimit limit) }
-    ensures counted { IfOk result (λ served. IsCounted (L.accepted listener.old) (served.served + served.turned_away) (L.accepted listener.new)) }
+    ensures counted { IfOk result
+        (λ served. IsCounted (L.accepted listener.old) (served.served + served.turned_away)
+        (L.accepted listener.new)) }
     ensures served { IfOk result (IsServed port.old.known.splits port.new.known.splits) }
     ensures fault { IfErr result (StopsFor ⊥ (L.has_failed listener.new)) }
 {
@@ -91,7 +93,8 @@ fn join_beside<K: Worker<Port<Kept>>, R: Threads>(
 ) -> Result<Served, ServeFault>
     requires lock { running.promise.port.value.lock ≡ port.old.lock }
     requires hands_back { (w : _) (p : _) (q : _) (end : _) → K.did w p q end → IsSame p q }
-    ensures { let task = running.promise in EndsWith (K.did task.worker.value) task.port.value served result port.old port.new }
+    ensures { let task = running.promise
+        in EndsWith (K.did task.worker.value) task.port.value served result port.old port.new }
 {
     let end = join_worker(rt, running, port);
     first_fault(served, end)
@@ -116,9 +119,13 @@ fn serve_with_button<
     ensures joined { AreJoined port.old.known.splits port.new }
     ensures sessions { AreSessions password.now (port.old.known.splits + 1) port.new }
     ensures limit { IfOk result (IsLimit limit) }
-    ensures counted { IfOk result (λ served. IsCounted (L.accepted listener.old) (served.served + served.turned_away) (L.accepted listener.new)) }
+    ensures counted { IfOk result
+        (λ served. IsCounted (L.accepted listener.old) (served.served + served.turned_away)
+        (L.accepted listener.new)) }
     ensures served { IfOk result (IsServed (port.old.known.splits + 1) port.new.known.splits) }
-    ensures presses { OnEnded result (Acted port.new (child port.old.known.number port.old.known.splits) (AllPresses (U.told buttons))) }
+    ensures presses { OnEnded result
+        (Acted port.new (child port.old.known.number port.old.known.splits)
+        (AllPresses (U.told buttons))) }
     ensures fault { IfErr result (StopsFor (IsSpent port.new) (L.has_failed listener.new)) }
 {
     let Some(running) = start_worker(rt, alloc, Button { source: buttons }, port) else {
@@ -149,10 +156,16 @@ fn serve_with_clock<
     ensures joined { AreJoined port.old.known.splits port.new }
     ensures sessions { AreSessions password.now (port.old.known.splits + 2) port.new }
     ensures limit { IfOk result (IsLimit limit) }
-    ensures counted { IfOk result (λ served. IsCounted (L.accepted listener.old) (served.served + served.turned_away) (L.accepted listener.new)) }
+    ensures counted { IfOk result
+        (λ served. IsCounted (L.accepted listener.old) (served.served + served.turned_away)
+        (L.accepted listener.new)) }
     ensures served { IfOk result (IsServed (port.old.known.splits + 2) port.new.known.splits) }
-    ensures moments { OnEnded result (Acted port.new (child port.old.known.number port.old.known.splits) (AllMoments (M.told moments))) }
-    ensures presses { OnEnded result (Acted port.new (child port.old.known.number (port.old.known.splits + 1)) (AllPresses (U.told buttons))) }
+    ensures moments { OnEnded result
+        (Acted port.new (child port.old.known.number port.old.known.splits)
+        (AllMoments (M.told moments))) }
+    ensures presses { OnEnded result
+        (Acted port.new (child port.old.known.number (port.old.known.splits + 1))
+        (AllPresses (U.told buttons))) }
     ensures fault { IfErr result (StopsFor (IsSpent port.new) (L.has_failed listener.new)) }
 {
     let Some(running) = start_worker(rt, alloc, Clock { source: moments }, port) else {
@@ -185,11 +198,19 @@ fn serve_with_sampler<
     ensures joined { AreJoined port.old.known.splits port.new }
     ensures sessions { AreSessions password.now (port.old.known.splits + 3) port.new }
     ensures limit { IfOk result (IsLimit limit) }
-    ensures counted { IfOk result (λ served. IsCounted (L.accepted listener.old) (served.served + served.turned_away) (L.accepted listener.new)) }
+    ensures counted { IfOk result
+        (λ served. IsCounted (L.accepted listener.old) (served.served + served.turned_away)
+        (L.accepted listener.new)) }
     ensures served { IfOk result (IsServed (port.old.known.splits + 3) port.new.known.splits) }
-    ensures blocks { OnEnded result (Acted port.new (child port.old.known.number port.old.known.splits) (AllBlocks (B.told blocks))) }
-    ensures moments { OnEnded result (Acted port.new (child port.old.known.number (port.old.known.splits + 1)) (AllMoments (M.told moments))) }
-    ensures presses { OnEnded result (Acted port.new (child port.old.known.number (port.old.known.splits + 2)) (AllPresses (U.told buttons))) }
+    ensures blocks { OnEnded result
+        (Acted port.new (child port.old.known.number port.old.known.splits)
+        (AllBlocks (B.told blocks))) }
+    ensures moments { OnEnded result
+        (Acted port.new (child port.old.known.number (port.old.known.splits + 1))
+        (AllMoments (M.told moments))) }
+    ensures presses { OnEnded result
+        (Acted port.new (child port.old.known.number (port.old.known.splits + 2))
+        (AllPresses (U.told buttons))) }
     ensures fault { IfErr result (StopsFor (IsSpent port.new) (L.has_failed listener.new)) }
 {
     let Some(running) = start_worker(rt, alloc, Sampler { source: blocks }, port) else {
@@ -239,20 +260,37 @@ pub fn serve_all<
     limit: u64,
 ) -> Result<(Port<Kept>, Served), (Port<Kept>, ServeFault)>
     requires { IsPassword password.now }
-    ensures goes { IfOk result (λ r. GoesOn port r.0 × IsLegal IsLegalRun r.0.known × AreJoined port.known.splits r.0) }
-    ensures goes_err { IfErr result (λ r. GoesOn port r.0 × IsLegal IsLegalRun r.0.known × AreJoined port.known.splits r.0) }
+    ensures goes { IfOk result (λ r. GoesOn port r.0 × IsLegal IsLegalRun r.0.known
+        × AreJoined port.known.splits r.0) }
+    ensures goes_err { IfErr result (λ r. GoesOn port r.0 × IsLegal IsLegalRun r.0.known
+        × AreJoined port.known.splits r.0) }
     ensures sessions { IfOk result (λ r. AreSessions password.now (port.known.splits + 3) r.0) }
     ensures sessions_err { IfErr result (λ r. AreSessions password.now (port.known.splits + 3) r.0) }
     ensures limit { IfOk result (λ r. IsLimit limit r.1) }
-    ensures counted { IfOk result (λ r. IsCounted (L.accepted listener.old) (r.1.served + r.1.turned_away) (L.accepted listener.new)) }
+    ensures counted { IfOk result
+        (λ r. IsCounted (L.accepted listener.old) (r.1.served + r.1.turned_away)
+        (L.accepted listener.new)) }
     ensures served { IfOk result (λ r. IsServed (port.known.splits + 3) r.0.known.splits r.1) }
-    ensures blocks { IfOk result (λ r. Acted r.0 (child port.known.number port.known.splits) (AllBlocks (B.told blocks))) }
-    ensures moments { IfOk result (λ r. Acted r.0 (child port.known.number (port.known.splits + 1)) (AllMoments (M.told moments))) }
-    ensures presses { IfOk result (λ r. Acted r.0 (child port.known.number (port.known.splits + 2)) (AllPresses (U.told buttons))) }
+    ensures blocks { IfOk result
+        (λ r. Acted r.0 (child port.known.number port.known.splits) (AllBlocks (B.told blocks))) }
+    ensures moments { IfOk result
+        (λ r. Acted r.0 (child port.known.number (port.known.splits + 1))
+        (AllMoments (M.told moments))) }
+    ensures presses { IfOk result
+        (λ r. Acted r.0 (child port.known.number (port.known.splits + 2))
+        (AllPresses (U.told buttons))) }
     ensures fault { IfErr result (λ r. StopsFor (IsSpent r.0) (L.has_failed listener.new) r.1) }
-    ensures blocks_err { IfErr result (λ r. OnEnded (Err r.1) (Acted r.0 (child port.known.number port.known.splits) (AllBlocks (B.told blocks)))) }
-    ensures moments_err { IfErr result (λ r. OnEnded (Err r.1) (Acted r.0 (child port.known.number (port.known.splits + 1)) (AllMoments (M.told moments)))) }
-    ensures presses_err { IfErr result (λ r. OnEnded (Err r.1) (Acted r.0 (child port.known.number (port.known.splits + 2)) (AllPresses (U.told buttons)))) }
+    ensures blocks_err { IfErr result
+        (λ r. OnEnded (Err r.1)
+        (Acted r.0 (child port.known.number port.known.splits) (AllBlocks (B.told blocks)))) }
+    ensures moments_err { IfErr result
+        (λ r. OnEnded (Err r.1)
+        (Acted r.0 (child port.known.number (port.known.splits + 1))
+        (AllMoments (M.told moments)))) }
+    ensures presses_err { IfErr result
+        (λ r. OnEnded (Err r.1)
+        (Acted r.0 (child port.known.number (port.known.splits + 2))
+        (AllPresses (U.told buttons)))) }
 {
     let served = serve_with_sampler(
         rt, alloc, listener, blocks, moments, buttons, &mut port, password, limit,

@@ -21,7 +21,8 @@ end_of_console None = Ok tt
 end_of_console (Some end) = fault_of_lines (lost_lines end) (has_failed end)
 
 -- the whole text was printed, or the fault is that of the trace or of the write
-abbrev pub Prints : Result (List ℕ) Fault → Option (List ℕ) → Result (Unit {0}) Fault → Option (List ℕ) → Type 0
+abbrev pub Prints : Result (List ℕ) Fault → Option (List ℕ) → Result (Unit {0}) Fault
+    → Option (List ℕ) → Type 0
 Prints (Ok text) written (Ok done) written' = Appends written written' text
 Prints (Ok text) written (Err wrong) written' = wrong ≡ fault.Write
 Prints (Err given) written result written' = result ≡ Err given

@@ -10,13 +10,14 @@ use program_fault::Fault;
 use program_start::{first_fault, print_text};
 use std::io::Write;
 
-/// Returns the fault of a run, by the result of its connections and whether the listener failed. It
-/// is not a fault that no further client was accepted if the listener did not fail: standard input
-/// had ended.
+// Returns the fault of a run, by the result of its connections and whether the listener failed. It
+// is not a fault that no further client was accepted if the listener did not fail: standard input
+// had ended.
 pub(crate) fn run_fault(served: Result<Served, ServeFault>, has_failed: bool) -> Result<(), Fault>
     ensures served { OnOk served (result ≡ Ok tt) }
     ensures ended { served ≡ Err ServeFault.Listen → has_failed ≡ false → result ≡ Ok tt }
-    ensures listen { served ≡ Err ServeFault.Listen → has_failed ≡ true → result ≡ Err Fault.Listen }
+    ensures listen { served ≡ Err ServeFault.Listen → has_failed ≡ true
+        → result ≡ Err Fault.Listen }
     ensures memory { served ≡ Err ServeFault.Memory → result ≡ Err Fault.Memory }
     ensures turns { served ≡ Err ServeFault.Exhausted → result ≡ Err Fault.Turns }
     ensures read { served ≡ Err ServeFault.Read → result ≡ Err Fault.Read }
@@ -38,8 +39,8 @@ pub(crate) fn run_fault(served: Result<Served, ServeFault>, has_failed: bool) ->
     }
 }
 
-/// Returns the fault of the console, if its end is known: `Memory` if lines were lost, else `Read`
-/// if a read failed.
+// Returns the fault of the console, if its end is known: `Memory` if lines were lost, else `Read`
+// if a read failed.
 fn console_fault(end: Option<ConsoleEnd>) -> Result<(), Fault>
     ensures { result ≡ end_of_console end }
 {
@@ -50,28 +51,29 @@ fn console_fault(end: Option<ConsoleEnd>) -> Result<(), Fault>
     }
 }
 
-/// The results of the parts of `serve`.
+// The results of the parts of `serve`.
 #[derive(Drop)]
 pub(crate) struct Ends {
-    /// The result of serving clients.
+    // The result of serving clients.
     pub(crate) served: Result<(), Fault>,
-    /// The end of the console, if its thread was waited for.
+    // The end of the console, if its thread was waited for.
     pub(crate) console: Option<ConsoleEnd>,
-    /// The result of printing the trace.
+    // The result of printing the trace.
     pub(crate) printed: Result<(), Fault>,
 }
 
 impl Ends {
-    /// Returns the first fault: that of serving, then that of the console, then that of printing.
+    // Returns the first fault: that of serving, then that of the console, then that of printing.
     pub(crate) fn first_fault(self) -> Result<(), Fault>
-        ensures { result ≡ first_of self.served (first_of (end_of_console self.console) self.printed) }
+        ensures { result ≡ first_of self.served
+            (first_of (end_of_console self.console) self.printed) }
     {
         let later = first_fault(console_fault(self.console), self.printed);
         first_fault(self.served, later)
     }
 }
 
-/// Prints the text of a trace, if there is one.
+// Prints the text of a trace, if there is one.
 pub(crate) fn print_trace<W: Write>(
     output: &mut W,
     trace: Result<Octets, Fault>,

@@ -19,16 +19,16 @@ use program_start::ended;
 use server_options::{HexOptions, Work, asked};
 use std::process::ExitCode;
 
-/// The next step after the command line is read.
+// The next step after the command line is read.
 #[derive(Drop)]
 enum Next {
-    /// Nothing more to do; exit with this status.
+    // Nothing more to do; exit with this status.
     Ended(u8),
-    /// Serve clients.
+    // Serve clients.
     Serve(Server),
 }
 
-/// `apdu`: responds to the requests of standard input on standard output.
+// `apdu`: responds to the requests of standard input on standard output.
 fn run_apdu(rt: &HostRuntime, is_verbose: bool) -> Result<(), Fault> {
     let mut input = Counted::new(rt.stdin());
     let mut output = Counted::new(rt.stdout());
@@ -38,7 +38,7 @@ fn run_apdu(rt: &HostRuntime, is_verbose: bool) -> Result<(), Fault> {
     }
 }
 
-/// `hex`: runs the session of standard input on standard output.
+// `hex`: runs the session of standard input on standard output.
 fn run_hex(rt: &HostRuntime, options: &HexOptions) -> Result<(), Fault> {
     let mut input = Counted::new(rt.stdin());
     let mut output = Counted::new(rt.stdout());
@@ -50,7 +50,7 @@ fn run_hex(rt: &HostRuntime, options: &HexOptions) -> Result<(), Fault> {
     }
 }
 
-/// Reads the command line and performs its work, up to the first client of a server.
+// Reads the command line and performs its work, up to the first client of a server.
 fn begin(rt: &HostRuntime) -> Result<Next, Fault> {
     match asked(rt)? {
         Work::Nothing(status) => Ok(Next::Ended(status)),

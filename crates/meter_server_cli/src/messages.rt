@@ -3,15 +3,15 @@ use acse_ber::MAX_PASSWORD;
 use server_options::ServeOptions;
 use std::io::ErrorKind;
 
-/// The maximum length of a meter's name, in bytes.
+// The maximum length of a meter's name, in bytes.
 const MAX_DEVICE: usize = 16;
 
-/// Returns whether a text has 1 to `most` bytes.
+// Returns whether a text has 1 to `most` bytes.
 fn fits(text: &str, most: usize) -> bool {
     !text.is_empty() && text.len() <= most
 }
 
-/// Returns why the options or standard input are wrong: the first of password, name and trace.
+// Returns why the options or standard input are wrong: the first of password, name and trace.
 pub(crate) fn why_wrong_input(options: &ServeOptions) -> &'static str {
     if !fits(options.password.as_str(), MAX_PASSWORD) {
         "password: must be 1 to 32 bytes"
@@ -22,7 +22,7 @@ pub(crate) fn why_wrong_input(options: &ServeOptions) -> &'static str {
     }
 }
 
-/// Returns why the server cannot listen.
+// Returns why the server cannot listen.
 pub(crate) fn why_not_listening(kind: ErrorKind) -> &'static str {
     match kind {
         ErrorKind::AddrInUse => "the address is in use",

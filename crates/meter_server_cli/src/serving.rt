@@ -23,17 +23,17 @@ use std::sync::atomic::AtomicBool;
 use std::sync::{Arc, Wait};
 use std::thread::{JoinHandle, Threads};
 
-/// The parameters of the clients.
+// The parameters of the clients.
 #[derive(Drop)]
 struct Meter {
-    /// The password of the management client.
+    // The password of the management client.
     password: Octets,
-    /// The number of connections to accept; 0 means no limit.
+    // The number of connections to accept; 0 means no limit.
     connections: u64,
     ghost sized: { IsPassword password },
 }
 
-/// Returns the source of clients, and the flag with which the console ends the listening.
+// Returns the source of clients, and the flag with which the console ends the listening.
 fn sockets_of(
     rt: &HostRuntime,
     bounds: Bounds,
@@ -48,8 +48,8 @@ fn sockets_of(
     Ok((sockets, stopped))
 }
 
-/// Runs the meter and prints its trace. Returns the result of its connections, and whether the
-/// trace was printed.
+// Runs the meter and prints its trace. Returns the result of its connections, and whether the
+// trace was printed.
 #[tactic(auto, using(serve_plan::proofs::Unused::unused))]
 fn run_and_print<R: Threads + Wait + Copy + Drop + Send + 'static, W: Write>(
     threads: &R,
@@ -61,7 +61,10 @@ fn run_and_print<R: Threads + Wait + Copy + Drop + Send + 'static, W: Write>(
     meter: &Meter,
 ) -> (Result<Served, ServeFault>, Result<(), Fault>)
     requires unused { length recorder.events ≡ 0 }
-    ensures { OnOk result.1 (PrintsText (IsRun recorder (record { blocks = None; moments = None; presses = None; password = meter.now.password }) result.0)
+    ensures { OnOk result.1
+        (PrintsText (IsRun recorder
+        (record { blocks = None; moments = None; presses = None; password = meter.now.password })
+        result.0)
         (W.contents output.old) (W.contents output.new)) }
 {
     let ConsoleSources {
@@ -86,8 +89,8 @@ fn run_and_print<R: Threads + Wait + Copy + Drop + Send + 'static, W: Write>(
     (served, print_trace(output, trace))
 }
 
-/// Prepares the sockets, the sources of the meter's own events, and the input of the console's
-/// thread.
+// Prepares the sockets, the sources of the meter's own events, and the input of the console's
+// thread.
 fn prepared<R: Wait + Copy + Drop>(
     rt: &HostRuntime,
     threads: &R,
@@ -125,7 +128,7 @@ fn prepared<R: Wait + Copy + Drop>(
     Ok((sockets, sources, reading))
 }
 
-/// Starts the console's thread, and returns the sockets and the sources of the meter's own events.
+// Starts the console's thread, and returns the sockets and the sources of the meter's own events.
 fn started<R: Threads + Wait + Copy + Drop + Send + 'static>(
     rt: &HostRuntime,
     threads: &R,
@@ -148,7 +151,7 @@ fn started<R: Threads + Wait + Copy + Drop + Send + 'static>(
     }
 }
 
-/// A server that is ready to serve: the meter and the sockets for its clients.
+// A server that is ready to serve: the meter and the sockets for its clients.
 #[derive(Drop)]
 pub(crate) struct Server {
     plan: Plan<Stdin>,
@@ -156,8 +159,8 @@ pub(crate) struct Server {
     address: SocketAddr,
 }
 
-/// Listens on the address of the command line. If `is_verbose`, prints the address, or why
-/// listening failed, on standard error.
+// Listens on the address of the command line. If `is_verbose`, prints the address, or why
+// listening failed, on standard error.
 fn listening(
     rt: &HostRuntime,
     address: &str,
@@ -179,8 +182,8 @@ fn listening(
     Ok((listener, address))
 }
 
-/// Prepares a server up to the first client: checks the options, reads the trace to resume from,
-/// and listens.
+// Prepares a server up to the first client: checks the options, reads the trace to resume from,
+// and listens.
 pub(crate) fn begun(rt: &HostRuntime, options: &ServeOptions) -> Result<Server, Fault> {
     let plan = match planned(rt.alloc(), rt.stdin(), options) {
         Ok(plan) => plan,
@@ -204,8 +207,8 @@ pub(crate) fn begun(rt: &HostRuntime, options: &ServeOptions) -> Result<Server, 
     }
 }
 
-/// Serves clients in parallel with the lines of the console, and prints the trace of the meter at
-/// the end.
+// Serves clients in parallel with the lines of the console, and prints the trace of the meter at
+// the end.
 pub(crate) fn run<R: Threads + Wait + Copy + Drop + Send + 'static>(
     rt: &HostRuntime,
     threads: &R,

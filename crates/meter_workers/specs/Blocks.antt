@@ -16,7 +16,8 @@ IsAhead place ahead = (ahead ≡ []) ⊎ ((place % 64 ≡ 0) × (ahead ≡ thres
 abbrev pub AreOfBlocks : ℕ → List Samples → List Event → Type 0
 AreOfBlocks place [] events = events ≡ []
 AreOfBlocks place (block ∷ blocks) events =
-    (ahead : List Event) × (rest : List Event) × IsAhead place ahead × (events ≡ ahead ++ event.Samples block ∷ rest) × AreOfBlocks (place + 1) blocks rest
+    (ahead : List Event) × (rest : List Event) × IsAhead place ahead
+    × (events ≡ ahead ++ event.Samples block ∷ rest) × AreOfBlocks (place + 1) blocks rest
 
 -- The events of these blocks were passed on since.
 pub record Hands (blocks : List Samples) (before after : List Event) : Type 0 where

@@ -17,7 +17,8 @@ MeterPort = ShownPort Event Reply Opening
 
 -- the events of the port's own calls, in order
 abbrev pub handed : MeterPort → List Event
-handed port = map (λ (call : Entry Event Reply). call.event) (calls_by port.known.number port.known.seen)
+handed port = map (λ (call : Entry Event Reply). call.event)
+    (calls_by port.known.number port.known.seen)
 
 abbrev pub is_read : Event → Bool
 is_read (event.GetList level items) = true
@@ -30,7 +31,8 @@ unread events = filter (λ (e : Event). not (is_read e)) events
 -- all blocks that the source declared were passed on since, in order, each once; reads may be
 -- between them
 abbrev pub HandsBlocks : Option (List Samples) → MeterPort → MeterPort → Type 0
-HandsBlocks told p q = IfSome told (λ blocks. unread (handed q) ≡ unread (handed p) ++ map event.Samples blocks)
+HandsBlocks told p q =
+    IfSome told (λ blocks. unread (handed q) ≡ unread (handed p) ++ map event.Samples blocks)
 
 -- all moments that the source declared were passed on since, in order, each once
 abbrev pub HandsMoments : Option (List ℕ) → MeterPort → MeterPort → Type 0

@@ -4,7 +4,8 @@ use Rattle.std.specs.Prelude.{◌≡◌, ⊤, ℕ, zero, suc, Bool, true, false,
 
 -- the call returns the first item of the declared list, and `None` exactly if the list is empty;
 -- nothing is known about a source that declares nothing
-abbrev pub Gives : {X : Type 0} → (before : Option (List X)) → (given : Option X) → (after : Option (List X)) → Type 0
+abbrev pub Gives : {X : Type 0} → (before : Option (List X)) → (given : Option X)
+    → (after : Option (List X)) → Type 0
 Gives None given after = ⊤
 Gives (Some []) given after = (given ≡ None) × (after ≡ Some [])
 Gives (Some (x ∷ xs)) given after = (given ≡ Some x) × (after ≡ Some xs)

@@ -8,9 +8,14 @@ use Rattle.relay_events.specs.declared.event.Event.TheVariants.{GetList}
 -- the reference to threshold_active of the limiter with this logical name (IEC 62056-6-2, class 71,
 -- attribute 3)
 abbrev pub active_threshold : List ℕ → AttributeSelection
-active_threshold name = record { attr = record { class = record { 0 = 71 }; name = record { 0 = name }; number = 3 }; selected = false }
+active_threshold name =
+    record {
+      attr = record { class = record { 0 = 71 }; name = record { 0 = name }; number = 3 };
+      selected = false;
+    }
 
 -- a management client's read of both active thresholds in one step: imported power, then exported
 -- power
 abbrev pub threshold_read : Event
-threshold_read = GetList Management (active_threshold (0 ∷ 0 ∷ 17 ∷ 0 ∷ 0 ∷ 255 ∷ []) ∷ active_threshold (0 ∷ 1 ∷ 17 ∷ 0 ∷ 0 ∷ 255 ∷ []) ∷ [])
+threshold_read = GetList Management (active_threshold (0 ∷ 0 ∷ 17 ∷ 0 ∷ 0 ∷ 255 ∷ [])
+    ∷ active_threshold (0 ∷ 1 ∷ 17 ∷ 0 ∷ 0 ∷ 255 ∷ []) ∷ [])

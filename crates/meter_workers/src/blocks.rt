@@ -15,16 +15,16 @@ use std::alloc::Global;
 use std::sync::Wait;
 use turn_lock::Port;
 
-/// The number of blocks that are scanned with the same read of the thresholds.
+// The number of blocks that are scanned with the same read of the thresholds.
 const BLOCKS_PER_READ: u8 = 64;
 
-/// The thresholds that the next block is scanned with.
+// The thresholds that the next block is scanned with.
 #[derive(Drop)]
 struct Scanner {
-    /// The thresholds of the last successful read, if there was one.
+    // The thresholds of the last successful read, if there was one.
     thresholds: Option<Thresholds>,
-    /// The number of blocks since the last attempt to read the thresholds, 0 to 63. At 0 an attempt
-    /// precedes the next block.
+    // The number of blocks since the last attempt to read the thresholds, 0 to 63. At 0 an attempt
+    // precedes the next block.
     since_read: u8,
     ghost within: { since_read < 64 },
 }
@@ -80,7 +80,8 @@ fn hand_block<W: Wait>(
     block: Block,
 ) -> Result<(), CallFault>
     ensures same { IsSame port.old port.new }
-    ensures ok { OnOk result (BringsBlock scanner.old.since_read block (handed port.old) (handed port.new)) }
+    ensures ok { OnOk result
+        (BringsBlock scanner.old.since_read block (handed port.old) (handed port.new)) }
     ensures since_read { OnOk result (scanner.new.since_read ≡ (scanner.old.since_read + 1) % 64) }
     ensures err { IfErr result (StopsFor port.new) }
 {
@@ -108,7 +109,8 @@ pub fn run_blocks<S: BlockSource, W: Wait>(
     mut port: Port<Kept>,
 ) -> (Port<Kept>, Result<(), CallFault>)
     ensures same { IsSame port result.0 }
-    ensures all { OnOk result.1 (HandsBlocks (S.told source) port result.0 × ReadsBetween (S.told source) port result.0) }
+    ensures all { OnOk result.1 (HandsBlocks (S.told source) port result.0
+        × ReadsBetween (S.told source) port result.0) }
     ensures err { IfErr result.1 (StopsFor result.0) }
 {
     let mut scanner = Scanner::new();

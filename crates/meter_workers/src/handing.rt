@@ -12,8 +12,8 @@ use std::alloc::Global;
 use std::sync::Wait;
 use turn_lock::Port;
 
-/// Passes an event to the meter and returns the reply. If the call is refused, no event was passed
-/// on.
+// Passes an event to the meter and returns the reply. If the call is refused, no event was passed
+// on.
 #[tactic(auto, using(crate::proofs::HandedLemmas::handed_more, crate::proofs::HandedLemmas::handed_same))]
 pub(crate) fn ask<W: Wait>(
     rt: &W,
@@ -24,12 +24,13 @@ pub(crate) fn ask<W: Wait>(
     ensures same { IsSame port.old port.new }
     ensures ok { OnOk result (handed port.new ≡ handed port.old ++ event ∷ []) }
     ensures err { OnErr result (handed port.new ≡ handed port.old) }
-    ensures cause { IfErr result (λ fault. IsCause IsSure event port.new.bound port.new.known fault) }
+    ensures cause { IfErr result
+        (λ fault. IsCause IsSure event port.new.bound port.new.known fault) }
 {
     port.call(rt, alloc, event)
 }
 
-/// Passes an event that never allocates to the meter, and drops the reply.
+// Passes an event that never allocates to the meter, and drops the reply.
 pub(crate) fn hand_in<W: Wait>(
     rt: &W,
     alloc: Global,

@@ -16,7 +16,7 @@ use std::alloc::{AllocError, Global};
 use std::sync::Wait;
 use turn_lock::Port;
 
-/// threshold_active of the limiter of the imported power (IEC 62056-6-2, class 71, attribute 3).
+// threshold_active of the limiter of the imported power (IEC 62056-6-2, class 71, attribute 3).
 const IMPORT_THRESHOLD: AttributeSelection = AttributeSelection {
     attr: AttrRef {
         class: ClassId(71),
@@ -26,7 +26,7 @@ const IMPORT_THRESHOLD: AttributeSelection = AttributeSelection {
     selected: false,
 };
 
-/// threshold_active of the limiter of the exported power (IEC 62056-6-2, class 71, attribute 3).
+// threshold_active of the limiter of the exported power (IEC 62056-6-2, class 71, attribute 3).
 const EXPORT_THRESHOLD: AttributeSelection = AttributeSelection {
     attr: AttrRef {
         class: ClassId(71),
@@ -36,7 +36,7 @@ const EXPORT_THRESHOLD: AttributeSelection = AttributeSelection {
     selected: false,
 };
 
-/// The active thresholds of both limiters, in watts.
+// The active thresholds of both limiters, in watts.
 #[derive(Clone, Copy)]
 pub(crate) struct Thresholds {
     pub(crate) import: u32,
@@ -72,7 +72,7 @@ fn told_by(reply: &Reply) -> Option<Thresholds> {
     Some(Thresholds { import, export })
 }
 
-/// Reads both thresholds. If out of memory, returns `None` and passes no event on.
+// Reads both thresholds. If out of memory, returns `None` and passes no event on.
 #[tactic(auto, using(crate::proofs::BlockLemmas::none_ahead, crate::proofs::BlockLemmas::read_ahead))]
 pub(crate) fn read_thresholds<W: Wait>(
     rt: &W,

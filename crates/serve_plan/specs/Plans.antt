@@ -30,7 +30,8 @@ IsWrongDepth depth = (depth ≡ 0) ⊎ (1024 < depth)
 
 -- why there is no recorder, by whether a read of the input failed
 abbrev pub IsRecorderFault : Bounds → Option (List ℕ) → Bool → Fault → Type 0
-IsRecorderFault bounds left failed fault.Input = IsWrongDepth bounds.depth ⊎ ((bounds.resumes ≡ true) × HasNoTrace left)
+IsRecorderFault bounds left failed fault.Input = IsWrongDepth bounds.depth
+    ⊎ ((bounds.resumes ≡ true) × HasNoTrace left)
 IsRecorderFault bounds left failed fault.Read = (bounds.resumes ≡ true) × (failed ≡ true)
 IsRecorderFault bounds left failed fault.Memory = ⊤
 IsRecorderFault bounds left failed fault.Write = ⊥
@@ -40,7 +41,8 @@ IsRecorderFault bounds left failed fault.Turns = ⊥
 -- why there is no plan: the password or the device name has a wrong length, or there is no recorder
 abbrev pub IsPlanFault : List ℕ → List ℕ → Bounds → Option (List ℕ) → Fault → Type 0
 IsPlanFault password device bounds left fault.Input =
-    ((length password ≡ 0) ⊎ (32 < length password)) ⊎ ((length device ≡ 0) ⊎ (16 < length device)) ⊎ IsRecorderFault bounds left false fault.Input
+    ((length password ≡ 0) ⊎ (32 < length password)) ⊎ ((length device ≡ 0) ⊎ (16 < length device))
+    ⊎ IsRecorderFault bounds left false fault.Input
 IsPlanFault password device bounds left fault.Read = bounds.resumes ≡ true
 IsPlanFault password device bounds left fault.Memory = ⊤
 IsPlanFault password device bounds left fault.Write = ⊥

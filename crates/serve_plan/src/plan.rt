@@ -19,8 +19,8 @@ use server_options::{Bounds, ServeOptions, octets_of};
 use std::alloc::Global;
 use std::io::{BufReader, Read};
 
-/// Returns the recorder of a meter that resumes from the trace at the head of an input. What
-/// follows the trace is still to be read. Errors: `Input` if there is no trace, `Read`, `Memory`.
+// Returns the recorder of a meter that resumes from the trace at the head of an input. What
+// follows the trace is still to be read. Errors: `Input` if there is no trace, `Read`, `Memory`.
 fn recorder_of_head<I: Read>(
     alloc: Global,
     input: &mut BufReader<Monitored<I>>,
@@ -29,7 +29,8 @@ fn recorder_of_head<I: Read>(
     requires { (1 ≤ depth) × (depth ≤ 1024) }
     ensures unused { IfOk result (λ recorder. recorder.events ≡ []) }
     ensures capacity { IfOk result (λ recorder. recorder.capacity ≡ depth) }
-    ensures resumed { IfOk result (Resumes (left_in I.remaining input.old) (left_in I.remaining input.new)) }
+    ensures resumed { IfOk result
+        (Resumes (left_in I.remaining input.old) (left_in I.remaining input.new)) }
     ensures input { IsErrOf result Fault.Input → HasNoTrace (left_in I.remaining input.old) }
     ensures err { IfErr result (IsHeadFault (has_failed_in input.new)) }
 {
@@ -45,7 +46,7 @@ fn recorder_of_head<I: Read>(
     }
 }
 
-/// Returns the recorder of a new meter with this name.
+// Returns the recorder of a new meter with this name.
 fn new_recorder(alloc: Global, device: &Octets, depth: u16) -> Result<Recorder, Fault>
     requires device { IsDeviceName device.now }
     requires depth { (1 ≤ depth) × (depth ≤ 1024) }
@@ -60,8 +61,8 @@ fn new_recorder(alloc: Global, device: &Octets, depth: u16) -> Result<Recorder, 
     }
 }
 
-/// Returns the recorder that the meter starts with: that of a new meter, or of one that resumes
-/// from the trace at the head of an input.
+// Returns the recorder that the meter starts with: that of a new meter, or of one that resumes
+// from the trace at the head of an input.
 fn first_recorder<I: Read>(
     alloc: Global,
     device: &Octets,
@@ -71,10 +72,14 @@ fn first_recorder<I: Read>(
     requires { IsDeviceName device.now }
     ensures unused { IfOk result (λ recorder. recorder.events ≡ []) }
     ensures capacity { IfOk result (λ recorder. recorder.capacity ≡ bounds.depth) }
-    ensures begun { bounds.resumes ≡ false → IfOk result (λ recorder. StandsForHistory recorder [] (new_world device.now)) }
-    ensures unread { bounds.resumes ≡ false → left_in I.remaining input.new ≡ left_in I.remaining input.old }
-    ensures resumed { bounds.resumes ≡ true → IfOk result (Resumes (left_in I.remaining input.old) (left_in I.remaining input.new)) }
-    ensures err { IfErr result (IsRecorderFault bounds (left_in I.remaining input.old) (has_failed_in input.new)) }
+    ensures begun { bounds.resumes ≡ false
+        → IfOk result (λ recorder. StandsForHistory recorder [] (new_world device.now)) }
+    ensures unread { bounds.resumes ≡ false
+        → left_in I.remaining input.new ≡ left_in I.remaining input.old }
+    ensures resumed { bounds.resumes ≡ true
+        → IfOk result (Resumes (left_in I.remaining input.old) (left_in I.remaining input.new)) }
+    ensures err { IfErr result
+        (IsRecorderFault bounds (left_in I.remaining input.old) (has_failed_in input.new)) }
 {
     let depth = bounds.depth;
     if depth < 1 || depth > 1024 {
@@ -116,10 +121,17 @@ pub fn planned<I: Read + Drop>(
     ensures bounds { IfOk result (λ plan. plan.bounds ≡ options.now.bounds) }
     ensures password { IfOk result (λ plan. plan.password ≡ string_bytes options.now.password) }
     ensures capacity { IfOk result (λ plan. plan.recorder.capacity ≡ options.now.bounds.depth) }
-    ensures begun { options.now.bounds.resumes ≡ false → IfOk result (λ plan. StandsForHistory plan.recorder [] (new_world (string_bytes options.now.device))) }
-    ensures unread { options.now.bounds.resumes ≡ false → IfOk result (λ plan. left_in I.remaining plan.input ≡ I.remaining input) }
-    ensures resumed { options.now.bounds.resumes ≡ true → IfOk result (λ plan. Resumes (I.remaining input) (left_in I.remaining plan.input) plan.recorder) }
-    ensures err { IfErr result (IsPlanFault (string_bytes options.now.password) (string_bytes options.now.device) options.now.bounds (I.remaining input)) }
+    ensures begun { options.now.bounds.resumes ≡ false
+        → IfOk result (λ plan.
+        StandsForHistory plan.recorder [] (new_world (string_bytes options.now.device))) }
+    ensures unread { options.now.bounds.resumes ≡ false
+        → IfOk result (λ plan. left_in I.remaining plan.input ≡ I.remaining input) }
+    ensures resumed { options.now.bounds.resumes ≡ true
+        → IfOk result (λ plan.
+        Resumes (I.remaining input) (left_in I.remaining plan.input) plan.recorder) }
+    ensures err { IfErr result
+        (IsPlanFault (string_bytes options.now.password) (string_bytes options.now.device)
+        options.now.bounds (I.remaining input)) }
 {
     let bounds = options.bounds;
     let password = octets_of(alloc, options.password.as_str(), MAX_PASSWORD)?;

@@ -21,7 +21,8 @@ IsText found name text = text ≡ unwrap_or (first_value found name) []
 -- bits
 abbrev pub IsNumber : ℕ → Found → List ℕ → ℕ → Type 0
 IsNumber bits found name number = (text : List ℕ) → one_text found name ≡ Some text
-    → IsNumeral 10 (without_leading_plus text) → digits_value 10 (without_leading_plus text) < 2 ^ bits
+    → IsNumeral 10 (without_leading_plus text)
+    → digits_value 10 (without_leading_plus text) < 2 ^ bits
     → number ≡ digits_value 10 (without_leading_plus text)
 
 -- whether the option of this name is given

@@ -6,7 +6,7 @@ use clap::{Arg, ArgAction, Command, value_parser};
 use program_start::{with_argument, with_subcommand};
 use std::alloc::{AllocError, Global};
 
-/// The end of the text of `--help`.
+// The end of the text of `--help`.
 const LIMITS_AND_STATUSES: &str = "\
 Limits: apdu and hex read at most 1,048,576 bytes; \
 serve has at most eight sessions at a time and closes a ninth connection.
@@ -16,7 +16,7 @@ Exit status: 0 success; 2 the command line or the input is wrong; \
 3 reading, writing or listening failed; 4 out of memory, or the lock has no turn left.
 Example: echo C001C10046000060030AFF0300 | meter_server apdu";
 
-/// The end of the text of `serve --help`: the lines that standard input may have.
+// The end of the text of `serve --help`: the lines that standard input may have.
 const CONSOLE: &str = "\
 Lines of standard input; any other line is skipped:
   button                  press the button of the meter
@@ -24,7 +24,7 @@ Lines of standard input; any other line is skipped:
   pairs WATTS WATTS ..    at most 256 pairs of imported and exported power, ten a second
   moment SECONDS          set the clock to this many seconds after 2000-01-01 00:00:00";
 
-/// Returns the option `--password`.
+// Returns the option `--password`.
 fn password<'a>(alloc: Global, is_required: bool, help: &'a str) -> Arg<'a> {
     Arg::new(alloc, "password")
         .long("password")
@@ -34,7 +34,7 @@ fn password<'a>(alloc: Global, is_required: bool, help: &'a str) -> Arg<'a> {
         .action(ArgAction::Set)
 }
 
-/// Returns an option whose value is a text, with its default.
+// Returns an option whose value is a text, with its default.
 fn text<'a>(
     alloc: Global,
     name: &'a str,
@@ -52,7 +52,7 @@ fn text<'a>(
         .action(ArgAction::Set)
 }
 
-/// Returns the option `--device`.
+// Returns the option `--device`.
 fn device<'a>(alloc: Global) -> Arg<'a>
     ensures { default_of result ≡ Some (codes "RELAY1") }
 {
@@ -65,7 +65,7 @@ fn device<'a>(alloc: Global) -> Arg<'a>
     )
 }
 
-/// Returns an option without a value.
+// Returns an option without a value.
 fn flag<'a>(alloc: Global, name: &'a str, help: &'a str) -> Arg<'a> {
     Arg::new(alloc, name)
         .long(name)
@@ -73,7 +73,7 @@ fn flag<'a>(alloc: Global, name: &'a str, help: &'a str) -> Arg<'a> {
         .action(ArgAction::SetTrue)
 }
 
-/// Returns the option `--verbose` of `apdu` and `hex`.
+// Returns the option `--verbose` of `apdu` and `hex`.
 fn verbose<'a>(alloc: Global) -> Arg<'a> {
     flag(
         alloc,
@@ -82,7 +82,7 @@ fn verbose<'a>(alloc: Global) -> Arg<'a> {
     )
 }
 
-/// Returns the command `hex`.
+// Returns the command `hex`.
 fn hex<'a>(alloc: Global) -> Result<Command<'a>, AllocError> {
     let made = Ok(Command::new(alloc, "hex").about(
         "Serves one client: standard input is its stream in hexadecimal; each frame sent is a line",
@@ -99,7 +99,7 @@ fn hex<'a>(alloc: Global) -> Result<Command<'a>, AllocError> {
     with_argument(made, verbose(alloc))
 }
 
-/// Returns the option `--listen`.
+// Returns the option `--listen`.
 fn listen<'a>(alloc: Global) -> Arg<'a>
     ensures { default_of result ≡ Some (codes "127.0.0.1:4059") }
 {
@@ -112,7 +112,7 @@ fn listen<'a>(alloc: Global) -> Arg<'a>
     )
 }
 
-/// Returns the option `--depth`.
+// Returns the option `--depth`.
 fn depth<'a>(alloc: Global) -> Arg<'a>
     ensures { default_of result ≡ Some (codes "256") }
 {
@@ -124,7 +124,7 @@ fn depth<'a>(alloc: Global) -> Arg<'a>
         .value_parser(value_parser!(u16).range(1..=1024))
 }
 
-/// Returns the option `--connections`.
+// Returns the option `--connections`.
 fn connections<'a>(alloc: Global) -> Arg<'a>
     ensures { default_of result ≡ Some (codes "0") }
 {
@@ -136,7 +136,7 @@ fn connections<'a>(alloc: Global) -> Arg<'a>
         .value_parser(value_parser!(u64))
 }
 
-/// Returns an option whose value is a number of seconds, with its default.
+// Returns an option whose value is a number of seconds, with its default.
 fn seconds<'a>(alloc: Global, name: &'a str, help: &'a str, default: &'a str) -> Arg<'a>
     ensures { default_of result ≡ Some default.entry.now }
 {
@@ -148,7 +148,7 @@ fn seconds<'a>(alloc: Global, name: &'a str, help: &'a str, default: &'a str) ->
         .value_parser(value_parser!(u32))
 }
 
-/// Returns the option `--inactivity`.
+// Returns the option `--inactivity`.
 fn inactivity<'a>(alloc: Global) -> Arg<'a>
     ensures { default_of result ≡ Some (codes "180") }
 {
@@ -160,7 +160,7 @@ fn inactivity<'a>(alloc: Global) -> Arg<'a>
     )
 }
 
-/// Returns the option `--session`.
+// Returns the option `--session`.
 fn session<'a>(alloc: Global) -> Arg<'a>
     ensures { default_of result ≡ Some (codes "3600") }
 {
@@ -172,15 +172,15 @@ fn session<'a>(alloc: Global) -> Arg<'a>
     )
 }
 
-/// Returns the command `apdu`.
+// Returns the command `apdu`.
 fn apdu<'a>(alloc: Global) -> Result<Command<'a>, AllocError> {
     Command::new(alloc, "apdu")
         .about("Answers the xDLMS requests on standard input: a line each, in hexadecimal")
         .arg(verbose(alloc))
 }
 
-/// Adds the options of `serve` for the meter and its address. The password is required if the
-/// environment has none.
+// Adds the options of `serve` for the meter and its address. The password is required if the
+// environment has none.
 fn with_meter<'a>(
     alloc: Global,
     made: Result<Command<'a>, AllocError>,
@@ -198,7 +198,7 @@ fn with_meter<'a>(
     with_argument(made, listen(alloc))
 }
 
-/// Adds the options of `serve` that limit the trace, the connections and their duration.
+// Adds the options of `serve` that limit the trace, the connections and their duration.
 fn with_bounds<'a>(
     alloc: Global,
     made: Result<Command<'a>, AllocError>,
@@ -209,7 +209,7 @@ fn with_bounds<'a>(
     with_argument(made, session(alloc))
 }
 
-/// Adds an option without a value.
+// Adds an option without a value.
 fn with_flag<'a>(
     alloc: Global,
     made: Result<Command<'a>, AllocError>,
@@ -219,7 +219,7 @@ fn with_flag<'a>(
     with_argument(made, flag(alloc, name, help))
 }
 
-/// Adds the options of `serve` without a value.
+// Adds the options of `serve` without a value.
 fn with_flags<'a>(
     alloc: Global,
     made: Result<Command<'a>, AllocError>,
@@ -244,7 +244,7 @@ fn with_flags<'a>(
     )
 }
 
-/// Returns the command `serve`. The password is required if the environment has none.
+// Returns the command `serve`. The password is required if the environment has none.
 fn serve<'a>(alloc: Global, has_password: bool) -> Result<Command<'a>, AllocError> {
     let made = Ok(
         Command::new(alloc, "serve")
@@ -256,7 +256,7 @@ fn serve<'a>(alloc: Global, has_password: bool) -> Result<Command<'a>, AllocErro
     with_flags(alloc, made)
 }
 
-/// Returns the program's command without its subcommands.
+// Returns the program's command without its subcommands.
 fn program<'a>(alloc: Global) -> Result<Command<'a>, AllocError> {
     let program = Command::new(alloc, "meter_server")
         .bin_name("meter_server")?
@@ -267,8 +267,8 @@ fn program<'a>(alloc: Global) -> Result<Command<'a>, AllocError> {
     Ok(program)
 }
 
-/// Returns the program's command with its subcommands. `has_password`: the environment has the
-/// password of `serve`.
+// Returns the program's command with its subcommands. `has_password`: the environment has the
+// password of `serve`.
 pub(crate) fn command_line<'a>(
     alloc: Global,
     has_password: bool,

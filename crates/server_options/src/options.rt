@@ -11,7 +11,7 @@ use std::env;
 use std::env::VarError;
 use std::rt::Env;
 
-/// The environment variable of the password.
+// The environment variable of the password.
 pub(crate) const PASSWORD_VARIABLE: &str = "METER_PASSWORD";
 
 /// The options of `hex`.
@@ -57,7 +57,7 @@ pub struct ServeOptions {
     pub bounds: Bounds,
 }
 
-/// Copies a text.
+// Copies a text.
 fn owned(alloc: Global, text: &str) -> Result<String, Fault>
     ensures text { IfOk result (λ owned. string_bytes owned ≡ text.now) }
     ensures err { IfErr result (λ fault. is_of_asking fault ≡ true) }
@@ -69,19 +69,24 @@ fn owned(alloc: Global, text: &str) -> Result<String, Fault>
     }
 }
 
-/// Returns the text of an option; empty if it is not given.
+// Returns the text of an option; empty if it is not given.
 fn text_of(alloc: Global, matches: &ArgMatches<'_>, name: &str) -> Result<String, Fault>
-    ensures text { IfOk result (λ text. IsText (found_of matches.now) name.now (string_bytes text)) }
+    ensures text { IfOk result
+        (λ text. IsText (found_of matches.now) name.now (string_bytes text)) }
     ensures err { IfErr result (λ fault. is_of_asking fault ≡ true) }
 {
     owned(alloc, matches.get_str(name).unwrap_or(""))
 }
 
-/// Reads the options of `hex`.
+// Reads the options of `hex`.
 pub(crate) fn hex_options(alloc: Global, matches: &ArgMatches<'_>) -> Result<HexOptions, Fault>
-    ensures password { IfOk result (λ options. IsText (found_of matches.now) (codes "password") (string_bytes options.password)) }
-    ensures device { IfOk result (λ options. IsText (found_of matches.now) (codes "device") (string_bytes options.device)) }
-    ensures is_verbose { IfOk result (λ options. IsFlag (found_of matches.now) (codes "verbose") options.is_verbose) }
+    ensures password { IfOk result
+        (λ options. IsText (found_of matches.now) (codes "password")
+        (string_bytes options.password)) }
+    ensures device { IfOk result
+        (λ options. IsText (found_of matches.now) (codes "device") (string_bytes options.device)) }
+    ensures is_verbose { IfOk result
+        (λ options. IsFlag (found_of matches.now) (codes "verbose") options.is_verbose) }
     ensures err { IfErr result (λ fault. is_of_asking fault ≡ true) }
 {
     let password = text_of(alloc, matches, "password")?;
@@ -93,10 +98,11 @@ pub(crate) fn hex_options(alloc: Global, matches: &ArgMatches<'_>) -> Result<Hex
     })
 }
 
-/// Returns the password of the command line, else that of the environment. Errors: `Memory`, and
-/// `Input` if neither has one.
+// Returns the password of the command line, else that of the environment. Errors: `Memory`, and
+// `Input` if neither has one.
 fn password_of<R: Env + AllocGlobal>(rt: &R, matches: &ArgMatches<'_>) -> Result<String, Fault>
-    ensures given { IfOk result (λ password. (text : List ℕ) → first_value (found_of matches.now) (codes "password") ≡ Some text
+    ensures given { IfOk result (λ password. (text : List ℕ)
+        → first_value (found_of matches.now) (codes "password") ≡ Some text
         → string_bytes password ≡ text) }
     ensures err { IfErr result (λ fault. is_of_asking fault ≡ true) }
 {
@@ -110,35 +116,35 @@ fn password_of<R: Env + AllocGlobal>(rt: &R, matches: &ArgMatches<'_>) -> Result
     }
 }
 
-/// Returns the number of events that the trace keeps.
+// Returns the number of events that the trace keeps.
 fn depth_of(matches: &ArgMatches<'_>) -> u16
     ensures { IsNumber 16 (found_of matches.now) (codes "depth") result }
 {
     matches.get_one::<u16>("depth").unwrap_or(0)
 }
 
-/// Returns the number of connections to accept.
+// Returns the number of connections to accept.
 fn connections_of(matches: &ArgMatches<'_>) -> u64
     ensures { IsNumber 64 (found_of matches.now) (codes "connections") result }
 {
     matches.get_one::<u64>("connections").unwrap_or(0)
 }
 
-/// Returns the number of seconds of an option.
+// Returns the number of seconds of an option.
 fn seconds_of(matches: &ArgMatches<'_>, name: &str) -> u32
     ensures { IsNumber 32 (found_of matches.now) name.now result }
 {
     matches.get_one::<u32>(name).unwrap_or(0)
 }
 
-/// Returns whether an option without a value is given.
+// Returns whether an option without a value is given.
 fn is_given(matches: &ArgMatches<'_>, name: &str) -> bool
     ensures { IsFlag (found_of matches.now) name.now result }
 {
     matches.get_flag(name)
 }
 
-/// Reads the limits and flags of `serve`.
+// Reads the limits and flags of `serve`.
 fn bounds_of(matches: &ArgMatches<'_>) -> Bounds
     ensures { IsBounds (found_of matches.now) result }
 {
@@ -153,15 +159,18 @@ fn bounds_of(matches: &ArgMatches<'_>) -> Bounds
     }
 }
 
-/// Reads the options of `serve`.
+// Reads the options of `serve`.
 pub(crate) fn serve_options<R: Env + AllocGlobal>(
     rt: &R,
     matches: &ArgMatches<'_>,
 ) -> Result<ServeOptions, Fault>
-    ensures password { IfOk result (λ options. (text : List ℕ) → first_value (found_of matches.now) (codes "password") ≡ Some text
+    ensures password { IfOk result (λ options. (text : List ℕ)
+        → first_value (found_of matches.now) (codes "password") ≡ Some text
         → string_bytes options.password ≡ text) }
-    ensures device { IfOk result (λ options. IsText (found_of matches.now) (codes "device") (string_bytes options.device)) }
-    ensures address { IfOk result (λ options. IsText (found_of matches.now) (codes "listen") (string_bytes options.address)) }
+    ensures device { IfOk result
+        (λ options. IsText (found_of matches.now) (codes "device") (string_bytes options.device)) }
+    ensures address { IfOk result
+        (λ options. IsText (found_of matches.now) (codes "listen") (string_bytes options.address)) }
     ensures bounds { IfOk result (λ options. IsBounds (found_of matches.now) options.bounds) }
     ensures err { IfErr result (λ fault. is_of_asking fault ≡ true) }
 {

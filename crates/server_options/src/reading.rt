@@ -26,7 +26,7 @@ pub enum Work {
     Serve(ServeOptions),
 }
 
-/// Returns the work of a command.
+// Returns the work of a command.
 fn asked_by<R: Env + AllocGlobal>(rt: &R, matches: &ArgMatches<'_>) -> Result<Work, Fault>
     ensures { IfErr result (λ fault. is_of_asking fault ≡ true) }
 {
@@ -38,7 +38,7 @@ fn asked_by<R: Env + AllocGlobal>(rt: &R, matches: &ArgMatches<'_>) -> Result<Wo
     }
 }
 
-/// Returns the work of a command line. `has_password`: the environment has the password of `serve`.
+// Returns the work of a command line. `has_password`: the environment has the password of `serve`.
 #[tactic(auto, using(crate::proofs::Faults::texts_told))]
 fn asked_in<R: Env + AllocGlobal + Print + Eprint>(
     rt: &R,

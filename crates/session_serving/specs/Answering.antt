@@ -17,7 +17,11 @@ pub record Answered : Type 0 where
 
 -- the answer to the reply to an event
 abbrev pub replied : Asked → Stepped → Answered
-replied asked stepped = record { world = stepped.world; text = answer_text (Service (reply_response asked stepped.reply)) }
+replied asked stepped =
+    record {
+      world = stepped.world;
+      text = answer_text (Service (reply_response asked stepped.reply));
+    }
 
 -- the answer to a request, by its outcome
 abbrev pub answer_by : Outcome → World → Answered

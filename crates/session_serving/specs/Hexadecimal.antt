@@ -53,7 +53,8 @@ replies_of events w = map (λ line. line.reply) (lines_of events w)
 -- the output for an input: a line for each frame that is sent, given the replies of a new meter
 -- with this device name
 abbrev pub hex_output : List ℕ → List ℕ → List ℕ → List ℕ
-hex_output device password input = flat_map hex_line (Answers password input (replies_of (Asks password input) (new_world device)))
+hex_output device password input =
+    flat_map hex_line (Answers password input (replies_of (Asks password input) (new_world device)))
 
 -- a character is a digit, or is skipped
 abbrev pub is_taken : ℕ → Bool
@@ -95,14 +96,18 @@ IsWrongWhole text given left' = IsNoHex text given × (length text ≤ most_char
 -- why a text gave no bytes, after these characters; the numbers are those of the reads that failed
 -- before and after
 abbrev pub FailsToRead : List ℕ → ℕ → TextFault → Option (List ℕ) → ℕ → Type 0
-FailsToRead text failed (text_fault.Digit character) left' failed' = IsWrongWhole text (text_fault.Digit character) left'
-FailsToRead text failed text_fault.OddDigits left' failed' = IsWrongWhole text text_fault.OddDigits left'
+FailsToRead text failed (text_fault.Digit character) left' failed' =
+    IsWrongWhole text (text_fault.Digit character) left'
+FailsToRead text failed text_fault.OddDigits left' failed' =
+    IsWrongWhole text text_fault.OddDigits left'
 FailsToRead text failed text_fault.TooLong left' failed' = most_characters < length text
-FailsToRead text failed text_fault.Read left' failed' = (length text ≤ most_characters) × (failed < failed')
+FailsToRead text failed text_fault.Read left' failed' = (length text ≤ most_characters)
+    × (failed < failed')
 FailsToRead text failed text_fault.Memory left' failed' = ⊤
 
 -- a text gave no bytes
-pub record StopsReading (left : Option (List ℕ)) (failed : ℕ) (f : TextFault) (left' : Option (List ℕ)) (failed' : ℕ) : Type 0 where
+pub record StopsReading (left : Option (List ℕ)) (failed : ℕ) (f : TextFault)
+    (left' : Option (List ℕ)) (failed' : ℕ) : Type 0 where
   pub text : List ℕ
   pub read : Consumes left left' text
   pub cause : FailsToRead text failed f left' failed'
@@ -117,26 +122,35 @@ hex_fault_of text_fault.Memory = fault.Memory
 
 -- The session of an input ran out of memory: a new meter was asked the first of the events, and the
 -- first of the lines were written.
-pub record RunsShort (device password input : List ℕ) (written written' : Option (List ℕ)) : Type 0 where
-  pub core : RelayCore
-  pub core' : RelayCore
-  pub is_new : StandsFor core (new_world device)
-  pub stops : StopsShort CoreSteps hex_line (Asks password input) (Answers password input) core written core' written'
+pub record RunsShort (device password input : List ℕ) (written written' : Option (List ℕ)) : Type 0
+  where
+    pub core : RelayCore
+    pub core' : RelayCore
+    pub is_new : StandsFor core (new_world device)
+    pub stops : StopsShort CoreSteps hex_line (Asks password input) (Answers password input) core
+        written core' written'
 
 -- the effect of a session's bytes on a meter, by the result
-abbrev pub PlayedOn : List ℕ → List ℕ → RelayCore → Option (List ℕ) → ℕ → Result (Unit {0}) HexFault → RelayCore → Option (List ℕ) → ℕ → Type 0
+abbrev pub PlayedOn : List ℕ → List ℕ → RelayCore → Option (List ℕ) → ℕ → Result (Unit {0}) HexFault
+    → RelayCore → Option (List ℕ) → ℕ → Type 0
 PlayedOn password input core written failed (Ok done) core' written' failed' =
-    DoesAll CoreSteps hex_line (Asks password input) (Answers password input) core written core' written'
+    DoesAll CoreSteps hex_line (Asks password input) (Answers password input) core written core'
+    written'
 PlayedOn password input core written failed (Err fault.Digits) core' written' failed' = ⊥
 PlayedOn password input core written failed (Err fault.TooLong) core' written' failed' = ⊥
 PlayedOn password input core written failed (Err fault.Read) core' written' failed' = ⊥
-PlayedOn password input core written failed (Err fault.Write) core' written' failed' = failed < failed'
+PlayedOn password input core written failed (Err fault.Write) core' written' failed' =
+    failed < failed'
 PlayedOn password input core written failed (Err fault.Memory) core' written' failed' =
-    Appends written written' [] ⊎ StopsShort CoreSteps hex_line (Asks password input) (Answers password input) core written core' written'
+    Appends written written' []
+    ⊎ StopsShort CoreSteps hex_line (Asks password input) (Answers password input) core written
+    core' written'
 
 -- the effect of a session's bytes on a new meter, by the result
-abbrev pub Played : List ℕ → List ℕ → List ℕ → Option (List ℕ) → ℕ → Result (Unit {0}) HexFault → Option (List ℕ) → ℕ → Type 0
-Played device password input written failed (Ok done) written' failed' = Appends written written' (hex_output device password input)
+abbrev pub Played : List ℕ → List ℕ → List ℕ → Option (List ℕ) → ℕ → Result (Unit {0}) HexFault
+    → Option (List ℕ) → ℕ → Type 0
+Played device password input written failed (Ok done) written' failed' =
+    Appends written written' (hex_output device password input)
 Played device password input written failed (Err fault.Digits) written' failed' = ⊥
 Played device password input written failed (Err fault.TooLong) written' failed' = ⊥
 Played device password input written failed (Err fault.Read) written' failed' = ⊥
@@ -153,20 +167,25 @@ module _ {R W : Type 0}
       (input : List ℕ) × IsHex text input × (length text ≤ most_characters) × IsAtEnd (remaining r')
       × Appends (contents w) (contents w') (hex_output device password input)
   HexDid device password text r w (Err fault.Digits) r' w' =
-      ((input : List ℕ) → ¬ (IsHex text input)) × (length text ≤ most_characters) × IsAtEnd (remaining r') × Appends (contents w) (contents w') []
+      ((input : List ℕ) → ¬ (IsHex text input)) × (length text ≤ most_characters)
+      × IsAtEnd (remaining r') × Appends (contents w) (contents w') []
   HexDid device password text r w (Err fault.TooLong) r' w' =
       (most_characters < length text) × Appends (contents w) (contents w') []
   HexDid device password text r w (Err fault.Read) r' w' =
-      (length text ≤ most_characters) × (read_failures r < read_failures r') × Appends (contents w) (contents w') []
+      (length text ≤ most_characters) × (read_failures r < read_failures r')
+      × Appends (contents w) (contents w') []
   HexDid device password text r w (Err fault.Write) r' w' =
-      (input : List ℕ) × IsHex text input × (length text ≤ most_characters) × IsAtEnd (remaining r') × (write_failures w < write_failures w')
+      (input : List ℕ) × IsHex text input × (length text ≤ most_characters) × IsAtEnd (remaining r')
+      × (write_failures w < write_failures w')
   HexDid device password text r w (Err fault.Memory) r' w' =
       Appends (contents w) (contents w') []
-      ⊎ ((input : List ℕ) × IsHex text input × (length text ≤ most_characters) × IsAtEnd (remaining r')
+      ⊎ ((input : List ℕ) × IsHex text input × (length text ≤ most_characters)
+      × IsAtEnd (remaining r')
       × RunsShort device password input (contents w) (contents w'))
 
   -- A text was played: some characters were read, with this effect.
-  pub record Hexed (device password : List ℕ) (r : R) (w : W) (result : Result (Unit {0}) HexFault) (r' : R) (w' : W) : Type 0 where
+  pub record Hexed (device password : List ℕ) (r : R) (w : W) (result : Result (Unit {0}) HexFault)
+      (r' : R) (w' : W) : Type 0 where
     pub text : List ℕ
     pub read : Consumes (remaining r) (remaining r') text
     pub did : HexDid device password text r w result r' w'

@@ -18,11 +18,13 @@ module _ {M : Type 0} (steps : M → Event → Result Reply CallFault → M → 
   Replied first [] [] last = last ≡ first
   Replied first [] (reply ∷ replies) last = ⊥
   Replied first (event ∷ events) [] last = ⊥
-  Replied first (event ∷ events) (reply ∷ replies) last = (next : M) × steps first event (Ok reply) next × Replied next events replies last
+  Replied first (event ∷ events) (reply ∷ replies) last = (next : M)
+      × steps first event (Ok reply) next × Replied next events replies last
 
   -- A meter took all but the last of these events, returned these replies, and refused the last
   -- event.
-  pub record Refused (first : M) (events : List Event) (replies : List Reply) (fault : CallFault) (last : M) : Type 0 where
+  pub record Refused (first : M) (events : List Event) (replies : List Reply) (fault : CallFault)
+      (last : M) : Type 0 where
     pub taken : List Event
     pub event : Event
     pub all : events ≡ taken ++ event ∷ []
@@ -31,9 +33,10 @@ module _ {M : Type 0} (steps : M → Event → Result Reply CallFault → M → 
     pub refused : steps before event (Err fault) last
 
 -- A core took an event: it represents the world after it, and the reply is that world's.
-pub record TakesEvent (old : RelayCore) (event : Event) (reply : Reply) (new : RelayCore) : Type 0 where
-  pub world : (w : World) → StandsFor old w → StandsFor new (at_event event w).world
-  pub reply_of : (w : World) → StandsFor old w → reply ≡ (at_event event w).reply
+pub record TakesEvent (old : RelayCore) (event : Event) (reply : Reply) (new : RelayCore) : Type 0
+  where
+    pub world : (w : World) → StandsFor old w → StandsFor new (at_event event w).world
+    pub reply_of : (w : World) → StandsFor old w → reply ≡ (at_event event w).reply
 
 -- how a core takes an event; if out of memory, it is unchanged, and the event is one that may
 -- allocate

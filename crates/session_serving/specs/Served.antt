@@ -29,16 +29,19 @@ Sends = List Reply → List (List ℕ)
 abbrev pub as_bytes : List ℕ → List ℕ
 as_bytes text = text
 
-module _ {M : Type 0} (steps : M → Event → Result Reply CallFault → M → Type 0) (written_as : List ℕ → List ℕ) where
+module _ {M : Type 0} (steps : M → Event → Result Reply CallFault → M → Type 0) (written_as : List ℕ
+    → List ℕ) where
   -- All these events were asked, and all answers to their replies were written.
-  pub record DoesAll (asks : List Event) (sends : Sends) (m : M) (written : Option (List ℕ)) (m' : M) (written' : Option (List ℕ)) : Type 0 where
+  pub record DoesAll (asks : List Event) (sends : Sends) (m : M) (written : Option (List ℕ))
+      (m' : M) (written' : Option (List ℕ)) : Type 0 where
     pub replies : List Reply
     pub replied : Replied steps m asks replies m'
     pub wrote : Appends written written' (flat_map written_as (sends replies))
 
   -- Out of memory: the first of these events were asked, the last of which may have been refused,
   -- and the first of the answers to their replies were written.
-  pub record StopsShort (asks : List Event) (sends : Sends) (m : M) (written : Option (List ℕ)) (m' : M) (written' : Option (List ℕ)) : Type 0 where
+  pub record StopsShort (asks : List Event) (sends : Sends) (m : M) (written : Option (List ℕ))
+      (m' : M) (written' : Option (List ℕ)) : Type 0 where
     pub asked : List Event
     pub later : List Event
     pub all_asked : asks ≡ asked ++ later
@@ -51,7 +54,8 @@ module _ {M : Type 0} (steps : M → Event → Result Reply CallFault → M → 
 
   -- The meter took the first of these events and refused the next as Exhausted, and all answers to
   -- its replies were written.
-  pub record IsUsedUp (asks : List Event) (sends : Sends) (m : M) (written : Option (List ℕ)) (m' : M) (written' : Option (List ℕ)) : Type 0 where
+  pub record IsUsedUp (asks : List Event) (sends : Sends) (m : M) (written : Option (List ℕ))
+      (m' : M) (written' : Option (List ℕ)) : Type 0 where
     pub asked : List Event
     pub later : List Event
     pub all_asked : asks ≡ asked ++ later
@@ -69,11 +73,15 @@ module _ {M : Type 0} (steps : M → Event → Result Reply CallFault → M → 
 
   -- a session stopped early; `failed` and `failed'` are the numbers of failed writes before and
   -- after
-  abbrev pub Stops : List Event → Sends → M → Option (List ℕ) → ℕ → ServeFault → M → Option (List ℕ) → ℕ → Type 0
+  abbrev pub Stops : List Event → Sends → M → Option (List ℕ) → ℕ → ServeFault → M → Option (List ℕ)
+      → ℕ → Type 0
   Stops asks sends m written failed fault.Read m' written' failed' = ⊥
-  Stops asks sends m written failed fault.Write m' written' failed' = IsUnwritten asks m m' × (failed < failed')
-  Stops asks sends m written failed fault.Memory m' written' failed' = StopsShort asks sends m written m' written'
-  Stops asks sends m written failed fault.Exhausted m' written' failed' = IsUsedUp asks sends m written m' written'
+  Stops asks sends m written failed fault.Write m' written' failed' = IsUnwritten asks m m'
+      × (failed < failed')
+  Stops asks sends m written failed fault.Memory m' written' failed' =
+      StopsShort asks sends m written m' written'
+  Stops asks sends m written failed fault.Exhausted m' written' failed' =
+      IsUsedUp asks sends m written m' written'
   Stops asks sends m written failed fault.Listen m' written' failed' = ⊥
 
 -- the largest number of reads in a session
@@ -115,21 +123,26 @@ module _ {R W M : Type 0}
   -- the effect of the bytes that were read, by the result
   abbrev pub Did : List ℕ → List ℕ → R → W → M → Result SessionEnd ServeFault → R → W → M → Type 0
   Did password seen r w m (Ok end) r' w' m' =
-      DoesAll steps as_bytes (Asks password seen) (Answers password seen) m (contents w) m' (contents w')
+      DoesAll steps as_bytes (Asks password seen) (Answers password seen) m (contents w) m'
+      (contents w')
       × (end ≡ end_of seen) × EndsBefore end (remaining r')
   Did password seen r w m (Err fault.Read) r' w' m' =
-      DoesAll steps as_bytes (Asks password seen) (Answers password seen) m (contents w) m' (contents w')
+      DoesAll steps as_bytes (Asks password seen) (Answers password seen) m (contents w) m'
+      (contents w')
       × ((read_failures r < read_failures r') ⊎ (reads r + most_reads ≤ reads r'))
   Did password seen r w m (Err fault.Write) r' w' m' =
       IsUnwritten steps as_bytes (Asks password seen) m m' × (write_failures w < write_failures w')
   Did password seen r w m (Err fault.Memory) r' w' m' =
-      StopsShort steps as_bytes (Asks password seen) (Answers password seen) m (contents w) m' (contents w')
+      StopsShort steps as_bytes (Asks password seen) (Answers password seen) m (contents w) m'
+      (contents w')
   Did password seen r w m (Err fault.Exhausted) r' w' m' =
-      IsUsedUp steps as_bytes (Asks password seen) (Answers password seen) m (contents w) m' (contents w')
+      IsUsedUp steps as_bytes (Asks password seen) (Answers password seen) m (contents w) m'
+      (contents w')
   Did password seen r w m (Err fault.Listen) r' w' m' = ⊥
 
   -- A session was served: some bytes were read, with this effect.
-  pub record Served (password : List ℕ) (r : R) (w : W) (m : M) (result : Result SessionEnd ServeFault) (r' : R) (w' : W) (m' : M) : Type 0 where
+  pub record Served (password : List ℕ) (r : R) (w : W) (m : M)
+      (result : Result SessionEnd ServeFault) (r' : R) (w' : W) (m' : M) : Type 0 where
     pub seen : List ℕ
     pub read : Consumes (remaining r) (remaining r') seen
     pub did : Did password seen r w m result r' w' m'

@@ -57,23 +57,29 @@ abbrev pub IsDone : Option SessionEnd → Session → Type 0
 IsDone None s = (is_finished s ≡ false) × EndsWithInput (still_ends s [])
 IsDone (Some end) s = IsOver end s
 
-module _ {M : Type 0} (steps : M → Event → Result Reply CallFault → M → Type 0) (written_as : List ℕ → List ℕ) where
+module _ {M : Type 0} (steps : M → Event → Result Reply CallFault → M → Type 0) (written_as : List ℕ
+    → List ℕ) where
   -- Of the events, texts and end of each input, some were asked and sent after these bytes, and the
   -- session has yet to do the rest.
-  pub record Reached (asks : List ℕ → List Event) (sends : List ℕ → List Reply → List (List ℕ)) (ends : List ℕ → SessionEnd)
-      (m : M) (written : Option (List ℕ)) (seen : List ℕ) (s : Session) (m' : M) (written' : Option (List ℕ)) : Type 0 where
+  pub record Reached (asks : List ℕ → List Event) (sends : List ℕ → List Reply
+      → List (List ℕ)) (ends : List ℕ → SessionEnd)
+      (m : M) (written : Option (List ℕ)) (seen : List ℕ) (s : Session) (m' : M)
+      (written' : Option (List ℕ)) : Type 0 where
     pub asked : List Event
     pub replies : List Reply
     pub sent : List (List ℕ)
     pub asks_rest : (more : List ℕ) → asks (seen ++ more) ≡ asked ++ still_asks s more
-    pub sends_rest : (more : List ℕ) (later : List Reply) → sends (seen ++ more) (replies ++ later) ≡ sent ++ still_sends s more later
+    pub sends_rest : (more : List ℕ) (later : List Reply)
+        → sends (seen ++ more) (replies ++ later) ≡ sent ++ still_sends s more later
     pub ends_rest : (more : List ℕ) → ends (seen ++ more) ≡ still_ends s more
     pub replied : Replied steps m asked replies m'
     pub wrote : Appends written written' (flat_map written_as sent)
 
   -- A session took in bytes, and did everything that they ask for.
-  pub record Settled (old : Session) (m : M) (written : Option (List ℕ)) (bytes : List ℕ) (end : Option SessionEnd) (new : Session) (m' : M) (written' : Option (List ℕ)) : Type 0 where
-    pub reached : Reached (still_asks old) (still_sends old) (still_ends old) m written bytes new m' written'
+  pub record Settled (old : Session) (m : M) (written : Option (List ℕ)) (bytes : List ℕ)
+      (end : Option SessionEnd) (new : Session) (m' : M) (written' : Option (List ℕ)) : Type 0 where
+    pub reached : Reached (still_asks old) (still_sends old) (still_ends old) m written bytes new m'
+        written'
     pub settled : IsSettled new
     pub done : IsDone end new
     pub silent : is_asking new ≡ false
@@ -85,7 +91,8 @@ module _ {M : Type 0} (steps : M → Event → Result Reply CallFault → M → 
     pub seen : List ℕ
     pub read : Consumes left left' seen
     pub short : length seen ≤ count * longest_piece
-    pub reached : Reached (still_asks old) (still_sends old) (still_ends old) m written seen s m' written'
+    pub reached : Reached (still_asks old) (still_sends old) (still_ends old) m written seen s m'
+        written'
     pub settled : IsSettled s
     pub ends : EndsWithInput (still_ends s [])
     pub silent : is_asking s ≡ false

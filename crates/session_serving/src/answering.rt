@@ -11,10 +11,12 @@ use relay_events::Event;
 use session_core::{Asked, PreparedAnswer, Unframed, answer_unframed, ask_unframed};
 use std::alloc::{AllocError, Global};
 
-/// Answers one xDLMS request that comes without a frame and without an association: a GET, also with a list, a SET or an ACTION in one piece, at management level,
-/// with all of the meter's conformance bits and PDUs of 1,024 bytes. A longer answer is the first block of a transfer that can't be gone on with. A payload that is
-/// no such request has an ExceptionResponse: service-unknown for another tag or form, service-not-allowed with other-reason where its bytes can't be read
-/// (IEC 62056-5-3).
+/// Answers one xDLMS request that comes without a frame and without an association: a GET, also
+/// with a list, a SET or an ACTION in one piece, at management level, with all of the meter's
+/// conformance bits and PDUs of 1,024 bytes. A longer answer is the first block of a transfer that
+/// can't be gone on with. A payload that is no such request has an ExceptionResponse:
+/// service-unknown for another tag or form, service-not-allowed with other-reason where its bytes
+/// can't be read (IEC 62056-5-3).
 ///
 /// Where memory runs out the core is as it was, as though the request had not come.
 #[tactic(auto, unfolding(crate::specs::Answering::answered))]
@@ -23,8 +25,10 @@ pub fn answer_apdu(
     core: &mut RelayCore,
     payload: &[u8],
 ) -> Result<Octets, AllocError>
-    ensures world { OnOk result ((w : World) → StandsFor core.old w → StandsFor core.new (answered payload.now w).world) }
-    ensures text { IfOk result (λ text. (w : World) → StandsFor core.old w → text ≡ (answered payload.now w).text) }
+    ensures world { OnOk result ((w : World) → StandsFor core.old w
+        → StandsFor core.new (answered payload.now w).world) }
+    ensures text { IfOk result (λ text. (w : World) → StandsFor core.old w
+        → text ≡ (answered payload.now w).text) }
     ensures err { OnErr result (core.new ≡ core.old) }
 {
     match ask_unframed(alloc, payload)? {
@@ -46,15 +50,18 @@ fn answer(
     event: &Event,
     asked: Asked,
 ) -> Result<Octets, AllocError>
-    ensures world { OnOk result ((w : World) → StandsFor core.old w → StandsFor core.new (at_event event.now w).world) }
-    ensures text { IfOk result (λ text. (w : World) → StandsFor core.old w → text ≡ (replied asked (at_event event.now w)).text) }
+    ensures world { OnOk result ((w : World) → StandsFor core.old w
+        → StandsFor core.new (at_event event.now w).world) }
+    ensures text { IfOk result (λ text. (w : World) → StandsFor core.old w
+        → text ≡ (replied asked (at_event event.now w)).text) }
     ensures read { IsTrue (is_read event.now) → core.new ≡ core.old }
 {
     let reply = core.step(alloc, event)?;
     answer_unframed(alloc, asked, reply)
 }
 
-// The same for an event whose reply has no value: the memory for its answer is taken first, so want of memory changes nothing.
+// The same for an event whose reply has no value: the memory for its answer is taken first, so want
+// of memory changes nothing.
 #[tactic(auto, using(crate::proofs::Valueless::prepared_answer))]
 fn answer_or_stay(
     alloc: Global,
@@ -63,8 +70,10 @@ fn answer_or_stay(
     asked: Asked,
 ) -> Result<Octets, AllocError>
     requires { is_read event.now ≡ false }
-    ensures world { OnOk result ((w : World) → StandsFor core.old w → StandsFor core.new (at_event event.now w).world) }
-    ensures text { IfOk result (λ text. (w : World) → StandsFor core.old w → text ≡ (replied asked (at_event event.now w)).text) }
+    ensures world { OnOk result ((w : World) → StandsFor core.old w
+        → StandsFor core.new (at_event event.now w).world) }
+    ensures text { IfOk result (λ text. (w : World) → StandsFor core.old w
+        → text ≡ (replied asked (at_event event.now w)).text) }
     ensures err { OnErr result (core.new ≡ core.old) }
 {
     let prepared = PreparedAnswer::new(alloc, asked)?;

@@ -10,12 +10,12 @@ use crate::watch::Watch;
 use byte_streams::Writer;
 use std::alloc::{AllocError, Global};
 
-/// A form in which frames are written.
+// A form in which frames are written.
 pub(crate) trait Form {
     // The bytes that are written for a frame.
     ghost written_as: { List ℕ → List ℕ };
 
-    /// Writes a frame.
+    // Writes a frame.
     fn write<V: Watch, W: Writer>(
         alloc: Global,
         watch: &mut V,
@@ -23,7 +23,8 @@ pub(crate) trait Form {
         frame: &[u8],
     ) -> Result<(), ServeFault>
         requires { W.can_write writer.now }
-        ensures bytes { OnOk result (Appends (W.contents writer.old) (W.contents writer.new) (written_as frame.now)) }
+        ensures bytes { OnOk result
+            (Appends (W.contents writer.old) (W.contents writer.new) (written_as frame.now)) }
         ensures ready { OnOk result (W.can_write writer.new) }
         ensures even { OnOk result (W.failures writer.new ≡ W.failures writer.old) }
         ensures err { IfErr result
@@ -35,7 +36,7 @@ pub(crate) trait Form {
             (λ fault. FailsToPass (V.passed watch.old) fault (V.passed watch.new)) };
 }
 
-/// Frames are written as their bytes.
+// Frames are written as their bytes.
 pub(crate) struct AsBytes;
 
 impl Form for AsBytes {
@@ -54,7 +55,7 @@ impl Form for AsBytes {
     }
 }
 
-/// Each frame is written as a line of upper-case hexadecimal.
+// Each frame is written as a line of upper-case hexadecimal.
 pub(crate) struct AsHexLine;
 
 impl Form for AsHexLine {
@@ -74,7 +75,7 @@ impl Form for AsHexLine {
     }
 }
 
-/// Returns the line of a frame.
+// Returns the line of a frame.
 fn line_of(alloc: Global, frame: &[u8]) -> Result<String, AllocError>
     ensures { IfOk result (λ line. string_bytes line ≡ hex_line frame.now) }
 {

@@ -13,7 +13,7 @@ use relay_core::RelayCore;
 use session_core::Session;
 use std::alloc::Global;
 
-/// Serves the session of an input on a meter, and writes each frame as a line.
+// Serves the session of an input on a meter, and writes each frame as a line.
 fn play_on<W: Writer>(
     alloc: Global,
     input: &[u8],
@@ -23,7 +23,8 @@ fn play_on<W: Writer>(
 ) -> Result<(), HexFault>
     requires writable { W.can_write writer.now }
     requires password { IsPassword password.now }
-    ensures { PlayedOn password.now input.now core.old (W.contents writer.old) (W.failures writer.old) result core.new (W.contents writer.new) (W.failures writer.new) }
+    ensures { PlayedOn password.now input.now core.old (W.contents writer.old)
+        (W.failures writer.old) result core.new (W.contents writer.new) (W.failures writer.new) }
 {
     let mut session = Session::new(alloc, password)?;
     match session.feed(input) {
@@ -66,7 +67,8 @@ pub fn play_session<W: Writer>(
     requires writable { W.can_write writer.now }
     requires named { IsDeviceName device.now }
     requires password { IsPassword password.now }
-    ensures { Played device.now password.now input.now (W.contents writer.old) (W.failures writer.old) result (W.contents writer.new) (W.failures writer.new) }
+    ensures { Played device.now password.now input.now (W.contents writer.old)
+        (W.failures writer.old) result (W.contents writer.new) (W.failures writer.new) }
 {
     let mut core = RelayCore::new(alloc, device)?;
     let played = play_on(alloc, input, writer, &mut core, password);
@@ -74,11 +76,14 @@ pub fn play_session<W: Writer>(
     played
 }
 
-/// Serves a session whose bytes a text has in hexadecimal: pairs of digits in either case, with blanks and line ends passed over, at most 1,048,576 characters.
-/// It has a new meter of this device name, 1 to 16 bytes, and the management client this password, 1 to 32 bytes. Each frame that is sent is written as a line of hexadecimal in
-/// capitals. A session that a wrong header or the end of the text cuts is no fault.
+/// Serves a session whose bytes a text has in hexadecimal: pairs of digits in either case, with
+/// blanks and line ends passed over, at most 1,048,576 characters. It has a new meter of this
+/// device name, 1 to 16 bytes, and the management client this password, 1 to 32 bytes. Each frame
+/// that is sent is written as a line of hexadecimal in capitals. A session that a wrong header or
+/// the end of the text cuts is no fault.
 ///
-/// Nothing is written before the whole text is read and is pairs of digits. A text that is too long is told before what its characters are.
+/// Nothing is written before the whole text is read and is pairs of digits. A text that is too long
+/// is told before what its characters are.
 pub fn run_hex<R: Reader, W: Writer>(
     alloc: Global,
     reader: &mut R,
@@ -90,7 +95,8 @@ pub fn run_hex<R: Reader, W: Writer>(
     requires writable { W.can_write writer.now }
     requires named { IsDeviceName device.now }
     requires password { IsPassword password.now }
-    ensures { Hexed R.remaining R.failures W.contents W.failures device.now password.now reader.old writer.old result reader.new writer.new }
+    ensures { Hexed R.remaining R.failures W.contents W.failures device.now password.now reader.old
+        writer.old result reader.new writer.new }
 {
     match read_hex(alloc, reader) {
         Ok(input) => play_session(alloc, input.as_slice(), writer, device, password),

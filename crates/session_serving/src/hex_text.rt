@@ -7,16 +7,19 @@ use byte_streams::{InputFault, Reader, read_to_end_within};
 use hex::FromHexError;
 use std::alloc::{AllocError, Global};
 
-/// The most characters of a text.
+// The most characters of a text.
 const MAX_CHARACTERS: usize = 1_048_576;
 
-/// All characters of a text.
+// All characters of a text.
 fn read_text<R: Reader>(alloc: Global, reader: &mut R) -> Result<Vec<u8>, TextFault>
     requires { R.can_read reader.now }
-    ensures read { IfOk result (λ text. Consumes (R.remaining reader.old) (R.remaining reader.new) text.items) }
+    ensures read { IfOk result
+        (λ text. Consumes (R.remaining reader.old) (R.remaining reader.new) text.items) }
     ensures whole { IfOk result (λ text. IsAtEnd (R.remaining reader.new)) }
     ensures within { IfOk result (λ text. length text.items ≤ most_characters) }
-    ensures err { IfErr result (λ fault. StopsReading (R.remaining reader.old) (R.failures reader.old) fault (R.remaining reader.new) (R.failures reader.new)) }
+    ensures err { IfErr result
+        (λ fault. StopsReading (R.remaining reader.old) (R.failures reader.old) fault
+        (R.remaining reader.new) (R.failures reader.new)) }
 {
     match read_to_end_within(alloc, reader, MAX_CHARACTERS) {
         Ok(text) => Ok(text),
@@ -26,7 +29,7 @@ fn read_text<R: Reader>(alloc: Global, reader: &mut R) -> Result<Vec<u8>, TextFa
     }
 }
 
-/// Whether a character is skipped: a blank or part of a line end.
+// Whether a character is skipped: a blank or part of a line end.
 #[tactic(auto, unfolding(crate::specs::Hexadecimal::is_blank))]
 fn is_blank(character: u8) -> bool
     ensures { result ≡ is_blank character }
@@ -34,24 +37,25 @@ fn is_blank(character: u8) -> bool
     matches!(character, b' ' | b'\n' | b'\r')
 }
 
-/// Whether a character is a hexadecimal digit, or is skipped.
+// Whether a character is a hexadecimal digit, or is skipped.
 fn is_taken(character: u8) -> bool
     ensures { result ≡ is_taken character }
 {
     character.is_ascii_hexdigit() || is_blank(character)
 }
 
-/// The index of the first character that is neither a digit nor skipped.
+// The index of the first character that is neither a digit nor skipped.
 fn first_wrong(text: &[u8]) -> Option<usize>
     ensures { result ≡ position (λ character. not (is_taken character)) text.now }
 {
     text.iter().position(|character| !is_taken(*character))
 }
 
-/// The characters of a text that are not skipped.
+// The characters of a text that are not skipped.
 #[tactic(auto, unfolding(crate::specs::Hexadecimal::is_blank))]
 fn digits_of(alloc: Global, text: &[u8]) -> Result<Vec<u8>, AllocError>
-    ensures { IfOk result (λ digits. digits.items ≡ filter (λ character. not (is_blank character)) text.now) }
+    ensures { IfOk result (λ digits. digits.items
+        ≡ filter (λ character. not (is_blank character)) text.now) }
 {
     text.iter()
         .copied()
@@ -59,7 +63,7 @@ fn digits_of(alloc: Global, text: &[u8]) -> Result<Vec<u8>, AllocError>
         .collect(alloc)
 }
 
-/// The bytes whose digits a text has that has no wrong character.
+// The bytes whose digits a text has that has no wrong character.
 #[tactic(auto, using(crate::proofs::HexTexts::undecoded_odd))]
 fn decode_digits(alloc: Global, text: &[u8]) -> Result<Vec<u8>, TextFault>
     requires { position (λ character. not (is_taken character)) text.now ≡ None }
@@ -74,7 +78,7 @@ fn decode_digits(alloc: Global, text: &[u8]) -> Result<Vec<u8>, TextFault>
     }
 }
 
-/// The bytes whose digits a text has.
+// The bytes whose digits a text has.
 #[tactic(auto, using(crate::proofs::HexTexts::place_within, crate::proofs::HexTexts::undecoded_at))]
 fn decode(alloc: Global, text: &[u8]) -> Result<Vec<u8>, TextFault>
     ensures ok { IfOk result (λ input. IsHex text.now input.items) }
@@ -94,8 +98,11 @@ fn decode(alloc: Global, text: &[u8]) -> Result<Vec<u8>, TextFault>
 #[tactic(auto, using(crate::proofs::HexTexts::undecoded))]
 pub fn read_hex<R: Reader>(alloc: Global, reader: &mut R) -> Result<Vec<u8>, TextFault>
     requires { R.can_read reader.now }
-    ensures ok { IfOk result (λ input. ReadsHex (R.remaining reader.old) (R.remaining reader.new) input.items) }
-    ensures err { IfErr result (λ fault. StopsReading (R.remaining reader.old) (R.failures reader.old) fault (R.remaining reader.new) (R.failures reader.new)) }
+    ensures ok { IfOk result
+        (λ input. ReadsHex (R.remaining reader.old) (R.remaining reader.new) input.items) }
+    ensures err { IfErr result
+        (λ fault. StopsReading (R.remaining reader.old) (R.failures reader.old) fault
+        (R.remaining reader.new) (R.failures reader.new)) }
 {
     let text = read_text(alloc, reader)?;
     match decode(alloc, text.as_slice()) {

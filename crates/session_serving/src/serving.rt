@@ -24,8 +24,8 @@ const MAX_READ: usize = 1_024;
 // The largest number of reads in a session.
 const MOST_READS: u32 = 4_294_967_295;
 
-/// Asks the meter and writes the answers until the session needs more input or is over. Returns the
-/// session's end if it is over.
+// Asks the meter and writes the answers until the session needs more input or is over. Returns the
+// session's end if it is over.
 fn settle<F: Form, V: Watch, W: Writer, M: Meter>(
     alloc: Global,
     session: &mut Session,
@@ -35,10 +35,15 @@ fn settle<F: Form, V: Watch, W: Writer, M: Meter>(
 ) -> Result<Option<SessionEnd>, ServeFault>
     requires writable { W.can_write writer.now }
     requires silent { is_asking session.now ≡ false }
-    ensures ok { IfOk result (λ end. Settled M.steps F.written_as session.old meter.old (W.contents writer.old) [] end session.new meter.new (W.contents writer.new)) }
+    ensures ok { IfOk result
+        (λ end. Settled M.steps F.written_as session.old meter.old (W.contents writer.old) [] end
+        session.new meter.new (W.contents writer.new)) }
     ensures writable { OnOk result (W.can_write writer.new) }
     ensures even { OnOk result (W.failures writer.new ≡ W.failures writer.old) }
-    ensures err { IfErr result (λ fault. Stops M.steps F.written_as (still_asks session.old []) (still_sends session.old []) meter.old (W.contents writer.old) (W.failures writer.old) fault meter.new (W.contents writer.new) (W.failures writer.new)) }
+    ensures err { IfErr result
+        (λ fault. Stops M.steps F.written_as (still_asks session.old [])
+        (still_sends session.old []) meter.old (W.contents writer.old) (W.failures writer.old) fault
+        meter.new (W.contents writer.new) (W.failures writer.new)) }
     ensures order { (password : List ℕ) (texts_of : List ℕ → List Reply → List (List ℕ))
         (happened : List Happening)
         → IsAt F.written_as password texts_of (still_sends session.old) happened
@@ -77,7 +82,7 @@ fn settle<F: Form, V: Watch, W: Writer, M: Meter>(
     }
 }
 
-/// Feeds the session bytes, and does everything that they ask for.
+// Feeds the session bytes, and does everything that they ask for.
 fn take_in<V: Watch, W: Writer, M: Meter>(
     alloc: Global,
     session: &mut Session,
@@ -88,10 +93,15 @@ fn take_in<V: Watch, W: Writer, M: Meter>(
 ) -> Result<Option<SessionEnd>, ServeFault>
     requires writable { W.can_write writer.now }
     requires silent { is_asking session.now ≡ false }
-    ensures ok { IfOk result (λ end. Settled M.steps as_bytes session.old meter.old (W.contents writer.old) bytes.now end session.new meter.new (W.contents writer.new)) }
+    ensures ok { IfOk result
+        (λ end. Settled M.steps as_bytes session.old meter.old (W.contents writer.old) bytes.now end
+        session.new meter.new (W.contents writer.new)) }
     ensures writable { OnOk result (W.can_write writer.new) }
     ensures even { OnOk result (W.failures writer.new ≡ W.failures writer.old) }
-    ensures err { IfErr result (λ fault. Stops M.steps as_bytes (still_asks session.old bytes.now) (still_sends session.old bytes.now) meter.old (W.contents writer.old) (W.failures writer.old) fault meter.new (W.contents writer.new) (W.failures writer.new)) }
+    ensures err { IfErr result
+        (λ fault. Stops M.steps as_bytes (still_asks session.old bytes.now)
+        (still_sends session.old bytes.now) meter.old (W.contents writer.old)
+        (W.failures writer.old) fault meter.new (W.contents writer.new) (W.failures writer.new)) }
     ensures order { (password : List ℕ) (texts_of : List ℕ → List Reply → List (List ℕ))
         (happened : List Happening)
         → IsAt as_bytes password texts_of (λ more. still_sends session.old (bytes.now ++ more))
@@ -105,7 +115,7 @@ fn take_in<V: Watch, W: Writer, M: Meter>(
     settle::<AsBytes, V, W, M>(alloc, session, watch, writer, meter)
 }
 
-/// Ends the input, and does everything that is left to do.
+// Ends the input, and does everything that is left to do.
 pub(crate) fn end_input<F: Form, V: Watch, W: Writer, M: Meter>(
     alloc: Global,
     session: &mut Session,
@@ -115,9 +125,14 @@ pub(crate) fn end_input<F: Form, V: Watch, W: Writer, M: Meter>(
 ) -> Result<SessionEnd, ServeFault>
     requires writable { W.can_write writer.now }
     requires silent { is_asking session.now ≡ false }
-    ensures ok { OnOk result (DoesAll M.steps F.written_as (still_asks session.old []) (still_sends session.old []) meter.old (W.contents writer.old) meter.new (W.contents writer.new)) }
+    ensures ok { OnOk result
+        (DoesAll M.steps F.written_as (still_asks session.old []) (still_sends session.old [])
+        meter.old (W.contents writer.old) meter.new (W.contents writer.new)) }
     ensures end { IfOk result (λ end. end ≡ still_ends session.old []) }
-    ensures err { IfErr result (λ fault. Stops M.steps F.written_as (still_asks session.old []) (still_sends session.old []) meter.old (W.contents writer.old) (W.failures writer.old) fault meter.new (W.contents writer.new) (W.failures writer.new)) }
+    ensures err { IfErr result
+        (λ fault. Stops M.steps F.written_as (still_asks session.old [])
+        (still_sends session.old []) meter.old (W.contents writer.old) (W.failures writer.old) fault
+        meter.new (W.contents writer.new) (W.failures writer.new)) }
     ensures order { (password : List ℕ) (texts_of : List ℕ → List Reply → List (List ℕ))
         (happened : List Happening)
         → IsAt F.written_as password texts_of (still_sends session.old) happened
@@ -144,7 +159,7 @@ fn wrong_header(end: Option<SessionEnd>) -> Option<SessionEnd>
     }
 }
 
-/// Serves a session that was fed no bytes yet.
+// Serves a session that was fed no bytes yet.
 fn serve<V: Watch, R: Reader, W: Writer, M: Meter>(
     alloc: Global,
     session: &mut Session,

@@ -53,7 +53,7 @@ pub trait Watch {
         ensures passes { Passes (passed self.old) (called_by event result) (passed self.new) };
 }
 
-/// Records nothing.
+// Records nothing.
 #[derive(Drop)]
 pub(crate) struct Unwatched;
 

@@ -24,7 +24,8 @@ child number i = number ++ i ∷ []
 
 -- each port that was split off, from the count `from` on, was joined in
 abbrev pub AreJoined : {E R O : Type 0} → ℕ → ShownPort E R O → Type 0
-AreJoined from p = (i : ℕ) → from ≤ i → i < p.known.splits → IsAmong (child p.known.number i) p.known.joined
+AreJoined from p = (i : ℕ) → from ≤ i → i < p.known.splits
+    → IsAmong (child p.known.number i) p.known.joined
 
 -- The port `own` was split off from p, whose later state is q
 pub record SplitsOff {E R O : Type 0} (p own q : ShownPort E R O) : Type 0 where
@@ -45,11 +46,13 @@ pub record TakesIn {E R O : Type 0} (p r q : ShownPort E R O) : Type 0 where
   pub theirs : calls_by r.known.number q.known.seen ≡ calls_by r.known.number r.known.seen
 
 -- a port was returned by a thread, either as it was lent or as the thread's work left it
-abbrev pub Returns : {E R O : Type 0} → (ShownPort E R O → ShownPort E R O → Type 0) → ShownPort E R O → ShownPort E R O → Type 0
+abbrev pub Returns : {E R O : Type 0} → (ShownPort E R O → ShownPort E R O → Type 0)
+    → ShownPort E R O → ShownPort E R O → Type 0
 Returns did p q = (q ≡ p) ⊎ did p q
 
 -- these are the calls of a port with this number, which was new and did this work
-pub record AreCallsOf {E R O : Type 0} (did : ShownPort E R O → ShownPort E R O → Type 0) (number : List ℕ) (calls : List (Entry E R)) : Type 0 where
+pub record AreCallsOf {E R O : Type 0} (did : ShownPort E R O → ShownPort E R O
+    → Type 0) (number : List ℕ) (calls : List (Entry E R)) : Type 0 where
   pub lent : ShownPort E R O
   pub back : ShownPort E R O
   pub named : lent.known.number ≡ number
@@ -58,6 +61,7 @@ pub record AreCallsOf {E R O : Type 0} (did : ShownPort E R O → ShownPort E R 
   pub calls_are : calls ≡ calls_by number back.known.seen
 
 -- each port that was split off, from the count `from` on, did this work, and its calls are known
-abbrev pub AreServed : {E R O : Type 0} → (ShownPort E R O → ShownPort E R O → Type 0) → ℕ → ShownPort E R O → Type 0
+abbrev pub AreServed : {E R O : Type 0} → (ShownPort E R O → ShownPort E R O → Type 0) → ℕ
+    → ShownPort E R O → Type 0
 AreServed did from p = (i : ℕ) → from ≤ i → i < p.known.splits
     → AreCallsOf did (child p.known.number i) (calls_by (child p.known.number i) p.known.seen)

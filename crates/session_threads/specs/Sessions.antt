@@ -15,11 +15,13 @@ use Rattle.session_threads.specs.declared.session.Lent.{Lent}
 use Rattle.session_threads.specs.Ports.{GoesOn, AreCallsOf, child}
 
 -- the port that was lent to a session's thread
-abbrev pub port_of : {T E R O C : Type 0} → PromisedHandle (Port T E R O) (Lent T C E R O) → ShownPort E R O
+abbrev pub port_of : {T E R O C : Type 0} → PromisedHandle (Port T E R O) (Lent T C E R O)
+    → ShownPort E R O
 port_of session = session.promise.port.value
 
 -- the terms on which a session's thread serves
-abbrev pub terms_of : {T E R O C : Type 0} → (C → List ℕ) → PromisedHandle (Port T E R O) (Lent T C E R O) → List ℕ
+abbrev pub terms_of : {T E R O C : Type 0} → (C → List ℕ)
+    → PromisedHandle (Port T E R O) (Lent T C E R O) → List ℕ
 terms_of terms session = terms session.promise.connection.value
 
 -- no session is open, and there is capacity for eight
@@ -54,10 +56,12 @@ module _ {H E R O : Type 0} (lent : H → ShownPort E R O) (terms_of : H → Lis
   -- each port that was split off, from the count `from` on, was joined in or is that of an open
   -- session
   abbrev pub IsAccounted : ℕ → ShownPort E R O → Slab H → Type 0
-  IsAccounted from p held = (i : ℕ) → from ≤ i → i < p.known.splits → IsEnded p (child p.known.number i) ⊎ IsOpen held (child p.known.number i)
+  IsAccounted from p held = (i : ℕ) → from ≤ i → i < p.known.splits
+      → IsEnded p (child p.known.number i) ⊎ IsOpen held (child p.known.number i)
 
   -- sessions were opened and closed, and no port was lost
-  pub record Tends (p : ShownPort E R O) (held : Slab H) (q : ShownPort E R O) (later : Slab H) : Type 0 where
+  pub record Tends (p : ShownPort E R O) (held : Slab H) (q : ShownPort E R O) (later : Slab H)
+      : Type 0 where
     pub goes : GoesOn p q
     pub holds : AreHeld lent p held → AreHeld lent q later
     pub accounts : (from : ℕ) → IsAccounted from p held → IsAccounted from q later

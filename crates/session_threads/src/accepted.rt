@@ -2,16 +2,16 @@
 ghost use Rattle.std.specs.Prelude.{◌≡◌, ◌⊎◌, ℕ, ◌+◌, ◌<◌, ◌≤◌, ◌↔◌, true, false, IsTrue};
 ghost use Rattle.session_threads.specs.Sessions.{Takes, IsServed};
 
-/// The result of one connection.
+// The result of one connection.
 #[derive(Clone, Copy)]
 pub(crate) enum Outcome {
-    /// A thread serves the connection.
+    // A thread serves the connection.
     Served,
-    /// The maximum number of sessions were open; the connection was closed.
+    // The maximum number of sessions were open; the connection was closed.
     Crowded,
-    /// No memory, port or thread was available; the connection was closed.
+    // No memory, port or thread was available; the connection was closed.
     Starved,
-    /// The stream could not be set up; the connection was closed.
+    // The stream could not be set up; the connection was closed.
     SetupFailed,
 }
 
@@ -29,9 +29,14 @@ pub struct Accepted {
 }
 
 impl Accepted {
-    /// Returns the results before any connection.
+    // Returns the results before any connection.
     pub(crate) fn none() -> Accepted
-        ensures { result ≡ record { served = 0; turned_away = 0; has_failed = false; has_starved = false } }
+        ensures { result ≡ record {
+          served = 0;
+          turned_away = 0;
+          has_failed = false;
+          has_starved = false;
+        } }
     {
         Accepted {
             served: 0,
@@ -41,12 +46,16 @@ impl Accepted {
         }
     }
 
-    /// Adds the result of one more connection.
+    // Adds the result of one more connection.
     pub(crate) fn count(&mut self, outcome: Outcome)
-        ensures counted { self.old.served + self.old.turned_away < u64.MAX → self.new.served + self.new.turned_away ≡ self.old.served + self.old.turned_away + 1 }
-        ensures rises { self.old.served + self.old.turned_away ≤ self.new.served + self.new.turned_away }
-        ensures starved { self.new.has_starved ≡ true → (self.old.has_starved ≡ true) ⊎ (outcome ≡ Outcome.Starved) }
-        ensures served { (before : ℕ) (now : ℕ) (later : ℕ) → IsServed before now self.old → Takes outcome now later → IsServed before later self.new }
+        ensures counted { self.old.served + self.old.turned_away < u64.MAX
+            → self.new.served + self.new.turned_away ≡ self.old.served + self.old.turned_away + 1 }
+        ensures rises { self.old.served + self.old.turned_away ≤ self.new.served
+            + self.new.turned_away }
+        ensures starved { self.new.has_starved ≡ true → (self.old.has_starved ≡ true)
+            ⊎ (outcome ≡ Outcome.Starved) }
+        ensures served { (before : ℕ) (now : ℕ) (later : ℕ) → IsServed before now self.old
+            → Takes outcome now later → IsServed before later self.new }
         ensures failed { self.new.has_failed ≡ self.old.has_failed }
     {
         match outcome {
@@ -61,8 +70,8 @@ impl Accepted {
         }
     }
 
-    /// Returns whether the number of connections has reached the limit; a limit of 0 means no
-    /// limit.
+    // Returns whether the number of connections has reached the limit; a limit of 0 means no
+    // limit.
     pub(crate) fn has_reached(&self, limit: u64) -> bool
         ensures { IsTrue result ↔ (0 < limit) × (limit ≤ self.now.served + self.now.turned_away) }
     {

@@ -6,9 +6,9 @@ use std::sync::atomic::{AtomicBool, Ordering};
 /// The maximum number of concurrent sessions.
 pub const SESSIONS: usize = 8;
 
-/// Two flags for each session's place. They are needed because the handle of a thread does not show
-/// whether the thread has ended, and because the closure of a thread that can't be started keeps
-/// its values until it is called.
+// Two flags for each session's place. They are needed because the handle of a thread does not show
+// whether the thread has ended, and because the closure of a thread that can't be started keeps
+// its values until it is called.
 #[derive(Drop)]
 pub(crate) struct Flags {
     ended: [AtomicBool; SESSIONS],
@@ -23,7 +23,7 @@ impl Flags {
         }
     }
 
-    /// Clears both flags of a place, before its session is started.
+    // Clears both flags of a place, before its session is started.
     pub(crate) fn begin(&self, key: usize)
         requires { key < SESSIONS }
     {
@@ -31,7 +31,7 @@ impl Flags {
         self.refused[key].store(false, Ordering::SeqCst);
     }
 
-    /// Records that the session at this place has ended.
+    // Records that the session at this place has ended.
     pub(crate) fn end(&self, key: usize)
         requires { key < SESSIONS }
     {
@@ -44,7 +44,7 @@ impl Flags {
         self.ended[key].load(Ordering::SeqCst)
     }
 
-    /// Records that no thread could be started for the session at this place.
+    // Records that no thread could be started for the session at this place.
     pub(crate) fn refuse(&self, key: usize)
         requires { key < SESSIONS }
     {

@@ -32,12 +32,15 @@ where
     T::Origin: 'static,
     requires held { AreHeld port_of port.old sessions.old.handles }
     requires hands_back { (t : _) (p : _) (q : _) → L.Connection.hands_back t p q → IsSame p q }
-    ensures tends { Tends port_of (terms_of L.Connection.terms) L.Connection.hands_back (L.terms listener.old) port.old sessions.old.handles port.new sessions.new.handles }
-    ensures splits { IfSome result (λ outcome. Takes outcome port.old.known.splits port.new.known.splits) }
+    ensures tends { Tends port_of (terms_of L.Connection.terms) L.Connection.hands_back
+        (L.terms listener.old) port.old sessions.old.handles port.new sessions.new.handles }
+    ensures splits { IfSome result
+        (λ outcome. Takes outcome port.old.known.splits port.new.known.splits) }
     ensures failed { IfNone result (L.has_failed listener.new) }
     ensures borrowed { L.borrowed listener.new ≡ L.borrowed listener.old }
     ensures terms { L.terms listener.new ≡ L.terms listener.old }
-    ensures accepted { IfSome result (λ _. RisesBy (L.accepted listener.old) 1 (L.accepted listener.new)) }
+    ensures accepted { IfSome result
+        (λ _. RisesBy (L.accepted listener.old) 1 (L.accepted listener.new)) }
     ensures accepted_none { IfNone result (RisesBy (L.accepted listener.old) 0 (L.accepted listener.new)) }
     ensures none { IfNone result (port.new.known.splits ≡ port.old.known.splits) }
 {
@@ -68,13 +71,15 @@ where
     T::Origin: 'static,
     requires held { AreHeld port_of port.old sessions.old.handles }
     requires hands_back { (t : _) (p : _) (q : _) → L.Connection.hands_back t p q → IsSame p q }
-    ensures tends { Tends port_of (terms_of L.Connection.terms) L.Connection.hands_back (L.terms listener.old) port.old sessions.old.handles port.new sessions.new.handles }
+    ensures tends { Tends port_of (terms_of L.Connection.terms) L.Connection.hands_back
+        (L.terms listener.old) port.old sessions.old.handles port.new sessions.new.handles }
     ensures complete { IsComplete limit result }
     ensures served { IsServed port.old.known.splits port.new.known.splits result }
     ensures failed { IsTrue result.has_failed → L.has_failed listener.new }
     ensures borrowed { L.borrowed listener.new ≡ L.borrowed listener.old }
     ensures terms { L.terms listener.new ≡ L.terms listener.old }
-    ensures counted { IsCounted (L.accepted listener.old) (result.served + result.turned_away) (L.accepted listener.new) }
+    ensures counted { IsCounted (L.accepted listener.old) (result.served + result.turned_away)
+        (L.accepted listener.new) }
 {
     let mut accepted = Accepted::none();
     'connections: for _ in rt.forever() {
@@ -95,9 +100,9 @@ where
 ///
 /// Returns after `limit` connections (0 means no limit), or after the listener failed, once every
 /// session has ended. A connection is closed without a byte sent and counted as turned away if
-/// eight sessions are open, if no memory, port or thread is available for it, or if its stream could
-/// not be set up. Returns `AllocError` if the memory for eight sessions could not be allocated; then
-/// no connection was accepted.
+/// eight sessions are open, if no memory, port or thread is available for it, or if its stream
+/// could not be set up. Returns `AllocError` if the memory for eight sessions could not be
+/// allocated; then no connection was accepted.
 pub fn serve_connections<
     T: Turned + Send + 'static,
     L: Listener<Port<T>>,
@@ -117,12 +122,16 @@ where
     ensures goes { GoesOn port.old port.new }
     ensures lawful { OnOk result (IsLegal T.legal port.new.known) }
     ensures joined { AreJoined port.old.known.splits port.new }
-    ensures sessions { AreServed (L.Connection.hands_back (L.terms listener.old)) port.old.known.splits port.new }
+    ensures sessions { AreServed (L.Connection.hands_back (L.terms listener.old))
+        port.old.known.splits port.new }
     ensures complete { IfOk result (IsComplete limit) }
     ensures served { IfOk result (IsServed port.old.known.splits port.new.known.splits) }
-    ensures failed { IfOk result (λ accepted. IsTrue accepted.has_failed → L.has_failed listener.new) }
+    ensures failed { IfOk result (λ accepted. IsTrue accepted.has_failed
+        → L.has_failed listener.new) }
     ensures borrowed { L.borrowed listener.new ≡ L.borrowed listener.old }
-    ensures counted { IfOk result (λ accepted. IsCounted (L.accepted listener.old) (accepted.served + accepted.turned_away) (L.accepted listener.new)) }
+    ensures counted { IfOk result
+        (λ accepted. IsCounted (L.accepted listener.old) (accepted.served + accepted.turned_away)
+        (L.accepted listener.new)) }
     ensures err { OnErr result (port.new ≡ port.old) }
 {
     let mut sessions = Sessions::new(alloc)?;

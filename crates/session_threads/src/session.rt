@@ -11,8 +11,8 @@ use std::thread;
 use std::thread::{Promise, PromisedHandle, Threads};
 use turn_lock::{Port, Turned};
 
-/// The promise of a session's thread: it returns the port that it was lent, either unchanged or as
-/// the connection's session left it.
+// The promise of a session's thread: it returns the port that it was lent, either unchanged or as
+// the connection's session left it.
 #[derive(Drop)]
 pub(crate) struct Lent<T: Turned, C> {
     pub(crate) connection: Snapshot<C>,
@@ -22,14 +22,15 @@ pub(crate) struct Lent<T: Turned, C> {
 impl<T: Turned, C: Connection<Port<T>>> Promise<Port<T>> for Lent<T, C> {
     ghost use Rattle.session_threads.specs.Ports.{Returns};
 
-    ghost kept_by = { λ lent port. Returns (C.hands_back (C.terms lent.connection.value)) lent.port.value port };
+    ghost kept_by = { λ lent port.
+        Returns (C.hands_back (C.terms lent.connection.value)) lent.port.value port };
 }
 
-/// The handle of a session's thread.
+// The handle of a session's thread.
 pub(crate) type Session<T, C> = PromisedHandle<Port<T>, Lent<T, C>>;
 
-/// Serves the connection at this place, in the session's thread. If the thread was refused, closes
-/// the connection without a byte sent.
+// Serves the connection at this place, in the session's thread. If the thread was refused, closes
+// the connection without a byte sent.
 pub(crate) fn attend<T: Turned, C: Connection<Port<T>>, W: Wait + Copy>(
     rt: W,
     alloc: Global,
@@ -49,8 +50,8 @@ pub(crate) fn attend<T: Turned, C: Connection<Port<T>>, W: Wait + Copy>(
     port
 }
 
-/// Starts a thread that serves the connection at this place. If no thread can be started, closes
-/// the connection and returns the port.
+// Starts a thread that serves the connection at this place. If no thread can be started, closes
+// the connection and returns the port.
 pub(crate) fn start<
     T: Turned + Send + 'static,
     C: Connection<Port<T>> + 'static,

@@ -17,7 +17,7 @@ use std::sync::{Arc, Wait};
 use std::thread::Threads;
 use turn_lock::{Port, Turned};
 
-/// The open sessions, at most eight, and the flags of their places.
+// The open sessions, at most eight, and the flags of their places.
 #[derive(Drop)]
 pub(crate) struct Sessions<T: Turned, C: Connection<Port<T>>> {
     pub(crate) handles: Slab<Session<T, C>>,
@@ -36,7 +36,7 @@ fn take_back<T: Turned>(port: &mut Port<T>, unused: Port<T>) -> Outcome
 }
 
 impl<T: Turned, C: Connection<Port<T>>> Sessions<T, C> {
-    /// Returns an empty set of sessions. Allocates all memory for eight sessions.
+    // Returns an empty set of sessions. Allocates all memory for eight sessions.
     pub(crate) fn new(alloc: Global) -> Result<Sessions<T, C>, AllocError>
         ensures { IfOk result (λ sessions. IsEmpty sessions.handles) }
     {
@@ -46,14 +46,17 @@ impl<T: Turned, C: Connection<Port<T>>> Sessions<T, C> {
         Ok(Sessions { handles, flags })
     }
 
-    /// Waits for the end of the session at this place, if one is open there, and joins its port in.
+    // Waits for the end of the session at this place, if one is open there, and joins its port in.
     fn close<R: Threads>(&mut self, rt: &R, key: usize, port: &mut Port<T>)
         requires held { AreHeld port_of port.old self.old.handles }
         requires hands_back { (t : _) (p : _) (q : _) → C.hands_back t p q → IsSame p q }
-        ensures tends { (t : List ℕ) → Tends port_of (terms_of C.terms) C.hands_back t port.old self.old.handles port.new self.new.handles }
+        ensures tends { (t : List ℕ)
+            → Tends port_of (terms_of C.terms) C.hands_back t port.old self.old.handles port.new
+            self.new.handles }
         ensures splits { port.new.known.splits ≡ port.old.known.splits }
         ensures closed { get self.new.handles key ≡ None }
-        ensures others { (other : ℕ) → get self.old.handles other ≡ None → get self.new.handles other ≡ None }
+        ensures others { (other : ℕ) → get self.old.handles other ≡ None
+            → get self.new.handles other ≡ None }
     {
         if let Some(session) = self.handles.try_remove(key) {
             let own = session.join(rt);
@@ -61,12 +64,14 @@ impl<T: Turned, C: Connection<Port<T>>> Sessions<T, C> {
         }
     }
 
-    /// Closes the session at this place if its thread has ended.
+    // Closes the session at this place if its thread has ended.
     fn reap_one<R: Threads>(&mut self, rt: &R, key: usize, port: &mut Port<T>)
         requires place { key < SESSIONS }
         requires held { AreHeld port_of port.old self.old.handles }
         requires hands_back { (t : _) (p : _) (q : _) → C.hands_back t p q → IsSame p q }
-        ensures tends { (t : List ℕ) → Tends port_of (terms_of C.terms) C.hands_back t port.old self.old.handles port.new self.new.handles }
+        ensures tends { (t : List ℕ)
+            → Tends port_of (terms_of C.terms) C.hands_back t port.old self.old.handles port.new
+            self.new.handles }
         ensures splits { port.new.known.splits ≡ port.old.known.splits }
     {
         if self.flags.has_ended(key) {
@@ -74,11 +79,13 @@ impl<T: Turned, C: Connection<Port<T>>> Sessions<T, C> {
         }
     }
 
-    /// Closes each session whose thread has ended.
+    // Closes each session whose thread has ended.
     pub(crate) fn reap<R: Threads>(&mut self, rt: &R, port: &mut Port<T>)
         requires held { AreHeld port_of port.old self.old.handles }
         requires hands_back { (t : _) (p : _) (q : _) → C.hands_back t p q → IsSame p q }
-        ensures tends { (t : List ℕ) → Tends port_of (terms_of C.terms) C.hands_back t port.old self.old.handles port.new self.new.handles }
+        ensures tends { (t : List ℕ)
+            → Tends port_of (terms_of C.terms) C.hands_back t port.old self.old.handles port.new
+            self.new.handles }
         ensures splits { port.new.known.splits ≡ port.old.known.splits }
     {
         'places: for key in 0..SESSIONS {
@@ -86,11 +93,13 @@ impl<T: Turned, C: Connection<Port<T>>> Sessions<T, C> {
         }
     }
 
-    /// Waits for the end of every session.
+    // Waits for the end of every session.
     pub(crate) fn close_all<R: Threads>(&mut self, rt: &R, port: &mut Port<T>)
         requires held { AreHeld port_of port.old self.old.handles }
         requires hands_back { (t : _) (p : _) (q : _) → C.hands_back t p q → IsSame p q }
-        ensures tends { (t : List ℕ) → Tends port_of (terms_of C.terms) C.hands_back t port.old self.old.handles port.new self.new.handles }
+        ensures tends { (t : List ℕ)
+            → Tends port_of (terms_of C.terms) C.hands_back t port.old self.old.handles port.new
+            self.new.handles }
         ensures splits { port.new.known.splits ≡ port.old.known.splits }
         ensures closed { (key : ℕ) → key < SESSIONS → get self.new.handles key ≡ None }
     {
@@ -99,8 +108,8 @@ impl<T: Turned, C: Connection<Port<T>>> Sessions<T, C> {
         }
     }
 
-    /// Starts a thread for the connection with a port split off from this one, or closes the
-    /// connection.
+    // Starts a thread for the connection with a port split off from this one, or closes the
+    // connection.
     pub(crate) fn admit<R: Threads + Wait + Copy + Send + 'static>(
         &mut self,
         rt: &R,
@@ -116,7 +125,8 @@ impl<T: Turned, C: Connection<Port<T>>> Sessions<T, C> {
         T::Origin: 'static,
         requires held { AreHeld port_of port.old self.old.handles }
         requires hands_back { (t : _) (p : _) (q : _) → C.hands_back t p q → IsSame p q }
-        ensures tends { Tends port_of (terms_of C.terms) C.hands_back (C.terms connection) port.old self.old.handles port.new self.new.handles }
+        ensures tends { Tends port_of (terms_of C.terms) C.hands_back (C.terms connection) port.old
+            self.old.handles port.new self.new.handles }
         ensures splits { Takes result port.old.known.splits port.new.known.splits }
         ensures crowded { IsCrowd result self.old.handles }
         ensures admitted { result ≢ Outcome.SetupFailed }
@@ -140,8 +150,8 @@ impl<T: Turned, C: Connection<Port<T>>> Sessions<T, C> {
         }
     }
 
-    /// Starts a thread for an accepted connection with a port split off from this one, or closes
-    /// the connection. If the listener closed it, the result is the listener's reason.
+    // Starts a thread for an accepted connection with a port split off from this one, or closes
+    // the connection. If the listener closed it, the result is the listener's reason.
     pub(crate) fn take_in<R: Threads + Wait + Copy + Send + 'static>(
         &mut self,
         rt: &R,

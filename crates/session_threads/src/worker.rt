@@ -42,13 +42,14 @@ pub struct Task<T: Turned, K> {
 }
 
 impl<T: Turned, K: Worker<Port<T>>> Promise<Handed<T>> for Task<T, K> {
-    ghost kept_by = { λ task handed. Ended (K.did task.worker.value) task.port.value handed.0 handed.1 };
+    ghost kept_by = { λ task handed.
+        Ended (K.did task.worker.value) task.port.value handed.0 handed.1 };
 }
 
 /// The handle of a running worker's thread.
 pub type WorkerThread<T, K> = PromisedHandle<Handed<T>, Task<T, K>>;
 
-/// Does the work of a worker's thread. If the thread was refused, does nothing.
+// Does the work of a worker's thread. If the thread was refused, does nothing.
 pub(crate) fn do_work<T: Turned, K: Worker<Port<T>>, W: Wait + Copy>(
     rt: W,
     alloc: Global,
@@ -77,7 +78,8 @@ where
     T::Reply: Send + 'static,
     T::Origin: 'static,
     requires { (w : _) (p : _) (q : _) (end : _) → K.did w p q end → IsSame p q }
-    ensures ok { IfOk result (λ running. (running.promise.worker.value ≡ worker) × (running.promise.port.value ≡ port)) }
+    ensures ok { IfOk result (λ running. (running.promise.worker.value ≡ worker)
+        × (running.promise.port.value ≡ port)) }
     ensures err { IfErr result (λ back. IsSame port back) }
 {
     let Ok(refused) = Arc::new(alloc, AtomicBool::new(false)) else {
@@ -100,8 +102,8 @@ where
     }
 }
 
-/// Starts a thread for the worker, with a port split off from this one. Returns `None` if no memory,
-/// port or thread is available; the worker is dropped, and no port is lost.
+/// Starts a thread for the worker, with a port split off from this one. Returns `None` if no
+/// memory, port or thread is available; the worker is dropped, and no port is lost.
 pub fn start_worker<
     T: Turned + Send + 'static,
     K: Worker<Port<T>> + 'static,
@@ -113,8 +115,10 @@ where
     T::Origin: 'static,
     requires { (w : _) (p : _) (q : _) (end : _) → K.did w p q end → IsSame p q }
     ensures worker { IfSome result (λ running. running.promise.worker.value ≡ worker) }
-    ensures port { IfSome result (λ running. SplitsOff port.old running.promise.port.value port.new) }
-    ensures none { IfNone result (GoesOn port.old port.new × AreJoined port.old.known.splits port.new) }
+    ensures port { IfSome result
+        (λ running. SplitsOff port.old running.promise.port.value port.new) }
+    ensures none { IfNone result (GoesOn port.old port.new
+        × AreJoined port.old.known.splits port.new) }
     ensures most { IfNone result (port.new.known.splits ≤ port.old.known.splits + 1) }
 {
     let Ok(own) = port.split() else {
@@ -137,7 +141,8 @@ pub fn join_worker<T: Turned, K: Worker<Port<T>>, R: Threads>(
 ) -> Option<Result<(), CallFault>>
     requires lock { running.promise.port.value.lock ≡ port.old.lock }
     requires hands_back { (w : _) (p : _) (q : _) (end : _) → K.did w p q end → IsSame p q }
-    ensures { let task = running.promise in ComesBack (K.did task.worker.value) task.port.value result port.old port.new }
+    ensures { let task = running.promise
+        in ComesBack (K.did task.worker.value) task.port.value result port.old port.new }
 {
     let (own, end) = running.join(rt);
     port.join(own);

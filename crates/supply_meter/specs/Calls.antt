@@ -58,7 +58,8 @@ abbrev pub OpensBy : Metering → ℕ → Result Unit MeterFault → Metering �
 OpensBy old number (Ok done) new = Opens old number new
 OpensBy old number (Err NoSession) new = (most_sessions ≤ number) × (new ≡ old)
 OpensBy old number (Err SessionTaken) new = (dialogue_at old number ≢ None) × (new ≡ old)
-OpensBy old number (Err Memory) new = (number < most_sessions) × (dialogue_at old number ≡ None) × (new ≡ old)
+OpensBy old number (Err Memory) new = (number < most_sessions) × (dialogue_at old number ≡ None)
+    × (new ≡ old)
 OpensBy old number (Err TooManySamples) new = ⊥
 OpensBy old number (Err Uneven) new = ⊥
 
@@ -86,21 +87,26 @@ pub record FinishesAt (old : Metering) (number : ℕ) (new : Metering) : Type 0 
 
 abbrev pub FinishesBy : Metering → ℕ → Result Unit MeterFault → Metering → Type 0
 FinishesBy old number (Ok done) new = FinishesAt old number new
-FinishesBy old number (Err fault) new = (fault ≡ NoSession) × (dialogue_at old number ≡ None) × (new ≡ old)
+FinishesBy old number (Err fault) new = (fault ≡ NoSession) × (dialogue_at old number ≡ None)
+    × (new ≡ old)
 
 -- a session returned a frame, or what it waits for
 abbrev pub GivesAt : Metering → ℕ → List ℕ → Given → Metering → List ℕ → Type 0
 GivesAt old number buffer given new buffer' =
-    AtSession old number new (λ (d d' : Dialogue). Gives d old.recorder buffer given d' new.recorder buffer')
+    AtSession old number new
+    (λ (d d' : Dialogue). Gives d old.recorder buffer given d' new.recorder buffer')
 
 -- out of memory: no frame was returned, and whatever was done stays done
-pub record StopsAt (old : Metering) (number : ℕ) (buffer : List ℕ) (new : Metering) (buffer' : List ℕ) : Type 0 where
-  pub session : AtSession old number new (λ (d d' : Dialogue). Advances d old.recorder [] d' new.recorder)
+pub record StopsAt (old : Metering) (number : ℕ) (buffer : List ℕ) (new : Metering)
+    (buffer' : List ℕ) : Type 0 where
+  pub session : AtSession old number new
+      (λ (d d' : Dialogue). Advances d old.recorder [] d' new.recorder)
   pub unwritten : buffer' ≡ buffer
 
 abbrev pub NextBy : Metering → ℕ → List ℕ → Result Given MeterFault → Metering → List ℕ → Type 0
 NextBy old number buffer (Ok given) new buffer' = GivesAt old number buffer given new buffer'
-NextBy old number buffer (Err NoSession) new buffer' = (dialogue_at old number ≡ None) × (new ≡ old) × (buffer' ≡ buffer)
+NextBy old number buffer (Err NoSession) new buffer' = (dialogue_at old number ≡ None) × (new ≡ old)
+    × (buffer' ≡ buffer)
 NextBy old number buffer (Err Memory) new buffer' = StopsAt old number buffer new buffer'
 NextBy old number buffer (Err SessionTaken) new buffer' = ⊥
 NextBy old number buffer (Err TooManySamples) new buffer' = ⊥
@@ -115,18 +121,27 @@ pub record Closes (old : Metering) (number : ℕ) (new : Metering) : Type 0 wher
 
 abbrev pub ClosesBy : Metering → ℕ → Result Unit MeterFault → Metering → Type 0
 ClosesBy old number (Ok done) new = Closes old number new
-ClosesBy old number (Err fault) new = (fault ≡ NoSession) × (dialogue_at old number ≡ None) × (new ≡ old)
+ClosesBy old number (Err fault) new = (fault ≡ NoSession) × (dialogue_at old number ≡ None)
+    × (new ≡ old)
 
 -- ---- events of the meter's own
 
 -- the reply to a block of samples, as the number of firings
 abbrev pub IsFired : Reply → Fired → Type 0
-IsFired (Sampled over under) fired = fired ≡ record { over = over; under = under; export_over = 0; export_under = 0 }
-IsFired (SampledBoth over under export_over export_under) fired = fired ≡ record { over = over; under = under; export_over = export_over; export_under = export_under }
+IsFired (Sampled over under) fired =
+    fired ≡ record { over = over; under = under; export_over = 0; export_under = 0 }
+IsFired (SampledBoth over under export_over export_under) fired =
+    fired ≡ record {
+      over = over;
+      under = under;
+      export_over = export_over;
+      export_under = export_under;
+    }
 IsFired _ fired = ⊥
 
 -- a block of samples was applied
-pub record TakesSamples (old : Metering) (samples : Samples) (fired : Fired) (new : Metering) : Type 0 where
+pub record TakesSamples (old : Metering) (samples : Samples) (fired : Fired) (new : Metering) : Type
+    0 where
   pub reply : Reply
   pub takes : Takes old (event.Samples samples) reply new
   pub tells : IsFired reply fired
@@ -134,7 +149,8 @@ pub record TakesSamples (old : Metering) (samples : Samples) (fired : Fired) (ne
 
 abbrev pub SamplesBy : Metering → Samples → Result Fired MeterFault → Metering → Type 0
 SamplesBy old samples (Ok fired) new = TakesSamples old samples fired new
-SamplesBy old samples (Err TooManySamples) new = AreEven samples × (most_values < length samples.import) × (new ≡ old)
+SamplesBy old samples (Err TooManySamples) new = AreEven samples
+    × (most_values < length samples.import) × (new ≡ old)
 SamplesBy old samples (Err Uneven) new = (¬ (AreEven samples)) × (new ≡ old)
 SamplesBy old samples (Err Memory) new = new ≡ old
 SamplesBy old samples (Err NoSession) new = ⊥

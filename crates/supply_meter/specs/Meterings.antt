@@ -36,7 +36,8 @@ pub record OthersStay (old : Metering) (number : ℕ) (new : Metering) : Type 0 
   pub password : new.password ≡ old.password
 
 -- a call that changes only the session with a number, and does this to it
-pub record AtSession (old : Metering) (number : ℕ) (new : Metering) (Does : Dialogue → Dialogue → Type 0) : Type 0 where
+pub record AtSession (old : Metering) (number : ℕ) (new : Metering) (Does : Dialogue → Dialogue
+    → Type 0) : Type 0 where
   pub before : Dialogue
   pub after : Dialogue
   pub was : dialogue_at old number ≡ Some before

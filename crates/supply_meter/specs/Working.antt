@@ -20,7 +20,8 @@ use Rattle.supply_meter.specs.declared.under_way.UnderWay.TheVariants.{Nothing, 
 -- the session will still do the same
 pub record SameAhead (old new : Dialogue) : Type 0 where
   pub asks : (more : List ℕ) → asks_ahead old more ≡ asks_ahead new more
-  pub sends : (more : List ℕ) (replies : List Reply) → sends_ahead old more replies ≡ sends_ahead new more replies
+  pub sends : (more : List ℕ) (replies : List Reply)
+      → sends_ahead old more replies ≡ sends_ahead new more replies
   pub ends : (more : List ℕ) → ends_ahead old more ≡ ends_ahead new more
 
 -- an event is pending
@@ -61,7 +62,8 @@ AsksBy old (Ok (Some rest)) new = SameAhead old new × Leaves rest new
 AsksBy old (Err error) new = SameAhead old new
 
 -- the meter applied the event, or out of memory
-abbrev pub AppliesBy : {E : Type 0} → Dialogue → Recording → Result Unit E → Dialogue → Recording → Type 0
+abbrev pub AppliesBy : {E : Type 0} → Dialogue → Recording → Result Unit E → Dialogue → Recording
+    → Type 0
 AppliesBy old r (Ok done) new r' = Advances old r [] new r' × (weight new < weight old)
 AppliesBy old r (Err error) new r' = (new ≡ old) × (r' ≡ r)
 
@@ -71,18 +73,21 @@ AnswersBy old (Ok done) new = SameAhead old new × (weight new < weight old)
 AnswersBy old (Err error) new = new ≡ old
 
 -- one step
-abbrev pub WorksBy : {E : Type 0} → Dialogue → Recording → Result (Option Rest) E → Dialogue → Recording → Type 0
+abbrev pub WorksBy : {E : Type 0} → Dialogue → Recording → Result (Option Rest) E → Dialogue
+    → Recording → Type 0
 WorksBy old r (Ok None) new r' = Advances old r [] new r' × (weight new < weight old)
 WorksBy old r (Ok (Some rest)) new r' = Advances old r [] new r' × Leaves rest new
 WorksBy old r (Err error) new r' = Advances old r [] new r'
 
 -- all steps
-abbrev pub RestsBy : {E : Type 0} → Dialogue → Recording → Result Rest E → Dialogue → Recording → Type 0
+abbrev pub RestsBy : {E : Type 0} → Dialogue → Recording → Result Rest E → Dialogue → Recording
+    → Type 0
 RestsBy old r (Ok rest) new r' = Advances old r [] new r' × Leaves rest new
 RestsBy old r (Err error) new r' = Advances old r [] new r'
 
 -- the pending frame was copied to the buffer, and is not pending any more
-pub record TakesFrame (old : Dialogue) (buffer : List ℕ) (count : ℕ) (new : Dialogue) (buffer' : List ℕ) : Type 0 where
+pub record TakesFrame (old : Dialogue) (buffer : List ℕ) (count : ℕ) (new : Dialogue)
+    (buffer' : List ℕ) : Type 0 where
   pub frame : List ℕ
   pub due : old.under_way ≡ Due frame
   pub now : new ≡ record old { under_way = Nothing }
@@ -92,6 +97,7 @@ pub record TakesFrame (old : Dialogue) (buffer : List ℕ) (count : ℕ) (new : 
 -- the frame was copied, or stays pending
 abbrev pub GivesDue : Dialogue → List ℕ → Given → Dialogue → List ℕ → Type 0
 GivesDue old buffer (given.Frame count) new buffer' = TakesFrame old buffer count new buffer'
-GivesDue old buffer (given.NoRoom count) new buffer' = (new ≡ old) × KeepsFrame count buffer new × (buffer' ≡ buffer)
+GivesDue old buffer (given.NoRoom count) new buffer' = (new ≡ old) × KeepsFrame count buffer new
+    × (buffer' ≡ buffer)
 GivesDue old buffer given.Wait new buffer' = ⊥
 GivesDue old buffer (given.End end) new buffer' = ⊥

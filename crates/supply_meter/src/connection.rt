@@ -11,18 +11,18 @@ use std::alloc::{AllocError, Global};
 use std::marker::Model;
 use std::mem::replace;
 
-/// What a session needs from its caller once the meter has applied its requests.
+// What a session needs from its caller once the meter has applied its requests.
 #[derive(Clone, Copy)]
 pub(crate) enum Rest {
-    /// A frame must be sent.
+    // A frame must be sent.
     Due,
-    /// The session needs more input.
+    // The session needs more input.
     Wait,
-    /// The session is over and needs nothing.
+    // The session is over and needs nothing.
     End(SessionEnd),
 }
 
-/// A session of a client, with its pending event, reply or frame.
+// A session of a client, with its pending event, reply or frame.
 #[derive(Drop)]
 pub(crate) struct Connection {
     session: Session,
@@ -55,8 +55,8 @@ impl Connection {
     ghost use Rattle.supply_meter.specs.Progress.{Owes, Feeds, Finishes, GivesBy};
     ghost use Rattle.supply_meter.specs.Working.{AsksBy, WorksBy, RestsBy, AppliesBy, AnswersBy, IsAsked, IsAnswered, IsDue, GivesDue};
 
-    /// Returns a new session that has received no byte. `password`, 1 to 32 bytes, is that of the
-    /// management client.
+    // Returns a new session that has received no byte. `password`, 1 to 32 bytes, is that of the
+    // management client.
     pub(crate) fn new(alloc: Global, password: &Octets) -> Result<Connection, AllocError>
         requires { IsPassword password.now }
         ensures { IfOk result (Owes password.now) }
@@ -67,8 +67,8 @@ impl Connection {
         })
     }
 
-    /// Passes the next bytes to the session, split at any place. A session that is over, or whose
-    /// input has ended, ignores them.
+    // Passes the next bytes to the session, split at any place. A session that is over, or whose
+    // input has ended, ignores them.
     pub(crate) fn feed(&mut self, bytes: &[u8]) -> Result<(), AllocError>
         ensures ok { OnOk result (Feeds self.old bytes.now self.new) }
         ensures err { OnErr result (self.new ≡ self.old) }
@@ -76,15 +76,15 @@ impl Connection {
         self.session.feed(bytes)
     }
 
-    /// Ends the input of the session.
+    // Ends the input of the session.
     pub(crate) fn finish(&mut self)
         ensures { Finishes self.old self.new }
     {
         self.session.finish();
     }
 
-    /// Applies the requests of the session to the meter, up to the next frame, and copies the frame
-    /// to the buffer.
+    // Applies the requests of the session to the meter, up to the next frame, and copies the frame
+    // to the buffer.
     pub(crate) fn next(
         &mut self,
         alloc: Global,

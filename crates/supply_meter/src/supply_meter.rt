@@ -54,9 +54,14 @@ impl Model for SupplyMeter {
 
     ghost coded = { Prim.hlevel (codes, recorder_row.the_row.coded, connection_row.the_row.coded) };
 
-    ghost view = { λ m. record { recorder = m.recorder; password = m.password; places = m.places } };
+    ghost view = { λ m. record {
+      recorder = m.recorder;
+      password = m.password;
+      places = m.places;
+    } };
 
-    ghost invariant = { λ m. IsMetering (record { recorder = m.recorder; password = m.password; places = m.places }) };
+    ghost invariant = { λ m.
+        IsMetering (record { recorder = m.recorder; password = m.password; places = m.places }) };
 }
 
 // Formats the meter without the password and without the sessions, whose bytes may contain one.
@@ -325,7 +330,8 @@ impl SupplyMeter {
 
     /// Returns whether the supply is on, which it is exactly in Connected.
     pub fn output(&self) -> bool
-        ensures { (w : World) → StandsFor self.now.recorder.core w → result ≡ is_state w.control.state Connected }
+        ensures { (w : World) → StandsFor self.now.recorder.core w
+            → result ≡ is_state w.control.state Connected }
     {
         self.recorder.core().output()
     }

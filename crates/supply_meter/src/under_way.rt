@@ -1,15 +1,15 @@
 use cosem_axdr::Octets;
 use relay_events::{Event, Reply};
 
-/// What is pending between a session and the meter, or between a session and its client.
+// What is pending between a session and the meter, or between a session and its client.
 #[derive(Drop)]
 pub(crate) enum UnderWay {
-    /// Nothing.
+    // Nothing.
     Nothing,
-    /// An event that the session requested and that the meter has not applied yet.
+    // An event that the session requested and that the meter has not applied yet.
     Asked(Event),
-    /// The meter's reply to that event, which the session has not received yet.
+    // The meter's reply to that event, which the session has not received yet.
     Answered(Reply),
-    /// A frame that has not been passed to the caller yet.
+    // A frame that has not been passed to the caller yet.
     Due(Octets),
 }

@@ -78,7 +78,8 @@ fn exhausts_one_port(rt: HostRuntime) -> Result<(), Fail> {
 }
 
 fn bump_three<W: Wait>(rt: &W, alloc: Global, ports: &mut Three) -> [Answer; 3]
-    ensures { (ports.new.0.lock ≡ ports.old.0.lock) × (ports.new.1.lock ≡ ports.old.1.lock) × (ports.new.2.lock ≡ ports.old.2.lock) }
+    ensures { (ports.new.0.lock ≡ ports.old.0.lock) × (ports.new.1.lock ≡ ports.old.1.lock)
+        × (ports.new.2.lock ≡ ports.old.2.lock) }
 {
     let (one, two, three) = ports;
     [
@@ -92,7 +93,8 @@ fn bump_three<W: Wait>(rt: &W, alloc: Global, ports: &mut Three) -> [Answer; 3]
 type Three = (Port<Counter>, Port<Counter>, Port<Counter>);
 
 fn make_three(port: Port<Counter>) -> Result<Three, AllocError>
-    ensures { IfOk result (λ r. (r.0.lock ≡ port.lock) × (r.1.lock ≡ port.lock) × (r.2.lock ≡ port.lock)) }
+    ensures { IfOk result (λ r. (r.0.lock ≡ port.lock) × (r.1.lock ≡ port.lock)
+        × (r.2.lock ≡ port.lock)) }
 {
     let mut one = port;
     let mut two = one.split()?;
@@ -173,7 +175,9 @@ fn call_when_told<T: Turned, W: Wait>(
 ) -> Result<(T::Reply, T::Reply), CallFault>
     requires { one.old.lock ≡ two.old.lock }
     ensures lock { (one.new.lock ≡ one.old.lock) × (two.new.lock ≡ two.old.lock) }
-    ensures behind { IfOk result (λ r. StandsBehind T.legal one.old.known.number two.old.known.number first r.0 second r.1 two.new.known) }
+    ensures behind { IfOk result
+        (λ r. StandsBehind T.legal one.old.known.number two.old.known.number first r.0 second r.1
+        two.new.known) }
 {
     match one.call(rt, alloc, first) {
         Ok(a) => {
@@ -470,7 +474,8 @@ fn bump_all<R: Threads + Wait + Sync>(
     ports: Ring,
     times: u64,
 ) -> (Port<Counter>, Vec<u64>)
-    requires { (ports.1.lock ≡ ports.0.lock) × (ports.2.lock ≡ ports.0.lock) × (ports.3.lock ≡ ports.0.lock) }
+    requires { (ports.1.lock ≡ ports.0.lock) × (ports.2.lock ≡ ports.0.lock)
+        × (ports.3.lock ≡ ports.0.lock) }
     ensures { result.0.lock ≡ ports.0.lock }
 {
     let (one, two, three, four) = ports;
@@ -494,7 +499,8 @@ fn bump_all<R: Threads + Wait + Sync>(
 type Ring = (Port<Counter>, Port<Counter>, Port<Counter>, Port<Counter>);
 
 fn make_ring(port: Port<Counter>) -> Result<Ring, AllocError>
-    ensures { IfOk result (λ r. (r.0.lock ≡ port.lock) × (r.1.lock ≡ port.lock) × (r.2.lock ≡ port.lock) × (r.3.lock ≡ port.lock)) }
+    ensures { IfOk result (λ r. (r.0.lock ≡ port.lock) × (r.1.lock ≡ port.lock)
+        × (r.2.lock ≡ port.lock) × (r.3.lock ≡ port.lock)) }
 {
     let mut one = port;
     let mut two = one.split()?;

@@ -9,8 +9,10 @@ use Rattle.trace_player.specs.Playing.{lines_text, played}
 
 -- the lines of a history's run for its last events, those that a recorder keeps
 abbrev pub kept_lines : Recording → List Told → World → List ℕ
-kept_lines r history origin = lines_text 1 (drop (length history - length r.events) (lines_of (events_of history) origin))
+kept_lines r history origin =
+    lines_text 1 (drop (length history - length r.events) (lines_of (events_of history) origin))
 
 -- a trace prints the end of every history that a recorder represents
 abbrev pub PrintsTheEnd : Recording → Trace → Type 0
-PrintsTheEnd r trace = (history : List Told) (origin : World) → StandsForHistory r history origin → played trace ≡ kept_lines r history origin
+PrintsTheEnd r trace = (history : List Told) (origin : World) → StandsForHistory r history origin
+    → played trace ≡ kept_lines r history origin

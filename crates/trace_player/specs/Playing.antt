@@ -32,14 +32,17 @@ played trace = lines_text 1 (lines_of trace.events (opened trace.opening))
 
 -- the event of the next line was read and applied to a meter, and its line was written after the
 -- others
-pub record PlaysEvent (version : Version) (number : ℕ) (place place' : Place) (core core' : RelayCore) (out out' : List ℕ) : Type 0 where
+pub record PlaysEvent (version : Version) (number : ℕ) (place place' : Place)
+    (core core' : RelayCore) (out out' : List ℕ) : Type 0 where
   pub event : Event
   pub read : line_as (event_of version) place ≡ Ok (event, place')
   pub world : (w : World) → StandsFor core w → StandsFor core' (at_event event w).world
-  pub wrote : (w : World) → StandsFor core w → out' ≡ out ++ line_text number (line_at event w) ++ 10 ∷ []
+  pub wrote : (w : World) → StandsFor core w
+      → out' ≡ out ++ line_text number (line_at event w) ++ 10 ∷ []
 
 -- the next `count` events were read and applied to a meter, and these lines were written
-pub record PlaysEvents (version : Version) (count : ℕ) (place place' : Place) (core : RelayCore) (out : List ℕ) : Type 0 where
+pub record PlaysEvents (version : Version) (count : ℕ) (place place' : Place) (core : RelayCore)
+    (out : List ℕ) : Type 0 where
   pub events : List Event
   pub read : events_at version count place ≡ Ok (events, place')
   pub counted : count ≡ length events

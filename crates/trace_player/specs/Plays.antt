@@ -15,15 +15,18 @@ use Rattle.trace_player.specs.declared.output.Output.{Output}
 
 -- the result for the bytes that were read: the output of the trace that they all are, or a fault
 abbrev pub Gave : List ℕ → ℕ → Result Output PlayFault → Option (List ℕ) → ℕ → Type 0
-Gave bytes failed (Ok output) left' failed' = PlaysTrace (trace_of bytes) output.lines.items output.count × IsAtEnd left'
-Gave bytes failed (Err (fault.Line number)) left' failed' = (trace_of bytes ≡ Err (trace_fault.Line number)) × IsAtEnd left'
+Gave bytes failed (Ok output) left' failed' =
+    PlaysTrace (trace_of bytes) output.lines.items output.count × IsAtEnd left'
+Gave bytes failed (Err (fault.Line number)) left' failed' =
+    (trace_of bytes ≡ Err (trace_fault.Line number)) × IsAtEnd left'
 Gave bytes failed (Err fault.TooLong) left' failed' = most_bytes < length bytes
 Gave bytes failed (Err fault.Read) left' failed' = (length bytes ≤ most_bytes) × (failed < failed')
 Gave bytes failed (Err fault.Write) left' failed' = ⊥
 Gave bytes failed (Err fault.Memory) left' failed' = ⊤
 
 -- bytes were read, and the result is that for these bytes
-pub record TakesTrace (left : Option (List ℕ)) (failed : ℕ) (result : Result Output PlayFault) (left' : Option (List ℕ)) (failed' : ℕ) : Type 0 where
+pub record TakesTrace (left : Option (List ℕ)) (failed : ℕ) (result : Result Output PlayFault)
+    (left' : Option (List ℕ)) (failed' : ℕ) : Type 0 where
   pub bytes : List ℕ
   pub read : Consumes left left' bytes
   pub gave : Gave bytes failed result left' failed'
@@ -38,13 +41,16 @@ module _ {R W : Type 0}
       (trace : Trace) × (trace_of bytes ≡ Ok trace) × IsAtEnd (remaining r')
       × Appends (contents w) (contents w') (played trace) × (count ≡ length trace.events)
   Played bytes r w (Err (fault.Line number)) r' w' =
-      (trace_of bytes ≡ Err (trace_fault.Line number)) × IsAtEnd (remaining r') × Appends (contents w) (contents w') []
+      (trace_of bytes ≡ Err (trace_fault.Line number)) × IsAtEnd (remaining r')
+      × Appends (contents w) (contents w') []
   Played bytes r w (Err fault.TooLong) r' w' =
       (most_bytes < length bytes) × Appends (contents w) (contents w') []
   Played bytes r w (Err fault.Read) r' w' =
-      (length bytes ≤ most_bytes) × (read_failures r < read_failures r') × Appends (contents w) (contents w') []
+      (length bytes ≤ most_bytes) × (read_failures r < read_failures r')
+      × Appends (contents w) (contents w') []
   Played bytes r w (Err fault.Write) r' w' =
-      (trace : Trace) × (trace_of bytes ≡ Ok trace) × IsAtEnd (remaining r') × (write_failures w < write_failures w')
+      (trace : Trace) × (trace_of bytes ≡ Ok trace) × IsAtEnd (remaining r')
+      × (write_failures w < write_failures w')
   Played bytes r w (Err fault.Memory) r' w' = Appends (contents w) (contents w') []
 
   -- bytes were read, and the result is that of playing these bytes

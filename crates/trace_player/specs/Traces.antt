@@ -52,7 +52,8 @@ trace_of text = if nat_lt most_bytes (length text) then Err TooLong else trace_f
 
 -- the lines of a trace
 abbrev pub trace_rows : Trace → List Row
-trace_rows trace = opening_rows trace.opening ++ number_row (codes "events") (length trace.events) ∷ map event_row trace.events
+trace_rows trace = opening_rows trace.opening ++ number_row (codes "events") (length trace.events)
+    ∷ map event_row trace.events
 
 abbrev pub trace_text : Trace → List ℕ
 trace_text trace = rows_text (trace_rows trace)

@@ -13,4 +13,6 @@ IsOfVersionTwo text = (rows : List Row) × (rows_of text ≡ number_row (codes "
 
 -- the text that is written for a trace, but with these Datas in the lines of its opening
 abbrev pub text_with : Trace → Forms → List ℕ
-text_with trace forms = rows_text (rows_with trace.opening forms ++ number_row (codes "events") (length trace.events) ∷ map event_row trace.events)
+text_with trace forms =
+    rows_text (rows_with trace.opening forms ++ number_row (codes "events") (length trace.events)
+    ∷ map event_row trace.events)

@@ -28,12 +28,14 @@ pub fn written_trace_is_read()
 pub fn read_trace_is_written()
     ensures text { (text : List ℕ) (trace : Trace) → IsOfVersionTwo text → trace_of text ≡ Ok trace
         → (forms : Forms) × AreFormsOf trace.opening forms × (text ≡ text_with trace forms) }
-    ensures written { (trace : Trace) → text_with trace (written_forms trace.opening) ≡ trace_text trace }
+    ensures written { (trace : Trace)
+        → text_with trace (written_forms trace.opening) ≡ trace_text trace }
 {}
 
 /// The trace that a recorder exports prints, when played, the lines of the kept events in every
 /// history that the recorder represents. So a trace that was exported, written and played shows the
 /// replies that were given.
 pub fn exported_run_is_played()
-    ensures { (r : Recording) (trace : Trace) → trace.events ≡ r.events → Replays r (opened trace.opening) → PrintsTheEnd r trace }
+    ensures { (r : Recording) (trace : Trace) → trace.events ≡ r.events
+        → Replays r (opened trace.opening) → PrintsTheEnd r trace }
 {}

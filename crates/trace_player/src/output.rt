@@ -14,15 +14,15 @@ use trace_lines::read_event_count;
 use trace_openings::read_opening;
 use trace_words::{HeldLines, TraceFault, TraceLines, Version};
 
-/// The lines that a trace prints, and the number of its events.
+// The lines that a trace prints, and the number of its events.
 #[derive(Debug, Drop)]
 pub(crate) struct Output {
     pub(crate) lines: Vec<u8>,
     pub(crate) count: u32,
 }
 
-/// Plays the `count` events after an opening. Errors: `Line` if anything follows them, among
-/// others.
+// Plays the `count` events after an opening. Errors: `Line` if anything follows them, among
+// others.
 fn play_behind(
     alloc: Global,
     version: Version,
@@ -31,8 +31,12 @@ fn play_behind(
     lines: &mut HeldLines,
 ) -> Result<Output, TraceFault>
     requires { IsFitOpening opening.now }
-    ensures ok { IfOk result (λ output. PlaysTrace (trace_behind version count opening.now lines.old) output.lines.items output.count) }
-    ensures err { IfErr result (λ fault. Fails trace_fault.Memory fault (trace_behind version count opening.now lines.old)) }
+    ensures ok { IfOk result
+        (λ output. PlaysTrace (trace_behind version count opening.now lines.old) output.lines.items
+        output.count) }
+    ensures err { IfErr result
+        (λ fault. Fails trace_fault.Memory fault
+        (trace_behind version count opening.now lines.old)) }
 {
     let mut core = RelayCore::of_fit_opening(alloc, opening)?;
     let played = play_events(alloc, version, count, lines, &mut core);
@@ -45,8 +49,8 @@ fn play_behind(
     Ok(output)
 }
 
-/// Plays the events in the last `left` bytes of a text; the first line of these has the number
-/// `number`. Text that has been read is dropped on the way.
+// Plays the events in the last `left` bytes of a text; the first line of these has the number
+// `number`. Text that has been read is dropped on the way.
 fn play_held(
     alloc: Global,
     version: Version,
@@ -59,8 +63,15 @@ fn play_held(
     requires fit { IsFitOpening opening.now }
     requires within { left ≤ length text.items }
     requires counted { number + length text.items < 2 ^ 64 }
-    ensures ok { IfOk result (λ output. PlaysTrace (trace_behind version count opening.now (place_at number (drop (length text.items - left) text.items))) output.lines.items output.count) }
-    ensures err { IfErr result (λ fault. Fails trace_fault.Memory fault (trace_behind version count opening.now (place_at number (drop (length text.items - left) text.items)))) }
+    ensures ok { IfOk result
+        (λ output. PlaysTrace
+        (trace_behind version count opening.now
+        (place_at number (drop (length text.items - left) text.items))) output.lines.items
+        output.count) }
+    ensures err { IfErr result
+        (λ fault. Fails trace_fault.Memory fault
+        (trace_behind version count opening.now
+        (place_at number (drop (length text.items - left) text.items)))) }
 {
     let taken = text.len() - left;
     let mut lines = HeldLines::new(text, taken, number);
@@ -69,12 +80,14 @@ fn play_held(
     played
 }
 
-/// Plays the trace of a text.
+// Plays the trace of a text.
 #[tactic(auto, unfolding(crate::specs::Traces::trace_from))]
 fn play_lines(alloc: Global, text: Vec<u8>) -> Result<Output, TraceFault>
     requires { length text.items ≤ most_bytes }
-    ensures ok { IfOk result (λ output. PlaysTrace (trace_from (place_of text.items)) output.lines.items output.count) }
-    ensures err { IfErr result (λ fault. Fails trace_fault.Memory fault (trace_from (place_of text.items))) }
+    ensures ok { IfOk result
+        (λ output. PlaysTrace (trace_from (place_of text.items)) output.lines.items output.count) }
+    ensures err { IfErr result
+        (λ fault. Fails trace_fault.Memory fault (trace_from (place_of text.items))) }
 {
     let mut lines = TraceLines::new(text.as_slice());
     let (version, opening) = read_opening(alloc, &mut lines)?;
@@ -91,11 +104,12 @@ fn play_lines(alloc: Global, text: Vec<u8>) -> Result<Output, TraceFault>
     played
 }
 
-/// Plays the text of a trace, each event as soon as its line is read. Errors: `TooLong`; `Line`
-/// with the number of the first line that is missing or malformed; `Memory`.
+// Plays the text of a trace, each event as soon as its line is read. Errors: `TooLong`; `Line`
+// with the number of the first line that is missing or malformed; `Memory`.
 #[tactic(auto, unfolding(crate::specs::Traces::trace_of), using(crate::proofs::Faults::told_too_long))]
 pub(crate) fn play_text(alloc: Global, text: Vec<u8>) -> Result<Output, TraceFault>
-    ensures ok { IfOk result (λ output. PlaysTrace (trace_of text.items) output.lines.items output.count) }
+    ensures ok { IfOk result
+        (λ output. PlaysTrace (trace_of text.items) output.lines.items output.count) }
     ensures err { IfErr result (λ fault. Fails trace_fault.Memory fault (trace_of text.items)) }
     ensures long { IsErrOf result trace_fault.TooLong → most_bytes < length text.items }
 {

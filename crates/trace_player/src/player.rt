@@ -7,11 +7,12 @@ use byte_streams::{Reader, Writer, read_to_end_within};
 use std::alloc::Global;
 use trace_words::TraceFault;
 
-/// Reads all bytes of a reader and plays the trace in them. The bytes are dropped before it
-/// returns.
+// Reads all bytes of a reader and plays the trace in them. The bytes are dropped before it
+// returns.
 fn play_input<R: Reader>(alloc: Global, reader: &mut R) -> Result<Output, PlayFault>
     requires { R.can_read reader.now }
-    ensures { TakesTrace (R.remaining reader.old) (R.failures reader.old) result (R.remaining reader.new) (R.failures reader.new) }
+    ensures { TakesTrace (R.remaining reader.old) (R.failures reader.old) result
+        (R.remaining reader.new) (R.failures reader.new) }
 {
     let text = read_to_end_within(alloc, reader, MAX_BYTES)?;
     match play_text(alloc, text) {
@@ -37,7 +38,8 @@ pub fn play<R: Reader, W: Writer>(
 ) -> Result<u64, PlayFault>
     requires readable { R.can_read reader.now }
     requires writable { W.can_write writer.now }
-    ensures { Plays R.remaining R.failures W.contents W.failures reader.old writer.old result reader.new writer.new }
+    ensures { Plays R.remaining R.failures W.contents W.failures reader.old writer.old result
+        reader.new writer.new }
 {
     let Output { lines, count } = play_input(alloc, reader)?;
     match writer.write_all(lines.as_slice()) {

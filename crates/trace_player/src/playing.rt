@@ -18,7 +18,7 @@ use trace_lines::{next_held_event, write_line};
 use trace_text::end_line;
 use trace_words::{HeldLines, TraceFault, Version};
 
-/// Appends the line of a reply, with the byte 0A that ends it.
+// Appends the line of a reply, with the byte 0A that ends it.
 fn add_line(alloc: Global, out: &mut Vec<u8>, number: u64, line: &Line) -> Result<(), AllocError>
     ensures { OnOk result (out.new.items ≡ out.old.items ++ line_text number line.now ++ 10 ∷ []) }
 {
@@ -26,7 +26,7 @@ fn add_line(alloc: Global, out: &mut Vec<u8>, number: u64, line: &Line) -> Resul
     end_line(out)
 }
 
-/// Applies an event to a meter, and appends the line of the reply.
+// Applies an event to a meter, and appends the line of the reply.
 fn play_event(
     alloc: Global,
     number: u64,
@@ -34,14 +34,16 @@ fn play_event(
     core: &mut RelayCore,
     out: &mut Vec<u8>,
 ) -> Result<(), AllocError>
-    ensures world { OnOk result ((w : World) → StandsFor core.old w → StandsFor core.new (at_event event.now w).world) }
-    ensures line { OnOk result ((w : World) → StandsFor core.old w → out.new.items ≡ out.old.items ++ line_text number (line_at event.now w) ++ 10 ∷ []) }
+    ensures world { OnOk result ((w : World) → StandsFor core.old w
+        → StandsFor core.new (at_event event.now w).world) }
+    ensures line { OnOk result ((w : World) → StandsFor core.old w
+        → out.new.items ≡ out.old.items ++ line_text number (line_at event.now w) ++ 10 ∷ []) }
 {
     let line = line_after(alloc, core, event)?;
     add_line(alloc, out, number, &line)
 }
 
-/// Reads the event of the next line, applies it to a meter, and appends the line of the reply.
+// Reads the event of the next line, applies it to a meter, and appends the line of the reply.
 fn play_next(
     alloc: Global,
     version: Version,
@@ -50,8 +52,11 @@ fn play_next(
     core: &mut RelayCore,
     out: &mut Vec<u8>,
 ) -> Result<(), TraceFault>
-    ensures ok { OnOk result (PlaysEvent version number lines.old lines.new core.old core.new out.old.items out.new.items) }
-    ensures err { IfErr result (λ fault. Fails trace_fault.Memory fault (line_as (event_of version) lines.old)) }
+    ensures ok { OnOk result
+        (PlaysEvent version number lines.old lines.new core.old core.new out.old.items
+        out.new.items) }
+    ensures err { IfErr result
+        (λ fault. Fails trace_fault.Memory fault (line_as (event_of version) lines.old)) }
 {
     let event = next_held_event(alloc, version, lines)?;
     let played = play_event(alloc, number, &event, core, out);
@@ -59,8 +64,8 @@ fn play_next(
     Ok(played?)
 }
 
-/// Reads the next `count` events, applies each to a meter as soon as it is read, and returns the
-/// lines of the replies, the first with number 1. An event is dropped before the next is read.
+// Reads the next `count` events, applies each to a meter as soon as it is read, and returns the
+// lines of the replies, the first with number 1. An event is dropped before the next is read.
 pub(crate) fn play_events(
     alloc: Global,
     version: Version,
@@ -68,8 +73,10 @@ pub(crate) fn play_events(
     lines: &mut HeldLines,
     core: &mut RelayCore,
 ) -> Result<Vec<u8>, TraceFault>
-    ensures ok { IfOk result (λ out. PlaysEvents version count lines.old lines.new core.old out.items) }
-    ensures err { IfErr result (λ fault. Fails trace_fault.Memory fault (events_at version count lines.old)) }
+    ensures ok { IfOk result
+        (λ out. PlaysEvents version count lines.old lines.new core.old out.items) }
+    ensures err { IfErr result
+        (λ fault. Fails trace_fault.Memory fault (events_at version count lines.old)) }
 {
     let mut out = Vec::new(alloc);
     'events: for i in 0..count {

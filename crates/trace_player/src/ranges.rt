@@ -21,12 +21,14 @@ fn events_are_traced(events: &[Event])
     }
 }
 
-/// Makes known that a trace that fits its text is read back from it if the text has at most
-/// 33,554,432 bytes, as the text of at most 1,024 events has.
+// Makes known that a trace that fits its text is read back from it if the text has at most
+// 33,554,432 bytes, as the text of at most 1,024 events has.
 #[tactic(auto, using(crate::proofs::RangeLemmas::is_writable, crate::proofs::RangeLemmas::is_short))]
 pub(crate) fn trace_is_read_again(trace: &Trace)
-    ensures again { FitsText trace.now → length (trace_text trace.now) ≤ most_bytes → trace_of (trace_text trace.now) ≡ Ok trace.now }
-    ensures short { FitsText trace.now → length trace.now.events ≤ 1024 → length (trace_text trace.now) ≤ most_bytes }
+    ensures again { FitsText trace.now → length (trace_text trace.now) ≤ most_bytes
+        → trace_of (trace_text trace.now) ≡ Ok trace.now }
+    ensures short { FitsText trace.now → length trace.now.events ≤ 1024
+        → length (trace_text trace.now) ≤ most_bytes }
 {
     opening_is_writable(&trace.opening);
     events_are_traced(trace.events.as_slice());

@@ -15,7 +15,7 @@ use trace_words::{TraceFault, TraceLines, Version};
 /// The maximum length of the text of a trace, in bytes.
 pub const MAX_BYTES: usize = 33_554_432;
 
-/// Reads the events of the next `count` lines.
+// Reads the events of the next `count` lines.
 fn read_events(
     alloc: Global,
     version: Version,
@@ -31,7 +31,7 @@ fn read_events(
     Ok(events)
 }
 
-/// Returns `trace` if nothing is left of the lines.
+// Returns `trace` if nothing is left of the lines.
 #[tactic(auto, using(crate::proofs::Ends::ended_as, crate::proofs::Ends::unended_as))]
 fn ended(lines: &TraceLines, trace: Trace) -> Result<Trace, TraceFault>
     ensures ended { result ≡ ended_at lines.now trace }
@@ -46,7 +46,7 @@ fn ended(lines: &TraceLines, trace: Trace) -> Result<Trace, TraceFault>
     }
 }
 
-/// Reads a trace from its lines.
+// Reads a trace from its lines.
 #[tactic(auto, unfolding(crate::specs::Traces::trace_from))]
 fn read_lines(alloc: Global, lines: &mut TraceLines) -> Result<Trace, TraceFault>
     ensures exact { Gives trace_fault.Memory (λ trace. trace) result (trace_from lines.old) }

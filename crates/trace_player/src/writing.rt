@@ -14,15 +14,16 @@ use trace_lines::{write_event, write_event_count};
 use trace_openings::write_opening;
 use trace_text::end_line;
 
-/// Appends the line of an event, with the byte 0A that ends it.
+// Appends the line of an event, with the byte 0A that ends it.
 fn add_event(alloc: Global, out: &mut Vec<u8>, event: &Event) -> Result<(), AllocError>
-    ensures { OnOk result (out.new.items ≡ out.old.items ++ line_of (event_row event.now) ++ 10 ∷ []) }
+    ensures { OnOk result (out.new.items ≡ out.old.items ++ line_of (event_row event.now) ++ 10
+        ∷ []) }
 {
     write_event(alloc, out, event)?;
     end_line(out)
 }
 
-/// Appends the lines of events.
+// Appends the lines of events.
 fn add_events(alloc: Global, out: &mut Vec<u8>, events: &[Event]) -> Result<(), AllocError>
     ensures { OnOk result (out.new.items ≡ out.old.items ++ rows_text (map event_row events.now)) }
 {
@@ -52,8 +53,10 @@ fn write_lines(alloc: Global, trace: &Trace) -> Result<Octets, AllocError>
 /// never longer.
 pub fn write_trace(alloc: Global, trace: &Trace) -> Result<Octets, AllocError>
     ensures text { IfOk result (λ text. text ≡ trace_text trace.now) }
-    ensures again { IfOk result (λ text. FitsText trace.now → length text ≤ most_bytes → trace_of text ≡ Ok trace.now) }
-    ensures short { IfOk result (λ text. FitsText trace.now → length trace.now.events ≤ 1024 → length text ≤ most_bytes) }
+    ensures again { IfOk result (λ text. FitsText trace.now → length text ≤ most_bytes
+        → trace_of text ≡ Ok trace.now) }
+    ensures short { IfOk result (λ text. FitsText trace.now → length trace.now.events ≤ 1024
+        → length text ≤ most_bytes) }
 {
     trace_is_read_again(trace);
     write_lines(alloc, trace)

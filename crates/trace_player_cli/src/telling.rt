@@ -3,8 +3,8 @@ use thiserror::Error;
 use trace_player::{MAX_BYTES, PlayFault};
 use trace_text::{Lines, Words, read_number};
 
-/// The lines of an opening of version 2 in their order, each as its first word and the names of the
-/// others. Version 1 does not have those that begin with `x`.
+// The lines of an opening of version 2 in their order, each as its first word and the names of the
+// others. Version 1 does not have those that begin with `x`.
 const OPENING: [&str; 31] = [
     "RELAYTRACE VERSION",
     "device HEX",
@@ -39,7 +39,7 @@ const OPENING: [&str; 31] = [
     "events COUNT",
 ];
 
-/// The events, each as its first word and the names of the others.
+// The events, each as its first word and the names of the others.
 const EVENTS: [&str; 8] = [
     "get L C NAME A S",
     "getlist L COUNT ..",
@@ -51,52 +51,52 @@ const EVENTS: [&str; 8] = [
     "moment SECONDS",
 ];
 
-/// The number of lines before those of the export limiter.
+// The number of lines before those of the export limiter.
 const LINES_BEFORE_EXPORT: u64 = 15;
 
-/// The number of lines of the export limiter.
+// The number of lines of the export limiter.
 const EXPORT_LINES: u64 = 10;
 
-/// The greatest number of events of a trace.
+// The greatest number of events of a trace.
 const MAX_EVENTS: u64 = 65_536;
 
-/// The greatest length of a word that is shown in a message.
+// The greatest length of a word that is shown in a message.
 const MAX_SHOWN: usize = 32;
 
-/// Why a line is wrong. Its message follows the line's number.
+// Why a line is wrong. Its message follows the line's number.
 #[derive(Clone, Copy, Debug, PartialEq, Eq, Error)]
 enum Why {
-    /// The text has ended, or the line has no end.
+    // The text has ended, or the line has no end.
     #[error("expected a whole line, found the end of the trace")]
     Ended,
-    /// The line follows the last event that the opening counts.
+    // The line follows the last event that the opening counts.
     #[error("unexpected line: `events COUNT` counts fewer events")]
     Extra,
-    /// The line ends with a carriage return.
+    // The line ends with a carriage return.
     #[error("expected a line feed at the end, found a carriage return before it")]
     CarriageReturn,
-    /// The first word is not that of an event.
+    // The first word is not that of an event.
     #[error("unknown event")]
     NoEvent,
-    /// A word of this form is missing: the form, and the name of the word.
+    // A word of this form is missing: the form, and the name of the word.
     #[error("expected `{0}`: {1} is missing")]
     Missing(&'static str, &'static str),
-    /// A word of this form is not a number.
+    // A word of this form is not a number.
     #[error("expected `{0}`: {1} must be a decimal number")]
     NoNumber(&'static str, &'static str),
-    /// A word of this form is not hexadecimal.
+    // A word of this form is not hexadecimal.
     #[error("expected `{0}`: {1} must be pairs of the digits 0 to 9 and A to F")]
     NoBytes(&'static str, &'static str),
-    /// The line has more words than this form.
+    // The line has more words than this form.
     #[error("expected `{0}`: unexpected extra word")]
     Surplus(&'static str),
-    /// The line has the words of this form, and the value of one is not valid.
+    // The line has the words of this form, and the value of one is not valid.
     #[error("expected `{0}`: a value is not valid here")]
     Value(&'static str),
 }
 
-/// Writes to standard error, in one line, why a trace was not played. `text` is the trace as far as it
-/// was read.
+// Writes to standard error, in one line, why a trace was not played. `text` is the trace as far as
+// it was read.
 pub(crate) fn tell(rt: &HostRuntime, text: &[u8], fault: PlayFault) {
     let _ = match fault {
         PlayFault::Line(number) => return tell_line(rt, text, number),
@@ -112,7 +112,7 @@ pub(crate) fn tell(rt: &HostRuntime, text: &[u8], fault: PlayFault) {
     };
 }
 
-/// Writes to standard error why the line with this number is wrong.
+// Writes to standard error why the line with this number is wrong.
 fn tell_line(rt: &HostRuntime, text: &[u8], number: u64) {
     let why = why_wrong(text, number);
     let _ = match shown_word(text, number) {
@@ -121,7 +121,7 @@ fn tell_line(rt: &HostRuntime, text: &[u8], number: u64) {
     };
 }
 
-/// The first word of a line, if it has 1 to `MAX_SHOWN` bytes of visible ASCII.
+// The first word of a line, if it has 1 to `MAX_SHOWN` bytes of visible ASCII.
 fn shown_word(text: &[u8], number: u64) -> Option<&str> {
     let word = Words::new(line_of(text, number)?).next()?;
     if word.is_empty() || word.len() > MAX_SHOWN || !word.iter().all(u8::is_ascii_graphic) {
@@ -130,7 +130,7 @@ fn shown_word(text: &[u8], number: u64) -> Option<&str> {
     str::from_utf8(word).ok()
 }
 
-/// Returns why the line with this number, counted from 1, is wrong in a text.
+// Returns why the line with this number, counted from 1, is wrong in a text.
 fn why_wrong(text: &[u8], number: u64) -> Why {
     let Some(line) = line_of(text, number) else {
         return Why::Ended;
@@ -147,7 +147,7 @@ fn why_wrong(text: &[u8], number: u64) -> Why {
     }
 }
 
-/// The number of the last line, by the line `events COUNT`. `None` without that line.
+// The number of the last line, by the line `events COUNT`. `None` without that line.
 fn last_line(text: &[u8]) -> Option<u64> {
     let export = if is_version_1(text) { EXPORT_LINES } else { 0 };
     let head = (OPENING.len() as u64).saturating_sub(export);
@@ -159,19 +159,19 @@ fn last_line(text: &[u8]) -> Option<u64> {
     Some(head.saturating_add(count))
 }
 
-/// Whether the first line is that of version 1.
+// Whether the first line is that of version 1.
 fn is_version_1(text: &[u8]) -> bool {
     line_of(text, 1) == Some(b"RELAYTRACE 1".as_slice())
 }
 
-/// Returns the line of a text with that number, counted from 1. `None` if the text ends before the end
-/// of that line.
+// Returns the line of a text with that number, counted from 1. `None` if the text ends before the
+// end of that line.
 fn line_of(text: &[u8], number: u64) -> Option<&[u8]> {
     Lines::new(text).nth(number.checked_sub(1)? as usize)
 }
 
-/// The form of the line with this number: that of a line of the opening, or of the event that its first
-/// word names.
+// The form of the line with this number: that of a line of the opening, or of the event that its
+// first word names.
 fn form_of(text: &[u8], number: u64, line: &[u8]) -> Option<&'static str> {
     let place = if is_version_1(text) && number > LINES_BEFORE_EXPORT {
         number.saturating_add(EXPORT_LINES)
@@ -184,7 +184,7 @@ fn form_of(text: &[u8], number: u64, line: &[u8]) -> Option<&'static str> {
     }
 }
 
-/// The form of the event that a line's first word names.
+// The form of the event that a line's first word names.
 fn event_form(line: &[u8]) -> Option<&'static str> {
     let verb = Words::new(line).next()?;
     'forms: for form in EVENTS.iter() {
@@ -195,7 +195,7 @@ fn event_form(line: &[u8]) -> Option<&'static str> {
     None
 }
 
-/// Returns why a line does not have a form.
+// Returns why a line does not have a form.
 fn why_not(form: &'static str, line: &[u8]) -> Why {
     let mut words = Words::new(line);
     'names: for name in form.split(' ') {
@@ -215,8 +215,8 @@ fn why_not(form: &'static str, line: &[u8]) -> Why {
     }
 }
 
-/// Returns why a word cannot be the word `name` of a form; `None` if it can. A name in capitals stands
-/// for a number or for bytes, or `-` for no value; any other name is the word itself.
+// Returns why a word cannot be the word `name` of a form; `None` if it can. A name in capitals
+// stands for a number or for bytes, or `-` for no value; any other name is the word itself.
 fn why_not_word(form: &'static str, name: &'static str, word: &[u8]) -> Option<Why> {
     let is_none = word == b"-".as_slice();
     match name {
@@ -232,17 +232,17 @@ fn why_not_word(form: &'static str, name: &'static str, word: &[u8]) -> Option<W
     }
 }
 
-/// Whether a name of a form is a placeholder.
+// Whether a name of a form is a placeholder.
 fn is_placeholder(name: &str) -> bool {
     name.as_bytes().iter().all(u8::is_ascii_uppercase) && name != "RELAYTRACE"
 }
 
-/// Whether a word has the digits of a decimal number.
+// Whether a word has the digits of a decimal number.
 fn is_number(word: &[u8]) -> bool {
     !word.is_empty() && word.iter().all(u8::is_ascii_digit)
 }
 
-/// Whether a word has two hexadecimal digits in capitals for each of its bytes.
+// Whether a word has two hexadecimal digits in capitals for each of its bytes.
 fn is_bytes(word: &[u8]) -> bool {
     word.len() % 2 == 0
         && !word.is_empty()

@@ -7,7 +7,8 @@ use std::io::{ErrorKind, Read, Write};
 use trace_player::{PlayFault, TraceFault, play, read_trace, write_trace};
 use trace_text::{Lines, end_line};
 
-// A switch that is cut and reconnected remotely, the button pressed between, a read, samples and moments.
+// A switch that is cut and reconnected remotely, the button pressed between, a read, samples and
+// moments.
 const TRACE: &[u8] = b"RELAYTRACE 1
 device 52454C415931
 state 1
@@ -77,7 +78,8 @@ events 1
 samples 5001 5001
 ";
 
-// A meter in mode 5 whose export limiter executes script 1, which cuts the supply, at ten samples over 5,000 watts.
+// A meter in mode 5 whose export limiter executes script 1, which cuts the supply, at ten samples
+// over 5,000 watts.
 const PAIRS: &[u8] = b"RELAYTRACE 2
 device 52454C415931
 state 1
@@ -260,7 +262,8 @@ fn is_so_with(alloc: Global, text: &[u8], at: u64, other: &[u8], asked: Asked) -
     added.is_ok() && is_so
 }
 
-// A text, the number of a line of it, another line in its place, and the line at which the trace is refused then.
+// A text, the number of a line of it, another line in its place, and the line at which the trace is
+// refused then.
 type Wrong = (&'static [u8], u64, &'static [u8], u64);
 
 fn are_wrong(alloc: Global, rows: &[Wrong]) -> bool {
