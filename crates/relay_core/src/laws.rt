@@ -1,9 +1,7 @@
 ghost use Rattle.std.specs.Prelude.{◌≡◌};
 ghost use Rattle.relay_events.specs.declared.event.Event.{Event};
-ghost use Rattle.cosem_axdr.specs.Spelling.{IsWithin};
-ghost use Rattle.cosem_axdr.specs.View.{tree_of};
 ghost use Rattle.cosem_axdr.specs.declared.value.Data.{Data};
-ghost use Rattle.relay_core.specs.Agreeing.{Agree, IsWorld, IsEvent, IsValue, GoAlike};
+ghost use Rattle.relay_core.specs.Agreeing.{Agree, IsWorld, IsValue, GoAlike};
 ghost use Rattle.relay_core.specs.Machine.{at_event};
 ghost use Rattle.relay_events.specs.Kinds.{Fits};
 ghost use Rattle.relay_core.specs.Requests.{at_request};
@@ -16,12 +14,12 @@ ghost use Rattle.script_steps.specs.declared.step.Step.{Step};
 /// Worlds that agree give equal replies to every event, and worlds that agree. So what a limiter does hangs on nothing of its
 /// samples but its runs and whether they have fired.
 pub fn worlds_agree()
-    ensures { (event : Event) (v w : World) → IsEvent event → IsWorld v → Agree v w → GoAlike (at_event event v) (at_event event w) }
+    ensures { (event : Event) (v w : World) → IsWorld v → Agree v w → GoAlike (at_event event v) (at_event event w) }
 {}
 
-/// What a value sets has durations of 32 bits, where its numbers are of their types' ranges.
+/// The durations that a value sets are numbers of 32 bits, whatever attribute it is written to.
 pub fn values_are_in_range()
-    ensures { (value : Data) → IsWithin (tree_of value) → IsValue value }
+    ensures { (value : Data) → IsValue value }
 {}
 
 /// In every world each event has a reply of its kind.

@@ -1,16 +1,9 @@
 -- What a recorder's export plays.
-use Rattle.std.specs.Prelude.{◌≡◌, ◌-◌, List, [], ◌∷◌, length, drop}
-use Rattle.relay_core.specs.Agreeing.{IsEvent}
-use Rattle.relay_events.specs.declared.event.Event.{Event}
+use Rattle.std.specs.Prelude.{◌≡◌, ◌-◌, List, length, drop}
 use Rattle.relay_core.specs.Runs.{lines_of}
 use Rattle.relay_core.specs.World.{World}
 use Rattle.relay_recorder.specs.Histories.{Told, StandsForHistory, events_of, replies_of, replies_from}
 use Rattle.relay_recorder.specs.Recording.{Recording}
-
--- events whose durations are numbers of 32 bits
-abbrev pub AreEvents : List Event → Type 0
-AreEvents [] = Unit {0}
-AreEvents (event ∷ events) = IsEvent event × AreEvents events
 
 -- from this world the kept events run as they did in a history: the lines are the last ones of its run, and the replies are
 -- those that it told
