@@ -1,14 +1,14 @@
 -- An attribute that was written reads as itself.
-use Rattle.std.proofs.Common.{◌≡◌, ℕ, ◌≤◌, true, nat_le, List, [], ◌∷◌, map, length, ok_or, Result, Ok, refl, ap, ap₂, ◌∙◌, arith}
+use Rattle.std.proofs.Common.{◌≡◌, ℕ, ◌^◌, ◌<◌, ◌≤◌, true, nat_lt, nat_le, List, [], ◌∷◌, map, length, ok_or, Result, Ok, refl, ap, ap₂, ◌∙◌, arith}
 use Rattle.std.proofs.lemmas.Bool.Decides.{nat_tests}
 use Rattle.std.proofs.lemmas.List.{length-map}
 use Rattle.std.specs.List.{filter_map}
 use Rattle.std.specs.Result.{result_ok}
 use Rattle.byte_reading.specs.Outcome.{◌>>=◌, ◌>>◌, guard}
-use Rattle.byte_reading.proofs.OutcomeLemmas.{done}
-use Rattle.cosem_axdr.specs.Forms.{long_unsigned_of}
+use Rattle.byte_reading.proofs.OutcomeLemmas.{done, ok_is, bind_ok, guard_ok}
+use Rattle.cosem_axdr.specs.Forms.{double_long_unsigned_of, long_unsigned_of}
 use Rattle.cosem_axdr.specs.declared.value.Data.{Data}
-use Rattle.cosem_axdr.specs.declared.value.Data.TheVariants.{LongUnsigned}
+use Rattle.cosem_axdr.specs.declared.value.Data.TheVariants.{DoubleLongUnsigned, LongUnsigned}
 use Rattle.cosem_axdr.proofs.OneTree.{list_of_trees}
 use Rattle.cosem_datetime.specs.Fields.{IsDateTimeFields, date_time_bytes}
 use Rattle.cosem_datetime.specs.Reading.{date_time_of}
@@ -19,11 +19,27 @@ use Rattle.cosem_names.specs.declared.write_fault.WriteFault.TheVariants.{Unmatc
 use Rattle.cosem_names.specs.Scripts.{script_data}
 use Rattle.limiter_core.specs.declared.settings.Actions.{Actions}
 use Rattle.limiter_core.specs.declared.settings.Profile.{Profile}
-use Rattle.limiter_attributes.specs.Reading.{profile_of, are_ids, max_groups, judged_groups, groups_of, actions_of}
+use Rattle.limiter_attributes.specs.Reading.{number_of, profile_of, are_ids, max_groups, judged_groups, groups_of, actions_of}
 use Rattle.limiter_attributes.specs.Writing.{profile_data, groups_data, actions_data}
 use Rattle.limiter_attributes.proofs.Profiles.{profile_parts_again}
 
--- a profile from its parts
+-- a number of 32 bits that is written
+pub number_again : (number : ℕ) → number < 2 ^ 32 → number_of (DoubleLongUnsigned number) ≡ Ok number
+unfolding number_of
+number_again number small = ap (λ b. guard b Unmatched >> done WriteFault number) below where
+  below : nat_lt number (2 ^ 32) ≡ true
+  below = grind (arith, nat_tests, small)
+
+-- a number that is read
+pub number_small : (value : Data) (number : ℕ) → number_of value ≡ Ok number → number < 4294967296
+unfolding number_of
+number_small value number e =
+    let found = bind_ok (ok_or (double_long_unsigned_of value) Unmatched) (λ n. guard (nat_lt n (2 ^ 32)) Unmatched >> done WriteFault n) number e in
+    let fits = guard_ok (nat_lt found.0 (2 ^ 32)) Unmatched (done WriteFault found.0) number found.2 in
+    let same : found.0 ≡ number = ok_is {F = WriteFault} found.0 number fits.1 in
+    grind (arith, nat_tests, same, fits.0)
+
+-- a profile of its parts
 abbrev with_parts : ℕ × List ℕ × ℕ → Result Profile WriteFault
 with_parts parts = ok_or (result_ok (date_time_of parts.1)) Value >>= λ start. done WriteFault (record { id = parts.0; start = start; duration = parts.2 })
 

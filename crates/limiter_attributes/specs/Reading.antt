@@ -1,7 +1,7 @@
 -- What a client writes to an attribute of a limiter (IEC 62056-6-2, class 71), or why it is
 -- refused. A wrong type anywhere is reported before any wrong value: that order is a rule of this
 -- meter.
-use Rattle.std.specs.Prelude.{ℕ, Bool, ◌&&◌, nat_le, List, length, Option, Some, None, is_some, ok_or, Result, Ok}
+use Rattle.std.specs.Prelude.{ℕ, ◌^◌, Bool, ◌&&◌, nat_lt, nat_le, List, length, Option, Some, None, is_some, ok_or, Result, Ok}
 use Rattle.std.specs.List.{list_all, filter_map}
 use Rattle.std.specs.Result.{result_ok}
 use Rattle.byte_reading.specs.Outcome.{◌>>=◌, ◌>>◌, guard}
@@ -19,9 +19,12 @@ use Rattle.cosem_names.specs.Scripts.{is_of_the_table}
 use Rattle.limiter_attributes.specs.declared.setting.Setting.{Setting}
 use Rattle.limiter_attributes.specs.declared.setting.Setting.TheVariants as setting
 
--- a threshold in watts or a duration in seconds
-abbrev pub number_of : Data → Result ℕ WriteFault
-number_of value = ok_or (double_long_unsigned_of value) Unmatched
+-- a threshold in watts or a duration in seconds: a double-long-unsigned, which is a number of 32 bits
+unfoldable pub number_of : Data → Result ℕ WriteFault
+number_of value = do
+  number ← ok_or (double_long_unsigned_of value) Unmatched
+  guard (nat_lt number (2 ^ 32)) Unmatched
+  Ok number
 
 -- an emergency profile, whose start is a date-time with each field in its range
 unfoldable pub profile_of : Data → Result Profile WriteFault

@@ -13,8 +13,10 @@ use limiter_core::{Actions, Profile};
 /// Reads a threshold in watts or a duration in seconds from the Data that a client writes to
 /// attributes 4 to 7 of a limiter (IEC 62056-6-2, class 71): a double-long-unsigned, else
 /// `Unmatched`. Does not allocate.
+#[tactic(auto, unfolding(crate::specs::Reading::number_of))]
 pub fn read_number(value: &Data) -> Result<u32, WriteFault>
-    ensures { result ≡ number_of value.now }
+    ensures exact { result ≡ number_of value.now }
+    ensures no_memory { ¬ IsErrOf result WriteFault.Memory }
 {
     value.double_long_unsigned().ok_or(WriteFault::Unmatched)
 }

@@ -86,7 +86,7 @@ fn write_actions(alloc: Global, actions: Actions) -> Result<Data, AllocError>
 /// Returns the value of an attribute of a limiter as Data. The start of an emergency profile is an
 /// octet-string. Attributes that are a number or a boolean (3 to 7 and 10) do not allocate; the
 /// others fail only if out of memory.
-#[tactic(auto, unfolding(crate::specs::Writing::data_at, crate::specs::Reading::setting_of))]
+#[tactic(auto, unfolding(crate::specs::Writing::data_at, crate::specs::Reading::setting_of, crate::specs::Reading::number_of))]
 pub fn read_attribute(
     alloc: Global,
     which: Which,

@@ -6,7 +6,6 @@ use Rattle.relay_core.specs.World.{World}
 use Rattle.relay_events.specs.declared.event.Event.{Event}
 use Rattle.relay_recorder.specs.Histories.{Told, StandsForHistory, events_of, replies_from}
 use Rattle.relay_recorder.specs.Recording.{Recording}
-use Rattle.relay_recorder.specs.Replaying.{AreEvents}
 use Rattle.relay_recorder.specs.declared.trace.Trace.{Trace}
 
 -- the world after the run of a trace
@@ -21,7 +20,7 @@ pub record IsTraceOf (r : Recording) (trace : Trace) : Type 0 where
 -- whatever comes next, a meter that represents this world answers as one with this history would
 -- have answered
 abbrev pub AnswersAlike : World → List Told → World → Type 0
-AnswersAlike world history origin = (further : List Event) → AreEvents further
+AnswersAlike world history origin = (further : List Event)
     → replies_from world further ≡ replies_from (world_after (events_of history) origin) further
 
 -- a meter that represents this world continues from the end of the run of the meter that wrote the

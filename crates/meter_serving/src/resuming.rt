@@ -9,11 +9,11 @@ ghost use Rattle.relay_core.specs.World.{World};
 
 use relay_core::{LimiterOpening, Opening, RelayCore};
 use relay_events::Event;
-use relay_recorder::{Recorder, Trace, events_are_in_range};
+use relay_recorder::{Recorder, Trace};
 use std::alloc::{AllocError, Global};
 
 /// Lets a core take events, one after the other.
-fn take_events(core: &mut RelayCore, alloc: Global, events: &[Event]) -> Result<(), AllocError>
+fn take_events(alloc: Global, core: &mut RelayCore, events: &[Event]) -> Result<(), AllocError>
     ensures { OnOk result ((w : World) → StandsFor core.old w → StandsFor core.new (world_after events.now w)) }
 {
     'events: for event in events {
@@ -35,10 +35,9 @@ pub fn resumed_recorder(alloc: Global, trace: &Trace, capacity: u16) -> Result<R
     ensures stands { IfOk result (λ recorder. StandsFor recorder.core (world_of trace.now)) }
     ensures goes_on { GoesOn trace.now (world_of trace.now) }
 {
-    has_range(alloc, &trace.opening);
-    events_are_in_range(trace.events.as_slice());
+    has_range(&trace.opening);
     let mut core = RelayCore::of_fit_opening(alloc, &trace.opening)?;
-    match take_events(&mut core, alloc, trace.events.as_slice()) {
+    match take_events(alloc, &mut core, trace.events.as_slice()) {
         Ok(()) => Recorder::from_core(alloc, core, capacity),
         Err(error) => {
             drop(core);
@@ -55,12 +54,12 @@ fn limiter_has_range(opening: &LimiterOpening)
     let _under = opening.settings.min_under_duration;
 }
 
-/// The durations of a core that is written down are numbers of 32 bits, those in its scripts' steps too: a copy of these tells that.
+/// The durations of a core that is written down are numbers of 32 bits, those in its scripts' steps too.
 #[tactic(auto, using(crate::proofs::Ranges::scripts_in_range))]
-fn has_range(alloc: Global, opening: &Opening)
+fn has_range(opening: &Opening)
     ensures { IsWorld (opened opening.now) }
 {
     limiter_has_range(&opening.import);
     limiter_has_range(&opening.export);
-    let _scripts = opening.scripts.try_clone(alloc);
+    let _scripts = opening.scripts.scripts();
 }

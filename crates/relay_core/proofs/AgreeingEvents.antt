@@ -40,7 +40,7 @@ use Rattle.relay_events.specs.declared.reply.Reply.TheVariants as reply
 use Rattle.relay_core.specs.declared.scripts.Origin.TheVariants.{Remote}
 use Rattle.relay_core.specs.Access.{target_of}
 use Rattle.relay_core.specs.Acting.{switch_trigger, at_pulled, at_found, at_selected, at_execution, at_method, execute_at, at_execute, at_button}
-use Rattle.relay_core.specs.Agreeing.{with_rows, Agree, IsSettingInRange, IsWorld, IsValue, IsEvent, GoAlike}
+use Rattle.relay_core.specs.Agreeing.{with_rows, Agree, IsSettingInRange, IsWorld, GoAlike}
 use Rattle.script_steps.specs.Ranges.{AreStepsInRange, AreScriptsInRange}
 use Rattle.relay_core.specs.Clock.{with_moment, after_schedule, after_schedules, ran, moment_after, at_moment}
 use Rattle.relay_core.specs.declared.parts.WrittenList.{WrittenList}
@@ -54,6 +54,7 @@ use Rattle.relay_core.specs.Scripts.{at_script}
 use Rattle.relay_core.specs.Switch.{at_trigger}
 use Rattle.relay_core.specs.World.{World, Outcome}
 use Rattle.relay_core.specs.Writing.{refused, at_mode_form, at_control, at_setting_form, at_limiter, at_schedule, at_list, at_plain, at_attribute, at_write, write_at, at_set}
+use Rattle.relay_core.proofs.InRange.{value_in_range}
 use Rattle.relay_core.proofs.Agreeing.{Alike, AreAlike, of_rows, trigger_alike, mode_alike, setting_alike, script_alike, steps_in_range, running_in_range, samples_alike, either_alike}
 use Rattle.script_steps.specs.declared.step.Script.{Script}
 use Rattle.script_steps.specs.declared.step.Step.{Step}
@@ -125,10 +126,10 @@ group_ids_alike : (which : Which) (read : Result (List ℕ) WriteFault) (v w : W
 group_ids_alike which (Err fault) v w range agree = refused_alike _ v w range agree
 group_ids_alike which (Ok ids) v w range agree = groups_alike which ids v w range agree
 
-limiter_alike : (which : Which) (found : Option LimiterAttribute) (value : Data) (v w : World) → IsValue value → IsWorld v → Agree v w
+limiter_alike : (which : Which) (found : Option LimiterAttribute) (value : Data) (v w : World) → IsWorld v → Agree v w
     → Alike (at_limiter which found value v) (at_limiter which found value w)
-limiter_alike which None value v w small range agree = refused_alike _ v w range agree
-limiter_alike which (Some attribute) value v w small range agree = setting_form_alike which _ v w (small.setting attribute) range agree
+limiter_alike which None value v w range agree = refused_alike _ v w range agree
+limiter_alike which (Some attribute) value v w range agree = setting_form_alike which _ v w ((value_in_range value).setting attribute) range agree
 
 mode_form_alike : (read : Result ControlMode WriteFault) (v w : World) → IsWorld v → Agree v w → Alike (at_mode_form read v) (at_mode_form read w)
 mode_form_alike (Err fault) v w range agree = refused_alike _ v w range agree
@@ -140,14 +141,14 @@ control_alike (Some control.OutputState) value v w range agree = refused_alike _
 control_alike (Some control.ControlState) value v w range agree = refused_alike _ v w range agree
 control_alike (Some control.ControlMode) value v w range agree = mode_form_alike (mode_form value) v w range agree
 
-plain_alike : (instance : Instance) (number : ℕ) (value : Data) (v w : World) → IsValue value → IsWorld v → Agree v w
+plain_alike : (instance : Instance) (number : ℕ) (value : Data) (v w : World) → IsWorld v → Agree v w
     → Alike (at_plain instance number value v) (at_plain instance number value w)
 unfolding at_schedule
-plain_alike Association number value v w small range agree = refused_alike _ v w range agree
-plain_alike DeviceName number value v w small range agree = refused_alike _ v w range agree
-plain_alike (Register which) number value v w small range agree = refused_alike _ v w range agree
-plain_alike ScriptTable number value v w small range agree = refused_alike _ v w range agree
-plain_alike (Schedule which) number value v w small range agree =
+plain_alike Association number value v w range agree = refused_alike _ v w range agree
+plain_alike DeviceName number value v w range agree = refused_alike _ v w range agree
+plain_alike (Register which) number value v w range agree = refused_alike _ v w range agree
+plain_alike ScriptTable number value v w range agree = refused_alike _ v w range agree
+plain_alike (Schedule which) number value v w range agree =
     let at : World → Outcome = at_schedule which (schedule_attribute number) value in
     of_rows (λ w. Alike (at v) (at w)) v w agree
     (λ rows others i e. record {
@@ -155,8 +156,8 @@ plain_alike (Schedule which) number value v w small range agree =
       world = record { same = refl; import = i; export = e };
       range = record { import = range.import; export = range.export; scripts = range.scripts };
     })
-plain_alike DisconnectControl number value v w small range agree = control_alike (control_attribute number) value v w range agree
-plain_alike (Limiter which) number value v w small range agree = limiter_alike which (attribute_numbered number) value v w small range agree
+plain_alike DisconnectControl number value v w range agree = control_alike (control_attribute number) value v w range agree
+plain_alike (Limiter which) number value v w range agree = limiter_alike which (attribute_numbered number) value v w range agree
 
 scripts_alike : (read : Result (List Script) WriteFault) (v w : World) → IfOk read AreScriptsInRange → IsWorld v → Agree v w
     → Alike (at_list written.Scripts (scripts_part read) v) (at_list written.Scripts (scripts_part read) w)
@@ -182,26 +183,26 @@ entries_alike which (Ok entries) v w range agree =
       range = record { import = range.import; export = range.export; scripts = range.scripts };
     })
 
-list_alike : (list : WrittenList) (value : Data) (v w : World) → IsValue value → IsWorld v → Agree v w
+list_alike : (list : WrittenList) (value : Data) (v w : World) → IsWorld v → Agree v w
     → Alike (at_list list (list_read list value) v) (at_list list (list_read list value) w)
-list_alike written.Scripts value v w small range agree = scripts_alike (table_of value) v w small.scripts range agree
-list_alike (written.Entries which) value v w small range agree = entries_alike which (entries_of value) v w range agree
-list_alike (written.Groups which) value v w small range agree = group_ids_alike which (groups_of value) v w range agree
+list_alike written.Scripts value v w range agree = scripts_alike (table_of value) v w (value_in_range value).scripts range agree
+list_alike (written.Entries which) value v w range agree = entries_alike which (entries_of value) v w range agree
+list_alike (written.Groups which) value v w range agree = group_ids_alike which (groups_of value) v w range agree
 
-attribute_alike : (list : Option WrittenList) (instance : Instance) (number : ℕ) (value : Data) (v w : World) → IsValue value → IsWorld v → Agree v w
+attribute_alike : (list : Option WrittenList) (instance : Instance) (number : ℕ) (value : Data) (v w : World) → IsWorld v → Agree v w
     → Alike (at_attribute list instance number value v) (at_attribute list instance number value w)
-attribute_alike None instance number value v w small range agree = plain_alike instance number value v w small range agree
-attribute_alike (Some list) instance number value v w small range agree = list_alike list value v w small range agree
+attribute_alike None instance number value v w range agree = plain_alike instance number value v w range agree
+attribute_alike (Some list) instance number value v w range agree = list_alike list value v w range agree
 
-write_alike : (instance : Instance) (number : ℕ) (value : Data) (v w : World) → IsValue value → IsWorld v → Agree v w
+write_alike : (instance : Instance) (number : ℕ) (value : Data) (v w : World) → IsWorld v → Agree v w
     → Alike (at_write instance number value v) (at_write instance number value w)
 unfolding at_write
-write_alike instance number value v w small range agree = attribute_alike (list_numbered instance number) instance number value v w small range agree
+write_alike instance number value v w range agree = attribute_alike (list_numbered instance number) instance number value v w range agree
 
-write_at_alike : (target : Result Instance ResultCode) (number : ℕ) (value : Data) (v w : World) → IsValue value → IsWorld v → Agree v w
+write_at_alike : (target : Result Instance ResultCode) (number : ℕ) (value : Data) (v w : World) → IsWorld v → Agree v w
     → Alike (write_at target number value v) (write_at target number value w)
-write_at_alike (Err refusal) number value v w small range agree = refused_alike _ v w range agree
-write_at_alike (Ok instance) number value v w small range agree = write_alike instance number value v w small range agree
+write_at_alike (Err refusal) number value v w range agree = refused_alike _ v w range agree
+write_at_alike (Ok instance) number value v w range agree = write_alike instance number value v w range agree
 
 -- methods executed in agreeing worlds
 pulled_alike : (found : Option Trigger) (v w : World) → IsWorld v → Agree v w → Alike (at_pulled found v) (at_pulled found w)
@@ -308,22 +309,22 @@ outcome_alike : (a b : Outcome) → Alike a b → GoAlike (stepped a) (stepped b
 outcome_alike a b alike = record { reply = ap reply.Code alike.code; world = alike.world; range = alike.range }
 
 -- every event, in agreeing worlds
-pub event_alike : (one : Event) (v w : World) → IsEvent one → IsWorld v → Agree v w → GoAlike (at_event one v) (at_event one w)
+pub event_alike : (one : Event) (v w : World) → IsWorld v → Agree v w → GoAlike (at_event one v) (at_event one w)
 unfolding at_event at_set at_execute at_samples at_moment
-event_alike (event.Get level attr selected) v w small range agree =
+event_alike (event.Get level attr selected) v w range agree =
     record { reply = ap reply_of (get_alike level attr selected v w agree); world = agree; range = range }
-event_alike (event.GetList level items) v w small range agree =
+event_alike (event.GetList level items) v w range agree =
     record { reply = ap reply.Values (gets_alike level items v w agree); world = agree; range = range }
-event_alike (event.Set level attr selected value) v w small range agree =
-    outcome_alike _ _ (write_at_alike (target_of attr.name attr.class (rights_of level attr).write selected) attr.number value v w small range agree)
-event_alike (event.Execute level method parameter) v w small range agree =
+event_alike (event.Set level attr selected value) v w range agree =
+    outcome_alike _ _ (write_at_alike (target_of attr.name attr.class (rights_of level attr).write selected) attr.number value v w range agree)
+event_alike (event.Execute level method parameter) v w range agree =
     outcome_alike _ _ (execute_at_alike (target_of method.name method.class (may_execute_of level method) false) method.number parameter v w range agree)
-event_alike event.Button v w small range agree = outcome_alike _ _ (button_alike v w range agree)
-event_alike (event.Samples block) v w small range agree =
+event_alike event.Button v w range agree = outcome_alike _ _ (button_alike v w range agree)
+event_alike (event.Samples block) v w range agree =
     let after = samples_alike (measurements block) (record { world = v; firings = no_firings }) (record { world = w; firings = no_firings })
     (record { firings = refl; worlds = record { world = agree; range = range } }) in
     record { reply = ap (sampled block.export) after.firings; world = after.worlds.world; range = after.worlds.range }
-event_alike (event.Moment now) v w small range agree =
+event_alike (event.Moment now) v w range agree =
     let P : Option ℕ → Type 0 = λ before. GoAlike (moment_after v.moment now v) (moment_after before now w) in
     let moment : w.moment ≡ v.moment = ap (λ (u : World). u.moment) agree.same in
     subst P (sym moment) (moment_alike v.moment now v w range agree)

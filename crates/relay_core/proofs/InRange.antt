@@ -3,18 +3,16 @@
 use Rattle.std.proofs.Common.{◌≡◌, ℕ, ◌<◌, Some, IfSome, IfOk, Result, Ok, Err, refl}
 use Rattle.byte_reading.specs.Outcome.{◌>>=◌}
 use Rattle.byte_reading.proofs.OutcomeLemmas.{done}
-use Rattle.cosem_axdr.specs.Forms.{double_long_unsigned_of}
 use Rattle.cosem_axdr.specs.declared.value.Data.{Data}
+use Rattle.limiter_attributes.proofs.Again.{number_small}
 use Rattle.limiter_attributes.specs.Reading.{number_of, profile_of, actions_of, setting_of}
 use Rattle.limiter_attributes.specs.declared.attribute.LimiterAttribute.{LimiterAttribute}
 use Rattle.limiter_attributes.specs.declared.attribute.LimiterAttribute.TheVariants as attribute
 use Rattle.cosem_names.specs.declared.write_fault.WriteFault.{WriteFault}
-use Rattle.cosem_names.specs.declared.write_fault.WriteFault.TheVariants.{Unmatched}
 use Rattle.limiter_attributes.specs.declared.setting.Setting.{Setting}
 use Rattle.limiter_attributes.specs.declared.setting.Setting.TheVariants as setting
 use Rattle.relay_core.specs.Agreeing.{IsSettingInRange, IsValue}
-use Rattle.script_steps.proofs.InRange.{table_in_range, read_some}
-use Rattle.script_steps.proofs.Within.{Within, number_within}
+use Rattle.script_steps.proofs.InRange.{table_in_range}
 use Rattle.script_steps.specs.Reading.{table_of}
 
 -- what holds for each value that decoding can return holds for the one it returned
@@ -28,26 +26,21 @@ set_by : {A : Type 0} (read : Result A WriteFault) (make : A → Setting) → ((
 set_by (Ok x) make each = each x refl
 set_by (Err fault) make each = tt
 
-seconds_small : (value : Data) (n : ℕ) → Within value → number_of value ≡ Ok n → n < 4294967296
-seconds_small value n within e = number_within value n within (read_some (double_long_unsigned_of value) Unmatched n e)
-
-setting_in_range : (value : Data) (a : LimiterAttribute) → Within value → IfOk (setting_of a value) (λ set. IfSome set IsSettingInRange)
+setting_in_range : (value : Data) (a : LimiterAttribute) → IfOk (setting_of a value) (λ set. IfSome set IsSettingInRange)
 unfolding setting_of
-setting_in_range value attribute.MonitoredValue within = tt
-setting_in_range value attribute.ThresholdActive within = tt
-setting_in_range value attribute.ThresholdNormal within = set_by (number_of value) (λ n. setting.NormalThreshold n) (λ n e. tt)
-setting_in_range value attribute.ThresholdEmergency within = set_by (number_of value) (λ n. setting.EmergencyThreshold n) (λ n e. tt)
-setting_in_range value attribute.MinOverThresholdDuration within =
-    set_by (number_of value) (λ n. setting.MinOverDuration n) (λ n e. seconds_small value n within e)
-setting_in_range value attribute.MinUnderThresholdDuration within =
-    set_by (number_of value) (λ n. setting.MinUnderDuration n) (λ n e. seconds_small value n within e)
-setting_in_range value attribute.EmergencyProfile within = set_by (profile_of value) (λ p. setting.Profile p) (λ p e. tt)
-setting_in_range value attribute.EmergencyProfileGroupIdList within = tt
-setting_in_range value attribute.EmergencyProfileActive within = tt
-setting_in_range value attribute.Actions within = set_by (actions_of value) (λ a. setting.Actions a) (λ a e. tt)
+setting_in_range value attribute.MonitoredValue = tt
+setting_in_range value attribute.ThresholdActive = tt
+setting_in_range value attribute.ThresholdNormal = set_by (number_of value) (λ n. setting.NormalThreshold n) (λ n e. tt)
+setting_in_range value attribute.ThresholdEmergency = set_by (number_of value) (λ n. setting.EmergencyThreshold n) (λ n e. tt)
+setting_in_range value attribute.MinOverThresholdDuration = set_by (number_of value) (λ n. setting.MinOverDuration n) (λ n e. number_small value n e)
+setting_in_range value attribute.MinUnderThresholdDuration = set_by (number_of value) (λ n. setting.MinUnderDuration n) (λ n e. number_small value n e)
+setting_in_range value attribute.EmergencyProfile = set_by (profile_of value) (λ p. setting.Profile p) (λ p e. tt)
+setting_in_range value attribute.EmergencyProfileGroupIdList = tt
+setting_in_range value attribute.EmergencyProfileActive = tt
+setting_in_range value attribute.Actions = set_by (actions_of value) (λ a. setting.Actions a) (λ a e. tt)
 
-pub value_in_range : (value : Data) → Within value → IsValue value
-value_in_range value within = record {
-  scripts = if_read _ (table_of value) (λ scripts e. table_in_range value scripts within e);
-  setting = λ a. setting_in_range value a within;
+pub value_in_range : (value : Data) → IsValue value
+value_in_range value = record {
+  scripts = if_read _ (table_of value) (λ scripts e. table_in_range value scripts e);
+  setting = λ a. setting_in_range value a;
 }

@@ -1,14 +1,15 @@
 -- A step of a script has the effect of the request that names the same attribute or method.
-use Rattle.std.proofs.Common.{◌≡◌, Some, Result, Ok, refl, ap, sym}
+use Rattle.std.proofs.Common.{◌≡◌, ℕ, Some, Result, Ok, refl, ap, sym}
 use Rattle.byte_reading.specs.Outcome.{◌>>=◌}
 use Rattle.cosem_names.specs.Objects.{object_of, class_attribute_of, class_method_of, attribute_of, method_of, rights_of, may_execute_of}
 use Rattle.cosem_names.specs.declared.objects.Which.{Which}
 use Rattle.cosem_names.specs.declared.objects.Which.TheVariants.{Import, Export}
 use Rattle.disconnect_control.specs.Attributes.{mode_form}
 use Rattle.disconnect_control.specs.declared.state.ControlMode.TheVariants.{Mode0, Mode1, Mode2, Mode3, Mode4, Mode5, Mode6}
-use Rattle.limiter_attributes.proofs.Again.{profile_again}
+use Rattle.limiter_attributes.proofs.Again.{number_again, profile_again}
 use Rattle.limiter_attributes.specs.Attributes.{attribute_numbered}
 use Rattle.limiter_attributes.specs.Reading.{setting_of}
+use Rattle.limiter_attributes.specs.declared.setting.Setting.{Setting}
 use Rattle.limiter_attributes.specs.declared.setting.Setting.TheVariants as setting
 use Rattle.limiter_core.specs.declared.settings.Profile.{Profile}
 use Rattle.relay_core.specs.Access.{target_of}
@@ -23,7 +24,11 @@ use Rattle.cosem_names.specs.declared.write_fault.WriteFault.{WriteFault}
 use Rattle.script_steps.specs.declared.step.Step.{Step}
 use Rattle.script_steps.specs.declared.step.Step.TheVariants as step
 
--- the effect of a write of an emergency profile, by the result of decoding its Data
+-- a write of a threshold or a duration, by what its Data was read as
+abbrev numbered : Which → World → (ℕ → Setting) → Result ℕ WriteFault → Outcome
+numbered which w make read = at_setting_form which (read >>= λ number. Ok (Some (make number))) w
+
+-- a write of an emergency profile, by what its Data was read as
 abbrev written : Which → World → Result Profile WriteFault → Outcome
 written which w read = at_setting_form which (read >>= λ profile. Ok (Some (setting.Profile profile))) w
 
@@ -36,14 +41,14 @@ step_is_request (step.WriteMode Mode3) w fits = refl
 step_is_request (step.WriteMode Mode4) w fits = refl
 step_is_request (step.WriteMode Mode5) w fits = refl
 step_is_request (step.WriteMode Mode6) w fits = refl
-step_is_request (step.WriteNormal Import watts) w fits = refl
-step_is_request (step.WriteNormal Export watts) w fits = refl
-step_is_request (step.WriteEmergency Import watts) w fits = refl
-step_is_request (step.WriteEmergency Export watts) w fits = refl
-step_is_request (step.WriteMinOver Import seconds) w fits = refl
-step_is_request (step.WriteMinOver Export seconds) w fits = refl
-step_is_request (step.WriteMinUnder Import seconds) w fits = refl
-step_is_request (step.WriteMinUnder Export seconds) w fits = refl
+step_is_request (step.WriteNormal Import watts) w fits = sym (ap (numbered Import w (λ n. setting.NormalThreshold n)) (number_again watts fits))
+step_is_request (step.WriteNormal Export watts) w fits = sym (ap (numbered Export w (λ n. setting.NormalThreshold n)) (number_again watts fits))
+step_is_request (step.WriteEmergency Import watts) w fits = sym (ap (numbered Import w (λ n. setting.EmergencyThreshold n)) (number_again watts fits))
+step_is_request (step.WriteEmergency Export watts) w fits = sym (ap (numbered Export w (λ n. setting.EmergencyThreshold n)) (number_again watts fits))
+step_is_request (step.WriteMinOver Import seconds) w fits = sym (ap (numbered Import w (λ n. setting.MinOverDuration n)) (number_again seconds fits))
+step_is_request (step.WriteMinOver Export seconds) w fits = sym (ap (numbered Export w (λ n. setting.MinOverDuration n)) (number_again seconds fits))
+step_is_request (step.WriteMinUnder Import seconds) w fits = sym (ap (numbered Import w (λ n. setting.MinUnderDuration n)) (number_again seconds fits))
+step_is_request (step.WriteMinUnder Export seconds) w fits = sym (ap (numbered Export w (λ n. setting.MinUnderDuration n)) (number_again seconds fits))
 step_is_request (step.WriteProfile Import profile) w fits = sym (ap (written Import w) (profile_again profile fits))
 step_is_request (step.WriteProfile Export profile) w fits = sym (ap (written Export w) (profile_again profile fits))
 step_is_request step.Disconnect w fits = refl

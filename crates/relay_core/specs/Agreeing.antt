@@ -8,8 +8,6 @@ use Rattle.limiter_attributes.specs.Reading.{setting_of}
 use Rattle.limiter_core.specs.declared.settings.Settings.{Settings}
 use Rattle.limiter_core.specs.Counting.{count_of}
 use Rattle.limiter_core.specs.Rows.{Row, OverThreshold, UnderThreshold}
-use Rattle.relay_events.specs.declared.event.Event.{Event}
-use Rattle.relay_events.specs.declared.event.Event.TheVariants.{Set}
 use Rattle.relay_core.specs.World.{World, Stepped}
 use Rattle.script_steps.specs.Ranges.{AreScriptsInRange}
 use Rattle.script_steps.specs.Reading.{table_of}
@@ -50,11 +48,7 @@ pub record IsValue (value : Data) : Type 0 where
   pub scripts : IfOk (table_of value) AreScriptsInRange
   pub setting : (attribute : LimiterAttribute) → IfOk (setting_of attribute value) (λ setting. IfSome setting IsSettingInRange)
 
-abbrev pub IsEvent : Event → Type 0
-IsEvent (Set level attr selected value) = IsValue value
-IsEvent _ = Unit {0}
-
--- Two steps with equal replies that end in worlds which agree, the first of them in range.
+-- steps with one reply that end in worlds which agree, the first of them in range
 pub record GoAlike (a b : Stepped) : Type 0 where
   pub reply : a.reply ≡ b.reply
   pub world : Agree a.world b.world

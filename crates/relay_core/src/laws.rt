@@ -1,9 +1,7 @@
 ghost use Rattle.std.specs.Prelude.{◌≡◌};
 ghost use Rattle.relay_events.specs.declared.event.Event.{Event};
-ghost use Rattle.cosem_axdr.specs.Spelling.{IsWithin};
-ghost use Rattle.cosem_axdr.specs.View.{tree_of};
 ghost use Rattle.cosem_axdr.specs.declared.value.Data.{Data};
-ghost use Rattle.relay_core.specs.Agreeing.{Agree, IsWorld, IsEvent, IsValue, GoAlike};
+ghost use Rattle.relay_core.specs.Agreeing.{Agree, IsWorld, IsValue, GoAlike};
 ghost use Rattle.relay_core.specs.Machine.{at_event};
 ghost use Rattle.relay_events.specs.Kinds.{Fits};
 ghost use Rattle.relay_core.specs.Requests.{at_request};
@@ -17,13 +15,13 @@ ghost use Rattle.script_steps.specs.declared.step.Step.{Step};
 /// So a limiter's behaviour depends on nothing in its samples except its runs and whether they have
 /// fired.
 pub fn worlds_agree()
-    ensures { (event : Event) (v w : World) → IsEvent event → IsWorld v → Agree v w → GoAlike (at_event event v) (at_event event w) }
+    ensures { (event : Event) (v w : World) → IsWorld v → Agree v w → GoAlike (at_event event v) (at_event event w) }
 {}
 
 /// Proves that a setting decoded from a value has durations of 32 bits if the value's numbers are
 /// in the ranges of their types.
 pub fn values_are_in_range()
-    ensures { (value : Data) → IsWithin (tree_of value) → IsValue value }
+    ensures { (value : Data) → IsValue value }
 {}
 
 /// Proves that in every world the reply to an event is of the event's kind.

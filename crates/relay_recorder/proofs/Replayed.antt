@@ -18,7 +18,7 @@ use Rattle.relay_core.proofs.AgreeingEvents.{event_alike}
 use Rattle.relay_core.proofs.RunLemmas.{lines_of-append}
 use Rattle.relay_recorder.specs.Histories.{Told, StandsForHistory, events_of}
 use Rattle.relay_recorder.specs.Recording.{Recording, all_but_last}
-use Rattle.relay_recorder.specs.Replaying.{AreEvents, RunsAgain}
+use Rattle.relay_recorder.specs.Replaying.{RunsAgain}
 
 -- worlds that agree give equal lines
 line_alike : (a b : Stepped) → GoAlike a b → line_of a ≡ line_of b
@@ -26,14 +26,14 @@ line_alike a b go =
     let make : Reply → Control → Line = λ reply control. record { reply = reply; state = control.state; output = is_state control.state Connected } in
     ap (λ reply. make reply a.world.control) go.reply ∙ ap (λ (w : World). make b.reply w.control) (sym go.world.same)
 
-pub lines_alike : (events : List Event) (v w : World) → AreEvents events → IsWorld v → Agree v w → lines_of events v ≡ lines_of events w
-lines_alike [] v w small range agree = refl
-lines_alike (event ∷ events) v w small range agree =
-    let go = event_alike event v w small.0 range agree in
+pub lines_alike : (events : List Event) (v w : World) → IsWorld v → Agree v w → lines_of events v ≡ lines_of events w
+lines_alike [] v w range agree = refl
+lines_alike (event ∷ events) v w range agree =
+    let go = event_alike event v w range agree in
     let a = at_event event v in
     let b = at_event event w in
     ap (λ (line : Line). line ∷ lines_of events a.world) (line_alike a b go)
-    ∙ ap (λ (lines : List Line). line_of b ∷ lines) (lines_alike events a.world b.world small.1 go.range go.world)
+    ∙ ap (λ (lines : List Line). line_of b ∷ lines) (lines_alike events a.world b.world go.range go.world)
 
 lines_length : (events : List Event) (w : World) → length (lines_of events w) ≡ length events
 lines_length [] w = refl
@@ -60,13 +60,13 @@ drop_map f (suc n) (x ∷ xs) = drop_map f n xs
 
 -- The exported opening agrees with the world before the kept events, so they run from it as they
 -- did in the history.
-pub runs_again : (r : Recording) (history : List Told) (origin world : World) → StandsForHistory r history origin → AreEvents r.events → IsWorld world
+pub runs_again : (r : Recording) (history : List Told) (origin world : World) → StandsForHistory r history origin → IsWorld world
     → ((w : World) → StandsFor r.opening w → Agree world w) → RunsAgain r history origin world
-runs_again r history origin world stands small range agrees =
+runs_again r history origin world stands range agrees =
     let events = events_of history in
     let n = r.capacity in
     let before = world_after (all_but_last n events) origin in
-    let alike : lines_of r.events world ≡ lines_of r.events before = lines_alike r.events world before small range (agrees before stands.opening) in
+    let alike : lines_of r.events world ≡ lines_of r.events before = lines_alike r.events world before range (agrees before stands.opening) in
     let kept : lines_of r.events before ≡ lines_of (keep_last n events) before = ap (λ (es : List Event). lines_of es before) stands.kept in
     let long : length events ≡ length history = length-map history (λ (told : Told). told.0) in
     let count : length events - length (keep_last n events) ≡ length history - length r.events =

@@ -1,19 +1,11 @@
 -- What a recorder's exported trace replays.
-use Rattle.std.specs.Prelude.{◌≡◌, ◌-◌, List, [], ◌∷◌, length, drop}
-use Rattle.relay_core.specs.Agreeing.{IsEvent}
-use Rattle.relay_events.specs.declared.event.Event.{Event}
+use Rattle.std.specs.Prelude.{◌≡◌, ◌-◌, List, length, drop}
 use Rattle.relay_core.specs.Runs.{lines_of}
 use Rattle.relay_core.specs.World.{World}
 use Rattle.relay_recorder.specs.Histories.{Told, StandsForHistory, events_of, replies_of, replies_from}
 use Rattle.relay_recorder.specs.Recording.{Recording}
 
 -- each duration in these events fits in 32 bits
-abbrev pub AreEvents : List Event → Type 0
-AreEvents [] = Unit {0}
-AreEvents (event ∷ events) = IsEvent event × AreEvents events
-
--- Run from `world`, the kept events give the last lines of the history's run, and the history's
--- last replies.
 pub record RunsAgain (r : Recording) (history : List Told) (origin world : World) : Type 0 where
   pub lines : lines_of r.events world ≡ drop (length history - length r.events) (lines_of (events_of history) origin)
   pub replies : replies_from world r.events ≡ drop (length history - length r.events) (replies_of history)

@@ -5,10 +5,8 @@
 #![tactic(auto)]
 
 mod kept;
-mod ranges;
 mod recorder;
 mod trace;
 
-pub use ranges::{data_is_within, events_are_in_range};
 pub use recorder::Recorder;
 pub use trace::Trace;

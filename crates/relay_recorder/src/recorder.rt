@@ -10,7 +10,6 @@ ghost use Rattle.relay_recorder.specs.Histories.{StandsForHistory, HasHistory, C
 ghost use Rattle.relay_recorder.specs.Replaying.{Replays};
 
 use crate::kept::{Kept, Ring, keep};
-use crate::ranges::events_are_in_range;
 use crate::trace::Trace;
 use circular_buffer::HeapCircularBuffer;
 use cosem_axdr::Octets;
@@ -172,7 +171,6 @@ impl Recorder {
         ensures replays { IfOk result (λ trace. Replays self.now (opened trace.opening)) }
     {
         let events = self.copied_events(alloc)?;
-        events_are_in_range(events.as_slice());
         Ok(Trace {
             opening: self.opening.to_opening(alloc)?,
             events,

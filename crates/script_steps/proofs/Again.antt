@@ -9,7 +9,7 @@ use Rattle.cosem_axdr.specs.declared.value.Data.{Data}
 use Rattle.cosem_axdr.proofs.OneTree.{list_of_trees}
 use Rattle.disconnect_control.proofs.ModeLemmas.{mode_found}
 use Rattle.disconnect_control.specs.Attributes.{mode_form}
-use Rattle.limiter_attributes.proofs.Again.{profile_again}
+use Rattle.limiter_attributes.proofs.Again.{number_again, profile_again}
 use Rattle.script_steps.specs.Addresses.{action_at, address_of, action_of}
 use Rattle.script_steps.specs.Forms.{step_parts_of, script_parts_of, identifier_of}
 use Rattle.cosem_names.specs.WriteFault.{told, values}
@@ -48,10 +48,10 @@ parts_again step.Reconnect = refl
 parameter_again : (s : Step) → IsStep s → step_with (action_of s) (parameter_of s) ≡ Ok s
 unfolding step_with mode_form
 parameter_again (step.WriteMode mode) fits = ap (λ o. ok_or o Value >>= λ m. done WriteFault (step.WriteMode m)) (mode_found mode)
-parameter_again (step.WriteNormal which watts) fits = refl
-parameter_again (step.WriteEmergency which watts) fits = refl
-parameter_again (step.WriteMinOver which seconds) fits = refl
-parameter_again (step.WriteMinUnder which seconds) fits = refl
+parameter_again (step.WriteNormal which watts) fits = ap (λ r. r >>= λ n. done WriteFault (step.WriteNormal which n)) (number_again watts fits)
+parameter_again (step.WriteEmergency which watts) fits = ap (λ r. r >>= λ n. done WriteFault (step.WriteEmergency which n)) (number_again watts fits)
+parameter_again (step.WriteMinOver which seconds) fits = ap (λ r. r >>= λ n. done WriteFault (step.WriteMinOver which n)) (number_again seconds fits)
+parameter_again (step.WriteMinUnder which seconds) fits = ap (λ r. r >>= λ n. done WriteFault (step.WriteMinUnder which n)) (number_again seconds fits)
 parameter_again (step.WriteProfile which profile) fits = ap (λ r. r >>= λ p. done WriteFault (step.WriteProfile which p)) (profile_again profile fits)
 parameter_again step.Disconnect fits = refl
 parameter_again step.Reconnect fits = refl

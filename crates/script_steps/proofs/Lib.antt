@@ -2,4 +2,3 @@ pub mod Again
 pub mod InRange
 pub mod Listed
 pub mod Tables
-pub mod Within

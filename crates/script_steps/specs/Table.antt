@@ -5,10 +5,12 @@ use Rattle.cosem_datetime.specs.Fields.{IsDateTimeFields}
 use Rattle.script_steps.specs.Reading.{max_scripts, max_steps, are_distinct}
 use Rattle.script_steps.specs.declared.step.Script.{Script}
 use Rattle.script_steps.specs.declared.step.Step.{Step}
-use Rattle.script_steps.specs.declared.step.Step.TheVariants.{WriteMinOver, WriteMinUnder, WriteProfile}
+use Rattle.script_steps.specs.declared.step.Step.TheVariants.{WriteNormal, WriteEmergency, WriteMinOver, WriteMinUnder, WriteProfile}
 
--- durations are numbers of 32 bits, and a profile's start has fields in their ranges
+-- thresholds and durations are numbers of 32 bits, and a profile's start has fields in their ranges
 abbrev pub IsStep : Step → Type 0
+IsStep (WriteNormal which watts) = watts < 2 ^ 32
+IsStep (WriteEmergency which watts) = watts < 2 ^ 32
 IsStep (WriteMinOver which seconds) = seconds < 2 ^ 32
 IsStep (WriteMinUnder which seconds) = seconds < 2 ^ 32
 IsStep (WriteProfile which profile) = IsDateTimeFields profile.start

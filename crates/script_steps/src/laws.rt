@@ -1,6 +1,4 @@
 ghost use Rattle.std.specs.Prelude.{◌≡◌, ◌↔◌, List, Ok};
-ghost use Rattle.cosem_axdr.specs.Spelling.{IsWithin};
-ghost use Rattle.cosem_axdr.specs.View.{tree_of};
 ghost use Rattle.cosem_axdr.specs.declared.value.Data.{Data};
 ghost use Rattle.script_steps.specs.Ranges.{AreScriptsInRange};
 ghost use Rattle.script_steps.specs.declared.step.Script.{Script};
@@ -16,9 +14,9 @@ pub fn written_table_is_read()
     ensures { (scripts : List Script) → IsTable scripts → table_of (data_of scripts) ≡ Ok scripts }
 {}
 
-/// A table that is read from a value whose numbers are of their types' ranges has durations of 32 bits.
+/// The steps of a table that is read have durations of 32 bits.
 pub fn read_table_is_in_range()
-    ensures { (value : Data) (scripts : List Script) → IsWithin (tree_of value) → table_of value ≡ Ok scripts → AreScriptsInRange scripts }
+    ensures { (value : Data) (scripts : List Script) → table_of value ≡ Ok scripts → AreScriptsInRange scripts }
 {}
 
 /// Each step is found by its address, and that address is in the table of the meter's objects. It

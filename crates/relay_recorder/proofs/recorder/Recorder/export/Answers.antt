@@ -1,10 +1,9 @@
-use Rattle.std.proofs.Common.{subst, ◌∙◌}
+use Rattle.std.proofs.Common.{subst}
 use Rattle.relay_core.specs.Agreeing.{Agree}
 use Rattle.relay_core.specs.Opening.{opened}
 use Rattle.relay_core.specs.Stands.{StandsFor}
 use Rattle.relay_core.specs.World.{World}
 use Rattle.relay_recorder.specs.Recording.{Recording}
-use Rattle.relay_recorder.specs.Replaying.{AreEvents}
 use Rattle.relay_recorder.proofs.Replayed.{runs_again}
 use Rattle.relay_recorder.proofs.recorder.Recorder.export.Goals as goal
 
@@ -12,5 +11,4 @@ pub returns-clause-replays : goal.returns-clause-replays
 returns-clause-replays c = λ history origin stands.
     let world = opened c.in_ok-to_opening.field-0 in
     let agrees = subst (λ (r : Recording). (w : World) → StandsFor r.opening w → Agree world w) c.self.view_is c.in_ok-to_opening.ensures.agrees in
-    let small = subst AreEvents (c.as_slice.ensures ∙ c.in_ok-events.ensures) c.events_are_in_range.ensures in
-    runs_again c.args.self.now history origin world stands small c.in_ok-to_opening.ensures.range agrees
+    runs_again c.args.self.now history origin world stands c.in_ok-to_opening.ensures.range agrees
