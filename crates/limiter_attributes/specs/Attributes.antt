@@ -28,7 +28,8 @@ number_of Actions = 11
 -- all attributes: `LimiterAttribute::number` ensures that each is found by its number
 abbrev pub attributes : List LimiterAttribute
 attributes =
-    MonitoredValue ∷ ThresholdActive ∷ ThresholdNormal ∷ ThresholdEmergency ∷ MinOverThresholdDuration ∷ MinUnderThresholdDuration
+    MonitoredValue ∷ ThresholdActive ∷ ThresholdNormal ∷ ThresholdEmergency
+    ∷ MinOverThresholdDuration ∷ MinUnderThresholdDuration
     ∷ EmergencyProfile ∷ EmergencyProfileGroupIdList ∷ EmergencyProfileActive ∷ Actions ∷ []
 
 -- the attribute of a number

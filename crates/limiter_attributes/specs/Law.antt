@@ -13,7 +13,8 @@ use Rattle.limiter_attributes.specs.declared.attribute.LimiterAttribute.TheVaria
 
 -- an attribute of a limiter, as a GET or a SET names it
 abbrev pub reference : Which → LimiterAttribute → AttrRef
-reference which attribute = record { class = class_id 71; name = limiter_name which; number = number_of attribute }
+reference which attribute =
+    record { class = class_id 71; name = limiter_name which; number = number_of attribute }
 
 -- whether an attribute may be written
 abbrev pub is_written : LimiterAttribute → Bool
@@ -32,10 +33,12 @@ is_written Actions = true
 -- write it if it may be written
 pub record IsInTable (which : Which) (attribute : LimiterAttribute) : Type 0 where
   pub public : rights_of Public (reference which attribute) ≡ record { read = false; write = false }
-  pub management : rights_of Management (reference which attribute) ≡ record { read = true; write = is_written attribute }
+  pub management : rights_of Management (reference which attribute)
+      ≡ record { read = true; write = is_written attribute }
 
 -- a limiter monitors the register of its direction: the object table has that logical name, with
 -- class 3
 pub record IsMonitored (which : Which) : Type 0 where
-  pub named : option_map (λ row. row.instance) (object_of (register_name which)) ≡ Some (Register which)
+  pub named : option_map (λ row. row.instance) (object_of (register_name which))
+      ≡ Some (Register which)
   pub classed : option_map (λ row. row.class) (object_of (register_name which)) ≡ Some (class_id 3)

@@ -19,7 +19,8 @@ use Rattle.cosem_names.specs.Scripts.{is_of_the_table}
 use Rattle.limiter_attributes.specs.declared.setting.Setting.{Setting}
 use Rattle.limiter_attributes.specs.declared.setting.Setting.TheVariants as setting
 
--- a threshold in watts or a duration in seconds: a double-long-unsigned, which is a number of 32 bits
+-- a threshold in watts or a duration in seconds: a double-long-unsigned, which is a number of 32
+-- bits
 unfoldable pub number_of : Data → Result ℕ WriteFault
 number_of value = do
   number ← ok_or (double_long_unsigned_of value) Unmatched
@@ -45,14 +46,20 @@ actions_of value = do
 unfoldable pub setting_of : LimiterAttribute → Data → Result (Option Setting) WriteFault
 setting_of attribute.MonitoredValue value = Ok None
 setting_of attribute.ThresholdActive value = Ok None
-setting_of attribute.ThresholdNormal value = number_of value >>= λ watts. Ok (Some (setting.NormalThreshold watts))
-setting_of attribute.ThresholdEmergency value = number_of value >>= λ watts. Ok (Some (setting.EmergencyThreshold watts))
-setting_of attribute.MinOverThresholdDuration value = number_of value >>= λ seconds. Ok (Some (setting.MinOverDuration seconds))
-setting_of attribute.MinUnderThresholdDuration value = number_of value >>= λ seconds. Ok (Some (setting.MinUnderDuration seconds))
-setting_of attribute.EmergencyProfile value = profile_of value >>= λ profile. Ok (Some (setting.Profile profile))
+setting_of attribute.ThresholdNormal value =
+    number_of value >>= λ watts. Ok (Some (setting.NormalThreshold watts))
+setting_of attribute.ThresholdEmergency value =
+    number_of value >>= λ watts. Ok (Some (setting.EmergencyThreshold watts))
+setting_of attribute.MinOverThresholdDuration value =
+    number_of value >>= λ seconds. Ok (Some (setting.MinOverDuration seconds))
+setting_of attribute.MinUnderThresholdDuration value =
+    number_of value >>= λ seconds. Ok (Some (setting.MinUnderDuration seconds))
+setting_of attribute.EmergencyProfile value =
+    profile_of value >>= λ profile. Ok (Some (setting.Profile profile))
 setting_of attribute.EmergencyProfileGroupIdList value = Ok None
 setting_of attribute.EmergencyProfileActive value = Ok None
-setting_of attribute.Actions value = actions_of value >>= λ actions. Ok (Some (setting.Actions actions))
+setting_of attribute.Actions value =
+    actions_of value >>= λ actions. Ok (Some (setting.Actions actions))
 
 -- whether each item is a long-unsigned
 abbrev pub are_ids : List Data → Bool

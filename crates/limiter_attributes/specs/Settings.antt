@@ -24,9 +24,12 @@ abbrev pub setting_at : LimiterAttribute → Settings → Option Setting
 setting_at attribute.MonitoredValue settings = None
 setting_at attribute.ThresholdActive settings = None
 setting_at attribute.ThresholdNormal settings = Some (NormalThreshold settings.normal_threshold)
-setting_at attribute.ThresholdEmergency settings = Some (EmergencyThreshold settings.emergency_threshold)
-setting_at attribute.MinOverThresholdDuration settings = Some (MinOverDuration settings.min_over_duration)
-setting_at attribute.MinUnderThresholdDuration settings = Some (MinUnderDuration settings.min_under_duration)
+setting_at attribute.ThresholdEmergency settings =
+    Some (EmergencyThreshold settings.emergency_threshold)
+setting_at attribute.MinOverThresholdDuration settings =
+    Some (MinOverDuration settings.min_over_duration)
+setting_at attribute.MinUnderThresholdDuration settings =
+    Some (MinUnderDuration settings.min_under_duration)
 setting_at attribute.EmergencyProfile settings = Some (Profile settings.profile)
 setting_at attribute.EmergencyProfileGroupIdList settings = None
 setting_at attribute.EmergencyProfileActive settings = None
@@ -34,4 +37,11 @@ setting_at attribute.Actions settings = Some (Actions settings.actions)
 
 -- a new limiter with these group ids
 abbrev pub limiter_with_groups : List ℕ → State
-limiter_with_groups ids = record { settings = record new_settings { groups = ids }; moment = None; last = 0; over = no_run; under = no_run }
+limiter_with_groups ids =
+    record {
+      settings = record new_settings { groups = ids };
+      moment = None;
+      last = 0;
+      over = no_run;
+      under = no_run;
+    }

@@ -23,27 +23,35 @@ register_name Export = obis 1 0 2 7 0 255
 
 -- monitored_value: attribute 2 of that register, whose class is 3
 unfoldable pub monitored_data : Which → Data
-monitored_data which = structure_with (LongUnsigned 3 ∷ OctetString (register_name which).0 ∷ Integer (pos 2) ∷ [])
+monitored_data which =
+    structure_with (LongUnsigned 3 ∷ OctetString (register_name which).0 ∷ Integer (pos 2) ∷ [])
 
 -- emergency_profile: its start is an octet-string
 abbrev pub profile_data : Profile → Data
 profile_data profile =
-    structure_with (LongUnsigned profile.id ∷ OctetString (date_time_bytes profile.start) ∷ DoubleLongUnsigned profile.duration ∷ [])
+    structure_with (LongUnsigned profile.id ∷ OctetString (date_time_bytes profile.start)
+    ∷ DoubleLongUnsigned profile.duration ∷ [])
 
 unfoldable pub groups_data : List ℕ → Data
 groups_data ids = array_with (map LongUnsigned ids)
 
 unfoldable pub actions_data : Actions → Data
-actions_data actions = structure_with (script_data (named actions.over) ∷ script_data (named actions.under) ∷ [])
+actions_data actions =
+    structure_with (script_data (named actions.over) ∷ script_data (named actions.under) ∷ [])
 
 -- the value of an attribute of a limiter with these settings at a moment of the clock
 unfoldable pub data_at : Which → LimiterAttribute → Settings → Option ℕ → Data
 data_at which attribute.MonitoredValue settings moment = monitored_data which
-data_at which attribute.ThresholdActive settings moment = DoubleLongUnsigned (active_threshold settings moment)
-data_at which attribute.ThresholdNormal settings moment = DoubleLongUnsigned settings.normal_threshold
-data_at which attribute.ThresholdEmergency settings moment = DoubleLongUnsigned settings.emergency_threshold
-data_at which attribute.MinOverThresholdDuration settings moment = DoubleLongUnsigned settings.min_over_duration
-data_at which attribute.MinUnderThresholdDuration settings moment = DoubleLongUnsigned settings.min_under_duration
+data_at which attribute.ThresholdActive settings moment =
+    DoubleLongUnsigned (active_threshold settings moment)
+data_at which attribute.ThresholdNormal settings moment =
+    DoubleLongUnsigned settings.normal_threshold
+data_at which attribute.ThresholdEmergency settings moment =
+    DoubleLongUnsigned settings.emergency_threshold
+data_at which attribute.MinOverThresholdDuration settings moment =
+    DoubleLongUnsigned settings.min_over_duration
+data_at which attribute.MinUnderThresholdDuration settings moment =
+    DoubleLongUnsigned settings.min_under_duration
 data_at which attribute.EmergencyProfile settings moment = profile_data settings.profile
 data_at which attribute.EmergencyProfileGroupIdList settings moment = groups_data settings.groups
 data_at which attribute.EmergencyProfileActive settings moment = Boolean (is_active settings moment)

@@ -27,7 +27,7 @@ pub enum LimiterAttribute {
     Actions = 11,
 }
 
-/// The attributes of a limiter after its logical name, in the order of their numbers.
+// The attributes of a limiter after its logical name, in the order of their numbers.
 pub(crate) const ATTRIBUTES: [LimiterAttribute; 10] = [
     LimiterAttribute::MonitoredValue,
     LimiterAttribute::ThresholdActive,

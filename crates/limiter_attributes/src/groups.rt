@@ -10,15 +10,15 @@ use cosem_names::WriteFault;
 use limiter_core::{Limiter, MAX_GROUPS};
 use std::alloc::{AllocError, Global};
 
-/// Whether each item is a long-unsigned.
+// Whether each item is a long-unsigned.
 fn are_ids(items: &[Data]) -> bool
     ensures { result ≡ are_ids items.now }
 {
     items.iter().all(|item| item.long_unsigned().is_some())
 }
 
-/// Judges the items of a written group id list: `Unmatched` if one is not a long-unsigned, then
-/// `Value` if there are more than `MAX_GROUPS`.
+// Judges the items of a written group id list: `Unmatched` if one is not a long-unsigned, then
+// `Value` if there are more than `MAX_GROUPS`.
 #[tactic(auto, unfolding(crate::specs::Reading::judged_groups))]
 fn judge_groups(items: &[Data]) -> Result<(), WriteFault>
     ensures exact { result ≡ judged_groups items.now }
@@ -34,7 +34,7 @@ fn judge_groups(items: &[Data]) -> Result<(), WriteFault>
     }
 }
 
-/// Returns the numbers of the items that are long-unsigned.
+// Returns the numbers of the items that are long-unsigned.
 fn read_ids(alloc: Global, items: &[Data]) -> Result<Vec<u16>, AllocError>
     ensures ids { IfOk result (λ ids. ids.items ≡ filter_map long_unsigned_of items.now) }
     ensures few { IfOk result (λ ids. length ids.items ≤ length items.now) }
@@ -54,8 +54,10 @@ fn read_ids(alloc: Global, items: &[Data]) -> Result<Vec<u16>, AllocError>
 #[tactic(auto, unfolding(crate::specs::Reading::groups_of))]
 pub fn read_groups(alloc: Global, value: &Data) -> Result<Limiter, WriteFault>
     ensures groups { IfOk result (λ limiter. groups_of value.now ≡ Ok limiter.settings.groups) }
-    ensures limiter { IfOk result (λ limiter. limiter ≡ limiter_with_groups limiter.settings.groups) }
-    ensures unmatched { IsErrOf result WriteFault.Unmatched ↔ (groups_of value.now ≡ Err Unmatched) }
+    ensures limiter { IfOk result (λ limiter. limiter
+        ≡ limiter_with_groups limiter.settings.groups) }
+    ensures unmatched { IsErrOf result WriteFault.Unmatched
+        ↔ (groups_of value.now ≡ Err Unmatched) }
     ensures value { IsErrOf result WriteFault.Value ↔ (groups_of value.now ≡ Err Value) }
     ensures memory { IsErrOf result WriteFault.Memory → IsOk (groups_of value.now) }
 {

@@ -5,6 +5,7 @@ ghost use Rattle.limiter_attributes.specs.Law.{IsInTable, IsMonitored};
 /// The attributes of both limiters are in the table of the meter's objects, with their access
 /// rights, and each limiter monitors the register of its direction.
 pub fn limiters_are_in_the_table()
-    ensures attributes { (which : Which) (attribute : LimiterAttribute) → IsInTable which attribute }
+    ensures attributes { (which : Which) (attribute : LimiterAttribute)
+        → IsInTable which attribute }
     ensures monitored { (which : Which) → IsMonitored which }
 {}

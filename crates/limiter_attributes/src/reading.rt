@@ -42,8 +42,8 @@ pub fn read_profile(value: &Data) -> Result<Profile, WriteFault>
     })
 }
 
-/// Reads the selectors of both actions: `Unmatched` if a type differs, then `Value` if an action
-/// names another script table.
+// Reads the selectors of both actions: `Unmatched` if a type differs, then `Value` if an action
+// names another script table.
 #[tactic(auto, unfolding(crate::specs::Reading::actions_of))]
 fn read_actions(value: &Data) -> Result<Actions, WriteFault>
     ensures exact { result ≡ actions_of value.now }

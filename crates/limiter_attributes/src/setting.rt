@@ -24,7 +24,8 @@ impl Setting {
     /// Sets it in a limiter. The other settings, the clock, the last sample and the runs do not
     /// change.
     pub fn apply(self, limiter: &mut Limiter)
-        ensures { limiter.new ≡ record limiter.old { settings = with_setting self limiter.old.settings } }
+        ensures { limiter.new
+            ≡ record limiter.old { settings = with_setting self limiter.old.settings } }
     {
         match self {
             Setting::NormalThreshold(watts) => limiter.set_normal_threshold(watts),

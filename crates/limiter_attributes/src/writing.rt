@@ -13,7 +13,7 @@ use cosem_names::{NamedScript, Obis, Which};
 use limiter_core::{Actions, Limiter, Profile};
 use std::alloc::{AllocError, Global};
 
-/// Returns the logical name of the register whose value a limiter monitors.
+// Returns the logical name of the register whose value a limiter monitors.
 fn register_name(which: Which) -> Obis
     ensures { result ≡ register_name which }
 {
@@ -23,8 +23,8 @@ fn register_name(which: Which) -> Obis
     }
 }
 
-/// Writes monitored_value (attribute 2): the class, the logical name and the attribute number of
-/// the register's value.
+// Writes monitored_value (attribute 2): the class, the logical name and the attribute number of
+// the register's value.
 #[tactic(auto, unfolding(crate::specs::Writing::monitored_data))]
 fn write_monitored(alloc: Global, which: Which) -> Result<Data, AllocError>
     ensures { IfOk result (λ value. value ≡ monitored_data which) }
@@ -53,14 +53,14 @@ pub fn write_profile(alloc: Global, profile: &Profile) -> Result<Data, AllocErro
     ]?)))
 }
 
-/// Returns each number as a long-unsigned.
+// Returns each number as a long-unsigned.
 fn write_ids(alloc: Global, ids: &[u16]) -> Result<Vec<Data>, AllocError>
     ensures { IfOk result (λ items. items.items ≡ map LongUnsigned ids.now) }
 {
     ids.iter().map(|id| Data::LongUnsigned(*id)).collect(alloc)
 }
 
-/// Writes emergency_profile_group_id_list (attribute 9): an array of long-unsigned.
+// Writes emergency_profile_group_id_list (attribute 9): an array of long-unsigned.
 #[tactic(auto, unfolding(crate::specs::Writing::groups_data), using(crate::proofs::Again::groups_again))]
 fn write_groups(alloc: Global, ids: &[u16]) -> Result<Data, AllocError>
     requires { length ids.now ≤ max_groups }
@@ -71,8 +71,8 @@ fn write_groups(alloc: Global, ids: &[u16]) -> Result<Data, AllocError>
     Ok(Data::Array(Items::from_vec(items)))
 }
 
-/// Writes actions (attribute 11): a structure of two structures, each of a logical name and a
-/// selector.
+// Writes actions (attribute 11): a structure of two structures, each of a logical name and a
+// selector.
 #[tactic(auto, unfolding(crate::specs::Writing::actions_data), using(crate::proofs::Again::actions_again))]
 fn write_actions(alloc: Global, actions: Actions) -> Result<Data, AllocError>
     ensures value { IfOk result (λ value. value ≡ actions_data actions) }
@@ -93,10 +93,13 @@ pub fn read_attribute(
     limiter: &Limiter,
     attribute: LimiterAttribute,
 ) -> Result<Data, AllocError>
-    ensures value { IfOk result (λ value. value ≡ data_at which attribute limiter.now.settings limiter.now.moment) }
+    ensures value { IfOk result (λ value. value
+        ≡ data_at which attribute limiter.now.settings limiter.now.moment) }
     // Writing the value to the limiter sets what it already has.
-    ensures again { IfOk result (λ value. setting_of attribute value ≡ Ok (setting_at attribute limiter.now.settings)) }
-    ensures groups_again { attribute ≡ EmergencyProfileGroupIdList → IfOk result (λ value. groups_of value ≡ Ok limiter.now.settings.groups) }
+    ensures again { IfOk result (λ value. setting_of attribute value
+        ≡ Ok (setting_at attribute limiter.now.settings)) }
+    ensures groups_again { attribute ≡ EmergencyProfileGroupIdList
+        → IfOk result (λ value. groups_of value ≡ Ok limiter.now.settings.groups) }
     ensures sure { IsTrue (is_plain attribute) → IsOk result }
 {
     match attribute {

@@ -24,11 +24,12 @@ use Rattle.trace_text.specs.Lines.{rows_of, unended_of}
 use Rattle.trace_text.specs.Words.{words_of}
 
 -- of the input, the bytes of a whole trace were read, and no more
-pub record TakesHead (left : Option (List ℕ)) (trace : Trace) (left' : Option (List ℕ)) : Type 0 where
-  pub text : List ℕ
-  pub read : Consumes left left' text
-  pub told : trace_of text ≡ Ok trace
-  pub fit : IsFitOpening trace.opening
+pub record TakesHead (left : Option (List ℕ)) (trace : Trace) (left' : Option (List ℕ)) : Type 0
+  where
+    pub text : List ℕ
+    pub read : Consumes left left' text
+    pub told : trace_of text ≡ Ok trace
+    pub fit : IsFitOpening trace.opening
 
 -- the first of these bytes are the text of a trace
 pub record HasHead (bytes : List ℕ) : Type 0 where
@@ -54,7 +55,8 @@ head_fault trace_fault.TooLong = program.Input
 head_fault trace_fault.Memory = program.Memory
 
 -- a text grew by the bytes that were read
-pub record Grows (text : List ℕ) (left : Option (List ℕ)) (text' : List ℕ) (left' : Option (List ℕ)) : Type 0 where
+pub record Grows (text : List ℕ) (left : Option (List ℕ)) (text' : List ℕ) (left' : Option (List ℕ))
+    : Type 0 where
   pub bytes : List ℕ
   pub read : Consumes left left' bytes
   pub added : text' ≡ text ++ bytes
@@ -94,7 +96,8 @@ pub record IsLaidOut (text : List ℕ) : Type 0 where
 
 -- after what was read of a text, these lines of it are still to be read, followed by the rest of
 -- the input
-pub record Ahead (text rest : List ℕ) (rows : List Row) (so_far : List ℕ) (left : Option (List ℕ)) : Type 0 where
+pub record Ahead (text rest : List ℕ) (rows : List Row) (so_far : List ℕ) (left : Option (List ℕ))
+    : Type 0 where
   pub still : List ℕ
   pub whole : text ≡ so_far ++ still
   pub left_is : left ≡ Some (still ++ rest)

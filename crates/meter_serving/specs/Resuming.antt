@@ -27,4 +27,5 @@ AnswersAlike world history origin = (further : List Event)
 -- trace
 abbrev pub GoesOn : Trace → World → Type 0
 GoesOn trace world = (r : Recording) → IsTraceOf r trace
-    → (history : List Told) (origin : World) → StandsForHistory r history origin → AnswersAlike world history origin
+    → (history : List Told) (origin : World) → StandsForHistory r history origin
+    → AnswersAlike world history origin

@@ -18,7 +18,8 @@ pub fn closed_meter(shared: Shared<Kept>, port: Port<Kept>) -> Result<Kept, (Fau
     requires { port.lock ≡ shared }
     ensures ok { IfOk result (λ kept. Yields (λ (k : _). k.origin) Stands IsLegal port.known kept) }
     ensures err { IfErr result (λ busy. busy.0 ≡ Fault.Turns) }
-    ensures out { IfErr result (λ busy. IsStillOut port.known busy.1.known × Watches IsLegal port.known busy.1.known) }
+    ensures out { IfErr result (λ busy. IsStillOut port.known busy.1.known
+        × Watches IsLegal port.known busy.1.known) }
 {
     match shared.close(port) {
         Ok(kept) => Ok(kept),

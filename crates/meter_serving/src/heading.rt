@@ -15,19 +15,24 @@ use trace_lines::read_event_count;
 use trace_player::{MAX_BYTES, Trace, read_trace};
 use trace_words::{TraceFault, TraceLines};
 
-/// The number of lines before the number of events, in version 1 of the format.
+// The number of lines before the number of events, in version 1 of the format.
 const LINES_OF_VERSION_1: u32 = 20;
 
-/// The number of lines before the number of events, in version 2 of the format.
+// The number of lines before the number of events, in version 2 of the format.
 const LINES_OF_VERSION_2: u32 = 30;
 
-/// Reads one more line of a text of at most 33,554,432 bytes. Errors: `Input` at the end of the
-/// input and above that limit, `Read`, `Memory`.
+// Reads one more line of a text of at most 33,554,432 bytes. Errors: `Input` at the end of the
+// input and above that limit, `Read`, `Memory`.
 fn add_line<I: Read>(input: &mut BufReader<Monitored<I>>, text: &mut Vec<u8>) -> Result<(), Fault>
-    ensures grows { OnOk result (Grows text.old.items (left_in I.remaining input.old) text.new.items (left_in I.remaining input.new)) }
-    ensures ahead { (whole rest : List ℕ) (row : Row) (rows : List Row) → Ahead whole rest (row ∷ rows) text.old.items (left_in I.remaining input.old)
-        → OnOk result (Ahead whole rest rows text.new.items (left_in I.remaining input.new) × IsLine (drop (length text.old.items) text.new.items) row) }
-    ensures input { IsErrOf result Fault.Input → (whole rest : List ℕ) (row : Row) (rows : List Row) → length whole ≤ most_bytes
+    ensures grows { OnOk result
+        (Grows text.old.items (left_in I.remaining input.old) text.new.items
+        (left_in I.remaining input.new)) }
+    ensures ahead { (whole rest : List ℕ) (row : Row) (rows : List Row)
+        → Ahead whole rest (row ∷ rows) text.old.items (left_in I.remaining input.old)
+        → OnOk result (Ahead whole rest rows text.new.items (left_in I.remaining input.new)
+        × IsLine (drop (length text.old.items) text.new.items) row) }
+    ensures input { IsErrOf result Fault.Input → (whole rest : List ℕ) (row : Row) (rows : List Row)
+        → length whole ≤ most_bytes
         → ¬ (Ahead whole rest (row ∷ rows) text.old.items (left_in I.remaining input.old)) }
     ensures err { IfErr result (IsHeadFault (has_failed_in input.new)) }
 {
@@ -40,17 +45,21 @@ fn add_line<I: Read>(input: &mut BufReader<Monitored<I>>, text: &mut Vec<u8>) ->
     }
 }
 
-/// Reads `count` more lines.
+// Reads `count` more lines.
 #[tactic(auto, using(crate::proofs::Heads::grows_on, crate::proofs::Heads::grows_none))]
 fn add_lines<I: Read>(
     input: &mut BufReader<Monitored<I>>,
     text: &mut Vec<u8>,
     count: u32,
 ) -> Result<(), Fault>
-    ensures grows { OnOk result (Grows text.old.items (left_in I.remaining input.old) text.new.items (left_in I.remaining input.new)) }
-    ensures ahead { (whole rest : List ℕ) (front rows : List Row) → length front ≡ count → Ahead whole rest (front ++ rows) text.old.items (left_in I.remaining input.old)
+    ensures grows { OnOk result
+        (Grows text.old.items (left_in I.remaining input.old) text.new.items
+        (left_in I.remaining input.new)) }
+    ensures ahead { (whole rest : List ℕ) (front rows : List Row) → length front ≡ count
+        → Ahead whole rest (front ++ rows) text.old.items (left_in I.remaining input.old)
         → OnOk result (Ahead whole rest rows text.new.items (left_in I.remaining input.new)) }
-    ensures input { IsErrOf result Fault.Input → (whole rest : List ℕ) (front rows : List Row) → length front ≡ count → length whole ≤ most_bytes
+    ensures input { IsErrOf result Fault.Input → (whole rest : List ℕ) (front rows : List Row)
+        → length front ≡ count → length whole ≤ most_bytes
         → ¬ (Ahead whole rest (front ++ rows) text.old.items (left_in I.remaining input.old)) }
     ensures err { IfErr result (IsHeadFault (has_failed_in input.new)) }
 {
@@ -60,11 +69,12 @@ fn add_lines<I: Read>(
     Ok(())
 }
 
-/// Returns the number of lines before the number of events, which the first line determines.
-/// Errors: `Input` for any line that is not the first of a trace.
+// Returns the number of lines before the number of events, which the first line determines.
+// Errors: `Input` for any line that is not the first of a trace.
 fn opening_lines(first: &[u8]) -> Result<u32, Fault>
     ensures some { IfOk result (λ count. 1 ≤ count) }
-    ensures told { (version : Version) → first.now ≡ first_line version → result ≡ Ok (lines_before version) }
+    ensures told { (version : Version) → first.now ≡ first_line version
+        → result ≡ Ok (lines_before version) }
     ensures err { (failed : Bool) → IfErr result (IsHeadFault failed) }
 {
     if first == b"RELAYTRACE 1\n".as_slice() {
@@ -76,11 +86,13 @@ fn opening_lines(first: &[u8]) -> Result<u32, Fault>
     }
 }
 
-/// Returns the number of events that a line states. Errors: `Input` for any other line, `Memory`.
+// Returns the number of events that a line states. Errors: `Input` for any other line, `Memory`.
 #[tactic(auto, unfolding(trace_words::specs::Places::line_as))]
 fn event_count(line: &[u8]) -> Result<u32, Fault>
-    ensures told { (row : Row) (count : ℕ) → IsLine line.now row → events_from row ≡ Ok count → IfOk result (λ events. events ≡ count) }
-    ensures input { IsErrOf result Fault.Input → (row : Row) (count : ℕ) → IsLine line.now row → ¬ (events_from row ≡ Ok count) }
+    ensures told { (row : Row) (count : ℕ) → IsLine line.now row → events_from row ≡ Ok count
+        → IfOk result (λ events. events ≡ count) }
+    ensures input { IsErrOf result Fault.Input → (row : Row) (count : ℕ) → IsLine line.now row
+        → ¬ (events_from row ≡ Ok count) }
     ensures err { (failed : Bool) → IfErr result (IsHeadFault failed) }
 {
     let mut lines = TraceLines::new(line);
@@ -92,12 +104,16 @@ fn event_count(line: &[u8]) -> Result<u32, Fault>
     }
 }
 
-/// Reads the text of the trace at the head of an input, up to the line of its last event.
+// Reads the text of the trace at the head of an input, up to the line of its last event.
 #[tactic(auto, using(crate::proofs::Heads::grows_on, crate::proofs::Heads::grows_none))]
 fn head_text<I: Read>(alloc: Global, input: &mut BufReader<Monitored<I>>) -> Result<Vec<u8>, Fault>
-    ensures grows { IfOk result (λ text. Grows [] (left_in I.remaining input.old) text.items (left_in I.remaining input.new)) }
-    ensures whole { (whole rest : List ℕ) → left_in I.remaining input.old ≡ Some (whole ++ rest) → IsLaidOut whole → IfOk result (λ text. text.items ≡ whole) }
-    ensures input { IsErrOf result Fault.Input → (whole rest : List ℕ) → left_in I.remaining input.old ≡ Some (whole ++ rest) → length whole ≤ most_bytes
+    ensures grows { IfOk result
+        (λ text. Grows [] (left_in I.remaining input.old) text.items
+        (left_in I.remaining input.new)) }
+    ensures whole { (whole rest : List ℕ) → left_in I.remaining input.old ≡ Some (whole ++ rest)
+        → IsLaidOut whole → IfOk result (λ text. text.items ≡ whole) }
+    ensures input { IsErrOf result Fault.Input → (whole rest : List ℕ)
+        → left_in I.remaining input.old ≡ Some (whole ++ rest) → length whole ≤ most_bytes
         → ¬ (IsLaidOut whole) }
     ensures err { IfErr result (IsHeadFault (has_failed_in input.new)) }
 {
@@ -112,7 +128,7 @@ fn head_text<I: Read>(alloc: Global, input: &mut BufReader<Monitored<I>>) -> Res
     Ok(text)
 }
 
-/// Returns the fault of a head whose text is not a trace.
+// Returns the fault of a head whose text is not a trace.
 fn head_fault(fault: TraceFault) -> Fault
     ensures told { result ≡ head_fault fault }
     ensures err { (failed : Bool) → IsHeadFault failed result }
@@ -132,8 +148,10 @@ pub fn read_head<I: Read>(
     alloc: Global,
     input: &mut BufReader<Monitored<I>>,
 ) -> Result<Trace, Fault>
-    ensures ok { IfOk result (λ trace. TakesHead (left_in I.remaining input.old) trace (left_in I.remaining input.new)) }
-    ensures input { IsErrOf result Fault.Input → IfSome (left_in I.remaining input.old) (λ bytes. ¬ (HasHead bytes)) }
+    ensures ok { IfOk result
+        (λ trace. TakesHead (left_in I.remaining input.old) trace (left_in I.remaining input.new)) }
+    ensures input { IsErrOf result Fault.Input
+        → IfSome (left_in I.remaining input.old) (λ bytes. ¬ (HasHead bytes)) }
     ensures err { IfErr result (IsHeadFault (has_failed_in input.new)) }
 {
     let text = head_text(alloc, input)?;

@@ -1,4 +1,4 @@
-//! A meter that goes on from an earlier run.
+//! A meter that resumes from an earlier run.
 ghost use Rattle.std.specs.Prelude.{◌≡◌, ◌≤◌, [], IfOk, OnOk};
 ghost use Rattle.meter_serving.specs.Resuming.{GoesOn, world_of};
 ghost use Rattle.relay_core.specs.Agreeing.{AreInRange, IsWorld};
@@ -12,9 +12,10 @@ use relay_events::Event;
 use relay_recorder::{Recorder, Trace};
 use std::alloc::{AllocError, Global};
 
-/// Lets a core take events, one after the other.
+// Applies events to a core, one after the other.
 fn take_events(alloc: Global, core: &mut RelayCore, events: &[Event]) -> Result<(), AllocError>
-    ensures { OnOk result ((w : World) → StandsFor core.old w → StandsFor core.new (world_after events.now w)) }
+    ensures { OnOk result ((w : World) → StandsFor core.old w
+        → StandsFor core.new (world_after events.now w)) }
 {
     'events: for event in events {
         let reply = core.step(alloc, event)?;
@@ -23,9 +24,11 @@ fn take_events(alloc: Global, core: &mut RelayCore, events: &[Event]) -> Result<
     Ok(())
 }
 
-/// The recorder of a meter that goes on from where the run of a trace stood; no event has come to it yet, and it keeps at most `capacity` events, 1 to 1,024.
+/// Returns the recorder of a meter that resumes where the run of a trace ended. It has no events
+/// yet, and keeps at most `capacity` events, 1 to 1,024.
 ///
-/// Whatever comes next, it is answered as the meter that wrote the trace down would have answered.
+/// Whatever event comes next, the reply is the one that the meter that wrote the trace would have
+/// given. Fails only if out of memory.
 #[tactic(auto, using(crate::proofs::Alike::goes_on))]
 pub fn resumed_recorder(alloc: Global, trace: &Trace, capacity: u16) -> Result<Recorder, AllocError>
     requires fit { IsFitOpening trace.now.opening }
@@ -46,7 +49,7 @@ pub fn resumed_recorder(alloc: Global, trace: &Trace, capacity: u16) -> Result<R
     }
 }
 
-/// The durations of a limiter that is written down are numbers of 32 bits.
+// The durations of a limiter's saved state are numbers of 32 bits.
 fn limiter_has_range(opening: &LimiterOpening)
     ensures { AreInRange opening.now.settings }
 {
@@ -54,7 +57,7 @@ fn limiter_has_range(opening: &LimiterOpening)
     let _under = opening.settings.min_under_duration;
 }
 
-/// The durations of a core that is written down are numbers of 32 bits, those in its scripts' steps too.
+// The durations of a core's saved state are numbers of 32 bits, those in its scripts' steps too.
 #[tactic(auto, using(crate::proofs::Ranges::scripts_in_range))]
 fn has_range(opening: &Opening)
     ensures { IsWorld (opened opening.now) }

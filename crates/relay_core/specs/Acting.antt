@@ -23,7 +23,8 @@ use Rattle.script_steps.specs.Table.{steps_at}
 -- the trigger of a method of the switch (IEC 62056-6-2, class 70, remote_disconnect and
 -- remote_reconnect), if it has that number
 unfoldable pub switch_trigger : ℕ → Option Trigger
-switch_trigger number = if number == 1 then Some RemoteDisconnect else if number == 2 then Some RemoteReconnect else None
+switch_trigger number = if number == 1 then Some RemoteDisconnect else if number == 2
+    then Some RemoteReconnect else None
 
 -- the effect of a trigger, or ReadWriteDenied without one
 abbrev pub at_pulled : Option Trigger → World → Outcome
@@ -50,7 +51,8 @@ unfoldable pub at_method : Instance → ℕ → Option Data → World → Outcom
 at_method Association number parameter w = record { world = w; code = ReadWriteDenied }
 at_method DeviceName number parameter w = record { world = w; code = ReadWriteDenied }
 at_method (Register which) number parameter w = record { world = w; code = ReadWriteDenied }
-at_method ScriptTable number parameter w = if number == 1 then at_execution parameter w else record { world = w; code = ReadWriteDenied }
+at_method ScriptTable number parameter w = if number == 1 then at_execution parameter w
+    else record { world = w; code = ReadWriteDenied }
 at_method (Schedule which) number parameter w = record { world = w; code = ReadWriteDenied }
 at_method DisconnectControl number parameter w = at_pulled (switch_trigger number) w
 at_method (Limiter which) number parameter w = record { world = w; code = ReadWriteDenied }
@@ -63,9 +65,11 @@ execute_at (Ok instance) number parameter w = at_method instance number paramete
 -- the effect of a client's ACTION
 unfoldable pub at_execute : Level → MethodRef → Option Data → World → Outcome
 at_execute level method parameter w =
-    execute_at (target_of method.name method.class (may_execute_of level method) false) method.number parameter w
+    execute_at (target_of method.name method.class (may_execute_of level method) false)
+    method.number parameter w
 
 -- the effect of a press of the button, as a manual trigger: it disconnects a connected switch and
 -- reconnects any other (IEC 62056-6-2, class 70, states and transitions)
 unfoldable pub at_button : World → Outcome
-at_button w = at_trigger (if is_state w.control.state Connected then ManualDisconnect else ManualReconnect) w
+at_button w = at_trigger (if is_state w.control.state Connected then ManualDisconnect
+    else ManualReconnect) w

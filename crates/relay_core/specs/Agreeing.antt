@@ -19,7 +19,11 @@ pub record AreCountedAlike (xs ys : List Row) : Type 0 where
 
 -- the world with other rows
 abbrev pub with_rows : List Row → List Row → World → World
-with_rows rows others w = record w { import = record w.import { rows = rows }; export = record w.export { rows = others } }
+with_rows rows others w =
+    record w {
+      import = record w.import { rows = rows };
+      export = record w.export { rows = others };
+    }
 
 -- Worlds that are equal except for their rows, which are counted alike.
 pub record Agree (v w : World) : Type 0 where
@@ -46,9 +50,10 @@ pub record IsWorld (w : World) : Type 0 where
 -- A value whose durations fit in 32 bits, whichever attribute it is written to.
 pub record IsValue (value : Data) : Type 0 where
   pub scripts : IfOk (table_of value) AreScriptsInRange
-  pub setting : (attribute : LimiterAttribute) → IfOk (setting_of attribute value) (λ setting. IfSome setting IsSettingInRange)
+  pub setting : (attribute : LimiterAttribute)
+      → IfOk (setting_of attribute value) (λ setting. IfSome setting IsSettingInRange)
 
--- steps with one reply that end in worlds which agree, the first of them in range
+-- Two steps with equal replies that end in worlds which agree, the first of them in range.
 pub record GoAlike (a b : Stepped) : Type 0 where
   pub reply : a.reply ≡ b.reply
   pub world : Agree a.world b.world

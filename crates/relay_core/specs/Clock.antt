@@ -19,12 +19,14 @@ with_moment now w = record w { moment = Some now }
 -- 62056-6-2, class 22, executed_script)
 unfoldable pub after_schedule : ℕ → ℕ → Schedule → World → World
 after_schedule last now schedule w =
-    if is_due schedule last now then (at_script Remote (running_steps schedule.selector w.scripts) w).world else w
+    if is_due schedule last now
+    then (at_script Remote (running_steps schedule.selector w.scripts) w).world else w
 
 -- the world after the schedules, in order
 abbrev pub after_schedules : ℕ → ℕ → List Schedule → World → World
 after_schedules last now [] w = w
-after_schedules last now (schedule ∷ schedules) w = after_schedules last now schedules (after_schedule last now schedule w)
+after_schedules last now (schedule ∷ schedules) w =
+    after_schedules last now schedules (after_schedule last now schedule w)
 
 -- the step that runs the schedules due after `last` and at or before `now`; the reply counts them
 abbrev pub ran : ℕ → ℕ → World → Stepped

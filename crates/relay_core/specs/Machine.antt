@@ -24,7 +24,8 @@ stepped outcome = record { world = outcome.world; reply = Code outcome.code }
 
 -- the effect of an event
 unfoldable pub at_event : Event → World → Stepped
-at_event (Get level attr selected) w = record { world = w; reply = reply_of (get_result level attr selected w) }
+at_event (Get level attr selected) w =
+    record { world = w; reply = reply_of (get_result level attr selected w) }
 at_event (GetList level items) w = record { world = w; reply = Values (get_results level items w) }
 at_event (Set level attr selected value) w = stepped (at_set level attr selected value w)
 at_event (Execute level method parameter) w = stepped (at_execute level method parameter w)

@@ -23,11 +23,14 @@ is_plain_where plain (Some attribute) = plain attribute
 abbrev pub is_plain : Instance → ℕ → Bool
 is_plain Association number = not (number == 1 || number == 2)
 is_plain DeviceName number = not (number == 1 || number == 2)
-is_plain (Register which) number = not (number == 1) && is_plain_where is_plain_register (register_attribute number)
+is_plain (Register which) number =
+    not (number == 1) && is_plain_where is_plain_register (register_attribute number)
 is_plain ScriptTable number = not (number == 1 || number == 2)
-is_plain (Schedule which) number = not (number == 1) && is_plain_where is_plain_schedule (schedule_attribute number)
+is_plain (Schedule which) number =
+    not (number == 1) && is_plain_where is_plain_schedule (schedule_attribute number)
 is_plain DisconnectControl number = not (number == 1)
-is_plain (Limiter which) number = not (number == 1) && is_plain_where is_plain_limiter (limiter_attribute number)
+is_plain (Limiter which) number =
+    not (number == 1) && is_plain_where is_plain_limiter (limiter_attribute number)
 
 -- whether a read never allocates, once the object was sought
 abbrev pub is_plain_at : Result Instance ResultCode → ℕ → Bool
@@ -36,7 +39,8 @@ is_plain_at (Ok instance) number = is_plain instance number
 
 -- whether a read never allocates: it is refused, or its value is plain
 unfoldable pub reads_plainly : Level → AttrRef → Bool → Bool
-reads_plainly level attr selected = is_plain_at (target_of attr.name attr.class (rights_of level attr).read selected) attr.number
+reads_plainly level attr selected =
+    is_plain_at (target_of attr.name attr.class (rights_of level attr).read selected) attr.number
 
 -- whether a write of an attribute stores no list
 abbrev pub is_no_list : Option WrittenList → Bool
@@ -54,4 +58,6 @@ writes_plainly_at (Ok instance) number = writes_plainly_in instance number
 -- whether a write never allocates: it is refused before its value is decoded, or its attribute is
 -- no list
 unfoldable pub writes_plainly : Level → AttrRef → Bool → Bool
-writes_plainly level attr selected = writes_plainly_at (target_of attr.name attr.class (rights_of level attr).write selected) attr.number
+writes_plainly level attr selected =
+    writes_plainly_at (target_of attr.name attr.class (rights_of level attr).write selected)
+    attr.number

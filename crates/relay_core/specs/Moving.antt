@@ -59,9 +59,14 @@ list_read (written.Groups which) value = groups_part (groups_of value)
 abbrev pub moved : WrittenList → Parts → World → World
 moved written.Scripts (part.Scripts scripts) w = record w { scripts = scripts }
 moved (written.Entries which) (part.Entries schedule) w =
-    record w { schedules = with_schedule which (record (schedule_of which w.schedules) { entries = schedule.entries }) w.schedules }
+    record w {
+      schedules = with_schedule which
+          (record (schedule_of which w.schedules) { entries = schedule.entries }) w.schedules;
+    }
 moved (written.Groups which) (part.Groups limiter) w =
-    with_metered which (with_settings (record (metered_of which w).settings { groups = limiter.settings.groups }) (metered_of which w)) w
+    with_metered which (with_settings
+    (record (metered_of which w).settings { groups = limiter.settings.groups })
+    (metered_of which w)) w
 moved _ _ w = w
 
 -- the decoded list, or none if it was refused
@@ -80,7 +85,9 @@ parts_at (Ok instance) number value = parts_read (list_numbered instance number)
 
 -- the list that a client's SET stores, if any; and below, the one that an event stores
 unfoldable pub set_parts : Level → AttrRef → Bool → Data → Parts
-set_parts level attr selected value = parts_at (target_of attr.name attr.class (rights_of level attr).write selected) attr.number value
+set_parts level attr selected value =
+    parts_at (target_of attr.name attr.class (rights_of level attr).write selected) attr.number
+    value
 
 abbrev pub parts_of : Event → Parts
 parts_of (Set level attr selected value) = set_parts level attr selected value

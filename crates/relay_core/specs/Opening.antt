@@ -11,7 +11,13 @@ use Rattle.relay_core.specs.World.{World, Metered}
 
 -- the saved state of a limiter
 abbrev pub limiter_opening_of : State → LimiterOpening
-limiter_opening_of limiter = record { settings = limiter.settings; value = limiter.last; over = limiter.over; under = limiter.under }
+limiter_opening_of limiter =
+    record {
+      settings = limiter.settings;
+      value = limiter.last;
+      over = limiter.over;
+      under = limiter.under;
+    }
 
 -- the saved state of a core
 abbrev pub opening_of : RelayCore → Opening
@@ -29,7 +35,11 @@ opening_of core = record {
 -- the limiter that an opening gives; its rows are not the samples that its runs counted, but the
 -- same number of samples with its last value
 abbrev pub opened_limiter : LimiterOpening → Metered
-opened_limiter o = record { settings = o.settings; last = o.value; rows = opened_rows o.value o.over o.under }
+opened_limiter o = record {
+  settings = o.settings;
+  last = o.value;
+  rows = opened_rows o.value o.over o.under;
+}
 
 -- the world that an opening gives
 abbrev pub opened : Opening → World

@@ -38,16 +38,24 @@ sole number value = if number == 2 then Value value else Code ReadWriteDenied
 abbrev pub own_value_in : Level → Instance → ℕ → World → GetResult
 own_value_in level Association number w = sole number (object_list_of level)
 own_value_in level DeviceName number w = sole number (OctetString w.device)
-own_value_in level (Register which) number w = shown (λ attribute. register_data attribute (metered_of which w).last) (register_attribute number)
+own_value_in level (Register which) number w =
+    shown (λ attribute. register_data attribute (metered_of which w).last)
+    (register_attribute number)
 own_value_in level ScriptTable number w = sole number (data_of w.scripts)
-own_value_in level (Schedule which) number w = shown (λ attribute. schedule_data attribute (schedule_of which w.schedules)) (schedule_attribute number)
-own_value_in level DisconnectControl number w = shown (λ attribute. control_data attribute w.control) (control_attribute number)
-own_value_in level (Limiter which) number w = shown (λ attribute. limiter_data which attribute (metered_of which w).settings w.moment) (limiter_attribute number)
+own_value_in level (Schedule which) number w =
+    shown (λ attribute. schedule_data attribute (schedule_of which w.schedules))
+    (schedule_attribute number)
+own_value_in level DisconnectControl number w =
+    shown (λ attribute. control_data attribute w.control) (control_attribute number)
+own_value_in level (Limiter which) number w =
+    shown (λ attribute. limiter_data which attribute (metered_of which w).settings w.moment)
+    (limiter_attribute number)
 
 -- the result of reading an attribute of an object; attribute 1 is the logical name in every class
 -- (IEC 62056-6-2)
 unfoldable pub value_in : Level → Instance → AttrRef → World → GetResult
-value_in level instance attr w = if attr.number == 1 then Value (OctetString attr.name.0) else own_value_in level instance attr.number w
+value_in level instance attr w = if attr.number == 1 then Value (OctetString attr.name.0)
+    else own_value_in level instance attr.number w
 
 -- the result of a read, or the refusal if the object was not reached
 abbrev pub read_at : Level → Result Instance ResultCode → AttrRef → World → GetResult
@@ -56,7 +64,8 @@ read_at level (Ok instance) attr w = value_in level instance attr w
 
 -- the result of a client's GET
 unfoldable pub get_result : Level → AttrRef → Bool → World → GetResult
-get_result level attr selected w = read_at level (target_of attr.name attr.class (rights_of level attr).read selected) attr w
+get_result level attr selected w =
+    read_at level (target_of attr.name attr.class (rights_of level attr).read selected) attr w
 
 -- the results of a client's GET with list, all of the same world
 abbrev pub get_results : Level → List AttributeSelection → World → List GetResult

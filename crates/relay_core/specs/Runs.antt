@@ -10,7 +10,11 @@ use Rattle.relay_core.specs.World.{World, Stepped}
 
 -- the line of a step: its reply, and the switch's state and output after it
 abbrev pub line_of : Stepped → Line
-line_of s = record { reply = s.reply; state = s.world.control.state; output = is_state s.world.control.state Connected }
+line_of s = record {
+  reply = s.reply;
+  state = s.world.control.state;
+  output = is_state s.world.control.state Connected;
+}
 
 -- the line of an event in a world
 abbrev pub line_at : Event → World → Line
@@ -38,4 +42,5 @@ pub record StopsEarly (old new : RelayCore) (events : List Event) (done : List L
   pub count : ℕ
   pub within : count ≤ length events
   pub ran : Runs old new (take count events) done
-  pub cause : (count ≡ 0) ⊎ ((event : Event) × (slice_get events count ≡ Some event) × (is_sure event ≡ false))
+  pub cause : (count ≡ 0)
+      ⊎ ((event : Event) × (slice_get events count ≡ Some event) × (is_sure event ≡ false))

@@ -30,7 +30,8 @@ imports values = map (λ value. record { which = Import; value = value }) values
 -- pairs in order, each as an import sample followed by an export sample
 abbrev pub pairs : List ℕ → List ℕ → List Measurement
 pairs (value ∷ values) (other ∷ others) =
-    record { which = Import; value = value } ∷ record { which = Export; value = other } ∷ pairs values others
+    record { which = Import; value = value } ∷ record { which = Export; value = other }
+    ∷ pairs values others
 pairs _ _ = []
 
 -- the samples of a block
@@ -43,7 +44,8 @@ measurements samples = measurements_in samples.import samples.export
 
 -- a limiter with one more sample, at a moment of the clock
 abbrev pub with_sample : Option ℕ → ℕ → Metered → Metered
-with_sample moment value m = record m { last = value; rows = row_of (limits_at m.settings moment) value ∷ m.rows }
+with_sample moment value m =
+    record m { last = value; rows = row_of (limits_at m.settings moment) value ∷ m.rows }
 
 -- which side a sample fires, if any
 unfoldable pub fire_at : Measurement → World → Fire
@@ -59,7 +61,8 @@ after_fire Under actions w = (at_script Local (running_steps actions.under w.scr
 -- the world after a sample
 unfoldable pub after_sample : Measurement → World → World
 after_sample x w =
-    after_fire (fire_at x w) (metered_of x.which w).settings.actions (with_metered x.which (with_sample w.moment x.value (metered_of x.which w)) w)
+    after_fire (fire_at x w) (metered_of x.which w).settings.actions
+    (with_metered x.which (with_sample w.moment x.value (metered_of x.which w)) w)
 
 -- the counts before the first sample: no side has fired
 abbrev pub no_firings : Firings
@@ -80,7 +83,10 @@ pub record Metering : Type 0 where
 
 -- the metering after one more sample, and below, after several
 unfoldable pub measured : Measurement → Metering → Metering
-measured x m = record { world = after_sample x m.world; firings = counted x.which (fire_at x m.world) m.firings }
+measured x m = record {
+  world = after_sample x m.world;
+  firings = counted x.which (fire_at x m.world) m.firings;
+}
 
 unfoldable pub after_samples : List Measurement → Metering → Metering
 after_samples [] m = m
@@ -89,7 +95,8 @@ after_samples (x ∷ xs) m = after_samples xs (measured x m)
 -- the reply to a block: how often each side fired, for one limiter or for both
 abbrev pub sampled : Option (List ℕ) → Firings → Reply
 sampled None firings = Sampled firings.import_over firings.import_under
-sampled (Some others) firings = SampledBoth firings.import_over firings.import_under firings.export_over firings.export_under
+sampled (Some others) firings =
+    SampledBoth firings.import_over firings.import_under firings.export_over firings.export_under
 
 -- the effect of a block of samples
 unfoldable pub at_samples : Samples → World → Stepped

@@ -43,4 +43,5 @@ is_success _ = false
 unfoldable pub at_script : Origin → List Step → World → Outcome
 at_script origin [] w = record { world = w; code = Success }
 at_script origin (step ∷ steps) w =
-    if is_success (at_step origin step w).code then at_script origin steps (at_step origin step w).world else at_step origin step w
+    if is_success (at_step origin step w).code
+    then at_script origin steps (at_step origin step w).world else at_step origin step w

@@ -20,7 +20,8 @@ enters before after = not (is_state before.state Connected) && is_state after.st
 -- have the entry as their newest row
 unfoldable pub noted_since : Control → World → World
 noted_since before w =
-    if enters before w.control then record w { import = with_entry w.import; export = with_entry w.export } else w
+    if enters before w.control
+    then record w { import = with_entry w.import; export = with_entry w.export } else w
 
 -- the world with its switch changed
 abbrev pub with_control : Control → World → World

@@ -45,7 +45,12 @@ pub record Stepped : Type 0 where
 
 -- the schedules of a new meter
 abbrev pub new_schedules : Schedules
-new_schedules = record { first = new_schedule; second = new_schedule; third = new_schedule; fourth = new_schedule }
+new_schedules = record {
+  first = new_schedule;
+  second = new_schedule;
+  third = new_schedule;
+  fourth = new_schedule;
+}
 
 -- a new limiter, which has taken no sample
 abbrev pub new_metered : Metered

@@ -38,7 +38,10 @@ refused code w = record { world = w; code = code }
 
 -- the effect of a write of the mode, which is refused in some states of the switch
 unfoldable pub at_mode : ControlMode → World → Outcome
-at_mode mode w = record { world = record w { control = with_mode mode w.control }; code = mode_result mode w.control }
+at_mode mode w = record {
+  world = record w { control = with_mode mode w.control };
+  code = mode_result mode w.control;
+}
 
 abbrev pub at_mode_form : Result ControlMode WriteFault → World → Outcome
 at_mode_form (Err fault) w = refused (fault_code fault) w
@@ -52,7 +55,8 @@ at_control _ value w = refused ReadWriteDenied w
 -- the effect of a setting of a limiter
 unfoldable pub at_setting : Which → Setting → World → Outcome
 at_setting which setting w = record {
-  world = with_metered which (with_settings (with_setting setting (metered_of which w).settings) (metered_of which w)) w;
+  world = with_metered which
+      (with_settings (with_setting setting (metered_of which w).settings) (metered_of which w)) w;
   code = Success;
 }
 
@@ -69,7 +73,10 @@ at_limiter which (Some attribute) value w = at_setting_form which (setting_of at
 -- the effect of a write to a schedule, of an attribute other than its list of entries
 unfoldable pub at_schedule : ScheduleNumber → Option ScheduleAttribute → Data → World → Outcome
 at_schedule which attribute value w = record {
-  world = record w { schedules = with_schedule which (schedule_written attribute value (schedule_of which w.schedules)) w.schedules };
+  world = record w {
+    schedules = with_schedule which
+        (schedule_written attribute value (schedule_of which w.schedules)) w.schedules;
+  };
   code = schedule_code attribute value;
 }
 
@@ -94,7 +101,8 @@ at_attribute (Some list) instance number value w = at_list list (list_read list 
 
 -- the effect of a write to an object
 unfoldable pub at_write : Instance → ℕ → Data → World → Outcome
-at_write instance number value w = at_attribute (list_numbered instance number) instance number value w
+at_write instance number value w =
+    at_attribute (list_numbered instance number) instance number value w
 
 -- the effect of a write, or the refusal if the object was not reached
 abbrev pub write_at : Result Instance ResultCode → ℕ → Data → World → Outcome
@@ -103,4 +111,6 @@ write_at (Ok instance) number value w = at_write instance number value w
 
 -- the effect of a client's SET
 unfoldable pub at_set : Level → AttrRef → Bool → Data → World → Outcome
-at_set level attr selected value w = write_at (target_of attr.name attr.class (rights_of level attr).write selected) attr.number value w
+at_set level attr selected value w =
+    write_at (target_of attr.name attr.class (rights_of level attr).write selected) attr.number
+    value w

@@ -3,8 +3,8 @@ ghost use Rattle.relay_core.specs.Access.{target_of};
 
 use cosem_names::{ClassId, Instance, Obis, ResultCode, object};
 
-/// Returns the object that a request names, or the first refusal, in this order: an unknown name, a
-/// class that isn't the object's, an attribute or method that isn't `allowed`, selective access.
+// Returns the object that a request names, or the first refusal, in this order: an unknown name, a
+// class that isn't the object's, an attribute or method that isn't `allowed`, selective access.
 #[tactic(auto, unfolding(crate::specs::Access::target_of))]
 pub(crate) fn target(
     name: Obis,

@@ -14,7 +14,7 @@ use cosem_axdr::Data;
 use cosem_names::{Instance, Level, MethodRef, ResultCode, may_execute};
 use disconnect_control::Trigger;
 
-/// Returns the trigger of a method of the switch, or `None` if the switch has no such method.
+// Returns the trigger of a method of the switch, or `None` if the switch has no such method.
 #[tactic(auto, unfolding(crate::specs::Acting::switch_trigger))]
 fn switch_trigger(number: u8) -> Option<Trigger>
     ensures { result ≡ switch_trigger number }
@@ -27,11 +27,12 @@ fn switch_trigger(number: u8) -> Option<Trigger>
 }
 
 impl RelayCore {
-    /// Ends the runs of both limiters if the switch has entered Connected. `was_on` says whether
-    /// the supply was on before.
+    // Ends the runs of both limiters if the switch has entered Connected. `was_on` says whether
+    // the supply was on before.
     #[tactic(auto, unfolding(crate::specs::Switch::noted_since))]
     fn note_entry(&mut self, was_on: bool)
-        ensures world { (w : World) (before : Control) → StandsFor self.old w → was_on ≡ is_state before.state Connected
+        ensures world { (w : World) (before : Control) → StandsFor self.old w
+            → was_on ≡ is_state before.state Connected
             → StandsFor self.new (noted_since before w) }
         ensures scripts { self.new.scripts ≡ self.old.scripts }
         ensures schedules { self.new.schedules ≡ self.old.schedules }
@@ -43,10 +44,11 @@ impl RelayCore {
         self.export.closed();
     }
 
-    /// Applies a trigger to the switch.
+    // Applies a trigger to the switch.
     #[tactic(auto, unfolding(crate::specs::Switch::at_trigger))]
     pub(crate) fn pull(&mut self, trigger: Trigger) -> ResultCode
-        ensures world { (w : World) → StandsFor self.old w → StandsFor self.new (at_trigger trigger w).world }
+        ensures world { (w : World) → StandsFor self.old w
+            → StandsFor self.new (at_trigger trigger w).world }
         ensures code { (w : World) → StandsFor self.old w → result ≡ (at_trigger trigger w).code }
         ensures scripts { self.new.scripts ≡ self.old.scripts }
         ensures schedules { self.new.schedules ≡ self.old.schedules }
@@ -57,11 +59,13 @@ impl RelayCore {
         code
     }
 
-    /// Executes the script whose selector is the parameter, a long-unsigned.
+    // Executes the script whose selector is the parameter, a long-unsigned.
     #[tactic(auto, unfolding(crate::specs::Acting::at_execution))]
     fn execute_script(&mut self, parameter: &Option<Data>) -> ResultCode
-        ensures world { (w : World) → StandsFor self.old w → StandsFor self.new (at_execution parameter.now w).world }
-        ensures code { (w : World) → StandsFor self.old w → result ≡ (at_execution parameter.now w).code }
+        ensures world { (w : World) → StandsFor self.old w
+            → StandsFor self.new (at_execution parameter.now w).world }
+        ensures code { (w : World) → StandsFor self.old w
+            → result ≡ (at_execution parameter.now w).code }
     {
         let Some(value) = parameter else {
             return ResultCode::TypeUnmatched;
@@ -75,11 +79,13 @@ impl RelayCore {
         }
     }
 
-    /// Executes a method of an object.
+    // Executes a method of an object.
     #[tactic(auto, unfolding(crate::specs::Acting::at_method))]
     fn call(&mut self, instance: Instance, number: u8, parameter: &Option<Data>) -> ResultCode
-        ensures world { (w : World) → StandsFor self.old w → StandsFor self.new (at_method instance number parameter.now w).world }
-        ensures code { (w : World) → StandsFor self.old w → result ≡ (at_method instance number parameter.now w).code }
+        ensures world { (w : World) → StandsFor self.old w
+            → StandsFor self.new (at_method instance number parameter.now w).world }
+        ensures code { (w : World) → StandsFor self.old w
+            → result ≡ (at_method instance number parameter.now w).code }
     {
         match (instance, number) {
             (Instance::ScriptTable, 1) => self.execute_script(parameter),
@@ -91,7 +97,7 @@ impl RelayCore {
         }
     }
 
-    /// Executes a client's ACTION.
+    // Executes a client's ACTION.
     #[tactic(auto, unfolding(crate::specs::Acting::at_execute))]
     pub(crate) fn execute(
         &mut self,
@@ -99,8 +105,10 @@ impl RelayCore {
         method: &MethodRef,
         parameter: &Option<Data>,
     ) -> ResultCode
-        ensures world { (w : World) → StandsFor self.old w → StandsFor self.new (at_execute level method.now parameter.now w).world }
-        ensures code { (w : World) → StandsFor self.old w → result ≡ (at_execute level method.now parameter.now w).code }
+        ensures world { (w : World) → StandsFor self.old w
+            → StandsFor self.new (at_execute level method.now parameter.now w).world }
+        ensures code { (w : World) → StandsFor self.old w
+            → result ≡ (at_execute level method.now parameter.now w).code }
     {
         match target(method.name, method.class, may_execute(level, method), false) {
             Ok(instance) => self.call(instance, method.number, parameter),
@@ -108,10 +116,11 @@ impl RelayCore {
         }
     }
 
-    /// Handles a press of the button: disconnects a connected switch and reconnects any other.
+    // Handles a press of the button: disconnects a connected switch and reconnects any other.
     #[tactic(auto, unfolding(crate::specs::Acting::at_button))]
     pub(crate) fn press(&mut self) -> ResultCode
-        ensures world { (w : World) → StandsFor self.old w → StandsFor self.new (at_button w).world }
+        ensures world { (w : World) → StandsFor self.old w
+            → StandsFor self.new (at_button w).world }
         ensures code { (w : World) → StandsFor self.old w → result ≡ (at_button w).code }
     {
         if self.control.output() {

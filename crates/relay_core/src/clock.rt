@@ -13,20 +13,22 @@ use cosem_names::ScheduleNumber;
 use relay_events::Reply;
 
 impl RelayCore {
-    /// Sets the clock of both limiters.
+    // Sets the clock of both limiters.
     fn set_clock(&mut self, now: u32)
-        ensures world { (w : World) → StandsFor self.old w → StandsFor self.new (with_moment now w) }
+        ensures world { (w : World) → StandsFor self.old w
+            → StandsFor self.new (with_moment now w) }
         ensures schedules { self.new.schedules ≡ self.old.schedules }
     {
         self.import.at(now);
         self.export.at(now);
     }
 
-    /// Handles a moment of the clock. One earlier than the last is stale, and the last again
-    /// changes nothing. A later one runs the schedules that have become due since the last.
+    // Handles a moment of the clock. One earlier than the last is stale, and the last again
+    // changes nothing. A later one runs the schedules that have become due since the last.
     #[tactic(auto, unfolding(crate::specs::Clock::at_moment))]
     pub(crate) fn tick(&mut self, now: u32) -> Reply
-        ensures world { (w : World) → StandsFor self.old w → StandsFor self.new (at_moment now w).world }
+        ensures world { (w : World) → StandsFor self.old w
+            → StandsFor self.new (at_moment now w).world }
         ensures reply { (w : World) → StandsFor self.old w → result ≡ (at_moment now w).reply }
         ensures fits { IsOfClock result }
     {
@@ -44,11 +46,13 @@ impl RelayCore {
         }
     }
 
-    /// Runs the schedules that are due after `last` and at or before `now`, in order, and counts
-    /// them.
+    // Runs the schedules that are due after `last` and at or before `now`, in order, and counts
+    // them.
     fn run_schedules(&mut self, last: u32, now: u32) -> u8
-        ensures world { (w : World) → StandsFor self.old w → StandsFor self.new (after_schedules last now (all_schedules w.schedules) w) }
-        ensures count { result ≡ count_by (λ schedule. is_due schedule last now) (all_schedules self.old.schedules) }
+        ensures world { (w : World) → StandsFor self.old w
+            → StandsFor self.new (after_schedules last now (all_schedules w.schedules) w) }
+        ensures count { result
+            ≡ count_by (λ schedule. is_due schedule last now) (all_schedules self.old.schedules) }
     {
         let first = self.run_schedule(ScheduleNumber::First, last, now);
         let second = self.run_schedule(ScheduleNumber::Second, last, now);
@@ -57,10 +61,12 @@ impl RelayCore {
         u8::from(first) + u8::from(second) + u8::from(third) + u8::from(fourth)
     }
 
-    /// Runs the script of a schedule if it is due, and returns whether it was.
+    // Runs the script of a schedule if it is due, and returns whether it was.
     #[tactic(auto, unfolding(crate::specs::Clock::after_schedule))]
     fn run_schedule(&mut self, which: ScheduleNumber, last: u32, now: u32) -> bool
-        ensures world { (w : World) → StandsFor self.old w → StandsFor self.new (after_schedule last now (schedule_of which self.old.schedules) w) }
+        ensures world { (w : World) → StandsFor self.old w
+            → StandsFor self.new
+            (after_schedule last now (schedule_of which self.old.schedules) w) }
         ensures due { result ≡ is_due (schedule_of which self.old.schedules) last now }
         ensures schedules { self.new.schedules ≡ self.old.schedules }
     {

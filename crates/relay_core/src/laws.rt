@@ -15,7 +15,8 @@ ghost use Rattle.script_steps.specs.declared.step.Step.{Step};
 /// So a limiter's behaviour depends on nothing in its samples except its runs and whether they have
 /// fired.
 pub fn worlds_agree()
-    ensures { (event : Event) (v w : World) → IsWorld v → Agree v w → GoAlike (at_event event v) (at_event event w) }
+    ensures { (event : Event) (v w : World) → IsWorld v → Agree v w
+        → GoAlike (at_event event v) (at_event event w) }
 {}
 
 /// Proves that a setting decoded from a value has durations of 32 bits if the value's numbers are

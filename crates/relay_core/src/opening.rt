@@ -90,10 +90,11 @@ impl<T: Drop> From<AllocFailed<T>> for OpeningFault {
 }
 
 impl LimiterOpening {
-    /// Saves the state of a limiter.
+    // Saves the state of a limiter.
     fn of(alloc: Global, limiter: &Limiter) -> Result<LimiterOpening, AllocError>
         ensures opening { IfOk result (λ opening. opening ≡ limiter_opening_of limiter.now) }
-        ensures runs { IfOk result (λ _. IsFit limiter.now.last limiter.now.over limiter.now.under) }
+        ensures runs { IfOk result
+            (λ _. IsFit limiter.now.last limiter.now.over limiter.now.under) }
         ensures fit { IfOk result IsFitLimiterOpening }
         ensures range { IfOk result (λ opening. AreInRange opening.settings) }
     {
@@ -106,7 +107,7 @@ impl LimiterOpening {
         })
     }
 
-    /// Whether a limiter can have this state.
+    // Whether a limiter can have this state.
     fn is_fit(&self) -> bool
         ensures { IsTrue result ↔ IsFitLimiterOpening self.now }
     {
@@ -114,11 +115,12 @@ impl LimiterOpening {
         few && are_fit(self.value, self.over, self.under)
     }
 
-    /// Restores the limiter, with its clock at a moment.
+    // Restores the limiter, with its clock at a moment.
     fn limiter(&self, alloc: Global, moment: Option<u32>) -> Result<Limiter, AllocError>
         requires { IsFitLimiterOpening self.now }
         ensures same { IfOk result (λ limiter. limiter_opening_of limiter ≡ self.now) }
-        ensures stands { IfOk result (λ limiter. MeteredStands limiter moment (opened_limiter self.now)) }
+        ensures stands { IfOk result
+            (λ limiter. MeteredStands limiter moment (opened_limiter self.now)) }
     {
         let limiter = Limiter::of(self.settings.try_clone(alloc)?, moment);
         let Some(limiter) = limiter.with_runs(self.value, self.over, self.under) else {
@@ -129,12 +131,14 @@ impl LimiterOpening {
 }
 
 impl RelayCore {
-    /// Saves the state of the core.
+    // Saves the state of the core.
     #[tactic(auto, using(crate::proofs::OpeningLemmas::table_in_range))]
     fn written_down(&self, alloc: Global) -> Result<Opening, AllocError>
         ensures opening { IfOk result (λ opening. opening ≡ opening_of self.now) }
-        ensures import { IfOk result (λ _. IsFit self.now.import.last self.now.import.over self.now.import.under) }
-        ensures export { IfOk result (λ _. IsFit self.now.export.last self.now.export.over self.now.export.under) }
+        ensures import { IfOk result
+            (λ _. IsFit self.now.import.last self.now.import.over self.now.import.under) }
+        ensures export { IfOk result
+            (λ _. IsFit self.now.export.last self.now.export.over self.now.export.under) }
         ensures fit { IfOk result IsFitOpening }
         ensures range { IfOk result (λ opening. IsWorld (opened opening)) }
     {
@@ -160,7 +164,8 @@ impl RelayCore {
     pub fn to_opening(&self, alloc: Global) -> Result<Opening, AllocError>
         ensures opening { IfOk result (λ opening. opening ≡ opening_of self.now) }
         ensures fit { IfOk result IsFitOpening }
-        ensures agrees { IfOk result (λ opening. (w : World) → StandsFor self.now w → Agree (opened opening) w) }
+        ensures agrees { IfOk result (λ opening. (w : World) → StandsFor self.now w
+            → Agree (opened opening) w) }
         ensures range { IfOk result (λ opening. IsWorld (opened opening)) }
     {
         let opening = self.written_down(alloc)?;
@@ -212,7 +217,7 @@ impl RelayCore {
     }
 }
 
-/// Returns copies of the core's lists: the device name, the scripts and the schedules.
+// Returns copies of the core's lists: the device name, the scripts and the schedules.
 fn copied(
     alloc: Global,
     device: &Octets,
@@ -230,10 +235,11 @@ fn copied(
 }
 
 impl Opening {
-    /// Returns the saved switch, or `None` if no core can have the opening's state.
+    // Returns the saved switch, or `None` if no core can have the opening's state.
     fn fit_control(&self) -> Option<DisconnectControl>
         ensures fit { IsSome result ↔ IsFitOpening self.now }
-        ensures control { IfSome result (λ control. control ≡ record { state = self.now.state; mode = self.now.mode }) }
+        ensures control { IfSome result (λ control. control
+            ≡ record { state = self.now.state; mode = self.now.mode }) }
     {
         if self.device.is_empty() || self.device.len() > MAX_DEVICE_NAME {
             return None;
@@ -244,13 +250,15 @@ impl Opening {
         DisconnectControl::of(self.state, self.mode)
     }
 
-    /// Restores both limiters: import, then export.
+    // Restores both limiters: import, then export.
     fn limiters(&self, alloc: Global) -> Result<(Limiter, Limiter), AllocError>
         requires { IsFitOpening self.now }
         ensures import { IfOk result (λ both. limiter_opening_of both.0 ≡ self.now.import) }
-        ensures import_stands { IfOk result (λ both. MeteredStands both.0 self.now.moment (opened_limiter self.now.import)) }
+        ensures import_stands { IfOk result (λ both.
+            MeteredStands both.0 self.now.moment (opened_limiter self.now.import)) }
         ensures export { IfOk result (λ both. limiter_opening_of both.1 ≡ self.now.export) }
-        ensures export_stands { IfOk result (λ both. MeteredStands both.1 self.now.moment (opened_limiter self.now.export)) }
+        ensures export_stands { IfOk result (λ both.
+            MeteredStands both.1 self.now.moment (opened_limiter self.now.export)) }
     {
         let import = self.import.limiter(alloc, self.moment)?;
         beside(import, self.export.limiter(alloc, self.moment))

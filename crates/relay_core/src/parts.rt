@@ -33,19 +33,19 @@ pub enum Parts {
     Entries(ActionSchedule),
 }
 
-/// The attributes that are lists: only writes to these allocate.
+// The attributes that are lists: only writes to these allocate.
 #[derive(Clone, Copy)]
 pub(crate) enum WrittenList {
-    /// `scripts` of the script table (IEC 62056-6-2, class 9, attribute 2).
+    // `scripts` of the script table (IEC 62056-6-2, class 9, attribute 2).
     Scripts,
-    /// `execution_time` of a schedule (class 22, attribute 4).
+    // `execution_time` of a schedule (class 22, attribute 4).
     Entries(ScheduleNumber),
-    /// `emergency_profile_group_id_list` of a limiter (class 71, attribute 9).
+    // `emergency_profile_group_id_list` of a limiter (class 71, attribute 9).
     Groups(Which),
 }
 
 impl WrittenList {
-    /// Returns the list that an attribute is, or `None` if it is not one.
+    // Returns the list that an attribute is, or `None` if it is not one.
     pub(crate) fn of_number(instance: Instance, number: u8) -> Option<WrittenList>
         ensures { result ≡ list_numbered instance number }
     {
@@ -58,7 +58,7 @@ impl WrittenList {
     }
 }
 
-/// Decodes scripts. The inner result is the refusal's code.
+// Decodes scripts. The inner result is the refusal's code.
 fn read_scripts(alloc: Global, value: &Data) -> Result<Result<Parts, ResultCode>, AllocError>
     ensures { IfOk result (λ parts. parts ≡ scripts_part (table_of value.now)) }
 {
@@ -70,7 +70,7 @@ fn read_scripts(alloc: Global, value: &Data) -> Result<Result<Parts, ResultCode>
     })
 }
 
-/// Decodes the entries of a schedule. The inner result is the refusal's code.
+// Decodes the entries of a schedule. The inner result is the refusal's code.
 fn read_entries(alloc: Global, value: &Data) -> Result<Result<Parts, ResultCode>, AllocError>
     ensures { IfOk result (λ parts. parts ≡ entries_part (entries_of value.now)) }
 {
@@ -83,7 +83,7 @@ fn read_entries(alloc: Global, value: &Data) -> Result<Result<Parts, ResultCode>
     })
 }
 
-/// Decodes the group ids of a limiter. The inner result is the refusal's code.
+// Decodes the group ids of a limiter. The inner result is the refusal's code.
 fn read_group_ids(alloc: Global, value: &Data) -> Result<Result<Parts, ResultCode>, AllocError>
     ensures { IfOk result (λ parts. parts ≡ groups_part (groups_of value.now)) }
 {
@@ -95,7 +95,7 @@ fn read_group_ids(alloc: Global, value: &Data) -> Result<Result<Parts, ResultCod
     })
 }
 
-/// Decodes a list that is written. The inner result is the refusal's code.
+// Decodes a list that is written. The inner result is the refusal's code.
 pub(crate) fn read_list(
     alloc: Global,
     list: WrittenList,
@@ -110,14 +110,15 @@ pub(crate) fn read_list(
     }
 }
 
-/// Decodes the list that a write of an attribute stores, if any.
+// Decodes the list that a write of an attribute stores, if any.
 fn read_parts(
     alloc: Global,
     instance: Instance,
     number: u8,
     value: &Data,
 ) -> Result<Parts, AllocError>
-    ensures parts { IfOk result (λ parts. parts ≡ parts_read (list_numbered instance number) value.now) }
+    ensures parts { IfOk result (λ parts. parts
+        ≡ parts_read (list_numbered instance number) value.now) }
     ensures plain { IsTrue (writes_plainly_in instance number) → IsOk result }
 {
     let Some(list) = WrittenList::of_number(instance, number) else {
@@ -129,7 +130,7 @@ fn read_parts(
     }
 }
 
-/// Decodes the list that a client's SET stores, if any.
+// Decodes the list that a client's SET stores, if any.
 #[tactic(auto, unfolding(crate::specs::Moving::set_parts, crate::specs::Memory::writes_plainly))]
 fn read_set_parts(
     alloc: Global,

@@ -23,9 +23,11 @@ use listed::Listed;
 use std::alloc::{AllocError, Global};
 
 impl RelayCore {
-    /// Reads an attribute of the switch other than the logical name.
+    // Reads an attribute of the switch other than the logical name.
     fn control_value(&self, number: u8) -> GetResult
-        ensures { (w : World) → StandsFor self.now w → result ≡ shown (λ attribute. control_data attribute w.control) (control_attribute number) }
+        ensures { (w : World) → StandsFor self.now w
+            → result ≡ shown (λ attribute. control_data attribute w.control)
+            (control_attribute number) }
     {
         match ControlAttribute::of_number(number) {
             Some(attribute) => GetResult::Value(self.control.to_data(attribute)),
@@ -33,7 +35,7 @@ impl RelayCore {
         }
     }
 
-    /// Reads an attribute of a register other than the logical name.
+    // Reads an attribute of a register other than the logical name.
     fn register_value(
         &self,
         alloc: Global,
@@ -41,8 +43,10 @@ impl RelayCore {
         number: u8,
     ) -> Result<GetResult, AllocError>
         ensures value { IfOk result (λ r. (w : World) → StandsFor self.now w
-            → r ≡ shown (λ attribute. register_data attribute (metered_of which w).last) (register_attribute number)) }
-        ensures plain { IsTrue (is_plain_where is_plain_register (register_attribute number)) → IsOk result }
+            → r ≡ shown (λ attribute. register_data attribute (metered_of which w).last)
+            (register_attribute number)) }
+        ensures plain { IsTrue (is_plain_where is_plain_register (register_attribute number))
+            → IsOk result }
     {
         let Some(attribute) = RegisterAttribute::of_number(number) else {
             return Ok(GetResult::Code(ResultCode::ReadWriteDenied));
@@ -51,7 +55,7 @@ impl RelayCore {
         Ok(GetResult::Value(data))
     }
 
-    /// Reads an attribute of a limiter other than the logical name.
+    // Reads an attribute of a limiter other than the logical name.
     fn limiter_value(
         &self,
         alloc: Global,
@@ -59,8 +63,11 @@ impl RelayCore {
         number: u8,
     ) -> Result<GetResult, AllocError>
         ensures value { IfOk result (λ r. (w : World) → StandsFor self.now w
-            → r ≡ shown (λ attribute. limiter_data which attribute (metered_of which w).settings w.moment) (limiter_attribute number)) }
-        ensures plain { IsTrue (is_plain_where is_plain_limiter (limiter_attribute number)) → IsOk result }
+            → r ≡ shown (λ attribute.
+            limiter_data which attribute (metered_of which w).settings w.moment)
+            (limiter_attribute number)) }
+        ensures plain { IsTrue (is_plain_where is_plain_limiter (limiter_attribute number))
+            → IsOk result }
     {
         let Some(attribute) = LimiterAttribute::of_number(number) else {
             return Ok(GetResult::Code(ResultCode::ReadWriteDenied));
@@ -69,7 +76,7 @@ impl RelayCore {
         Ok(GetResult::Value(data))
     }
 
-    /// Reads an attribute of an object other than the logical name, for a client of this level.
+    // Reads an attribute of an object other than the logical name, for a client of this level.
     fn own_value(
         &self,
         alloc: Global,
@@ -77,7 +84,8 @@ impl RelayCore {
         instance: Instance,
         number: u8,
     ) -> Result<GetResult, AllocError>
-        ensures value { IfOk result (λ r. (w : World) → StandsFor self.now w → r ≡ own_value_in level instance number w) }
+        ensures value { IfOk result (λ r. (w : World) → StandsFor self.now w
+            → r ≡ own_value_in level instance number w) }
         ensures plain { IsTrue (is_plain instance number) → number ≢ 1 → IsOk result }
     {
         let data = match instance {
@@ -97,7 +105,7 @@ impl RelayCore {
         Ok(GetResult::Value(data))
     }
 
-    /// Reads an attribute of an object, for a client of this level.
+    // Reads an attribute of an object, for a client of this level.
     #[tactic(auto, unfolding(crate::specs::Reading::value_in))]
     fn attribute_value(
         &self,
@@ -106,7 +114,8 @@ impl RelayCore {
         instance: Instance,
         attr: &AttrRef,
     ) -> Result<GetResult, AllocError>
-        ensures value { IfOk result (λ r. (w : World) → StandsFor self.now w → r ≡ value_in level instance attr.now w) }
+        ensures value { IfOk result (λ r. (w : World) → StandsFor self.now w
+            → r ≡ value_in level instance attr.now w) }
         ensures plain { IsTrue (is_plain instance attr.now.number) → IsOk result }
     {
         if attr.number == 1 {
@@ -116,7 +125,7 @@ impl RelayCore {
         self.own_value(alloc, level, instance, attr.number)
     }
 
-    /// Handles a client's GET.
+    // Handles a client's GET.
     #[tactic(auto, unfolding(crate::specs::Reading::get_result, crate::specs::Memory::reads_plainly))]
     pub(crate) fn get(
         &self,
@@ -125,7 +134,8 @@ impl RelayCore {
         attr: &AttrRef,
         selected: bool,
     ) -> Result<GetResult, AllocError>
-        ensures value { IfOk result (λ r. (w : World) → StandsFor self.now w → r ≡ get_result level attr.now selected w) }
+        ensures value { IfOk result (λ r. (w : World) → StandsFor self.now w
+            → r ≡ get_result level attr.now selected w) }
         ensures plain { IsTrue (reads_plainly level attr.now selected) → IsOk result }
     {
         match target(attr.name, attr.class, rights(level, attr).read, selected) {
@@ -134,14 +144,15 @@ impl RelayCore {
         }
     }
 
-    /// Handles a client's GET with list.
+    // Handles a client's GET with list.
     pub(crate) fn get_list(
         &self,
         alloc: Global,
         level: Level,
         items: &[AttributeSelection],
     ) -> Result<Listed<GetResult>, AllocError>
-        ensures { IfOk result (λ rs. (w : World) → StandsFor self.now w → rs ≡ get_results level items.now w) }
+        ensures { IfOk result (λ rs. (w : World) → StandsFor self.now w
+            → rs ≡ get_results level items.now w) }
     {
         let mut results = Listed::new(alloc);
         for item in items {

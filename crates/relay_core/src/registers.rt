@@ -4,21 +4,21 @@ ghost use Rattle.relay_core.specs.Registers.{attribute_numbered, data_at, is_pla
 use cosem_axdr::{Data, Items};
 use std::alloc::{AllocError, Global};
 
-/// The unit W (IEC 62056-6-2, class 3, scaler_unit, table of units).
+// The unit W (IEC 62056-6-2, class 3, scaler_unit, table of units).
 const WATT: u8 = 27;
 
-/// The attributes of a register other than the logical name, with their numbers (IEC 62056-6-2,
-/// class 3).
+// The attributes of a register other than the logical name, with their numbers (IEC 62056-6-2,
+// class 3).
 #[derive(Clone, Copy)]
 pub(crate) enum RegisterAttribute {
-    /// Attribute 2, value.
+    // Attribute 2, value.
     Value = 2,
-    /// Attribute 3, scaler_unit.
+    // Attribute 3, scaler_unit.
     ScalerUnit = 3,
 }
 
 impl RegisterAttribute {
-    /// Returns the attribute of this number, or `None` if it isn't 2 or 3.
+    // Returns the attribute of this number, or `None` if it isn't 2 or 3.
     pub(crate) fn of_number(number: u8) -> Option<RegisterAttribute>
         ensures { result ≡ attribute_numbered number }
     {
@@ -30,7 +30,7 @@ impl RegisterAttribute {
     }
 }
 
-/// Reads an attribute of a register whose value is `watts`. Reading the value never allocates.
+// Reads an attribute of a register whose value is `watts`. Reading the value never allocates.
 pub(crate) fn read_register(
     alloc: Global,
     attribute: RegisterAttribute,

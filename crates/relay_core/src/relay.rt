@@ -51,7 +51,7 @@ impl RelayCore {
         })
     }
 
-    /// Returns copies of the limiters: import, then export.
+    // Returns copies of the limiters: import, then export.
     fn copied_limiters(&self, alloc: Global) -> Result<(Limiter, Limiter), AllocError>
         ensures import { IfOk result (λ copies. copies.0 ≡ self.now.import) }
         ensures export { IfOk result (λ copies. copies.1 ≡ self.now.export) }
@@ -61,7 +61,7 @@ impl RelayCore {
         Ok((import, export))
     }
 
-    /// Returns copies of the script table and the schedules.
+    // Returns copies of the script table and the schedules.
     pub(crate) fn copied_lists(&self, alloc: Global) -> Result<(ScriptTable, Schedules), AllocError>
         ensures scripts { IfOk result (λ copies. copies.0 ≡ self.now.scripts) }
         ensures schedules { IfOk result (λ copies. copies.1 ≡ self.now.schedules) }
@@ -88,9 +88,10 @@ impl RelayCore {
         })
     }
 
-    /// Returns one of the limiters.
+    // Returns one of the limiters.
     pub(crate) fn limiter(&self, which: Which) -> &Limiter
-        ensures { (w : World) → StandsFor self.now w → MeteredStands result.now w.moment (metered_of which w) }
+        ensures { (w : World) → StandsFor self.now w
+            → MeteredStands result.now w.moment (metered_of which w) }
     {
         match which {
             Which::Import => &self.import,
@@ -143,14 +144,16 @@ impl RelayCore {
 
     /// Returns the active threshold of the import limiter, in watts.
     pub fn threshold(&self) -> u32
-        ensures { (w : World) → StandsFor self.now w → result ≡ active_threshold w.import.settings w.moment }
+        ensures { (w : World) → StandsFor self.now w
+            → result ≡ active_threshold w.import.settings w.moment }
     {
         self.import.threshold()
     }
 
     /// Returns the active threshold of a limiter, in watts.
     pub fn threshold_of(&self, which: Which) -> u32
-        ensures { (w : World) → StandsFor self.now w → result ≡ active_threshold (metered_of which w).settings w.moment }
+        ensures { (w : World) → StandsFor self.now w
+            → result ≡ active_threshold (metered_of which w).settings w.moment }
     {
         self.limiter(which).threshold()
     }

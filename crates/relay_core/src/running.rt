@@ -18,8 +18,10 @@ impl RelayCore {
     /// If out of memory, the core is unchanged too, as if the event had not arrived.
     #[tactic(auto, unfolding(crate::specs::Machine::at_event, crate::specs::Machine::is_sure))]
     pub fn step(&mut self, alloc: Global, event: &Event) -> Result<Reply, AllocError>
-        ensures world { OnOk result ((w : World) → StandsFor self.old w → StandsFor self.new (at_event event.now w).world) }
-        ensures reply { IfOk result (λ reply. (w : World) → StandsFor self.old w → reply ≡ (at_event event.now w).reply) }
+        ensures world { OnOk result ((w : World) → StandsFor self.old w
+            → StandsFor self.new (at_event event.now w).world) }
+        ensures reply { IfOk result (λ reply. (w : World) → StandsFor self.old w
+            → reply ≡ (at_event event.now w).reply) }
         ensures fits { IfOk result (Fits event.now) }
         ensures sure { IsTrue (is_sure event.now) → IsOk result }
         ensures read { IsTrue (is_read event.now) → self.new ≡ self.old }
@@ -65,7 +67,8 @@ impl RelayCore {
     #[tactic(auto, unfolding(crate::specs::Machine::at_event))]
     pub fn advance(&mut self, event: &Event, parts: Parts)
         requires { parts ≡ parts_of event.now }
-        ensures { (w : World) → StandsFor self.old w → StandsFor self.new (at_event event.now w).world }
+        ensures { (w : World) → StandsFor self.old w
+            → StandsFor self.new (at_event event.now w).world }
     {
         match event {
             Event::Get { .. } | Event::GetList { .. } => drop(parts),
@@ -111,8 +114,10 @@ pub struct RunStop {
 /// Applies an event and returns its line: the reply, and the switch's state and output after it. If
 /// out of memory, the core is unchanged, as if the event had not arrived.
 pub fn line_after(alloc: Global, core: &mut RelayCore, event: &Event) -> Result<Line, AllocError>
-    ensures world { OnOk result ((w : World) → StandsFor core.old w → StandsFor core.new (at_event event.now w).world) }
-    ensures line { IfOk result (λ line. (w : World) → StandsFor core.old w → line ≡ line_at event.now w) }
+    ensures world { OnOk result ((w : World) → StandsFor core.old w
+        → StandsFor core.new (at_event event.now w).world) }
+    ensures line { IfOk result (λ line. (w : World) → StandsFor core.old w
+        → line ≡ line_at event.now w) }
     ensures sure { IsTrue (is_sure event.now) → IsOk result }
     ensures err { OnErr result (core.new ≡ core.old) }
 {

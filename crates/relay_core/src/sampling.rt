@@ -14,7 +14,7 @@ use lane_sampler::{Block, Scan};
 use limiter_core::{Actions, Fire};
 use relay_events::Reply;
 
-/// The number of times that each side of each limiter has fired in a block.
+// The number of times that each side of each limiter has fired in a block.
 #[derive(Clone, Copy, Debug)]
 pub(crate) struct Firings {
     pub(crate) import_over: u16,
@@ -24,7 +24,7 @@ pub(crate) struct Firings {
 }
 
 impl Firings {
-    /// Returns the counts before the first sample of a block: all 0.
+    // Returns the counts before the first sample of a block: all 0.
     fn none() -> Firings
         ensures firings { result ≡ no_firings }
         ensures none { AreAtMost 0 result }
@@ -37,7 +37,7 @@ impl Firings {
         }
     }
 
-    /// Counts the firing of one more sample, if it fired.
+    // Counts the firing of one more sample, if it fired.
     #[tactic(auto, unfolding(crate::specs::Sampling::counted))]
     pub(crate) fn count(&mut self, which: Which, fire: Fire)
         requires { AreAtMost 512 self.old }
@@ -55,10 +55,11 @@ impl Firings {
 }
 
 impl RelayCore {
-    /// Runs the script of a side that has fired, with the meter itself as its origin.
+    // Runs the script of a side that has fired, with the meter itself as its origin.
     #[tactic(auto, unfolding(crate::specs::Sampling::after_fire))]
     fn react(&mut self, fire: Fire, actions: Actions)
-        ensures { (w : World) → StandsFor self.old w → StandsFor self.new (after_fire fire actions w) }
+        ensures { (w : World) → StandsFor self.old w
+            → StandsFor self.new (after_fire fire actions w) }
     {
         match fire {
             Fire::Quiet => {}
@@ -71,11 +72,13 @@ impl RelayCore {
         }
     }
 
-    /// Takes a sample of a limiter, in watts. If a side fires, its script runs.
+    // Takes a sample of a limiter, in watts. If a side fires, its script runs.
     #[tactic(auto, unfolding(crate::specs::Sampling::after_sample, crate::specs::Sampling::fire_at))]
     pub(crate) fn take_sample(&mut self, which: Which, value: u32) -> Fire
-        ensures world { (w : World) → StandsFor self.old w → StandsFor self.new (after_sample (record { which = which; value = value }) w) }
-        ensures fire { (w : World) → StandsFor self.old w → result ≡ fire_at (record { which = which; value = value }) w }
+        ensures world { (w : World) → StandsFor self.old w
+            → StandsFor self.new (after_sample (record { which = which; value = value }) w) }
+        ensures fire { (w : World) → StandsFor self.old w
+            → result ≡ fire_at (record { which = which; value = value }) w }
     {
         match which {
             Which::Import => {
@@ -93,8 +96,8 @@ impl RelayCore {
         }
     }
 
-    /// Takes import samples only, and counts the firings. A scan is used while its threshold is the
-    /// active one.
+    // Takes import samples only, and counts the firings. A scan is used while its threshold is the
+    // active one.
     fn take_values(&mut self, values: &[u32], scan: Option<Scan>) -> Firings
         requires few { length values.now ≤ 256 }
         requires right { IfSome scan (IsRightScan values.now) }
@@ -110,8 +113,8 @@ impl RelayCore {
         firings
     }
 
-    /// Takes pairs of samples, and counts the firings. Each scan is used while its threshold is the
-    /// active one.
+    // Takes pairs of samples, and counts the firings. Each scan is used while its threshold is the
+    // active one.
     fn take_pairs(
         &mut self,
         values: &[u32],
@@ -137,11 +140,13 @@ impl RelayCore {
         firings
     }
 
-    /// Takes the samples of a block, and returns the reply with the firings.
+    // Takes the samples of a block, and returns the reply with the firings.
     #[tactic(auto, unfolding(crate::specs::Sampling::at_samples))]
     pub(crate) fn take_block(&mut self, block: &Block) -> Reply
-        ensures world { (w : World) → StandsFor self.old w → StandsFor self.new (at_samples block.now w).world }
-        ensures reply { (w : World) → StandsFor self.old w → result ≡ (at_samples block.now w).reply }
+        ensures world { (w : World) → StandsFor self.old w
+            → StandsFor self.new (at_samples block.now w).world }
+        ensures reply { (w : World) → StandsFor self.old w
+            → result ≡ (at_samples block.now w).reply }
         ensures fits { IsOfSamples result }
     {
         let scans = block.scanned().copied();

@@ -30,7 +30,7 @@ pub struct Schedules {
 }
 
 impl Schedules {
-    /// Returns the schedules of a new meter: none is ever due.
+    // Returns the schedules of a new meter: none is ever due.
     pub(crate) fn new(alloc: Global) -> Schedules
         ensures { result ≡ new_schedules }
     {
@@ -42,7 +42,7 @@ impl Schedules {
         }
     }
 
-    /// Returns one of the schedules.
+    // Returns one of the schedules.
     pub(crate) fn get(&self, which: ScheduleNumber) -> &ActionSchedule
         ensures { result.now ≡ schedule_of which self.now }
     {
@@ -54,7 +54,7 @@ impl Schedules {
         }
     }
 
-    /// Returns copies of the schedules.
+    // Returns copies of the schedules.
     pub(crate) fn try_clone(&self, alloc: Global) -> Result<Schedules, AllocError>
         ensures { IfOk result (λ copy. copy ≡ self.now) }
     {
@@ -71,7 +71,7 @@ impl Schedules {
     }
 }
 
-/// Returns copies of two schedules.
+// Returns copies of two schedules.
 fn copied_pair(
     alloc: Global,
     one: &ActionSchedule,
@@ -84,13 +84,14 @@ fn copied_pair(
     beside(copy, other.try_clone(alloc))
 }
 
-/// Reads an attribute of a schedule other than the logical name.
+// Reads an attribute of a schedule other than the logical name.
 pub(crate) fn read_schedule(
     alloc: Global,
     schedule: &ActionSchedule,
     number: u8,
 ) -> Result<GetResult, AllocError>
-    ensures value { IfOk result (λ r. r ≡ shown (λ attribute. data_at attribute schedule.now) (attribute_numbered number)) }
+    ensures value { IfOk result (λ r. r
+        ≡ shown (λ attribute. data_at attribute schedule.now) (attribute_numbered number)) }
     ensures plain { IsTrue (is_plain_where is_plain (attribute_numbered number)) → IsOk result }
 {
     let Some(attribute) = ScheduleAttribute::of_number(number) else {
@@ -99,7 +100,7 @@ pub(crate) fn read_schedule(
     Ok(GetResult::Value(schedule.to_data(alloc, attribute)?))
 }
 
-/// Returns the result code of a write that doesn't allocate.
+// Returns the result code of a write that doesn't allocate.
 fn code_of(answer: Result<(), WriteFault>) -> ResultCode
     ensures { result ≡ write_code answer }
 {
@@ -109,7 +110,7 @@ fn code_of(answer: Result<(), WriteFault>) -> ResultCode
     }
 }
 
-/// Writes executed_script (IEC 62056-6-2, class 22) and returns the result code.
+// Writes executed_script (IEC 62056-6-2, class 22) and returns the result code.
 #[tactic(auto, using(crate::proofs::ScheduleLemmas::code_of_answer))]
 fn write_script(schedule: &mut ActionSchedule, value: &Data) -> ResultCode
     ensures schedule { schedule.new ≡ with_selector (selector_of value.now) schedule.old }
@@ -118,7 +119,7 @@ fn write_script(schedule: &mut ActionSchedule, value: &Data) -> ResultCode
     code_of(schedule.set_script(value))
 }
 
-/// Writes type (IEC 62056-6-2, class 22) and returns the result code.
+// Writes type (IEC 62056-6-2, class 22) and returns the result code.
 #[tactic(auto, using(crate::proofs::ScheduleLemmas::code_of_answer))]
 fn write_kind(schedule: &mut ActionSchedule, value: &Data) -> ResultCode
     ensures schedule { schedule.new ≡ with_kind (kind_of value.now) schedule.old }
@@ -127,10 +128,11 @@ fn write_kind(schedule: &mut ActionSchedule, value: &Data) -> ResultCode
     code_of(schedule.set_kind(value))
 }
 
-/// Writes an attribute of a schedule other than its list of entries.
+// Writes an attribute of a schedule other than its list of entries.
 #[tactic(auto, unfolding(crate::specs::Schedules::schedule_written, crate::specs::Schedules::schedule_code))]
 fn write_attribute(schedule: &mut ActionSchedule, number: u8, value: &Data) -> ResultCode
-    ensures schedule { schedule.new ≡ schedule_written (attribute_numbered number) value.now schedule.old }
+    ensures schedule { schedule.new
+        ≡ schedule_written (attribute_numbered number) value.now schedule.old }
     ensures code { result ≡ schedule_code (attribute_numbered number) value.now }
 {
     match ScheduleAttribute::of_number(number) {
@@ -141,7 +143,7 @@ fn write_attribute(schedule: &mut ActionSchedule, number: u8, value: &Data) -> R
 }
 
 impl RelayCore {
-    /// Writes an attribute of one of the schedules other than its list of entries.
+    // Writes an attribute of one of the schedules other than its list of entries.
     #[tactic(auto, unfolding(crate::specs::Writing::at_schedule))]
     pub(crate) fn write_schedule(
         &mut self,
@@ -149,8 +151,10 @@ impl RelayCore {
         number: u8,
         value: &Data,
     ) -> ResultCode
-        ensures world { (w : World) → StandsFor self.old w → StandsFor self.new (at_schedule which (attribute_numbered number) value.now w).world }
-        ensures code { (w : World) → StandsFor self.old w → result ≡ (at_schedule which (attribute_numbered number) value.now w).code }
+        ensures world { (w : World) → StandsFor self.old w
+            → StandsFor self.new (at_schedule which (attribute_numbered number) value.now w).world }
+        ensures code { (w : World) → StandsFor self.old w
+            → result ≡ (at_schedule which (attribute_numbered number) value.now w).code }
     {
         match which {
             ScheduleNumber::First => write_attribute(&mut self.schedules.first, number, value),
@@ -160,9 +164,10 @@ impl RelayCore {
         }
     }
 
-    /// Swaps the entries of one of these schedules with those of `other`.
+    // Swaps the entries of one of these schedules with those of `other`.
     pub(crate) fn trade_entries(&mut self, which: ScheduleNumber, other: &mut ActionSchedule)
-        ensures { (w : World) → StandsFor self.old w → StandsFor self.new (moved (written.Entries which) (part.Entries other.old) w) }
+        ensures { (w : World) → StandsFor self.old w
+            → StandsFor self.new (moved (written.Entries which) (part.Entries other.old) w) }
     {
         match which {
             ScheduleNumber::First => self.schedules.first.swap_entries(other),

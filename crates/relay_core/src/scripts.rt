@@ -10,17 +10,17 @@ use disconnect_control::Trigger;
 use limiter_attributes::Setting;
 use script_steps::Step;
 
-/// Who runs a script.
+// Who runs a script.
 #[derive(Clone, Copy, Debug, PartialEq, Eq)]
 pub(crate) enum Origin {
-    /// A client or a schedule.
+    // A client or a schedule.
     Remote,
-    /// The meter itself.
+    // The meter itself.
     Local,
 }
 
 impl Origin {
-    /// Returns the trigger of a step that disconnects.
+    // Returns the trigger of a step that disconnects.
     fn disconnect(self) -> Trigger
         ensures { result ≡ disconnect_by self }
     {
@@ -30,7 +30,7 @@ impl Origin {
         }
     }
 
-    /// Returns the trigger of a step that reconnects.
+    // Returns the trigger of a step that reconnects.
     fn reconnect(self) -> Trigger
         ensures { result ≡ reconnect_by self }
     {
@@ -42,10 +42,11 @@ impl Origin {
 }
 
 impl RelayCore {
-    /// Performs a step of a script, as the client's write or method would.
+    // Performs a step of a script, as the client's write or method would.
     #[tactic(auto, unfolding(crate::specs::Scripts::at_step))]
     fn act(&mut self, origin: Origin, step: Step) -> ResultCode
-        ensures world { (w : World) → StandsFor self.old w → StandsFor self.new (at_step origin step w).world }
+        ensures world { (w : World) → StandsFor self.old w
+            → StandsFor self.new (at_step origin step w).world }
         ensures code { (w : World) → StandsFor self.old w → result ≡ (at_step origin step w).code }
         ensures scripts { self.new.scripts ≡ self.old.scripts }
         ensures schedules { self.new.schedules ≡ self.old.schedules }
@@ -72,11 +73,13 @@ impl RelayCore {
         }
     }
 
-    /// Runs the script of a selector. A selector without a script runs no steps.
+    // Runs the script of a selector. A selector without a script runs no steps.
     #[tactic(auto, using(crate::proofs::ScriptLemmas::no_script))]
     pub(crate) fn run_script(&mut self, origin: Origin, selector: u16) -> ResultCode
-        ensures world { (w : World) → StandsFor self.old w → StandsFor self.new (at_script origin (running_steps selector w.scripts) w).world }
-        ensures code { (w : World) → StandsFor self.old w → result ≡ (at_script origin (running_steps selector w.scripts) w).code }
+        ensures world { (w : World) → StandsFor self.old w
+            → StandsFor self.new (at_script origin (running_steps selector w.scripts) w).world }
+        ensures code { (w : World) → StandsFor self.old w
+            → result ≡ (at_script origin (running_steps selector w.scripts) w).code }
         ensures schedules { self.new.schedules ≡ self.old.schedules }
     {
         match self.scripts.step_count(selector) {
@@ -85,12 +88,14 @@ impl RelayCore {
         }
     }
 
-    /// Runs the steps of a selector's script, up to and including the first that is refused.
-    /// `count` is the number of steps.
+    // Runs the steps of a selector's script, up to and including the first that is refused.
+    // `count` is the number of steps.
     pub(crate) fn run_steps(&mut self, origin: Origin, selector: u16, count: u8) -> ResultCode
         requires { count ≡ length (running_steps selector self.old.scripts) }
-        ensures world { (w : World) → StandsFor self.old w → StandsFor self.new (at_script origin (running_steps selector w.scripts) w).world }
-        ensures code { (w : World) → StandsFor self.old w → result ≡ (at_script origin (running_steps selector w.scripts) w).code }
+        ensures world { (w : World) → StandsFor self.old w
+            → StandsFor self.new (at_script origin (running_steps selector w.scripts) w).world }
+        ensures code { (w : World) → StandsFor self.old w
+            → result ≡ (at_script origin (running_steps selector w.scripts) w).code }
         ensures scripts { self.new.scripts ≡ self.old.scripts }
         ensures schedules { self.new.schedules ≡ self.old.schedules }
     {

@@ -13,7 +13,7 @@ use cosem_names::Which;
 use lane_sampler::{Scan, classify, run_from};
 use limiter_core::{Kind, Limiter};
 
-/// Returns a scan of the values at this threshold: `scan` if it has this threshold, else a new one.
+// Returns a scan of the values at this threshold: `scan` if it has this threshold, else a new one.
 pub(crate) fn scan_at(scan: Option<Scan>, values: &[u32], threshold: u32) -> Scan
     requires few { length values.now ≤ 256 }
     requires right { IfSome scan (IsRightScan values.now) }
@@ -29,12 +29,13 @@ pub(crate) fn scan_at(scan: Option<Scan>, values: &[u32], threshold: u32) -> Sca
     }
 }
 
-/// Returns the number of consecutive values from index `at` that equal the threshold.
+// Returns the number of consecutive values from index `at` that equal the threshold.
 fn equal_run(values: &[u32], threshold: u32, at: usize) -> usize
     requires { at ≤ length values.now }
     ensures within { at + result ≤ length values.now }
     ensures equal { (k : ℕ) → k < result → slice_index_or values.now (at + k) 0 ≡ threshold }
-    ensures some { at < length values.now → slice_index_or values.now at 0 ≡ threshold → 0 < result }
+    ensures some { at < length values.now → slice_index_or values.now at 0 ≡ threshold
+        → 0 < result }
 {
     let mut end = at;
     'values: while end < values.len() && values[end] == threshold {
@@ -43,13 +44,14 @@ fn equal_run(values: &[u32], threshold: u32, at: usize) -> usize
     end - at
 }
 
-/// Returns the kind of the value at index `at`, and the number of consecutive values of that kind
-/// from there.
+// Returns the kind of the value at index `at`, and the number of consecutive values of that kind
+// from there.
 fn run_at(values: &[u32], scan: &Scan, at: usize) -> (Kind, usize)
     requires few { length values.now ≤ 256 }
     requires within { at < length values.now }
     requires right { IsRightScan values.now scan.now }
-    ensures kind { (n : ℕ) → n ≤ result.1 → AreOfKind result.0 scan.now.threshold (take n (drop at values.now)) }
+    ensures kind { (n : ℕ) → n ≤ result.1
+        → AreOfKind result.0 scan.now.threshold (take n (drop at values.now)) }
     ensures some { 0 < result.1 }
     ensures within { at + result.1 ≤ length values.now }
 {
@@ -65,7 +67,7 @@ fn run_at(values: &[u32], scan: &Scan, at: usize) -> (Kind, usize)
     (Kind::Equal, equal_run(values, scan.threshold, at))
 }
 
-/// Returns how many of the next `count` samples of a kind fire nothing.
+// Returns how many of the next `count` samples of a kind fire nothing.
 fn quiet_of(limiter: &Limiter, kind: Kind, count: usize) -> usize
     ensures quiet { result ≤ quiet_count kind limiter.now }
     ensures within { result ≤ count }
@@ -75,27 +77,30 @@ fn quiet_of(limiter: &Limiter, kind: Kind, count: usize) -> usize
 }
 
 impl RelayCore {
-    /// Takes import samples of one kind that fire nothing.
+    // Takes import samples of one kind that fire nothing.
     fn skip_values(&mut self, kind: Kind, values: &[u32])
         requires some { 0 < length values.now }
         requires quiet { length values.now ≤ quiet_count kind self.old.import }
         requires kind { AreOfKind kind (limits_of self.old.import).threshold values.now }
-        ensures { (firings : Firings) → Takes self.old self.new firings firings (imports values.now) }
+        ensures { (firings : Firings)
+            → Takes self.old self.new firings firings (imports values.now) }
     {
         let last = values[values.len() - 1];
         self.import.skip_run(kind, values.len() as u64, last);
     }
 
-    /// Takes pairs that fire nothing, with all import samples of one kind and all export samples of
-    /// one kind.
+    // Takes pairs that fire nothing, with all import samples of one kind and all export samples of
+    // one kind.
     fn skip_pairs(&mut self, kind: Kind, values: &[u32], other_kind: Kind, others: &[u32])
         requires some { 0 < length values.now }
         requires even { length others.now ≡ length values.now }
         requires quiet { length values.now ≤ quiet_count kind self.old.import }
         requires other_quiet { length values.now ≤ quiet_count other_kind self.old.export }
         requires kind { AreOfKind kind (limits_of self.old.import).threshold values.now }
-        requires other_kind { AreOfKind other_kind (limits_of self.old.export).threshold others.now }
-        ensures { (firings : Firings) → Takes self.old self.new firings firings (pairs values.now others.now) }
+        requires other_kind { AreOfKind other_kind (limits_of self.old.export).threshold
+            others.now }
+        ensures { (firings : Firings)
+            → Takes self.old self.new firings firings (pairs values.now others.now) }
     {
         let count = values.len();
         self.import.skip_run(kind, count as u64, values[count - 1]);
@@ -103,8 +108,8 @@ impl RelayCore {
             .skip_run(other_kind, count as u64, others[count - 1]);
     }
 
-    /// Takes the consecutive import samples from index `at` that are of one kind and fire nothing,
-    /// or only the next one if it fires. Returns how many it took.
+    // Takes the consecutive import samples from index `at` that are of one kind and fire nothing,
+    // or only the next one if it fires. Returns how many it took.
     pub(crate) fn take_stretch(
         &mut self,
         values: &[u32],
@@ -117,7 +122,8 @@ impl RelayCore {
         requires right { IsRightScan values.now scan.now }
         requires active { scan.now.threshold ≡ (limits_of self.old.import).threshold }
         requires counted { AreAtMost at firings.old }
-        ensures takes { Takes self.old self.new firings.old firings.new (imports (take result (drop at values.now))) }
+        ensures takes { Takes self.old self.new firings.old firings.new
+            (imports (take result (drop at values.now))) }
         ensures some { 0 < result }
         ensures within { at + result ≤ length values.now }
         ensures counted { AreAtMost (at + result) firings.new }
@@ -133,8 +139,8 @@ impl RelayCore {
         1
     }
 
-    /// Takes the consecutive pairs from index `at` that are of one kind for each limiter and fire
-    /// nothing, or only the next pair if one of its samples fires. Returns how many it took.
+    // Takes the consecutive pairs from index `at` that are of one kind for each limiter and fire
+    // nothing, or only the next pair if one of its samples fires. Returns how many it took.
     pub(crate) fn take_stretch_of_pairs(
         &mut self,
         values: &[u32],
@@ -152,7 +158,8 @@ impl RelayCore {
         requires active { scan.now.threshold ≡ (limits_of self.old.import).threshold }
         requires other_active { other_scan.now.threshold ≡ (limits_of self.old.export).threshold }
         requires counted { AreAtMost (2 * at) firings.old }
-        ensures takes { Takes self.old self.new firings.old firings.new (pairs (take result (drop at values.now)) (take result (drop at others.now))) }
+        ensures takes { Takes self.old self.new firings.old firings.new
+            (pairs (take result (drop at values.now)) (take result (drop at others.now))) }
         ensures some { 0 < result }
         ensures within { at + result ≤ length values.now }
         ensures counted { AreAtMost (2 * (at + result)) firings.new }

@@ -17,10 +17,11 @@ use limiter_attributes::{LimiterAttribute, Setting, read_setting};
 use std::alloc::{AllocError, Global};
 
 impl RelayCore {
-    /// Writes the mode; some states of the switch refuse it.
+    // Writes the mode; some states of the switch refuse it.
     #[tactic(auto, unfolding(crate::specs::Writing::at_mode))]
     pub(crate) fn write_mode(&mut self, mode: ControlMode) -> ResultCode
-        ensures world { (w : World) → StandsFor self.old w → StandsFor self.new (at_mode mode w).world }
+        ensures world { (w : World) → StandsFor self.old w
+            → StandsFor self.new (at_mode mode w).world }
         ensures code { (w : World) → StandsFor self.old w → result ≡ (at_mode mode w).code }
         ensures scripts { self.new.scripts ≡ self.old.scripts }
         ensures schedules { self.new.schedules ≡ self.old.schedules }
@@ -28,11 +29,13 @@ impl RelayCore {
         self.control.set_mode(mode)
     }
 
-    /// Applies a setting to a limiter.
+    // Applies a setting to a limiter.
     #[tactic(auto, unfolding(crate::specs::Writing::at_setting))]
     pub(crate) fn set_limiter(&mut self, which: Which, setting: Setting) -> ResultCode
-        ensures world { (w : World) → StandsFor self.old w → StandsFor self.new (at_setting which setting w).world }
-        ensures code { (w : World) → StandsFor self.old w → result ≡ (at_setting which setting w).code }
+        ensures world { (w : World) → StandsFor self.old w
+            → StandsFor self.new (at_setting which setting w).world }
+        ensures code { (w : World) → StandsFor self.old w
+            → result ≡ (at_setting which setting w).code }
         ensures scripts { self.new.scripts ≡ self.old.scripts }
         ensures schedules { self.new.schedules ≡ self.old.schedules }
     {
@@ -43,10 +46,12 @@ impl RelayCore {
         ResultCode::Success
     }
 
-    /// Writes an attribute of a limiter other than its list of group ids.
+    // Writes an attribute of a limiter other than its list of group ids.
     fn write_limiter(&mut self, which: Which, number: u8, value: &Data) -> ResultCode
-        ensures world { (w : World) → StandsFor self.old w → StandsFor self.new (at_limiter which (attribute_numbered number) value.now w).world }
-        ensures code { (w : World) → StandsFor self.old w → result ≡ (at_limiter which (attribute_numbered number) value.now w).code }
+        ensures world { (w : World) → StandsFor self.old w
+            → StandsFor self.new (at_limiter which (attribute_numbered number) value.now w).world }
+        ensures code { (w : World) → StandsFor self.old w
+            → result ≡ (at_limiter which (attribute_numbered number) value.now w).code }
     {
         let Some(attribute) = LimiterAttribute::of_number(number) else {
             return ResultCode::ReadWriteDenied;
@@ -58,18 +63,20 @@ impl RelayCore {
         }
     }
 
-    /// Replaces the script table with the decoded one.
+    // Replaces the script table with the decoded one.
     fn move_scripts(&mut self, parts: Parts)
-        ensures { (w : World) → StandsFor self.old w → StandsFor self.new (moved WrittenList.Scripts parts w) }
+        ensures { (w : World) → StandsFor self.old w
+            → StandsFor self.new (moved WrittenList.Scripts parts w) }
     {
         if let Parts::Scripts(scripts) = parts {
             self.scripts = scripts;
         }
     }
 
-    /// Replaces the group ids of a limiter with the decoded ones.
+    // Replaces the group ids of a limiter with the decoded ones.
     fn move_groups(&mut self, which: Which, parts: Parts)
-        ensures { (w : World) → StandsFor self.old w → StandsFor self.new (moved (WrittenList.Groups which) parts w) }
+        ensures { (w : World) → StandsFor self.old w
+            → StandsFor self.new (moved (WrittenList.Groups which) parts w) }
     {
         let Parts::Groups(mut groups) = parts else {
             return;
@@ -80,16 +87,17 @@ impl RelayCore {
         }
     }
 
-    /// Replaces the entries of a schedule with the decoded ones.
+    // Replaces the entries of a schedule with the decoded ones.
     fn move_entries(&mut self, which: ScheduleNumber, parts: Parts)
-        ensures { (w : World) → StandsFor self.old w → StandsFor self.new (moved (WrittenList.Entries which) parts w) }
+        ensures { (w : World) → StandsFor self.old w
+            → StandsFor self.new (moved (WrittenList.Entries which) parts w) }
     {
         if let Parts::Entries(mut entries) = parts {
             self.trade_entries(which, &mut entries);
         }
     }
 
-    /// Replaces a list with the decoded one. Does nothing if the list was refused.
+    // Replaces a list with the decoded one. Does nothing if the list was refused.
     fn move_in(&mut self, list: WrittenList, parts: Parts)
         ensures { (w : World) → StandsFor self.old w → StandsFor self.new (moved list parts w) }
     {
@@ -100,10 +108,12 @@ impl RelayCore {
         }
     }
 
-    /// Writes an attribute of the switch; only its mode can be written.
+    // Writes an attribute of the switch; only its mode can be written.
     fn write_control(&mut self, number: u8, value: &Data) -> ResultCode
-        ensures world { (w : World) → StandsFor self.old w → StandsFor self.new (at_control (control_attribute number) value.now w).world }
-        ensures code { (w : World) → StandsFor self.old w → result ≡ (at_control (control_attribute number) value.now w).code }
+        ensures world { (w : World) → StandsFor self.old w
+            → StandsFor self.new (at_control (control_attribute number) value.now w).world }
+        ensures code { (w : World) → StandsFor self.old w
+            → result ≡ (at_control (control_attribute number) value.now w).code }
     {
         let Some(ControlAttribute::ControlMode) = ControlAttribute::of_number(number) else {
             return ResultCode::ReadWriteDenied;
@@ -114,10 +124,12 @@ impl RelayCore {
         }
     }
 
-    /// Writes an attribute of an object other than a list.
+    // Writes an attribute of an object other than a list.
     fn write_plain(&mut self, instance: Instance, number: u8, value: &Data) -> ResultCode
-        ensures world { (w : World) → StandsFor self.old w → StandsFor self.new (at_plain instance number value.now w).world }
-        ensures code { (w : World) → StandsFor self.old w → result ≡ (at_plain instance number value.now w).code }
+        ensures world { (w : World) → StandsFor self.old w
+            → StandsFor self.new (at_plain instance number value.now w).world }
+        ensures code { (w : World) → StandsFor self.old w
+            → result ≡ (at_plain instance number value.now w).code }
     {
         match instance {
             Instance::Schedule(which) => self.write_schedule(which, number, value),
@@ -130,7 +142,7 @@ impl RelayCore {
         }
     }
 
-    /// Writes an attribute of an object.
+    // Writes an attribute of an object.
     #[tactic(auto, unfolding(crate::specs::Writing::at_write))]
     fn write(
         &mut self,
@@ -139,8 +151,10 @@ impl RelayCore {
         number: u8,
         value: &Data,
     ) -> Result<ResultCode, AllocError>
-        ensures world { OnOk result ((w : World) → StandsFor self.old w → StandsFor self.new (at_write instance number value.now w).world) }
-        ensures code { IfOk result (λ code. (w : World) → StandsFor self.old w → code ≡ (at_write instance number value.now w).code) }
+        ensures world { OnOk result ((w : World) → StandsFor self.old w
+            → StandsFor self.new (at_write instance number value.now w).world) }
+        ensures code { IfOk result (λ code. (w : World) → StandsFor self.old w
+            → code ≡ (at_write instance number value.now w).code) }
         ensures plain { IsTrue (writes_plainly_in instance number) → IsOk result }
         ensures err { OnErr result (self.new ≡ self.old) }
     {
@@ -156,11 +170,12 @@ impl RelayCore {
         }
     }
 
-    /// Writes an attribute of an object whose list, if it is one, was decoded before.
+    // Writes an attribute of an object whose list, if it is one, was decoded before.
     #[tactic(auto, unfolding(crate::specs::Writing::at_write), using(crate::proofs::WriteLemmas::moved_list))]
     fn write_by(&mut self, instance: Instance, number: u8, value: &Data, parts: Parts)
         requires { parts ≡ parts_read (list_numbered instance number) value.now }
-        ensures { (w : World) → StandsFor self.old w → StandsFor self.new (at_write instance number value.now w).world }
+        ensures { (w : World) → StandsFor self.old w
+            → StandsFor self.new (at_write instance number value.now w).world }
     {
         match WrittenList::of_number(instance, number) {
             Some(list) => self.move_in(list, parts),
@@ -171,7 +186,7 @@ impl RelayCore {
         }
     }
 
-    /// Handles a client's SET.
+    // Handles a client's SET.
     #[tactic(auto, unfolding(crate::specs::Writing::at_set, crate::specs::Memory::writes_plainly))]
     pub(crate) fn set(
         &mut self,
@@ -181,8 +196,10 @@ impl RelayCore {
         selected: bool,
         value: &Data,
     ) -> Result<ResultCode, AllocError>
-        ensures world { OnOk result ((w : World) → StandsFor self.old w → StandsFor self.new (at_set level attr.now selected value.now w).world) }
-        ensures code { IfOk result (λ code. (w : World) → StandsFor self.old w → code ≡ (at_set level attr.now selected value.now w).code) }
+        ensures world { OnOk result ((w : World) → StandsFor self.old w
+            → StandsFor self.new (at_set level attr.now selected value.now w).world) }
+        ensures code { IfOk result (λ code. (w : World) → StandsFor self.old w
+            → code ≡ (at_set level attr.now selected value.now w).code) }
         ensures plain { IsTrue (writes_plainly level attr.now selected) → IsOk result }
         ensures err { OnErr result (self.new ≡ self.old) }
     {
@@ -192,7 +209,7 @@ impl RelayCore {
         }
     }
 
-    /// Handles a client's SET whose list, if it writes one, was decoded before.
+    // Handles a client's SET whose list, if it writes one, was decoded before.
     #[tactic(auto, unfolding(crate::specs::Writing::at_set, crate::specs::Moving::set_parts))]
     pub(crate) fn set_by(
         &mut self,
@@ -203,7 +220,8 @@ impl RelayCore {
         parts: Parts,
     )
         requires { parts ≡ set_parts level attr.now selected value.now }
-        ensures { (w : World) → StandsFor self.old w → StandsFor self.new (at_set level attr.now selected value.now w).world }
+        ensures { (w : World) → StandsFor self.old w
+            → StandsFor self.new (at_set level attr.now selected value.now w).world }
     {
         if let Ok(instance) = target(attr.name, attr.class, rights(level, attr).write, selected) {
             self.write_by(instance, attr.number, value, parts);

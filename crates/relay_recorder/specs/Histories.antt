@@ -31,7 +31,8 @@ pub record StandsForHistory (r : Recording) (history : List Told) (origin : Worl
   pub legal : replies_of history ≡ replies_from origin (events_of history)
   pub core : StandsFor r.core (world_after (events_of history) origin)
   pub kept : r.events ≡ keep_last r.capacity (events_of history)
-  pub opening : StandsFor r.opening (world_after (all_but_last r.capacity (events_of history)) origin)
+  pub opening : StandsFor r.opening
+      (world_after (all_but_last r.capacity (events_of history)) origin)
 
 -- There are a world and a history that the recorder results from.
 pub record HasHistory (r : Recording) : Type 0 where

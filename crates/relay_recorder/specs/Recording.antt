@@ -14,7 +14,8 @@ pub record Recording : Type 0 where
 
 -- the view of a recorder that consists of these parts
 abbrev pub recording : RelayCore → RelayCore → Buffer Event → Recording
-recording core opening kept = record { core = core; opening = opening; events = kept.items; capacity = kept.capacity }
+recording core opening kept =
+    record { core = core; opening = opening; events = kept.items; capacity = kept.capacity }
 
 -- What holds for every recorder: its capacity is 1 to 1,024 events, it keeps no more, and while it
 -- keeps none the two cores are equal.

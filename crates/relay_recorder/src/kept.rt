@@ -11,8 +11,8 @@ use relay_core::{Parts, RelayCore};
 use relay_events::Event;
 use std::marker::Model;
 
-/// A kept event with the owned values that it writes. They were decoded when the event arrived, so
-/// that the opening core can take it later without allocating.
+// A kept event with the owned values that it writes. They were decoded when the event arrived, so
+// that the opening core can take it later without allocating.
 #[derive(Debug, Drop)]
 pub(crate) struct Kept {
     event: Event,
@@ -35,7 +35,7 @@ impl Model for Kept {
 }
 
 impl Kept {
-    /// Returns the event with its owned values.
+    // Returns the event with its owned values.
     pub(crate) fn new(event: Event, parts: Parts) -> Kept
         requires { parts ≡ parts_of event }
         ensures { result ≡ event }
@@ -43,16 +43,17 @@ impl Kept {
         Kept { event, parts }
     }
 
-    /// Returns the event.
+    // Returns the event.
     pub(crate) fn event(&self) -> &Event
         ensures { result.now ≡ self.now }
     {
         &self.event
     }
 
-    /// Applies the event to a core. Does not allocate.
+    // Applies the event to a core. Does not allocate.
     fn advance(self, core: &mut RelayCore)
-        ensures { (w : World) → StandsFor core.old w → StandsFor core.new (world_after (self ∷ []) w) }
+        ensures { (w : World) → StandsFor core.old w
+            → StandsFor core.new (world_after (self ∷ []) w) }
     {
         let Kept { event, parts } = self;
         core.advance(&event, parts);
@@ -60,16 +61,18 @@ impl Kept {
     }
 }
 
-/// The kept events, oldest first.
+// The kept events, oldest first.
 pub(crate) type Ring = HeapCircularBuffer<Kept>;
 
-/// Appends an event to the ring. If the ring is full, removes the oldest and applies it to the
-/// opening core.
+// Appends an event to the ring. If the ring is full, removes the oldest and applies it to the
+// opening core.
 pub(crate) fn keep(ring: &mut Ring, opening: &mut RelayCore, newest: Kept)
     requires { length ring.old.items ≤ ring.old.capacity }
-    ensures ring { ring.new ≡ buffer (keep_last ring.old.capacity (ring.old.items ++ newest ∷ [])) ring.old.capacity }
+    ensures ring { ring.new
+        ≡ buffer (keep_last ring.old.capacity (ring.old.items ++ newest ∷ [])) ring.old.capacity }
     ensures opening { (w : World) → StandsFor opening.old w
-        → StandsFor opening.new (world_after (all_but_last ring.old.capacity (ring.old.items ++ newest ∷ [])) w) }
+        → StandsFor opening.new
+        (world_after (all_but_last ring.old.capacity (ring.old.items ++ newest ∷ [])) w) }
 {
     if let Some(oldest) = ring.push_back(newest) {
         oldest.advance(opening);

@@ -39,7 +39,8 @@ impl Model for Recorder {
 
     ghost view = { λ r. recording r.core r.opening r.kept };
 
-    ghost invariant = { λ r. IsRecording (recording r.core r.opening r.kept) × HasHistory (recording r.core r.opening r.kept) };
+    ghost invariant = { λ r. IsRecording (recording r.core r.opening r.kept)
+        × HasHistory (recording r.core r.opening r.kept) };
 }
 
 impl Recorder {
@@ -49,7 +50,8 @@ impl Recorder {
     pub fn new(alloc: Global, device: &Octets, capacity: u16) -> Result<Recorder, AllocError>
         requires device { IsDeviceName device.now }
         requires capacity { (1 ≤ capacity) × (capacity ≤ 1024) }
-        ensures stands { IfOk result (λ recorder. StandsForHistory recorder [] (new_world device.now)) }
+        ensures stands { IfOk result
+            (λ recorder. StandsForHistory recorder [] (new_world device.now)) }
         ensures empty { IfOk result (λ recorder. recorder.events ≡ []) }
         ensures capacity { IfOk result (λ recorder. recorder.capacity ≡ capacity) }
     {
@@ -66,7 +68,8 @@ impl Recorder {
         ensures opening { IfOk result (λ recorder. recorder.opening ≡ core) }
         ensures empty { IfOk result (λ recorder. recorder.events ≡ []) }
         ensures capacity { IfOk result (λ recorder. recorder.capacity ≡ capacity) }
-        ensures stands { IfOk result (λ recorder. (w : World) → StandsFor core w → StandsForHistory recorder [] w) }
+        ensures stands { IfOk result (λ recorder. (w : World) → StandsFor core w
+            → StandsForHistory recorder [] w) }
     {
         core.stands_for_its_opening();
         match core.try_copy(alloc) {
@@ -94,7 +97,8 @@ impl Recorder {
     /// changed, as if the event had not arrived. A sure event never runs out of memory.
     pub fn apply(&mut self, alloc: Global, event: Event) -> Result<Reply, AllocError>
         ensures history { IfOk result (Continues self.old self.new event) }
-        ensures kept { OnOk result (self.new.events ≡ keep_last self.old.capacity (self.old.events ++ event ∷ [])) }
+        ensures kept { OnOk result (self.new.events
+            ≡ keep_last self.old.capacity (self.old.events ++ event ∷ [])) }
         ensures capacity { self.new.capacity ≡ self.old.capacity }
         ensures fits { IfOk result (Fits event) }
         ensures sure { IsTrue (is_sure event) → IsOk result }
@@ -146,7 +150,7 @@ impl Recorder {
         self.kept.get(usize::from(i)).unwrap().event()
     }
 
-    /// Returns copies of the kept events, in order.
+    // Returns copies of the kept events, in order.
     fn copied_events(&self, alloc: Global) -> Result<Events, AllocError>
         ensures { IfOk result (λ events. events ≡ self.now.events) }
     {
@@ -165,7 +169,8 @@ impl Recorder {
     pub fn export(&self, alloc: Global) -> Result<Trace, AllocError>
         ensures opening { IfOk result (λ trace. trace.opening ≡ opening_of self.now.opening) }
         ensures fit { IfOk result (λ trace. IsFitOpening trace.opening) }
-        ensures agrees { IfOk result (λ trace. (w : World) → StandsFor self.now.opening w → Agree (opened trace.opening) w) }
+        ensures agrees { IfOk result (λ trace. (w : World) → StandsFor self.now.opening w
+            → Agree (opened trace.opening) w) }
         ensures few { IfOk result (λ trace. length trace.events ≤ 1024) }
         ensures events { IfOk result (λ trace. trace.events ≡ self.now.events) }
         ensures replays { IfOk result (λ trace. Replays self.now (opened trace.opening)) }

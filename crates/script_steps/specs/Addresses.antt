@@ -22,15 +22,32 @@ execute_method = 2
 
 -- a write to an attribute of the disconnect control (class 70, 0.0.96.3.10.255)
 abbrev pub attribute_of : ℤ → Address
-attribute_of index = record { service = write_attribute; class = class_id 70; name = obis 0 0 96 3 10 255; index = index }
+attribute_of index =
+    record {
+      service = write_attribute;
+      class = class_id 70;
+      name = obis 0 0 96 3 10 255;
+      index = index;
+    }
 
 -- an execution of one of its methods
 abbrev pub method_of : ℤ → Address
-method_of index = record { service = execute_method; class = class_id 70; name = obis 0 0 96 3 10 255; index = index }
+method_of index = record {
+  service = execute_method;
+  class = class_id 70;
+  name = obis 0 0 96 3 10 255;
+  index = index;
+}
 
 -- a write to an attribute of a limiter (class 71)
 abbrev pub limiter_attribute_of : Which → ℤ → Address
-limiter_attribute_of which index = record { service = write_attribute; class = class_id 71; name = limiter_name which; index = index }
+limiter_attribute_of which index =
+    record {
+      service = write_attribute;
+      class = class_id 71;
+      name = limiter_name which;
+      index = index;
+    }
 
 -- the address that a step of this action names
 abbrev pub address_of : Action → Address
@@ -46,7 +63,9 @@ address_of Reconnect = method_of (pos 2)  -- remote_reconnect
 -- whether two addresses have the same service, class, name and index
 abbrev pub is_address : Address → Address → Bool
 is_address one other =
-    one.service == other.service && (one.class.0 == other.class.0 && (bytes_eq one.name.0 other.name.0 && int_eq one.index other.index))
+    one.service == other.service &&
+    (one.class.0 == other.class.0 &&
+    (bytes_eq one.name.0 other.name.0 && int_eq one.index other.index))
 
 -- the actions of the listed steps: every action is one (`each_step_is_listed`)
 abbrev pub actions : List Action

@@ -13,7 +13,15 @@ step_parts_in (service ∷ class ∷ name ∷ index ∷ parameter ∷ []) = do
   class_id ← long_unsigned_of class
   logical_name ← name_of name
   number ← integer_of index
-  Some (record { service = service_id; class = record { 0 = class_id }; name = logical_name; index = number }, parameter)
+  Some (
+    record {
+      service = service_id;
+      class = record { 0 = class_id };
+      name = logical_name;
+      index = number;
+    },
+    parameter,
+  )
 step_parts_in _ = None
 
 abbrev pub step_parts_of : Data → Option (Address × Data)

@@ -32,10 +32,15 @@ named_by step = address_of (action_of step)
 
 -- an address as a SET names the attribute, and as an ACTION names the method
 abbrev pub attribute_at : Address → AttrRef
-attribute_at address = record { class = address.class; name = address.name; number = cast_unsigned w8 address.index }
+attribute_at address =
+    record { class = address.class; name = address.name; number = cast_unsigned w8 address.index }
 
 abbrev pub method_at : Address → MethodRef
-method_at address = record { class = address.class; name = address.name; number = cast_unsigned w8 address.index }
+method_at address = record {
+  class = address.class;
+  name = address.name;
+  number = cast_unsigned w8 address.index;
+}
 
 -- whether a step writes an attribute; otherwise it executes a method
 abbrev pub is_write : Step → Bool
@@ -57,18 +62,26 @@ is_allowed address =
 -- the object table has the step's object, with its logical name and class, and management may do
 -- there what the step does
 pub record IsInTable (step : Step) : Type 0 where
-  pub named : option_map (λ row. row.instance) (object_of (named_by step).name) ≡ Some (instance_of step)
-  pub classed : option_map (λ row. row.class) (object_of (named_by step).name) ≡ Some (named_by step).class
+  pub named : option_map (λ row. row.instance) (object_of (named_by step).name)
+      ≡ Some (instance_of step)
+  pub classed : option_map (λ row. row.class) (object_of (named_by step).name)
+      ≡ Some (named_by step).class
   pub allowed : is_allowed (named_by step) ≡ true
 
 -- a step that writes a limiter names the attribute that it writes
 abbrev pub IsNamed : Step → Type 0
 IsNamed (WriteMode mode) = Unit {0}
-IsNamed (WriteNormal which watts) = attribute_at (named_by (WriteNormal which watts)) ≡ reference which ThresholdNormal
-IsNamed (WriteEmergency which watts) = attribute_at (named_by (WriteEmergency which watts)) ≡ reference which ThresholdEmergency
-IsNamed (WriteMinOver which seconds) = attribute_at (named_by (WriteMinOver which seconds)) ≡ reference which MinOverThresholdDuration
-IsNamed (WriteMinUnder which seconds) = attribute_at (named_by (WriteMinUnder which seconds)) ≡ reference which MinUnderThresholdDuration
-IsNamed (WriteProfile which profile) = attribute_at (named_by (WriteProfile which profile)) ≡ reference which EmergencyProfile
+IsNamed (WriteNormal which watts) =
+    attribute_at (named_by (WriteNormal which watts)) ≡ reference which ThresholdNormal
+IsNamed (WriteEmergency which watts) =
+    attribute_at (named_by (WriteEmergency which watts)) ≡ reference which ThresholdEmergency
+IsNamed (WriteMinOver which seconds) =
+    attribute_at (named_by (WriteMinOver which seconds)) ≡ reference which MinOverThresholdDuration
+IsNamed (WriteMinUnder which seconds) =
+    attribute_at (named_by (WriteMinUnder which seconds))
+    ≡ reference which MinUnderThresholdDuration
+IsNamed (WriteProfile which profile) =
+    attribute_at (named_by (WriteProfile which profile)) ≡ reference which EmergencyProfile
 IsNamed Disconnect = Unit {0}
 IsNamed Reconnect = Unit {0}
 

@@ -36,11 +36,16 @@ method_parameter_of _ = Err Unmatched
 -- the step of an action, with its parameter
 unfoldable pub step_with : Action → Data → Result Step WriteFault
 step_with action.Mode parameter = mode_form parameter >>= λ mode. Ok (WriteMode mode)
-step_with (action.Normal which) parameter = number_of parameter >>= λ watts. Ok (WriteNormal which watts)
-step_with (action.Emergency which) parameter = number_of parameter >>= λ watts. Ok (WriteEmergency which watts)
-step_with (action.MinOver which) parameter = number_of parameter >>= λ seconds. Ok (WriteMinOver which seconds)
-step_with (action.MinUnder which) parameter = number_of parameter >>= λ seconds. Ok (WriteMinUnder which seconds)
-step_with (action.Profile which) parameter = profile_of parameter >>= λ profile. Ok (WriteProfile which profile)
+step_with (action.Normal which) parameter =
+    number_of parameter >>= λ watts. Ok (WriteNormal which watts)
+step_with (action.Emergency which) parameter =
+    number_of parameter >>= λ watts. Ok (WriteEmergency which watts)
+step_with (action.MinOver which) parameter =
+    number_of parameter >>= λ seconds. Ok (WriteMinOver which seconds)
+step_with (action.MinUnder which) parameter =
+    number_of parameter >>= λ seconds. Ok (WriteMinUnder which seconds)
+step_with (action.Profile which) parameter =
+    profile_of parameter >>= λ profile. Ok (WriteProfile which profile)
 step_with action.Disconnect parameter = method_parameter_of parameter >>= λ _. Ok Disconnect
 step_with action.Reconnect parameter = method_parameter_of parameter >>= λ _. Ok Reconnect
 
@@ -68,7 +73,8 @@ script_of value = do
 -- whether no two have the same number
 abbrev pub are_distinct : {A : Type 0} → (A → ℕ) → List A → Bool
 are_distinct number [] = true
-are_distinct number (x ∷ xs) = not (list_any (λ other. number other == number x) xs) && are_distinct number xs
+are_distinct number (x ∷ xs) =
+    not (list_any (λ other. number other == number x) xs) && are_distinct number xs
 
 -- the fault of a table's scripts: there are at most sixteen, with different identifiers
 unfoldable pub judged_scripts : List Data → Result (Unit {0}) WriteFault

@@ -38,7 +38,8 @@ script_at identifier scripts = find (λ script. script.identifier == identifier)
 -- the steps of the script that a selector selects; every table has the null script
 unfoldable pub steps_at : ℕ → List Script → Option (List Step)
 steps_at selector scripts =
-    if selector == null_script then Some [] else option_map (λ script. script.steps) (script_at selector scripts)
+    if selector == null_script then Some []
+    else option_map (λ script. script.steps) (script_at selector scripts)
 
 -- the steps that run when a selector is executed: none if there is no such script
 abbrev pub running_steps : ℕ → List Script → List Step

@@ -26,13 +26,15 @@ parameter_of Reconnect = Integer (pos 0)
 -- a step with this address and parameter
 abbrev pub addressed : Address → Data → Data
 addressed address parameter =
-    structure_with (Enum address.service ∷ LongUnsigned address.class.0 ∷ OctetString address.name.0 ∷ Integer address.index ∷ parameter ∷ [])
+    structure_with (Enum address.service ∷ LongUnsigned address.class.0 ∷ OctetString address.name.0
+    ∷ Integer address.index ∷ parameter ∷ [])
 
 unfoldable pub step_data : Step → Data
 step_data step = addressed (address_of (action_of step)) (parameter_of step)
 
 unfoldable pub script_data : Script → Data
-script_data script = structure_with (LongUnsigned script.identifier ∷ array_with (map step_data script.steps) ∷ [])
+script_data script =
+    structure_with (LongUnsigned script.identifier ∷ array_with (map step_data script.steps) ∷ [])
 
 unfoldable pub data_of : List Script → Data
 data_of scripts = array_with (map script_data scripts)

@@ -10,7 +10,7 @@ use crate::names::{
 use crate::step::Step;
 use cosem_names::{ClassId, Obis, Which};
 
-/// What a step acts on, as the script table names it: the service, and the attribute or method.
+// What a step acts on, as the script table names it: the service, and the attribute or method.
 #[derive(Clone, Copy, Debug, PartialEq, Eq)]
 pub(crate) struct Address {
     pub(crate) service: u8,
@@ -19,7 +19,7 @@ pub(crate) struct Address {
     pub(crate) index: i8,
 }
 
-/// What a listed step does, without the value that it writes.
+// What a listed step does, without the value that it writes.
 #[derive(Clone, Copy, Debug, PartialEq, Eq)]
 pub(crate) enum Action {
     Mode,
@@ -32,7 +32,7 @@ pub(crate) enum Action {
     Reconnect,
 }
 
-/// The actions of the listed steps.
+// The actions of the listed steps.
 pub(crate) const ACTIONS: [Action; 13] = [
     Action::Mode,
     Action::Normal(Which::Import),
@@ -49,7 +49,7 @@ pub(crate) const ACTIONS: [Action; 13] = [
     Action::Reconnect,
 ];
 
-/// Returns the address of a write to an attribute of the disconnect control.
+// Returns the address of a write to an attribute of the disconnect control.
 fn attribute(index: i8) -> Address
     ensures { result ≡ attribute_of index }
 {
@@ -61,7 +61,7 @@ fn attribute(index: i8) -> Address
     }
 }
 
-/// Returns the address of a method of the disconnect control.
+// Returns the address of a method of the disconnect control.
 fn method(index: i8) -> Address
     ensures { result ≡ method_of index }
 {
@@ -73,7 +73,7 @@ fn method(index: i8) -> Address
     }
 }
 
-/// Returns the address of a write to an attribute of a limiter.
+// Returns the address of a write to an attribute of a limiter.
 fn limiter_attribute(which: Which, index: i8) -> Address
     ensures { result ≡ limiter_attribute_of which index }
 {
@@ -90,7 +90,7 @@ fn limiter_attribute(which: Which, index: i8) -> Address
 }
 
 impl Action {
-    /// Returns the address that a step of this action names.
+    // Returns the address that a step of this action names.
     pub(crate) fn address(self) -> Address
         ensures { result ≡ address_of self }
     {
@@ -106,8 +106,8 @@ impl Action {
         }
     }
 
-    /// Returns the action of the listed step that names this address, or `None` if no listed step
-    /// does.
+    // Returns the action of the listed step that names this address, or `None` if no listed step
+    // does.
     #[tactic(auto, unfolding(crate::specs::Addresses::action_at))]
     pub(crate) fn at(address: Address) -> Option<Action>
         ensures { result ≡ action_at address }
@@ -120,7 +120,7 @@ impl Action {
 }
 
 impl Step {
-    /// Returns what the step does, without the value that it writes.
+    // Returns what the step does, without the value that it writes.
     pub(crate) fn action(&self) -> Action
         ensures { result ≡ action_of self.now }
     {

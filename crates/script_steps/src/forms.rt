@@ -5,8 +5,8 @@ use crate::action::Address;
 use cosem_axdr::Data;
 use cosem_names::{ClassId, name_in};
 
-/// Returns a step's address and its parameter: {service_id, class_id, logical_name, index,
-/// parameter}. `None` if a type differs.
+// Returns a step's address and its parameter: {service_id, class_id, logical_name, index,
+// parameter}. `None` if a type differs.
 pub(crate) fn step_parts(value: &Data) -> Option<(Address, &Data)>
     ensures { option_map (λ parts. (parts.0, parts.1.now)) result ≡ step_parts_of value.now }
 {
@@ -22,8 +22,8 @@ pub(crate) fn step_parts(value: &Data) -> Option<(Address, &Data)>
     Some((address, parameter))
 }
 
-/// Returns a script's identifier and its steps: {script_identifier, actions}. `None` if a type
-/// differs.
+// Returns a script's identifier and its steps: {script_identifier, actions}. `None` if a type
+// differs.
 pub(crate) fn script_parts(value: &Data) -> Option<(u16, &[Data])>
     ensures { option_map (λ parts. (parts.0, parts.1.now)) result ≡ script_parts_of value.now }
 {
@@ -33,7 +33,7 @@ pub(crate) fn script_parts(value: &Data) -> Option<(u16, &[Data])>
     Some((identifier.long_unsigned()?, steps.array()?))
 }
 
-/// Returns a script's identifier, or 0 if the Data is not a script.
+// Returns a script's identifier, or 0 if the Data is not a script.
 pub(crate) fn identifier_in(value: &Data) -> u16
     ensures { result ≡ identifier_of value.now }
 {

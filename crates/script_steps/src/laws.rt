@@ -14,9 +14,10 @@ pub fn written_table_is_read()
     ensures { (scripts : List Script) → IsTable scripts → table_of (data_of scripts) ≡ Ok scripts }
 {}
 
-/// The steps of a table that is read have durations of 32 bits.
+/// Proves that the steps of a table that is read have durations of 32 bits.
 pub fn read_table_is_in_range()
-    ensures { (value : Data) (scripts : List Script) → table_of value ≡ Ok scripts → AreScriptsInRange scripts }
+    ensures { (value : Data) (scripts : List Script) → table_of value ≡ Ok scripts
+        → AreScriptsInRange scripts }
 {}
 
 /// Each step is found by its address, and that address is in the table of the meter's objects. It

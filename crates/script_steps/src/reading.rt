@@ -17,7 +17,7 @@ use limiter_attributes::{read_number, read_profile};
 use listed::Listed;
 use std::alloc::{AllocError, Global};
 
-/// Reads the parameter of a method: null-data or an integer, else `Unmatched`.
+// Reads the parameter of a method: null-data or an integer, else `Unmatched`.
 fn read_method_parameter(value: &Data) -> Result<(), WriteFault>
     ensures { result ≡ method_parameter_of value.now }
 {
@@ -27,8 +27,8 @@ fn read_method_parameter(value: &Data) -> Result<(), WriteFault>
     }
 }
 
-/// Reads the step of an action with its parameter: `Unmatched` if the parameter's type differs,
-/// then `Value` if the attribute does not accept the value.
+// Reads the step of an action with its parameter: `Unmatched` if the parameter's type differs,
+// then `Value` if the attribute does not accept the value.
 #[tactic(auto, unfolding(crate::specs::Reading::step_with))]
 fn step_with(action: Action, parameter: &Data) -> Result<Step, WriteFault>
     ensures exact { result ≡ step_with action parameter.now }
@@ -52,8 +52,8 @@ fn step_with(action: Action, parameter: &Data) -> Result<Step, WriteFault>
     })
 }
 
-/// Reads a step. Errors, judged in this order: `Unmatched` if a type other than the parameter's
-/// differs, `Value` if the step is not listed, then the parameter's.
+// Reads a step. Errors, judged in this order: `Unmatched` if a type other than the parameter's
+// differs, `Value` if the step is not listed, then the parameter's.
 #[tactic(auto, unfolding(crate::specs::Reading::step_of))]
 fn read_step(value: &Data) -> Result<Step, WriteFault>
     ensures exact { result ≡ step_of value.now }
@@ -64,11 +64,12 @@ fn read_step(value: &Data) -> Result<Step, WriteFault>
     step_with(action, parameter)
 }
 
-/// Returns the identifier of a script and its steps, once all of them are judged. The steps' fault
-/// is reported first, then `Value` if the identifier is 0 or there are more than `MAX_STEPS` steps.
+// Returns the identifier of a script and its steps, once all of them are judged. The steps' fault
+// is reported first, then `Value` if the identifier is 0 or there are more than `MAX_STEPS` steps.
 #[tactic(auto, unfolding(crate::specs::Reading::judged_script))]
 fn judge_script(value: &Data) -> Result<(u16, &[Data]), WriteFault>
-    ensures exact { result_map_both (λ parts. (parts.0, parts.1.now)) (λ fault. fault) result ≡ judged_script value.now }
+    ensures exact { result_map_both (λ parts. (parts.0, parts.1.now)) (λ fault. fault) result
+        ≡ judged_script value.now }
     ensures fit { IfOk result (λ parts. (0 < parts.0) × (length parts.1.now ≤ max_steps)) }
 {
     let (identifier, steps) = script_parts(value).ok_or(WriteFault::Unmatched)?;
@@ -79,7 +80,7 @@ fn judge_script(value: &Data) -> Result<(u16, &[Data]), WriteFault>
     Ok((identifier, steps))
 }
 
-/// Judges a script without keeping it.
+// Judges a script without keeping it.
 #[tactic(auto, unfolding(crate::specs::Reading::script_of))]
 fn script_fault(value: &Data) -> Result<(), WriteFault>
     ensures { result ≡ result_map_both (λ script. tt) (λ fault. fault) (script_of value.now) }
@@ -88,14 +89,14 @@ fn script_fault(value: &Data) -> Result<(), WriteFault>
     Ok(())
 }
 
-/// Whether one of the scripts has this identifier.
+// Whether one of the scripts has this identifier.
 fn is_identifier_of_any(items: &[Data], identifier: u16) -> bool
     ensures { result ≡ list_any (λ item. identifier_of item == identifier) items.now }
 {
     items.iter().any(|item| identifier_in(item) == identifier)
 }
 
-/// Whether all scripts have different identifiers.
+// Whether all scripts have different identifiers.
 fn are_distinct(items: &[Data]) -> bool
     ensures { result ≡ are_distinct identifier_of items.now }
 {
@@ -107,8 +108,8 @@ fn are_distinct(items: &[Data]) -> bool
     true
 }
 
-/// Judges each script individually: `Unmatched` if any has a wrong type, then `Value` if any has a
-/// wrong value.
+// Judges each script individually: `Unmatched` if any has a wrong type, then `Value` if any has a
+// wrong value.
 fn judge_each_script(items: &[Data]) -> Result<(), WriteFault>
     ensures exact { result ≡ told script_of items.now }
     ensures no_memory { ¬ IsErrOf result WriteFault.Memory }
@@ -116,8 +117,8 @@ fn judge_each_script(items: &[Data]) -> Result<(), WriteFault>
     judge_each(items, |item| script_fault(item))
 }
 
-/// Judges a table's scripts: the fault of a script first, then `Value` if there are more than
-/// `MAX_SCRIPTS` or two have the same identifier.
+// Judges a table's scripts: the fault of a script first, then `Value` if there are more than
+// `MAX_SCRIPTS` or two have the same identifier.
 #[tactic(auto, unfolding(crate::specs::Reading::judged_scripts))]
 pub(crate) fn judge_scripts(items: &[Data]) -> Result<(), WriteFault>
     ensures exact { result ≡ judged_scripts items.now }
@@ -130,7 +131,7 @@ pub(crate) fn judge_scripts(items: &[Data]) -> Result<(), WriteFault>
     Ok(())
 }
 
-/// Returns the steps that have no fault.
+// Returns the steps that have no fault.
 fn read_steps(alloc: Global, items: &[Data]) -> Result<Listed<Step>, AllocError>
     ensures steps { IfOk result (λ steps. steps ≡ values step_of items.now) }
     ensures fit { IfOk result (λ steps. All IsStep steps) }
@@ -146,7 +147,7 @@ fn read_steps(alloc: Global, items: &[Data]) -> Result<Listed<Step>, AllocError>
     Ok(Listed::from_vec(steps))
 }
 
-/// Reads a script. Returns `None` if it has a fault.
+// Reads a script. Returns `None` if it has a fault.
 #[tactic(auto, unfolding(crate::specs::Reading::script_of, crate::specs::Reading::judged_script))]
 fn read_script(alloc: Global, value: &Data) -> Result<Option<Script>, AllocError>
     ensures script { IfOk result (λ script. script ≡ result_ok (script_of value.now)) }
@@ -159,7 +160,7 @@ fn read_script(alloc: Global, value: &Data) -> Result<Option<Script>, AllocError
     Ok(Some(Script { identifier, steps }))
 }
 
-/// Returns the scripts that have no fault.
+// Returns the scripts that have no fault.
 pub(crate) fn read_scripts(alloc: Global, items: &[Data]) -> Result<Listed<Script>, AllocError>
     ensures scripts { IfOk result (λ scripts. scripts ≡ values script_of items.now) }
     ensures fit { IfOk result (λ scripts. All IsScript scripts) }

@@ -40,7 +40,7 @@ impl Model for ScriptTable {
     ghost invariant = { λ table. IsTable table.scripts };
 }
 
-/// Returns a copy of scripts.
+// Returns a copy of scripts.
 fn copy_scripts(alloc: Global, scripts: &[Script]) -> Result<Listed<Script>, AllocError>
     ensures { IfOk result (λ copies. copies ≡ scripts.now) }
 {
@@ -76,7 +76,8 @@ impl ScriptTable {
     #[tactic(auto, unfolding(crate::specs::Reading::table_of))]
     pub fn from_data(alloc: Global, value: &Data) -> Result<ScriptTable, WriteFault>
         ensures ok { IfOk result (λ table. table_of value.now ≡ Ok table) }
-        ensures unmatched { IsErrOf result WriteFault.Unmatched ↔ (table_of value.now ≡ Err Unmatched) }
+        ensures unmatched { IsErrOf result WriteFault.Unmatched
+            ↔ (table_of value.now ≡ Err Unmatched) }
         ensures value { IsErrOf result WriteFault.Value ↔ (table_of value.now ≡ Err Value) }
         ensures memory { IsErrOf result WriteFault.Memory → IsOk (table_of value.now) }
     {
@@ -104,7 +105,7 @@ impl ScriptTable {
         self.scripts.as_slice()
     }
 
-    /// Returns the script with this identifier, or `None` if the table has none.
+    // Returns the script with this identifier, or `None` if the table has none.
     #[tactic(auto, using(crate::proofs::Tables::found_fits))]
     fn script(&self, identifier: u16) -> Option<&Script>
         ensures script { option_map (λ script. script.now) result ≡ script_at identifier self.now }
@@ -137,7 +138,8 @@ impl ScriptTable {
     pub fn step(&self, selector: u16, i: u8) -> Step
         requires { i < length (running_steps selector self.now) }
         ensures here { slice_get (running_steps selector self.now) i ≡ Some result }
-        ensures rest { drop i (running_steps selector self.now) ≡ result ∷ drop (i + 1) (running_steps selector self.now) }
+        ensures rest { drop i (running_steps selector self.now) ≡ result
+            ∷ drop (i + 1) (running_steps selector self.now) }
     {
         match self.script(selector) {
             Some(script) => script.steps.as_slice()[usize::from(i)],

@@ -8,7 +8,7 @@ use cosem_axdr::{Data, Items, Octets};
 use limiter_attributes::write_profile;
 use std::alloc::{AllocError, Global};
 
-/// Writes the parameter of a step. The parameter of a method is the integer 0.
+// Writes the parameter of a step. The parameter of a method is the integer 0.
 fn parameter(alloc: Global, step: &Step) -> Result<Data, AllocError>
     ensures { IfOk result (λ value. value ≡ parameter_of step.now) }
 {
@@ -23,7 +23,7 @@ fn parameter(alloc: Global, step: &Step) -> Result<Data, AllocError>
     })
 }
 
-/// Writes a step with this address and parameter.
+// Writes a step with this address and parameter.
 fn write_address(alloc: Global, address: Address, parameter: Data) -> Result<Data, AllocError>
     ensures { IfOk result (λ value. value ≡ addressed address parameter) }
 {
@@ -37,7 +37,7 @@ fn write_address(alloc: Global, address: Address, parameter: Data) -> Result<Dat
     ]?)))
 }
 
-/// Writes a step.
+// Writes a step.
 #[tactic(auto, unfolding(crate::specs::Writing::step_data))]
 fn write_step(alloc: Global, step: &Step) -> Result<Data, AllocError>
     ensures { IfOk result (λ value. value ≡ step_data step.now) }
@@ -46,7 +46,7 @@ fn write_step(alloc: Global, step: &Step) -> Result<Data, AllocError>
     write_address(alloc, step.action().address(), parameter)
 }
 
-/// Writes the steps of a script.
+// Writes the steps of a script.
 fn write_steps(alloc: Global, steps: &[Step]) -> Result<Data, AllocError>
     ensures { IfOk result (λ value. value ≡ array_with (map step_data steps.now)) }
 {
@@ -57,7 +57,7 @@ fn write_steps(alloc: Global, steps: &[Step]) -> Result<Data, AllocError>
     Ok(Data::Array(Items::from_vec(items)))
 }
 
-/// Writes a script.
+// Writes a script.
 #[tactic(auto, unfolding(crate::specs::Writing::script_data))]
 fn write_script(alloc: Global, script: &Script) -> Result<Data, AllocError>
     ensures { IfOk result (λ value. value ≡ script_data script.now) }
@@ -69,7 +69,7 @@ fn write_script(alloc: Global, script: &Script) -> Result<Data, AllocError>
     ]?)))
 }
 
-/// Writes the scripts of a table.
+// Writes the scripts of a table.
 #[tactic(auto, unfolding(crate::specs::Writing::data_of))]
 pub(crate) fn write_scripts(alloc: Global, scripts: &[Script]) -> Result<Data, AllocError>
     ensures { IfOk result (λ value. value ≡ data_of scripts.now) }
