@@ -7,7 +7,6 @@ use byte_streams::Counted;
 use cosem_axdr::Octets;
 use meter_server::{
     Kept, Port, PortMeter, Recorder, ServeFault, SessionEnd, Shared, serve_port, serve_session,
-    session_keeps_its_port,
 };
 use std::alloc::{AllocError, Global};
 use std::process::Abort;
@@ -102,29 +101,26 @@ fn gives<W: Wait>(
 }
 
 /// Returns whether a session that `serve_session` serves over a port as a meter answers the first
-/// text with the second, and ends so.
-fn gives_over_meter<W: Wait>(
+/// text with the second, and is closed by its client. Drops the port.
+fn is_served_over<W: Wait>(
     rt: &W,
     alloc: Global,
     port: Port<Kept>,
     texts: (&[u8], &[u8]),
     password: &Octets,
-    end: Result<SessionEnd, ServeFault>,
-) -> (Port<Kept>, bool)
+) -> bool
     requires { IsPassword password.now }
-    ensures { result.0.lock ≡ port.lock }
 {
     let mut reader = Counted::new(texts.0);
     let mut writer = Counted::new(Vec::new(alloc));
     let mut meter = PortMeter::new(rt, port);
     let result = serve_session(alloc, &mut reader, &mut writer, &mut meter, password);
-    session_keeps_its_port::<Counted<&[u8]>, Counted<Vec<u8>>>();
-    let port = meter.into_port();
+    drop(meter.into_port());
     drop(reader);
     let output = writer.into_inner();
-    let is_so = result == end && output.as_slice() == texts.1;
+    let is_so = result == Ok(SessionEnd::Closed) && output.as_slice() == texts.1;
     drop(output);
-    (port, is_so)
+    is_so
 }
 
 /// Returns the results of two sessions, each through its own port, and the number of events that
@@ -145,7 +141,7 @@ fn serve_two<R: Wait + Abort>(
             let texts = (first.asked.as_slice(), first.answered.as_slice());
             let (mut one, is_first_so) = gives(rt, alloc, one, texts, password, end);
             let texts = (second.asked.as_slice(), second.answered.as_slice());
-            let (two, is_second_so) = gives_over_meter(rt, alloc, two, texts, password, end);
+            let (two, is_second_so) = gives(rt, alloc, two, texts, password, end);
             one.join(two);
             Ok((is_first_so, is_second_so, kept(shared, one)))
         }
@@ -183,6 +179,38 @@ fn two_sessions_reach_one_meter(rt: HostRuntime) -> Result<(), Fail> {
     assert!(rt; is_written);
     assert!(rt; is_told);
     assert!(rt; kept == Some(2));
+    Ok(())
+}
+
+/// Returns whether a session over the port of a new meter answers a write of the mode and a read of
+/// it.
+fn serve_over_a_port<R: Wait + Abort>(
+    rt: &R,
+    alloc: Global,
+    password: &Octets,
+) -> Result<bool, Fail>
+    requires { IsPassword password.now }
+{
+    let both = talk(alloc, MANAGEMENT, 1, &[WRITE_MODE, READ_MODE])?;
+    let texts = (both.asked.as_slice(), both.answered.as_slice());
+    let served = match new_lock(rt, alloc, 9) {
+        Ok((shared, port)) => {
+            let is_served = is_served_over(rt, alloc, port, texts, password);
+            drop(shared);
+            Ok(is_served)
+        }
+        Err(error) => Err(error),
+    };
+    drop(both);
+    Ok(served?)
+}
+
+#[test]
+fn a_session_is_served_over_a_port_as_a_meter(rt: HostRuntime) -> Result<(), Fail> {
+    let password = Octets::from_slice(rt.alloc(), b"12345678")?;
+    let served = serve_over_a_port(&rt, rt.alloc(), &password);
+    drop(password);
+    assert!(rt; served?);
     Ok(())
 }
 
