@@ -154,14 +154,25 @@ fn block_of(
     }
 }
 
-/// The scan of values at a threshold.
-fn scans_of(values: &[u32], threshold: u32) -> Scans {
-    Scans {
+/// The scan of values at a threshold. `None`: more values than a block has.
+fn scans_of(values: &[u32], threshold: u32) -> Option<Scans> {
+    if values.len() > 256 {
+        return None;
+    }
+    Some(Scans {
         import: Scan {
             threshold,
             masks: classify(values, threshold),
         },
         export: None,
+    })
+}
+
+/// Whether these are the scans of the values at a threshold.
+fn are_scans(scans: &Scans, values: &[u32], threshold: u32) -> bool {
+    match scans_of(values, threshold) {
+        Some(expected) => *scans == expected,
+        None => false,
     }
 }
 
@@ -169,7 +180,7 @@ fn scans_of(values: &[u32], threshold: u32) -> Scans {
 fn is_scanned(block: &Block, scan: Option<u32>) -> bool {
     match scan {
         Some(threshold) => match block.scanned() {
-            Some(scans) => *scans == scans_of(block.values(), threshold),
+            Some(scans) => are_scans(scans, block.values(), threshold),
             None => false,
         },
         None => block.scanned().is_none(),
