@@ -8,6 +8,7 @@ use trace_text::read_number;
 // Writes the warnings about all jobs of a text to standard error, a line each.
 pub(crate) fn warn(rt: &HostRuntime, text: &[u8], jobs: &Jobs) {
     let mut number: u64 = 0;
+    let mut place: usize = 0;
     let mut rest = jobs.as_slice().iter();
     for line in text.split(|byte| *byte == b'\n') {
         number = number.saturating_add(1);
@@ -16,7 +17,8 @@ pub(crate) fn warn(rt: &HostRuntime, text: &[u8], jobs: &Jobs) {
         }
         if let Some(job) = rest.next() {
             warn_of_job(rt, number, job);
-            warn_of_earlier(rt, number, text, job);
+            warn_of_earlier(rt, number, text, jobs.as_slice(), place, job);
+            place = place.saturating_add(1);
         }
     }
 }
@@ -33,31 +35,69 @@ fn warn_of_job(rt: &HostRuntime, number: u64, job: &Job) {
     }
 }
 
-// Writes the warnings about a name or an address that an earlier line has too.
-fn warn_of_earlier(rt: &HostRuntime, number: u64, text: &[u8], job: &Job) {
-    if let Some(first) = first_with(text, number, 0, job.id.as_slice()) {
+// Writes the warnings about a name or an address that an earlier line has too. The job is at this
+// place in the list.
+fn warn_of_earlier(
+    rt: &HostRuntime,
+    number: u64,
+    text: &[u8],
+    jobs: &[Job],
+    place: usize,
+    job: &Job,
+) {
+    if let Some(first) = first_named(jobs, place, job.id.as_slice()) {
+        let first = line_of(text, first);
         let _ = eprintln!(rt; "line {number}: warning: line {first} has the same name");
     }
-    if let Some(first) = first_with(text, number, 1, job.address.as_slice()) {
+    if let Some(first) = first_at(jobs, place, job.address.as_slice()) {
+        let first = line_of(text, first);
         let _ = eprintln!(rt;
             "line {number}: warning: line {first} has the same address: the two run in any order"
         );
     }
 }
 
-// The number of the first line before `end` that has this word at that place.
-fn first_with(text: &[u8], end: u64, place: usize, word: &[u8]) -> Option<u64> {
-    let mut number: u64 = 0;
-    for line in text.split(|byte| *byte == b'\n') {
-        number = number.saturating_add(1);
-        if number >= end {
+// The place of the first job before `end` with this name.
+fn first_named(jobs: &[Job], end: usize, name: &[u8]) -> Option<usize> {
+    for (place, job) in jobs.iter().enumerate() {
+        if place >= end {
             return None;
         }
-        if line.split(|byte| *byte == b' ').nth(place) == Some(word) {
-            return Some(number);
+        if job.id.as_slice() == name {
+            return Some(place);
         }
     }
     None
+}
+
+// The place of the first job before `end` with this address.
+fn first_at(jobs: &[Job], end: usize, address: &[u8]) -> Option<usize> {
+    for (place, job) in jobs.iter().enumerate() {
+        if place >= end {
+            return None;
+        }
+        if job.address.as_slice() == address {
+            return Some(place);
+        }
+    }
+    None
+}
+
+// The number of the line of the job at a place. Empty lines have no job.
+fn line_of(text: &[u8], place: usize) -> u64 {
+    let mut number: u64 = 0;
+    let mut before = place;
+    for line in text.split(|byte| *byte == b'\n') {
+        number = number.saturating_add(1);
+        if line.is_empty() {
+            continue;
+        }
+        if before == 0 {
+            return number;
+        }
+        before = before.saturating_sub(1);
+    }
+    number
 }
 
 // Why a text cannot be the address of a meter; `None` if it can. An address is an IP address or the
