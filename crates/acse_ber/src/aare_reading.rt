@@ -11,7 +11,7 @@ use crate::initiate::{INITIATE_ERROR_HEAD, RESPONSE_TAG, read_conformance, skip_
 use crate::length::{read_literal, read_size};
 use crate::tag;
 use bitflags::Flags;
-use byte_reading::Reader;
+use byte_reading::Cursor;
 use std::alloc::Global;
 
 /// Reads an AARE: a length that ends at the last byte, filled by fields in any order.
@@ -86,7 +86,7 @@ const ACCEPTED: u8 = 0;
 fn read_result(contents: &[u8]) -> Result<u8, AcseFault>
     ensures { result ≡ whole (result_at contents.now) }
 {
-    let mut reader = Reader::new(contents);
+    let mut reader = Cursor::new(contents);
     let outcome = read_byte_behind(&[tag::INTEGER, 1], &mut reader)?;
     reader.finish(outcome, AcseFault::Unreadable)
 }
@@ -96,7 +96,7 @@ fn read_result(contents: &[u8]) -> Result<u8, AcseFault>
 fn read_diagnostic(contents: &[u8]) -> Result<u8, AcseFault>
     ensures { result ≡ whole (diagnostic_at contents.now) }
 {
-    let mut reader = Reader::new(contents);
+    let mut reader = Cursor::new(contents);
     let (tag::SERVICE_USER | tag::SERVICE_PROVIDER) = reader.byte(AcseFault::Unreadable)? else {
         return Err(AcseFault::Unreadable);
     };
@@ -106,7 +106,7 @@ fn read_diagnostic(contents: &[u8]) -> Result<u8, AcseFault>
 
 // Reads the expected bytes and returns the byte after them.
 #[tactic(auto, unfolding(crate::specs::Reading::byte_behind))]
-fn read_byte_behind(expected: &[u8], reader: &mut Reader) -> Result<u8, AcseFault>
+fn read_byte_behind(expected: &[u8], reader: &mut Cursor) -> Result<u8, AcseFault>
     ensures { Reads (λ byte. byte) result reader.new (byte_behind expected.now reader.old) }
 {
     read_literal(expected, reader)?;
@@ -142,7 +142,7 @@ fn is_response(info: Info) -> bool
 fn read_response(bytes: &[u8]) -> Result<Info, AcseFault>
     ensures { result ≡ whole (response_at bytes.now) }
 {
-    let mut reader = Reader::new(bytes);
+    let mut reader = Cursor::new(bytes);
     read_literal(&[RESPONSE_TAG], &mut reader)?;
     skip_optional_byte(&mut reader)?;
     let _version = reader.byte(AcseFault::Unreadable)?;
@@ -157,7 +157,7 @@ fn read_response(bytes: &[u8]) -> Result<Info, AcseFault>
 fn read_initiate_error(bytes: &[u8]) -> Result<Info, AcseFault>
     ensures { result ≡ whole (initiate_error_at bytes.now) }
 {
-    let mut reader = Reader::new(bytes);
+    let mut reader = Cursor::new(bytes);
     let error = read_byte_behind(&INITIATE_ERROR_HEAD, &mut reader)?;
     reader.finish(Info::InitiateError(error), AcseFault::Unreadable)
 }

@@ -6,7 +6,7 @@ ghost use Rattle.acse_ber.specs.Reading.{Yields, field_at, tagged, fields_of, fi
 use crate::fault::AcseFault;
 use crate::length::read_contents;
 use crate::tag::{FIRST_FIELD, LAST_FIELD};
-use byte_reading::Reader;
+use byte_reading::Cursor;
 
 // A field of an APDU.
 #[derive(Clone, Copy)]
@@ -17,7 +17,7 @@ pub(crate) struct Field<'a> {
 
 // Reads the next field: a context-specific tag, the length and the contents.
 #[tactic(auto, unfolding(crate::specs::Reading::field_at))]
-fn read_field<'a>(reader: &mut Reader<'a>) -> Result<Field<'a>, AcseFault>
+fn read_field<'a>(reader: &mut Cursor<'a>) -> Result<Field<'a>, AcseFault>
     ensures { Reads (λ field. record { tag = field.tag; contents = field.contents.now }) result
         reader.new (field_at reader.old) }
 {
@@ -35,7 +35,7 @@ fn read_field<'a>(reader: &mut Reader<'a>) -> Result<Field<'a>, AcseFault>
 pub(crate) fn read_tagged(tag: u8, bytes: &[u8]) -> Result<&[u8], AcseFault>
     ensures { Yields (λ contents. contents.now) result (tagged tag bytes.now) }
 {
-    let mut reader = Reader::new(bytes);
+    let mut reader = Cursor::new(bytes);
     if reader.byte(AcseFault::Unreadable)? != tag {
         return Err(AcseFault::Unreadable);
     }
@@ -47,7 +47,7 @@ pub(crate) fn read_tagged(tag: u8, bytes: &[u8]) -> Result<&[u8], AcseFault>
 pub(crate) fn are_fields(body: &[u8]) -> bool
     ensures { result ≡ is_ok (fields_of body.now) }
 {
-    let mut reader = Reader::new(body);
+    let mut reader = Cursor::new(body);
     'fields: while !reader.is_empty() {
         let Ok(_field) = read_field(&mut reader) else {
             return false;
@@ -63,7 +63,7 @@ pub(crate) fn find_field(tag: u8, body: &[u8]) -> Result<Option<&[u8]>, AcseFaul
     ensures { Yields (λ found. option_map (λ contents. contents.now) found) result
         (field_of tag body.now) }
 {
-    let mut reader = Reader::new(body);
+    let mut reader = Cursor::new(body);
     let mut found = None;
     'fields: while !reader.is_empty() {
         let field = read_field(&mut reader)?;

@@ -9,7 +9,7 @@ use crate::conformance::Conformance;
 use crate::fault::AcseFault;
 use crate::length::{read_literal, read_size};
 use bitflags::Flags;
-use byte_reading::Reader;
+use byte_reading::Cursor;
 use byteorder::{BigEndian, ByteOrder};
 use cosem_axdr::Octets;
 use std::alloc::AllocError;
@@ -58,7 +58,7 @@ pub(crate) struct Proposal {
 pub(crate) fn read_proposal(bytes: &[u8]) -> Result<Proposal, AcseFault>
     ensures { Yields (λ proposal. proposal) result (proposal_of bytes.now) }
 {
-    let mut reader = Reader::new(bytes);
+    let mut reader = Cursor::new(bytes);
     read_literal(&REQUEST_HEAD, &mut reader)?;
     skip_optional_byte(&mut reader)?;
     skip_optional_byte(&mut reader)?;
@@ -68,7 +68,7 @@ pub(crate) fn read_proposal(bytes: &[u8]) -> Result<Proposal, AcseFault>
 
 // Reads the version, the conformance and the size.
 #[tactic(auto, unfolding(crate::specs::Reading::proposed_at))]
-fn read_proposed(reader: &mut Reader) -> Result<Proposal, AcseFault>
+fn read_proposed(reader: &mut Cursor) -> Result<Proposal, AcseFault>
     ensures { Reads (λ proposal. proposal) result reader.new (proposed_at reader.old) }
 {
     let version = reader.byte(AcseFault::Unreadable)?;
@@ -84,7 +84,7 @@ fn read_proposed(reader: &mut Reader) -> Result<Proposal, AcseFault>
 // Skips an optional byte: a byte that marks it as absent or present, and the byte itself if
 // present.
 #[tactic(auto, unfolding(crate::specs::Reading::optional_byte_at))]
-pub(crate) fn skip_optional_byte(reader: &mut Reader) -> Result<(), AcseFault>
+pub(crate) fn skip_optional_byte(reader: &mut Cursor) -> Result<(), AcseFault>
     ensures { Reads (λ unit. unit) result reader.new (optional_byte_at reader.old) }
 {
     match reader.byte(AcseFault::Unreadable)? {
@@ -99,7 +99,7 @@ pub(crate) fn skip_optional_byte(reader: &mut Reader) -> Result<(), AcseFault>
 
 // Reads the 24 bits of a conformance block.
 #[tactic(auto, unfolding(crate::specs::Reading::conformance_at))]
-pub(crate) fn read_conformance(reader: &mut Reader) -> Result<Conformance, AcseFault>
+pub(crate) fn read_conformance(reader: &mut Cursor) -> Result<Conformance, AcseFault>
     ensures { Reads (λ conformance. conformance.0) result reader.new (conformance_at reader.old) }
 {
     read_literal(&CONFORMANCE_HEAD, reader)?;

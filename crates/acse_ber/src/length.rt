@@ -4,18 +4,18 @@ ghost use Rattle.byte_reading.specs.Reading.{Reads};
 ghost use Rattle.acse_ber.specs.Reading.{size_at, literal_at, length_at, contents_at};
 
 use crate::fault::AcseFault;
-use byte_reading::Reader;
+use byte_reading::Cursor;
 use byteorder::{BigEndian, ByteOrder};
 
 // Reads a number of two bytes.
-pub(crate) fn read_size(reader: &mut Reader) -> Result<u16, AcseFault>
+pub(crate) fn read_size(reader: &mut Cursor) -> Result<u16, AcseFault>
     ensures { Reads (λ size. size) result reader.new (size_at reader.old) }
 {
     Ok(BigEndian::read_u16(reader.bytes(2, AcseFault::Unreadable)?))
 }
 
 // Reads bytes that must be the expected ones.
-pub(crate) fn read_literal(expected: &[u8], reader: &mut Reader) -> Result<(), AcseFault>
+pub(crate) fn read_literal(expected: &[u8], reader: &mut Cursor) -> Result<(), AcseFault>
     ensures { Reads (λ unit. unit) result reader.new (literal_at expected.now reader.old) }
 {
     if reader.bytes(expected.len(), AcseFault::Unreadable)? != expected {
@@ -26,7 +26,7 @@ pub(crate) fn read_literal(expected: &[u8], reader: &mut Reader) -> Result<(), A
 
 // Reads a length: one byte below 80 hex, or 81 or 82 hex followed by one or two bytes.
 #[tactic(auto, unfolding(crate::specs::Reading::length_at))]
-fn read_length(reader: &mut Reader) -> Result<usize, AcseFault>
+fn read_length(reader: &mut Cursor) -> Result<usize, AcseFault>
     ensures { Reads (λ n. n) result reader.new (length_at reader.old) }
 {
     match reader.byte(AcseFault::Unreadable)? {
@@ -39,7 +39,7 @@ fn read_length(reader: &mut Reader) -> Result<usize, AcseFault>
 
 // Reads a length and returns that number of bytes.
 #[tactic(auto, unfolding(crate::specs::Reading::contents_at))]
-pub(crate) fn read_contents<'a>(reader: &mut Reader<'a>) -> Result<&'a [u8], AcseFault>
+pub(crate) fn read_contents<'a>(reader: &mut Cursor<'a>) -> Result<&'a [u8], AcseFault>
     ensures { Reads (λ contents. contents.now) result reader.new (contents_at reader.old) }
 {
     let count = read_length(reader)?;

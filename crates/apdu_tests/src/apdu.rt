@@ -4,7 +4,7 @@ use listed::Listed;
 use std::alloc::{AllocError, Global};
 use std::process::Abort;
 use xdlms_apdu::{
-    ApduFault, Block, Exception, InvokeId, Request, Response, read_request, read_response,
+    ApduFault, DataBlock, Exception, InvokeId, Request, Response, read_request, read_response,
     text_of_request_spells, text_of_response_spells, write_request, write_response,
 };
 
@@ -55,8 +55,8 @@ fn method(number: u8) -> MethodRef {
     }
 }
 
-fn block(alloc: Global, last: bool, number: u32, raw: &[u8]) -> Result<Block, AllocError> {
-    Ok(Block {
+fn block(alloc: Global, last: bool, number: u32, raw: &[u8]) -> Result<DataBlock, AllocError> {
+    Ok(DataBlock {
         last,
         number,
         raw: Octets::from_slice(alloc, raw)?,

@@ -1,4 +1,4 @@
-use byte_reading::{Reader, beside};
+use byte_reading::{Cursor, beside};
 use std::process::Abort;
 use xdlms_apdu::ApduFault;
 
@@ -8,7 +8,7 @@ const GOT: [u8; 6] = [0xC4, 0x01, 0xC1, 0x00, 0x16, 0x01];
 #[test]
 fn a_reader_goes_from_left_to_right(rt: HostRuntime) {
     let fault = ApduFault::Unreadable;
-    let mut reader = Reader::new(&GOT);
+    let mut reader = Cursor::new(&GOT);
     assert!(rt; reader.byte(fault) == Ok(0xC4));
     assert!(rt; reader.array(fault) == Ok([0x01, 0xC1, 0x00]));
     assert!(rt; reader.rest() == [0x16, 0x01].as_slice());
@@ -20,15 +20,15 @@ fn a_reader_goes_from_left_to_right(rt: HostRuntime) {
 
 #[test]
 fn a_reader_answers_the_fault_that_it_is_given(rt: HostRuntime) {
-    assert!(rt; Reader::new(&[]).byte(ApduFault::UnknownTag) == Err(ApduFault::UnknownTag));
-    assert!(rt; Reader::new(&GOT).bytes(7, ApduFault::UnknownForm) == Err(ApduFault::UnknownForm));
-    let array: Result<[u8; 7], ApduFault> = Reader::new(&GOT).array(ApduFault::Unreadable);
+    assert!(rt; Cursor::new(&[]).byte(ApduFault::UnknownTag) == Err(ApduFault::UnknownTag));
+    assert!(rt; Cursor::new(&GOT).bytes(7, ApduFault::UnknownForm) == Err(ApduFault::UnknownForm));
+    let array: Result<[u8; 7], ApduFault> = Cursor::new(&GOT).array(ApduFault::Unreadable);
     assert!(rt; array == Err(ApduFault::Unreadable));
 }
 
 #[test]
 fn what_was_read_before_is_let_go_at_a_fault(rt: HostRuntime) {
     let fault = ApduFault::Unreadable;
-    assert!(rt; beside(0xC4u8, Reader::new(&GOT).byte(fault)) == Ok((0xC4, 0xC4)));
-    assert!(rt; beside(0xC4u8, Reader::new(&[]).byte(fault)) == Err(fault));
+    assert!(rt; beside(0xC4u8, Cursor::new(&GOT).byte(fault)) == Ok((0xC4, 0xC4)));
+    assert!(rt; beside(0xC4u8, Cursor::new(&[]).byte(fault)) == Err(fault));
 }

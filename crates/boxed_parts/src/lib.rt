@@ -4,4 +4,4 @@
 
 mod parts;
 
-pub use parts::Parts;
+pub use parts::BoxParts;

@@ -10,4 +10,4 @@ mod owned;
 mod reader;
 
 pub use owned::beside;
-pub use reader::Reader;
+pub use reader::Cursor;

@@ -6,11 +6,11 @@ use std::marker::Model;
 /// The rest of some bytes that are read from left to right. A step that finds too few bytes returns
 /// the fault that its caller passes.
 #[derive(Drop)]
-pub struct Reader<'a> {
+pub struct Cursor<'a> {
     rest: &'a [u8],
 }
 
-impl<'a> Model for Reader<'a> {
+impl<'a> Model for Cursor<'a> {
     ghost use Rattle.std.specs.Prelude.{List, ℕ};
 
     ghost Value = { List ℕ };
@@ -18,19 +18,19 @@ impl<'a> Model for Reader<'a> {
     ghost view = { λ reader. reader.rest.now };
 }
 
-impl<'a> Reader<'a> {
+impl<'a> Cursor<'a> {
     /// Returns a reader at the front of `bytes`.
     pub fn new(bytes: &'a [u8]) -> Self
         ensures { result ≡ bytes.now }
     {
-        Reader { rest: bytes }
+        Cursor { rest: bytes }
     }
 
     /// Returns the bytes that are not yet read.
     pub fn rest(&self) -> &'a [u8]
         ensures { result.now ≡ self.now }
     {
-        let Reader { rest } = *self;
+        let Cursor { rest } = *self;
         rest
     }
 

@@ -3,7 +3,7 @@ use std::alloc::{AllocError, Global};
 use std::process::Abort;
 use std::test::Fail;
 use trace_text::{
-    Lines, Words, add_hex, add_number, add_word, end_line, read_hex, read_number, split_line,
+    TextLines, Words, add_hex, add_number, add_word, end_line, read_hex, read_number, split_line,
     write_hex, write_number,
 };
 
@@ -46,7 +46,7 @@ fn has_words(alloc: Global, line: &[u8], barred: &[u8]) -> Result<bool, AllocErr
 
 // Adds the lines of a text with a bar before each, and a star before the rest.
 fn add_barred_lines(text: &[u8], out: &mut Vec<u8>) -> Result<(), AllocError> {
-    let mut lines = Lines::new(text);
+    let mut lines = TextLines::new(text);
     while let Some(line) = lines.next() {
         out.push(b'|')?;
         out.extend_from_slice(line)?;

@@ -1,7 +1,7 @@
 //! Meters that are reached over TCP on this machine.
 use crate::meters::{DONE, SENT, job, password};
 use client_core::{Job, Outcome};
-use head_end::{Attempt, Connector, Limits, Row, TcpConnector, run_job};
+use head_end::{Attempt, Connector, TcpLimits, Row, TcpConnector, run_job};
 use std::alloc::{AllocError, Global};
 use std::io::{Read, Write};
 use std::net::TcpListener;
@@ -21,7 +21,7 @@ fn answer(alloc: Global, listener: &TcpListener) -> io::Result<Vec<u8>> {
 /// Returns a connector with one limit for a connect and for a whole connection.
 fn within<R>(rt: R, millis: u64) -> TcpConnector<R> {
     let limit = Duration::from_millis(millis);
-    let limits = Limits {
+    let limits = TcpLimits {
         connect: limit,
         answer: limit,
     };

@@ -4,7 +4,7 @@ use crate::meters::{OPENED, jobs_named, password};
 use byte_streams::StreamFault;
 use client_core::Outcome;
 use cosem_axdr::Octets;
-use head_end::{ConnectFault, Connection, Connector, Jobs, Line, Report, Row};
+use head_end::{ConnectFault, Connection, Connector, Jobs, ReportLine, Report, Row};
 use std::alloc::{AllocError, Global};
 use std::sync::Arc;
 use std::sync::atomic::{AtomicBool, Ordering};
@@ -114,7 +114,7 @@ fn lines_of<R: Threads + Sync>(rt: &R, alloc: Global, jobs: &Jobs) -> Result<Rep
 }
 
 /// Returns whether two jobs were done.
-fn two_are_done(lines: &[Line]) -> bool {
+fn two_are_done(lines: &[ReportLine]) -> bool {
     for line in lines {
         if line.row != Row::Came(Outcome::Done(0)) {
             return false;

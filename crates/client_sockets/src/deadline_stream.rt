@@ -1,6 +1,6 @@
 //! A client's stream, with deadlines.
 use crate::client_log::ClientLog;
-use crate::limits::Limits;
+use crate::limits::StreamLimits;
 use meter_server::{Observer, ServeFault, SessionEnd};
 use std::io;
 use std::io::{ErrorKind, Read, Write};
@@ -14,13 +14,13 @@ pub struct DeadlineStream<R: Eprint + Copy> {
     rt: R,
     stream: TcpStream,
     opened: Instant,
-    limits: Limits,
+    limits: StreamLimits,
     log: Option<ClientLog<R>>,
 }
 
 impl<R: Clock + Eprint + Copy> DeadlineStream<R> {
     // Returns the input and the output of a stream whose session begins now.
-    pub(crate) fn both_ways(rt: R, stream: TcpStream, limits: Limits) -> io::Result<(Self, Self)> {
+    pub(crate) fn both_ways(rt: R, stream: TcpStream, limits: StreamLimits) -> io::Result<(Self, Self)> {
         stream.set_nodelay(true)?;
         stream.set_read_timeout(limits.call)?;
         stream.set_write_timeout(limits.call)?;

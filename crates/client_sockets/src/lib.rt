@@ -12,5 +12,5 @@ mod tests;
 
 pub use closing::Closing;
 pub use deadline_stream::DeadlineStream;
-pub use limits::Limits;
+pub use limits::StreamLimits;
 pub use listening::{Sockets, Stopped};

@@ -7,7 +7,7 @@ use std::time::Duration;
 
 /// The time limits of a client; `None` means no limit.
 #[derive(Clone, Copy, Debug)]
-pub struct Limits {
+pub struct StreamLimits {
     /// The limit of a read or a write.
     pub call: Option<Duration>,
     /// The limit of a whole session.
@@ -35,13 +35,13 @@ fn shorter(first: Duration, second: Duration) -> Duration
     }
 }
 
-impl Limits {
+impl StreamLimits {
     /// Returns the limits of a read or a write and of a session, in seconds; 0 means no limit.
-    pub fn of_seconds(call: u32, session: u32) -> Limits
+    pub fn of_seconds(call: u32, session: u32) -> StreamLimits
         ensures call { IsLimit call result.call }
         ensures session { IsLimit session result.session }
     {
-        Limits {
+        StreamLimits {
             call: limit_of(call),
             session: limit_of(session),
         }

@@ -4,7 +4,7 @@ ghost use Rattle.client_sockets.specs.Clients.{has_failed};
 
 use crate::client_log::ClientLog;
 use crate::deadline_stream::DeadlineStream;
-use crate::limits::Limits;
+use crate::limits::StreamLimits;
 use meter_server::{ListenFault, Listener};
 use std::alloc::Global;
 use std::io::ErrorKind;
@@ -21,7 +21,7 @@ pub type Stopped = Arc<AtomicBool, Global>;
 pub struct Sockets<R> {
     rt: R,
     listener: TcpListener,
-    limits: Limits,
+    limits: StreamLimits,
     stopped: Stopped,
     is_verbose: bool,
     has_failed: bool,
@@ -33,7 +33,7 @@ impl<R: Clock + Eprint + Copy> Sockets<R> {
     pub fn new(
         rt: R,
         listener: TcpListener,
-        limits: Limits,
+        limits: StreamLimits,
         stopped: Stopped,
         is_verbose: bool,
     ) -> Sockets<R>

@@ -1,6 +1,6 @@
 //! Tests of what contracts do not cover: how long a client's stream waits, and how the listening
 //! ends.
-use crate::limits::Limits;
+use crate::limits::StreamLimits;
 use crate::listening::Sockets;
 use meter_server::Listener;
 use std::io::Read;
@@ -11,7 +11,7 @@ use std::test::Fail;
 use std::time::{Duration, Instant};
 
 // No limits.
-const NO_LIMITS: Limits = Limits {
+const NO_LIMITS: StreamLimits = StreamLimits {
     call: None,
     session: None,
 };
@@ -19,7 +19,7 @@ const NO_LIMITS: Limits = Limits {
 // Returns sockets on a free port of the loopback interface, and their address.
 fn listening(
     rt: HostRuntime,
-    limits: Limits,
+    limits: StreamLimits,
     is_stopped: bool,
 ) -> Result<(Sockets<HostRuntime>, SocketAddr), Fail> {
     let listener = TcpListener::bind(&rt, "127.0.0.1:0")?;
@@ -31,7 +31,7 @@ fn listening(
 
 // Returns how long the first read from a silent client takes, which must fail, and whether a
 // second read fails.
-fn failed_reads(rt: HostRuntime, limits: Limits) -> Result<(Duration, bool), Fail> {
+fn failed_reads(rt: HostRuntime, limits: StreamLimits) -> Result<(Duration, bool), Fail> {
     let (mut sockets, address) = listening(rt, limits, false)?;
     let client = TcpStream::connect(&rt, address)?;
     let accepted = sockets.accept().map_err(|_| "no client")?;
@@ -51,7 +51,7 @@ fn failed_reads(rt: HostRuntime, limits: Limits) -> Result<(Duration, bool), Fai
 
 #[test]
 fn a_read_takes_as_long_as_a_call_may(rt: HostRuntime) -> Result<(), Fail> {
-    let limits = Limits {
+    let limits = StreamLimits {
         call: Some(Duration::from_millis(200)),
         session: Some(Duration::from_secs(20)),
     };
@@ -63,7 +63,7 @@ fn a_read_takes_as_long_as_a_call_may(rt: HostRuntime) -> Result<(), Fail> {
 
 #[test]
 fn a_session_has_an_end(rt: HostRuntime) -> Result<(), Fail> {
-    let limits = Limits {
+    let limits = StreamLimits {
         call: Some(Duration::from_secs(20)),
         session: Some(Duration::from_millis(200)),
     };

@@ -12,12 +12,12 @@ use std::marker::Model;
 // A position in bytes that are read from left to right: the remaining bytes, and how many of them
 // the Data may still use.
 #[derive(Drop)]
-pub(crate) struct Reader<'a> {
+pub(crate) struct DataReader<'a> {
     rest: &'a [u8],
     room: usize,
 }
 
-impl<'a> Model for Reader<'a> {
+impl<'a> Model for DataReader<'a> {
     ghost use Rattle.cosem_axdr.specs.Reading.{Place};
 
     ghost Value = { Place };
@@ -25,12 +25,12 @@ impl<'a> Model for Reader<'a> {
     ghost view = { λ reader. record { bytes = reader.rest.now; room = reader.room } };
 }
 
-impl<'a> Reader<'a> {
+impl<'a> DataReader<'a> {
     // Creates a reader at the front of bytes.
     pub(crate) fn new(bytes: &'a [u8]) -> Self
         ensures { result ≡ start bytes.now }
     {
-        Reader {
+        DataReader {
             rest: bytes,
             room: MAX_TEXT,
         }

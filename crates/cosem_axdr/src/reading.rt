@@ -7,7 +7,7 @@ ghost use Rattle.cosem_axdr.specs.Reading.{Reads, string_at, bits_at, fixed_at, 
 
 use crate::fault::DataFault;
 use crate::limits::{MAX_ITEMS, MAX_NESTING, bytes_for, clear_unused};
-use crate::reader::Reader;
+use crate::reader::DataReader;
 use crate::tag;
 use crate::value::{Data, Items};
 use octets::Octets;
@@ -39,7 +39,7 @@ pub fn read(alloc: Global, bytes: &[u8]) -> Result<(Data, usize), DataFault>
 fn read_first(alloc: Global, bytes: &[u8]) -> Result<(Data, usize), DataFault>
     ensures { Gives DataFault.Memory (λ read. read) result (first_data bytes.now) }
 {
-    let mut reader = Reader::new(bytes);
+    let mut reader = DataReader::new(bytes);
     let value = read_value(alloc, MAX_NESTING, &mut reader)?;
     Ok((value, bytes.len() - reader.remaining()))
 }
@@ -47,7 +47,7 @@ fn read_first(alloc: Global, bytes: &[u8]) -> Result<(Data, usize), DataFault>
 // Reads a value in which at most `levels` arrays and structures may still be nested.
 #[cycle(reading)]
 #[tactic(auto, unfolding(crate::specs::Reading::value_at))]
-fn read_value(alloc: Global, levels: usize, reader: &mut Reader) -> Result<Data, DataFault>
+fn read_value(alloc: Global, levels: usize, reader: &mut DataReader) -> Result<Data, DataFault>
     ensures { Reads (λ value. value) result reader.new (value_at (nested_at levels) reader.old) }
 {
     match reader.byte()? {
@@ -61,7 +61,7 @@ fn read_value(alloc: Global, levels: usize, reader: &mut Reader) -> Result<Data,
 // is read.
 #[cycle(reading)]
 #[tactic(auto, unfolding(crate::specs::Reading::nested_at, crate::specs::Reading::counted_at))]
-fn read_counted(alloc: Global, levels: usize, reader: &mut Reader) -> Result<Items, DataFault>
+fn read_counted(alloc: Global, levels: usize, reader: &mut DataReader) -> Result<Items, DataFault>
     ensures { Reads (λ items. items) result reader.new (nested_at levels reader.old) }
 {
     if levels == 0 {
@@ -80,7 +80,7 @@ fn read_items(
     alloc: Global,
     levels: usize,
     count: usize,
-    reader: &mut Reader,
+    reader: &mut DataReader,
 ) -> Result<Vec<Data>, DataFault>
     ensures { Reads (λ items. items.items) result reader.new
         (items_at (value_at (nested_at levels)) count reader.old) }
@@ -94,7 +94,7 @@ fn read_items(
 
 // Reads the value of a tag that has no items.
 #[tactic(auto, unfolding(crate::specs::Reading::leaf_at))]
-fn read_leaf(alloc: Global, tag: u8, reader: &mut Reader) -> Result<Data, DataFault>
+fn read_leaf(alloc: Global, tag: u8, reader: &mut DataReader) -> Result<Data, DataFault>
     ensures { Reads (λ value. value) result reader.new (leaf_at tag reader.old) }
 {
     match tag {
@@ -108,7 +108,7 @@ fn read_leaf(alloc: Global, tag: u8, reader: &mut Reader) -> Result<Data, DataFa
 
 // Reads a value of fixed length, by its tag.
 #[tactic(auto, unfolding(crate::specs::Reading::fixed_at))]
-fn read_fixed(tag: u8, reader: &mut Reader) -> Result<Data, DataFault>
+fn read_fixed(tag: u8, reader: &mut DataReader) -> Result<Data, DataFault>
     ensures { Reads (λ value. value) result reader.new (fixed_at tag reader.old) }
 {
     Ok(match tag {
@@ -131,7 +131,7 @@ fn read_fixed(tag: u8, reader: &mut Reader) -> Result<Data, DataFault>
 }
 
 // Reads a string into a newly allocated buffer.
-fn read_string(alloc: Global, reader: &mut Reader) -> Result<Octets, DataFault>
+fn read_string(alloc: Global, reader: &mut DataReader) -> Result<Octets, DataFault>
     ensures { Reads (λ octets. octets) result reader.new (string_at reader.old) }
 {
     Ok(Octets::from_slice(alloc, reader.string()?)?)
@@ -139,7 +139,7 @@ fn read_string(alloc: Global, reader: &mut Reader) -> Result<Octets, DataFault>
 
 // Reads a bit-string and sets its unused bits to 0.
 #[tactic(auto, unfolding(crate::specs::Reading::bits_at))]
-fn read_bits(alloc: Global, reader: &mut Reader) -> Result<Data, DataFault>
+fn read_bits(alloc: Global, reader: &mut DataReader) -> Result<Data, DataFault>
     ensures { Reads (λ value. value) result reader.new (bits_at reader.old) }
 {
     let bits = reader.length()?;

@@ -7,7 +7,7 @@ use Rattle.trace_text.proofs.JoinedTexts.{lines_joined, unended_joined}
 use Rattle.client_core.specs.declared.job.Job.{Job}
 use Rattle.head_end.specs.declared.row.Row.{Row}
 use Rattle.head_end.specs.declared.row.Row.TheVariants.{Came, Memory}
-use Rattle.head_end.specs.declared.row.Line.{Line}
+use Rattle.head_end.specs.declared.row.ReportLine.{ReportLine}
 use Rattle.head_end.specs.Connections.{Told}
 use Rattle.head_end.specs.Jobs.{job_lines, job_of, joined_jobs, jobs_at, jobs_in}
 use Rattle.head_end.specs.Reports.{line_text, report_text}
@@ -36,10 +36,10 @@ id_told : (job : Job) (told : Option Told) → (line_by job told).id ≡ job.id
 id_told job (Some told) = refl
 id_told job None = refl
 
-same_line : (id other : List ℕ) (row came : Row) → id ≡ other → row ≡ came → ◌≡◌ {A = Line} (record { id = id; row = row }) (record { id = other; row = came })
+same_line : (id other : List ℕ) (row came : Row) → id ≡ other → row ≡ came → ◌≡◌ {A = ReportLine} (record { id = id; row = row }) (record { id = other; row = came })
 same_line id other row came ids rows = cc
 
-lines_told : (tells : List ℕ → Option Told) (jobs : List Job) (lines : List Line) → AreLines tells jobs lines → AreTold tells jobs → HaveMemory lines
+lines_told : (tells : List ℕ → Option Told) (jobs : List Job) (lines : List ReportLine) → AreLines tells jobs lines → AreTold tells jobs → HaveMemory lines
     → lines ≡ map (line_told tells) jobs
 lines_told tells [] [] are told memory = refl
 lines_told tells [] (line ∷ lines) are told memory = absurd are

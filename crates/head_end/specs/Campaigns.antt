@@ -8,7 +8,7 @@
 use Rattle.std.specs.Prelude.{◌≡◌, ◌+◌, ◌*◌, ◌/◌, ◌%◌, ◌<◌, ◌≤◌, ℕ, List, length, slice_index_or, Option}
 use Rattle.client_core.specs.declared.job.Job.{Job}
 use Rattle.head_end.specs.declared.row.Row.{Row}
-use Rattle.head_end.specs.declared.row.Line.{Line}
+use Rattle.head_end.specs.declared.row.ReportLine.{ReportLine}
 use Rattle.head_end.specs.Connections.{Told}
 use Rattle.head_end.specs.Rows.{IsRow}
 use Rattle.head_end.specs.Attempts.{State, unused, IsTried}
@@ -45,9 +45,9 @@ EachChange {X} R old new = (i : ℕ) (x : X) → i < length old
 
 -- the use of the attempt of its slot by each job, according to its line; the attempts of slots
 -- without a job are unused
-pub record AreTried (turns workers : ℕ) (jobs : List Job) (password : List ℕ) (lines : List Line)
+pub record AreTried (turns workers : ℕ) (jobs : List Job) (password : List ℕ) (lines : List ReportLine)
     (stages : List State) : Type 0 where
-  pub of_jobs : (i : ℕ) (job : Job) (line : Line) (stage : State) → i < length jobs
+  pub of_jobs : (i : ℕ) (job : Job) (line : ReportLine) (stage : State) → i < length jobs
       → IsTried (slice_index_or jobs i job) password (slice_index_or lines i line).row
       (slice_index_or stages (slot_at turns workers i) stage)
   pub others : (slot : ℕ) (stage : State) → slot < length stages

@@ -12,7 +12,7 @@ use Rattle.client_core.specs.declared.job.Job.{Job}
 use Rattle.client_core.specs.declared.job.Outcome.TheVariants.{Unknown}
 use Rattle.client_core.specs.Outcomes.{outcome_of}
 use Rattle.head_end.specs.declared.row.Row.TheVariants.{Came, Memory}
-use Rattle.head_end.specs.declared.row.Line.{Line}
+use Rattle.head_end.specs.declared.row.ReportLine.{ReportLine}
 use Rattle.head_end.specs.Attempts.{State}
 use Rattle.head_end.specs.Campaigns.{turns_for, AreTried}
 use Rattle.head_end.specs.Connections.{Told}
@@ -21,11 +21,11 @@ use Rattle.head_end.specs.Reports.{report_text}
 use Rattle.head_end.specs.Rows.{AreLines}
 
 -- the line of a job whose meter's reads are predicted
-abbrev pub line_by : Job → Option Told → Line
+abbrev pub line_by : Job → Option Told → ReportLine
 line_by job (Some told) = record { id = job.id; row = Came (outcome_of job.verb told.bytes) }
 line_by job None = record { id = job.id; row = Came Unknown }
 
-abbrev pub line_told : (List ℕ → Option Told) → Job → Line
+abbrev pub line_told : (List ℕ → Option Told) → Job → ReportLine
 line_told tells job = line_by job (tells job.address)
 
 -- the reads of the connections to all the jobs' meters are predicted
@@ -34,7 +34,7 @@ AreTold tells [] = ⊤
 AreTold tells (job ∷ jobs) = IsSome (tells job.address) × AreTold tells jobs
 
 -- no job ran out of memory
-abbrev pub HaveMemory : List Line → Type 0
+abbrev pub HaveMemory : List ReportLine → Type 0
 HaveMemory [] = ⊤
 HaveMemory (line ∷ lines) = (line.row ≢ Memory) × HaveMemory lines
 
@@ -44,19 +44,19 @@ campaign_text tells jobs = report_text (map (line_told tells) jobs)
 
 -- the concatenated reports of parts are the report of the whole
 abbrev pub ReportsJoin : Type 0
-ReportsJoin = (lines others : List Line)
+ReportsJoin = (lines others : List ReportLine)
     → report_text (lines ++ others) ≡ report_text lines ++ report_text others
 
 -- lines of parts of the jobs are lines of all
 abbrev pub LinesJoin : Type 0
-LinesJoin = (tells : List ℕ → Option Told) (jobs rest : List Job) (lines others : List Line)
+LinesJoin = (tells : List ℕ → Option Told) (jobs rest : List Job) (lines others : List ReportLine)
     → AreLines tells jobs lines → AreLines tells rest others
     → AreLines tells (jobs ++ rest) (lines ++ others)
 
 -- if all reads are predicted and no job ran out of memory, the report is a function of the jobs,
 -- whatever the workers, the machines and the parts
 abbrev pub IsTheReport : Type 0
-IsTheReport = (tells : List ℕ → Option Told) (jobs : List Job) (lines : List Line)
+IsTheReport = (tells : List ℕ → Option Told) (jobs : List Job) (lines : List ReportLine)
     → AreLines tells jobs lines → AreTold tells jobs → HaveMemory lines
     → report_text lines ≡ campaign_text tells jobs
 
@@ -72,7 +72,7 @@ JobsJoin = (text rest : List ℕ) (jobs others : List Job) → unended_of text �
 pub record Reports {X : Type 0} (tells_of : X → List ℕ
     → Option Told) (workers : ℕ) (jobs : List Job) (password : List ℕ) (old : List X)
     (stages : List State) (text : List ℕ) : Type 0 where
-  pub lines : List Line
+  pub lines : List ReportLine
   pub text_is : text ≡ report_text lines
   pub lines_are : (tells : List ℕ → Option Told) → All (λ x. tells_of x ≡ tells) old
       → AreLines tells jobs lines

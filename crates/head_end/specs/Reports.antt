@@ -4,7 +4,7 @@ use Rattle.std.specs.List.{flat_map}
 use Rattle.client_core.specs.declared.job.Outcome.TheVariants.{Done, Refused, Rejected, Unknown}
 use Rattle.head_end.specs.declared.row.Row.{Row}
 use Rattle.head_end.specs.declared.row.Row.TheVariants.{Came, Memory}
-use Rattle.head_end.specs.declared.row.Line.{Line}
+use Rattle.head_end.specs.declared.row.ReportLine.{ReportLine}
 
 -- a word followed by a number in decimal
 abbrev pub told_number : List ℕ → ℕ → List ℕ
@@ -19,9 +19,9 @@ row_text (Came Unknown) = codes " unknown"
 row_text Memory = codes " memory"
 
 -- a line: the name of the job, a blank, its result, and the byte 0A
-abbrev pub line_text : Line → List ℕ
+abbrev pub line_text : ReportLine → List ℕ
 line_text line = line.id ++ (row_text line.row ++ 10 ∷ [])
 
 -- the lines, in order
-unfoldable pub report_text : List Line → List ℕ
+unfoldable pub report_text : List ReportLine → List ℕ
 report_text lines = flat_map line_text lines

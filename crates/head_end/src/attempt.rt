@@ -11,24 +11,24 @@ use std::snapshot::Snapshot;
 
 /// The state of an attempt. Contracts refer to it as a `State` of `specs/Attempts.antt`.
 #[derive(Drop)]
-pub struct Stage<K: Connection> {
+pub struct AttemptStage<K: Connection> {
     address: Option<Snapshot<Octets>>,
     is_refused: bool,
     closed: Option<Snapshot<K>>,
 }
 
-impl<K: Connection> Model for Stage<K> {
+impl<K: Connection> Model for AttemptStage<K> {
     ghost Value = { State };
 
     ghost view = { λ s. state_of K.log s.address s.is_refused s.closed };
 }
 
-impl<K: Connection> Stage<K> {
+impl<K: Connection> AttemptStage<K> {
     // Returns the stage of an unused attempt.
-    fn new() -> Stage<K>
+    fn new() -> AttemptStage<K>
         ensures { result ≡ unused }
     {
-        Stage {
+        AttemptStage {
             address: None,
             is_refused: false,
             closed: None,
@@ -37,10 +37,10 @@ impl<K: Connection> Stage<K> {
 
     // Returns the stage of an attempt used for an address: the connect was refused, or the
     // connection is open.
-    fn used(address: &Octets, is_refused: bool) -> Stage<K>
+    fn used(address: &Octets, is_refused: bool) -> AttemptStage<K>
         ensures { result ≡ (if is_refused then refused address.now else connected address.now) }
     {
-        Stage {
+        AttemptStage {
             address: Some(Snapshot::of(address)),
             is_refused,
             closed: None,
@@ -59,7 +59,7 @@ pub struct Attempt<'a, C: Connector> {
     /// The connector, for contracts only: it occupies no memory.
     pub source: Snapshot<C>,
     /// The state of the attempt.
-    pub stage: Stage<C::Connection>,
+    pub stage: AttemptStage<C::Connection>,
     ghost same: { source.value ≡ connector.now },
 }
 
@@ -72,7 +72,7 @@ impl<'a, C: Connector> Attempt<'a, C> {
         Attempt {
             connector,
             source: Snapshot::of(connector),
-            stage: Stage::new(),
+            stage: AttemptStage::new(),
         }
     }
 
@@ -88,11 +88,11 @@ impl<'a, C: Connector> Attempt<'a, C> {
     {
         match self.connector.connect(address) {
             Ok(connection) => {
-                self.stage = Stage::used(address, false);
+                self.stage = AttemptStage::used(address, false);
                 Ok(connection)
             }
             Err(fault) => {
-                self.stage = Stage::used(address, true);
+                self.stage = AttemptStage::used(address, true);
                 Err(fault)
             }
         }

@@ -4,7 +4,7 @@ ghost use Rattle.std.specs.List.{All};
 ghost use Rattle.acse_ber.specs.Password.{IsPassword};
 ghost use Rattle.client_core.specs.declared.job.Job.{Job};
 ghost use Rattle.head_end.specs.declared.row.Row.{Row};
-ghost use Rattle.head_end.specs.declared.row.Line.{Line};
+ghost use Rattle.head_end.specs.declared.row.ReportLine.{ReportLine};
 ghost use Rattle.head_end.specs.Attempts.{unused};
 ghost use Rattle.head_end.specs.Campaigns.{place_at, slot_at, turns_for, slots_for, IsRun, EachChange, AreTried};
 ghost use Rattle.head_end.specs.Connections.{Told};
@@ -12,11 +12,11 @@ ghost use Rattle.head_end.specs.Rows.{AreLines};
 
 use crate::connection::Connector;
 use crate::job_list::Jobs;
-use crate::placing::{Place, turns_for};
+use crate::placing::{JobPlace, turns_for};
 use crate::report_lines::Report;
-use crate::row::{Line, Row};
+use crate::row::{ReportLine, Row};
 use crate::running::run_job;
-use crate::watching::{Unwatched, Watcher};
+use crate::watching::{UnwatchedCampaign, Watcher};
 use client_core::Job;
 use cosem_axdr::Octets;
 use std::alloc::{AllocError, Global};
@@ -33,7 +33,7 @@ pub fn run_campaign<R: Threads + Sync, C: Connector>(
     rt: &R,
     alloc: Global,
     jobs: &Jobs,
-    places: &mut [Place<C>],
+    places: &mut [JobPlace<C>],
     password: &Octets,
     workers: u8,
 ) -> Result<Report, AllocError>
@@ -50,7 +50,7 @@ pub fn run_campaign<R: Threads + Sync, C: Connector>(
         (map (λ place. place.attempt.stage) places.new)) }
     ensures unchanged_on_error { OnErr result (places.new ≡ places.old) }
 {
-    run_watched_campaign(rt, alloc, jobs, places, password, workers, &Unwatched)
+    run_watched_campaign(rt, alloc, jobs, places, password, workers, &UnwatchedCampaign)
 }
 
 /// Runs all jobs as [`run_campaign`] does, and calls a watcher after each job.
@@ -58,7 +58,7 @@ pub fn run_watched_campaign<R: Threads + Sync, C: Connector, W: Watcher>(
     rt: &R,
     alloc: Global,
     jobs: &Jobs,
-    places: &mut [Place<C>],
+    places: &mut [JobPlace<C>],
     password: &Octets,
     workers: u8,
     watcher: &W,
@@ -111,8 +111,8 @@ impl<'a, W: Watcher> Campaign<'a, W> {
         &self,
         rt: &R,
         alloc: Global,
-        places: &mut [Place<C>],
-        lines: &mut [Line],
+        places: &mut [JobPlace<C>],
+        lines: &mut [ReportLine],
     )
         requires slots { length places.old ≡ self.now.turns * self.now.workers }
         requires room { length self.now.jobs.now < self.now.turns * self.now.workers }
@@ -130,7 +130,7 @@ impl<'a, W: Watcher> Campaign<'a, W> {
     }
 
     // Runs the jobs of all slots.
-    fn work<R: Threads + Sync, C: Connector>(&self, rt: &R, alloc: Global, places: &mut [Place<C>])
+    fn work<R: Threads + Sync, C: Connector>(&self, rt: &R, alloc: Global, places: &mut [JobPlace<C>])
         requires slots { length places.old ≡ self.now.turns * self.now.workers }
         requires unused { All (λ place. place.attempt.stage ≡ unused) places.old }
         ensures { EachChange (λ slot old new. IsRun self.now.turns self.now.workers
@@ -156,7 +156,7 @@ impl<'a, W: Watcher> Campaign<'a, W> {
     }
 
     // Runs the job of a slot, if it has one.
-    fn work_slot<C: Connector>(&self, alloc: Global, slot: usize, place: &mut Place<C>)
+    fn work_slot<C: Connector>(&self, alloc: Global, slot: usize, place: &mut JobPlace<C>)
         requires slot { slot < self.now.turns * self.now.workers }
         requires unused { place.old.attempt.stage ≡ unused }
         ensures { IsRun self.now.turns self.now.workers self.now.jobs.now self.now.password.now
@@ -170,14 +170,14 @@ impl<'a, W: Watcher> Campaign<'a, W> {
 }
 
 // Returns a line with the name of each job.
-fn blank_lines(alloc: Global, jobs: &[Job]) -> Result<Vec<Line>, AllocError>
+fn blank_lines(alloc: Global, jobs: &[Job]) -> Result<Vec<ReportLine>, AllocError>
     ensures { IfOk result (λ lines. map (λ line. line.id) lines.items
         ≡ map (λ job. job.id) jobs.now) }
 {
     let mut lines = Vec::new(alloc);
     'jobs: for job in jobs {
         let id = job.id.try_clone(alloc)?;
-        lines.push(Line {
+        lines.push(ReportLine {
             id,
             row: Row::Memory,
         })?;
@@ -196,14 +196,14 @@ fn place_of(turns: usize, workers: usize, slot: usize) -> usize
 }
 
 // Stores the rows of the slots in the lines of their jobs.
-fn gather<C: Connector>(lines: &mut [Line], places: &[Place<C>], turns: usize, workers: usize)
+fn gather<C: Connector>(lines: &mut [ReportLine], places: &[JobPlace<C>], turns: usize, workers: usize)
     requires workers { 0 < workers }
     requires slots { length places.now ≡ turns * workers }
     requires few { length lines.old < turns * workers }
-    ensures rows { (i : ℕ) (line : Line) (row : Row) → i < length lines.old
+    ensures rows { (i : ℕ) (line : ReportLine) (row : Row) → i < length lines.old
         → (slice_index_or lines.new i line).row
         ≡ slice_index_or (map (λ place. place.row) places.now) (slot_at turns workers i) row }
-    ensures ids { (i : ℕ) (line : Line) → i < length lines.old
+    ensures ids { (i : ℕ) (line : ReportLine) → i < length lines.old
         → (slice_index_or lines.new i line).id ≡ (slice_index_or lines.old i line).id }
     ensures len { length lines.new ≡ length lines.old }
 {

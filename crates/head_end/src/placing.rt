@@ -11,7 +11,7 @@ use std::alloc::{AllocError, Global};
 
 /// A place for a job: its attempt and its row. Each worker fills consecutive places of its own.
 #[derive(Drop)]
-pub struct Place<'a, C: Connector> {
+pub struct JobPlace<'a, C: Connector> {
     pub attempt: Attempt<'a, C>,
     pub row: Row,
 }
@@ -23,7 +23,7 @@ pub fn places_for<C: Connector>(
     connector: &C,
     jobs: usize,
     workers: u8,
-) -> Result<Vec<Place<'_, C>>, AllocError>
+) -> Result<Vec<JobPlace<'_, C>>, AllocError>
     requires { 1 ≤ workers }
     ensures count { IfOk result (λ places. length places.items ≡ slots_for jobs workers) }
     ensures unused { IfOk result (λ places. All (λ place. place.attempt.stage
@@ -35,7 +35,7 @@ pub fn places_for<C: Connector>(
     let turns = turns_for(jobs, workers).ok_or(AllocError)?;
     let mut places = Vec::with_capacity(alloc, turns * workers)?;
     'places: for _ in 0..turns * workers {
-        places.push(Place {
+        places.push(JobPlace {
             attempt: Attempt::new(connector),
             row: Row::Memory,
         })?;

@@ -12,7 +12,7 @@ use crate::connection::Connector;
 use crate::fault::JobsFault;
 use crate::job_list::Jobs;
 use crate::jobs::read_jobs;
-use crate::placing::Place;
+use crate::placing::JobPlace;
 use crate::reporting::{add_report, put_number};
 use crate::watching::Watcher;
 use cosem_axdr::Octets;
@@ -50,7 +50,7 @@ pub fn report_jobs<R: Threads + Sync, C: Connector, W: Watcher>(
     rt: &R,
     alloc: Global,
     jobs: &Jobs,
-    places: &mut [Place<C>],
+    places: &mut [JobPlace<C>],
     password: &Octets,
     workers: u8,
     watcher: &W,

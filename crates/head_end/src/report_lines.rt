@@ -1,35 +1,35 @@
 //! The report of a campaign.
 ghost use Rattle.std.specs.Prelude.{◌≡◌, ◌↔◌, [], length, IsTrue};
 
-use crate::row::Line;
+use crate::row::ReportLine;
 use std::marker::Model;
 
 /// The report of a campaign: a line for each of its jobs, in their order. Contracts see the list of
 /// the lines.
 #[derive(Debug, Drop)]
 pub struct Report {
-    lines: Vec<Line>,
+    lines: Vec<ReportLine>,
 }
 
 impl Model for Report {
     ghost use Rattle.std.specs.Prelude.{List};
-    ghost use Rattle.head_end.specs.declared.row.Line.{Line};
+    ghost use Rattle.head_end.specs.declared.row.ReportLine.{ReportLine};
 
-    ghost Value = { List Line };
+    ghost Value = { List ReportLine };
 
     ghost view = { λ report. report.lines.items };
 }
 
 impl Report {
     /// Takes ownership of the lines of a report, and allocates nothing.
-    pub fn from_vec(lines: Vec<Line>) -> Report
+    pub fn from_vec(lines: Vec<ReportLine>) -> Report
         ensures { result ≡ lines.items }
     {
         Report { lines }
     }
 
     /// Returns the lines, and allocates nothing.
-    pub fn into_vec(self) -> Vec<Line>
+    pub fn into_vec(self) -> Vec<ReportLine>
         ensures { result.items ≡ self }
     {
         let Report { lines } = self;
@@ -37,7 +37,7 @@ impl Report {
     }
 
     /// Returns the lines.
-    pub fn as_slice(&self) -> &[Line]
+    pub fn as_slice(&self) -> &[ReportLine]
         ensures { result.now ≡ self.now }
     {
         self.lines.as_slice()

@@ -2,7 +2,7 @@ ghost use Rattle.std.specs.Prelude.{◌≡◌, ◌++◌, ◌∷◌, [], codes, d
 ghost use Rattle.head_end.specs.Reports.{row_text, line_text, report_text};
 
 use crate::report_lines::Report;
-use crate::row::{Line, Row};
+use crate::row::{ReportLine, Row};
 use client_core::Outcome;
 use cosem_axdr::Octets;
 use itoa::Buffer;
@@ -31,7 +31,7 @@ pub fn add_report(report: &Report, out: &mut Octets) -> Result<(), AllocError>
 }
 
 // Appends a line.
-fn put_line(line: &Line, out: &mut Octets) -> Result<(), AllocError>
+fn put_line(line: &ReportLine, out: &mut Octets) -> Result<(), AllocError>
     ensures { OnOk result (out.new ≡ out.old ++ line_text line.now) }
 {
     out.extend_from_slice(line.id.as_slice())?;

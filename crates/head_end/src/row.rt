@@ -12,7 +12,7 @@ pub enum Row {
 
 /// A line of a report: the name of a job and its result.
 #[derive(Debug, Drop)]
-pub struct Line {
+pub struct ReportLine {
     pub id: Octets,
     pub row: Row,
 }

@@ -10,7 +10,7 @@ use std::time::{Clock, Duration, Instant};
 
 /// The time limits of a connector.
 #[derive(Clone, Copy, Debug, PartialEq, Eq)]
-pub struct Limits {
+pub struct TcpLimits {
     /// The limit of a connect, for each IP address of a name.
     pub connect: Duration,
     /// The limit of a whole connection, from then on.
@@ -25,12 +25,12 @@ pub struct Limits {
 pub struct TcpConnector<R> {
     rt: R,
     /// The time limits.
-    pub limits: Limits,
+    pub limits: TcpLimits,
 }
 
 impl<R> TcpConnector<R> {
     /// Returns a connector with these limits.
-    pub fn new(rt: R, limits: Limits) -> TcpConnector<R>
+    pub fn new(rt: R, limits: TcpLimits) -> TcpConnector<R>
         ensures { result.limits ≡ limits }
     {
         TcpConnector { rt, limits }
@@ -69,7 +69,7 @@ impl LimitedStream for TcpStream {
 fn open<R: Net<Stream = TcpStream> + Clock + Clone + Drop>(
     rt: &R,
     address: &Octets,
-    limits: Limits,
+    limits: TcpLimits,
 ) -> Option<LimitedConnection<R, TcpStream>>
     ensures { IfSome result (λ connection. connection.within ≡ limits.answer) }
 {

@@ -10,8 +10,8 @@ pub trait Watcher: Sync {
 
 /// A watcher that does nothing.
 #[derive(Clone, Copy, Debug, PartialEq, Eq)]
-pub struct Unwatched;
+pub struct UnwatchedCampaign;
 
-impl Watcher for Unwatched {
+impl Watcher for UnwatchedCampaign {
     fn done(&self, _job: &Job, _row: Row) {}
 }

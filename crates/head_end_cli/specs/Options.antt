@@ -9,7 +9,7 @@ use Rattle.std.specs.Str.Parse.{IsNumeral, digits_value, without_leading_plus}
 use Rattle.std.specs.declared.time.Duration.{Duration}
 use Rattle.clap.specs.Matches.{one_text}
 use Rattle.clap.specs.declared.parser.matches.Found.{Found}
-use Rattle.head_end.specs.declared.tcp.Limits.{Limits}
+use Rattle.head_end.specs.declared.tcp.TcpLimits.{TcpLimits}
 
 -- the number of the option of this name, which is written in decimal and fits this number of bits
 abbrev pub IsNumber : ℕ → Found → List ℕ → ℕ → Type 0
@@ -29,7 +29,7 @@ pub record IsLimit (found : Found) (name : List ℕ) (limit : Duration) : Type 0
   pub limit_is : as_nanos limit ≡ limit_seconds number * 1_000_000_000
 
 -- the limit of a connect, and that of a connection as a whole
-pub record AreLimits (found : Found) (limits : Limits) : Type 0 where
+pub record AreLimits (found : Found) (limits : TcpLimits) : Type 0 where
   pub connect : IsLimit found (codes "connect-timeout") limits.connect
   pub answer : IsLimit found (codes "timeout") limits.answer
 

@@ -7,13 +7,13 @@ use Rattle.head_end.specs.Campaigns.{turns_for, AreTried}
 use Rattle.head_end.specs.Connections.{Told}
 use Rattle.head_end.specs.Reports.{report_text}
 use Rattle.head_end.specs.Rows.{AreLines}
-use Rattle.head_end.specs.declared.row.Line.{Line}
+use Rattle.head_end.specs.declared.row.ReportLine.{ReportLine}
 
 -- the jobs were run, and the lines of all of them were printed
 pub record PrintsReport (tells : List ℕ
     → Option Told) (workers : ℕ) (jobs : List Job) (password : List ℕ)
     (written written' : Option (List ℕ)) : Type 0 where
-  pub lines : List Line
+  pub lines : List ReportLine
   pub stages : List State
   pub lines_are : AreLines tells jobs lines
   pub tried : AreTried (turns_for (length jobs) workers) workers jobs password lines stages

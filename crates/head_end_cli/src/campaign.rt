@@ -6,11 +6,11 @@ ghost use Rattle.head_end_cli.specs.Options.{AreLimits, AreWorkers, IsLimit, IsN
 ghost use Rattle.head_end_cli.specs.Printed.{PrintsReport};
 
 use crate::jobs_of;
-use crate::progress::{Progress, Watch};
+use crate::progress::{CampaignProgress, ProgressWatch};
 use acse_ber::MAX_PASSWORD;
 use clap::ArgMatches;
 use cosem_axdr::Octets;
-use head_end::{Connector, Jobs, Limits, places_for, report_jobs};
+use head_end::{Connector, Jobs, TcpLimits, places_for, report_jobs};
 use program_fault::Fault;
 use program_start::print_text;
 use std::alloc::Global;
@@ -24,11 +24,11 @@ pub(crate) const PASSWORD_VARIABLE: &str = "METER_PASSWORD";
 
 // What the command line asks for.
 #[derive(Drop)]
-pub(crate) struct Plan {
+pub(crate) struct CampaignPlan {
     pub(crate) jobs: Jobs,
     pub(crate) password: Octets,
     pub(crate) workers: u8,
-    pub(crate) limits: Limits,
+    pub(crate) limits: TcpLimits,
     pub(crate) is_shown: bool,
     ghost sized: { IsPassword password },
     ghost some: { 1 ≤ workers },
@@ -52,10 +52,10 @@ fn limit(matches: &ArgMatches<'_>, name: &str) -> Duration
 }
 
 // The limit of a connect, and that of a connection as a whole.
-fn limits_of(matches: &ArgMatches<'_>) -> Limits
+fn limits_of(matches: &ArgMatches<'_>) -> TcpLimits
     ensures { AreLimits (found_of matches.now) result }
 {
-    Limits {
+    TcpLimits {
         connect: limit(matches, "connect-timeout"),
         answer: limit(matches, "timeout"),
     }
@@ -103,7 +103,7 @@ fn password(rt: &HostRuntime, matches: &ArgMatches<'_>) -> Result<Octets, Fault>
 }
 
 // What the command line asks for, with the jobs on standard input.
-pub(crate) fn planned(rt: &HostRuntime, matches: &ArgMatches<'_>) -> Result<Plan, Fault>
+pub(crate) fn planned(rt: &HostRuntime, matches: &ArgMatches<'_>) -> Result<CampaignPlan, Fault>
     ensures limits { IfOk result (λ plan. AreLimits (found_of matches.now) plan.limits) }
     ensures workers { IfOk result (λ plan. AreWorkers (found_of matches.now) plan.workers) }
 {
@@ -118,7 +118,7 @@ pub(crate) fn planned(rt: &HostRuntime, matches: &ArgMatches<'_>) -> Result<Plan
         }
     };
     let jobs = jobs_of(rt, rt.stdin(), is_verbose)?;
-    Ok(Plan {
+    Ok(CampaignPlan {
         jobs,
         password,
         workers: workers(matches),
@@ -132,15 +132,15 @@ pub(crate) fn run<R: Threads + Sync, C: Connector, W: Write>(
     rt: &HostRuntime,
     threads: &R,
     connector: &C,
-    plan: &Plan,
+    plan: &CampaignPlan,
     output: &mut W,
 ) -> Result<(), Fault>
     ensures { OnOk result
         (PrintsReport (C.tells connector.now) plan.now.workers plan.now.jobs plan.now.password
         (W.contents output.old) (W.contents output.new)) }
 {
-    let progress = Progress::new(rt, plan.jobs.len());
-    let watch = Watch {
+    let progress = CampaignProgress::new(rt, plan.jobs.len());
+    let watch = ProgressWatch {
         rt,
         progress: &progress,
         is_shown: plan.is_shown,

@@ -12,7 +12,7 @@ mod telling;
 mod warnings;
 
 use crate::arguments::command_line;
-use crate::campaign::{PASSWORD_VARIABLE, Plan};
+use crate::campaign::{PASSWORD_VARIABLE, CampaignPlan};
 use crate::telling::{ListFault, input_fault, jobs_fault};
 use crate::warnings::warn;
 use byte_streams::{Counted, read_to_end_within};
@@ -88,42 +88,42 @@ fn check(rt: &HostRuntime, is_verbose: bool) -> Result<(), Fault> {
 
 // What is to be done once the command line is read.
 #[derive(Drop)]
-enum Next {
+enum HeadEndCommand {
     // Nothing more: the exit status.
     Ended(u8),
     // A campaign.
-    Campaign(Plan),
+    Campaign(CampaignPlan),
 }
 
 // Does what was chosen, up to a campaign.
-fn begin_chosen(rt: &HostRuntime, matches: &ArgMatches<'_>) -> Result<Next, Fault> {
+fn begin_chosen(rt: &HostRuntime, matches: &ArgMatches<'_>) -> Result<HeadEndCommand, Fault> {
     match matches.subcommand() {
         Some(("check", matches)) => {
             check(rt, matches.get_flag("verbose"))?;
-            Ok(Next::Ended(0))
+            Ok(HeadEndCommand::Ended(0))
         }
-        Some(("run", matches)) => Ok(Next::Campaign(campaign::planned(rt, matches)?)),
+        Some(("run", matches)) => Ok(HeadEndCommand::Campaign(campaign::planned(rt, matches)?)),
         _ => Err(Fault::Input),
     }
 }
 
 // Reads the command line and does what it asks for, up to a campaign. The exit status is 2 for a
 // command line that is wrong.
-fn begin(rt: &HostRuntime) -> Result<Next, Fault> {
+fn begin(rt: &HostRuntime) -> Result<HeadEndCommand, Fault> {
     let alloc = rt.alloc();
     let words = words(rt)?;
     let has_password = !matches!(env::var(rt, PASSWORD_VARIABLE), Err(VarError::NotPresent));
     let command = command_line(alloc, has_password).map_err(|_| Fault::Memory)?;
     match command.try_get_matches_from(words.as_slice()) {
         Ok(matches) => begin_chosen(rt, &matches),
-        Err(error) => Ok(Next::Ended(without_work(rt, &error)?)),
+        Err(error) => Ok(HeadEndCommand::Ended(without_work(rt, &error)?)),
     }
 }
 
 fn main(rt: HostRuntime) -> ExitCode {
     match begin(&rt) {
-        Ok(Next::Ended(status)) => ExitCode::from(status),
-        Ok(Next::Campaign(plan)) => {
+        Ok(HeadEndCommand::Ended(status)) => ExitCode::from(status),
+        Ok(HeadEndCommand::Campaign(plan)) => {
             let connector = TcpConnector::new(rt, plan.limits);
             let done = campaign::run(&rt, &rt, &connector, &plan, &mut rt.stdout()).map(|_| 0);
             ended(&rt, done)

@@ -6,17 +6,17 @@ use std::time::Instant;
 
 // The number of jobs done by all workers, and the time of the start.
 #[derive(Drop)]
-pub(crate) struct Progress {
+pub(crate) struct CampaignProgress {
     all: usize,
     began: Option<Instant>,
     done: AtomicUsize,
     unknown: AtomicUsize,
 }
 
-impl Progress {
+impl CampaignProgress {
     // Progress of `all` jobs: none is done, and the clock starts now.
-    pub(crate) fn new(rt: &HostRuntime, all: usize) -> Progress {
-        Progress {
+    pub(crate) fn new(rt: &HostRuntime, all: usize) -> CampaignProgress {
+        CampaignProgress {
             all,
             began: Instant::now(rt).ok(),
             done: AtomicUsize::new(0),
@@ -41,13 +41,13 @@ impl Progress {
 
 // Counts each job and, if `is_shown`, reports the progress.
 #[derive(Drop)]
-pub(crate) struct Watch<'a> {
+pub(crate) struct ProgressWatch<'a> {
     pub(crate) rt: &'a HostRuntime,
-    pub(crate) progress: &'a Progress,
+    pub(crate) progress: &'a CampaignProgress,
     pub(crate) is_shown: bool,
 }
 
-impl<'a> Watcher for Watch<'a> {
+impl<'a> Watcher for ProgressWatch<'a> {
     fn done(&self, _job: &Job, row: Row) {
         let done = self
             .progress
@@ -67,7 +67,7 @@ impl<'a> Watcher for Watch<'a> {
     }
 }
 
-impl<'a> Watch<'a> {
+impl<'a> ProgressWatch<'a> {
     // Writes a line of progress to standard error.
     fn tell(&self, done: usize, unknown: usize) {
         let all = self.progress.all;

@@ -6,7 +6,7 @@ use byte_streams::InputFault;
 use head_end::{JobsFault, MAX_ADDRESS, MAX_ID};
 use program_fault::Fault;
 use thiserror::Error;
-use trace_text::{Lines, Words};
+use trace_text::{TextLines, Words};
 
 // The fault of the program if standard input cannot be read.
 pub(crate) fn input_fault(fault: InputFault) -> Fault
@@ -92,7 +92,7 @@ impl ListFault {
 // Returns the line of a text with that number, counted from 1. A text with fewer ended lines has
 // its last line after them.
 fn line_of(text: &[u8], number: u64) -> &[u8] {
-    let mut lines = Lines::new(text);
+    let mut lines = TextLines::new(text);
     for _ in 1..number {
         let _ = lines.next();
     }

@@ -6,7 +6,7 @@ use Rattle.hex.proofs.HexLemmas.{decode_of-err}
 use Rattle.hex.specs.declared.error.FromHexError.{FromHexError}
 use Rattle.hex.specs.declared.error.FromHexError.TheVariants as hex_fault
 use Rattle.hex_commands.specs.Requests.{AddsRequest, line_fault, line_request}
-use Rattle.hex_commands.specs.declared.telling.InputFault.{InputFault}
+use Rattle.hex_commands.specs.declared.telling.CommandFault.{CommandFault}
 
 -- in half as many bytes as it has digits a line is decoded as it is
 half_sized : (s : List ℕ) (n : ℕ) → n ≡ length s / 2 → decode_sized s n ≡ decode_of s
@@ -57,7 +57,7 @@ wrong_by number line old new hex_fault.OddLength wrong = rw wrong refl
 wrong_by number line old new hex_fault.InvalidStringLength wrong = rw wrong refl
 wrong_by number line old new hex_fault.OutOfMemory wrong = rw wrong refl
 
-pub request_wrong : (number : ℕ) (line : List ℕ) (old new : List (List ℕ)) (error : FromHexError) (given : InputFault) → decode_of line ≡ Err error
+pub request_wrong : (number : ℕ) (line : List ℕ) (old new : List (List ℕ)) (error : FromHexError) (given : CommandFault) → decode_of line ≡ Err error
     → given ≡ line_fault number error → AddsRequest {X = Unit {0}} number line old (Err given) new
 request_wrong number line old new error given wrong is =
-    subst (λ (f : InputFault). AddsRequest {X = Unit {0}} number line old (Err f) new) (sym is) (wrong_by number line old new error wrong)
+    subst (λ (f : CommandFault). AddsRequest {X = Unit {0}} number line old (Err f) new) (sym is) (wrong_by number line old new error wrong)

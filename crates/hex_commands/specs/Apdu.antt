@@ -11,8 +11,8 @@ use Rattle.relay_core.specs.declared.relay.RelayCore.{RelayCore}
 use Rattle.relay_core.specs.Stands.{StandsFor}
 use Rattle.relay_core.specs.World.{World, new_world}
 use Rattle.hex_commands.specs.Requests.{requests_of}
-use Rattle.hex_commands.specs.declared.telling.InputFault.{InputFault}
-use Rattle.hex_commands.specs.declared.telling.InputFault.TheVariants as fault
+use Rattle.hex_commands.specs.declared.telling.CommandFault.{CommandFault}
+use Rattle.hex_commands.specs.declared.telling.CommandFault.TheVariants as fault
 
 -- the answers to requests, one after the other, each a line of hexadecimal in capitals
 unfoldable pub answer_lines : World → List (List ℕ) → List ℕ
@@ -49,7 +49,7 @@ module _ {R W : Type 0}
   IsWholeText text r = (length text ≤ most_bytes) × IsAtEnd (remaining r)
 
   -- what came of the bytes that were read
-  abbrev pub AnswersBytes : List ℕ → R → W → Result (Unit {0}) InputFault → R → W → Type 0
+  abbrev pub AnswersBytes : List ℕ → R → W → Result (Unit {0}) CommandFault → R → W → Type 0
   AnswersBytes text r w (Ok done) r' w' =
       (requests : List (List ℕ)) × (requests_of text ≡ Ok requests) × IsWholeText text r'
       × Appends (contents w) (contents w') (new_answers requests)
@@ -70,7 +70,7 @@ module _ {R W : Type 0}
   AnswersBytes text r w (Err fault.Device) r' w' = ⊥
 
   -- a text was answered: these bytes were read, and this came of them
-  pub record AnswersText (r : R) (w : W) (result : Result (Unit {0}) InputFault) (r' : R) (w' : W)
+  pub record AnswersText (r : R) (w : W) (result : Result (Unit {0}) CommandFault) (r' : R) (w' : W)
       : Type 0 where
     pub text : List ℕ
     pub read : Consumes (remaining r) (remaining r') text

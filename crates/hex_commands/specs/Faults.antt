@@ -1,13 +1,13 @@
 -- The fault of the program for each fault of `apdu` and `hex`.
 use Rattle.program_fault.specs.declared.Fault.{Fault}
 use Rattle.program_fault.specs.declared.Fault.TheVariants as program
-use Rattle.hex_commands.specs.declared.telling.InputFault.{InputFault}
-use Rattle.hex_commands.specs.declared.telling.InputFault.TheVariants as fault
+use Rattle.hex_commands.specs.declared.telling.CommandFault.{CommandFault}
+use Rattle.hex_commands.specs.declared.telling.CommandFault.TheVariants as fault
 use Rattle.session_serving.specs.declared.fault.TextFault.{TextFault}
 use Rattle.session_serving.specs.declared.fault.TextFault.TheVariants as text
 
 -- input that is wrong, and what is not: a failed read, a failed write, memory that ran out
-abbrev pub fault_of : InputFault → Fault
+abbrev pub fault_of : CommandFault → Fault
 fault_of fault.TooLong = program.Input
 fault_of (fault.Odd line) = program.Input
 fault_of (fault.Character line byte) = program.Input
@@ -20,7 +20,7 @@ fault_of fault.Write = program.Write
 fault_of fault.Memory = program.Memory
 
 -- the fault of a stream that gave no bytes
-abbrev pub input_fault_of : TextFault → InputFault
+abbrev pub input_fault_of : TextFault → CommandFault
 input_fault_of (text.Digit character) = fault.Digit character
 input_fault_of text.OddDigits = fault.OddDigits
 input_fault_of text.TooLong = fault.TooLong

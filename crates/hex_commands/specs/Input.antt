@@ -1,18 +1,18 @@
 -- Standard input that could not be read to its end.
 use Rattle.std.specs.Prelude.{◌<◌, ◌≤◌, ℕ, Option, List, length, ⊤}
 use Rattle.std.specs.Io.KnownBytes.{Consumes}
-use Rattle.hex_commands.specs.declared.telling.InputFault.{InputFault}
-use Rattle.hex_commands.specs.declared.telling.InputFault.TheVariants as fault
+use Rattle.hex_commands.specs.declared.telling.CommandFault.{CommandFault}
+use Rattle.hex_commands.specs.declared.telling.CommandFault.TheVariants as fault
 
 -- reading failed after these bytes; the numbers are those of the reads that failed before and after
-abbrev pub FailsToRead : List ℕ → ℕ → InputFault → ℕ → Type 0
+abbrev pub FailsToRead : List ℕ → ℕ → CommandFault → ℕ → Type 0
 FailsToRead bytes failed fault.TooLong failed' = 1048576 < length bytes
 FailsToRead bytes failed fault.Read failed' = (length bytes ≤ 1048576) × (failed < failed')
 FailsToRead bytes failed fault.Memory failed' = ⊤
 FailsToRead bytes failed other failed' = ⊥
 
 -- an input was not read to its end
-pub record StopsReading (left : Option (List ℕ)) (failed : ℕ) (f : InputFault)
+pub record StopsReading (left : Option (List ℕ)) (failed : ℕ) (f : CommandFault)
     (left' : Option (List ℕ)) (failed' : ℕ) : Type 0 where
   pub bytes : List ℕ
   pub read : Consumes left left' bytes

@@ -9,33 +9,33 @@ use Rattle.acse_ber.specs.Password.{IsPassword}
 use Rattle.relay_core.specs.World.{IsDeviceName}
 use Rattle.session_serving.specs.Hexadecimal.{IsHex, RunsShort, hex_output, is_taken}
 use Rattle.hex_commands.specs.Apdu.{most_bytes}
-use Rattle.hex_commands.specs.declared.telling.InputFault.{InputFault}
-use Rattle.hex_commands.specs.declared.telling.InputFault.TheVariants as fault
+use Rattle.hex_commands.specs.declared.telling.CommandFault.{CommandFault}
+use Rattle.hex_commands.specs.declared.telling.CommandFault.TheVariants as fault
 
 -- the fault of an option's text of this length: that of a text of no byte or of too many, or memory
 -- ran out
-abbrev pub IsOptionFault : InputFault → ℕ → ℕ → InputFault → Type 0
+abbrev pub IsOptionFault : CommandFault → ℕ → ℕ → CommandFault → Type 0
 IsOptionFault wrong count longest given = (given ≡ fault.Memory)
     ⊎ ((given ≡ wrong) × ((count ≡ 0) ⊎ (longest < count)))
 
-abbrev pub fault_at : Option ℕ → InputFault
+abbrev pub fault_at : Option ℕ → CommandFault
 fault_at (Some index) = fault.Digit (index + 1)
 fault_at None = fault.OddDigits
 
 -- what is wrong with a text that is no bytes in hexadecimal: its first character that is not taken,
 -- counted from 1, else the number of its digits
-abbrev pub digit_fault : List ℕ → InputFault
+abbrev pub digit_fault : List ℕ → CommandFault
 digit_fault text = fault_at (position (λ character. not (is_taken character)) text)
 
 -- a text is no pairs of digits: this is what is wrong with it, and nothing was written
-abbrev pub IsNoHex : List ℕ → InputFault → Option (List ℕ) → Option (List ℕ) → Type 0
+abbrev pub IsNoHex : List ℕ → CommandFault → Option (List ℕ) → Option (List ℕ) → Type 0
 IsNoHex text given written written' = (given ≡ digit_fault text)
     × ((input : List ℕ) → ¬ (IsHex text input)) × Appends written written' []
 
 -- what came of the bytes of a session; the numbers are those of the writes that failed before and
 -- after
 abbrev pub PlaysInput : List ℕ → List ℕ → List ℕ → Option (List ℕ) → ℕ
-    → Result (Unit {0}) InputFault → Option (List ℕ) → ℕ → Type 0
+    → Result (Unit {0}) CommandFault → Option (List ℕ) → ℕ → Type 0
 PlaysInput device password input written failed (Ok done) written' failed' =
     Appends written written' (hex_output device password input)
 PlaysInput device password input written failed (Err fault.Write) written' failed' =
@@ -47,7 +47,7 @@ PlaysInput device password input written failed (Err other) written' failed' = �
 -- what came of a text that was read; the numbers are those of the writes that failed before and
 -- after
 abbrev pub PlaysBytes : List ℕ → List ℕ → List ℕ → Option (List ℕ) → ℕ
-    → Result (Unit {0}) InputFault → Option (List ℕ) → ℕ → Type 0
+    → Result (Unit {0}) CommandFault → Option (List ℕ) → ℕ → Type 0
 PlaysBytes device password text written failed (Ok done) written' failed' =
     (input : List ℕ) × IsHex text input
     × Appends written written' (hex_output device password input)
@@ -81,7 +81,7 @@ module _ {R W : Type 0}
 
   -- a whole text was played
   pub record PlaysWhole (password device : List ℕ) (r : R) (w : W)
-      (result : Result (Unit {0}) InputFault) (r' : R) (w' : W) : Type 0 where
+      (result : Result (Unit {0}) CommandFault) (r' : R) (w' : W) : Type 0 where
     pub text : List ℕ
     pub reads : ReadsWhole password device r r' text
     pub plays : PlaysBytes device password text (contents w) (write_failures w) result (contents w')
@@ -98,7 +98,7 @@ module _ {R W : Type 0}
     pub unwritten : w' ≡ w
 
   -- options were judged, a text was read and played
-  abbrev pub PlaysText : List ℕ → List ℕ → R → W → Result (Unit {0}) InputFault → R → W → Type 0
+  abbrev pub PlaysText : List ℕ → List ℕ → R → W → Result (Unit {0}) CommandFault → R → W → Type 0
   PlaysText password device r w (Err fault.Password) r' w' =
       ((length password ≡ 0) ⊎ (32 < length password)) × (r' ≡ r) × (w' ≡ w)
   PlaysText password device r w (Err fault.Device) r' w' = IsPassword password

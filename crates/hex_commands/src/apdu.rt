@@ -4,7 +4,7 @@ ghost use Rattle.hex_commands.specs.Apdu.{AnswersText};
 use crate::answers::answers;
 use crate::input::read_all;
 use crate::requests::read_requests;
-use crate::telling::InputFault;
+use crate::telling::CommandFault;
 use byte_streams::{Reader, Writer};
 use std::alloc::Global;
 
@@ -19,7 +19,7 @@ pub fn answer_text<R: Reader, W: Writer>(
     alloc: Global,
     reader: &mut R,
     writer: &mut W,
-) -> Result<(), InputFault>
+) -> Result<(), CommandFault>
     requires readable { R.can_read reader.now }
     requires writable { W.can_write writer.now }
     ensures { AnswersText R.remaining R.failures W.contents W.failures reader.old writer.old result
@@ -28,10 +28,10 @@ pub fn answer_text<R: Reader, W: Writer>(
     let text = read_all(alloc, reader)?;
     let requests = read_requests(alloc, text.as_slice())?;
     let Ok(lines) = answers(alloc, &requests) else {
-        return Err(InputFault::Memory);
+        return Err(CommandFault::Memory);
     };
     match writer.write_all(lines.as_slice()) {
         Ok(()) => Ok(()),
-        Err(_) => Err(InputFault::Write),
+        Err(_) => Err(CommandFault::Write),
     }
 }

@@ -4,7 +4,7 @@ ghost use Rattle.acse_ber.specs.Password.{IsPassword};
 ghost use Rattle.relay_core.specs.World.{IsDeviceName};
 ghost use Rattle.hex_commands.specs.Sessions.{IsOptionFault, PlaysInput, PlaysText};
 
-use crate::telling::InputFault;
+use crate::telling::CommandFault;
 use acse_ber::MAX_PASSWORD;
 use byte_streams::{Reader, Writer};
 use cosem_axdr::Octets;
@@ -20,8 +20,8 @@ fn option_bytes(
     alloc: Global,
     text: &str,
     longest: usize,
-    wrong: InputFault,
-) -> Result<Octets, InputFault>
+    wrong: CommandFault,
+) -> Result<Octets, CommandFault>
     ensures bytes { IfOk result (λ octets. octets ≡ text.now) }
     ensures fits { IfOk result (λ octets. (1 ≤ length octets) × (length octets ≤ longest)) }
     ensures err { IfErr result (λ fault. IsOptionFault wrong (length text.now) longest fault) }
@@ -29,7 +29,7 @@ fn option_bytes(
     match octets_of(alloc, text, longest) {
         Ok(octets) => Ok(octets),
         Err(Fault::Input) => Err(wrong),
-        Err(_) => Err(InputFault::Memory),
+        Err(_) => Err(CommandFault::Memory),
     }
 }
 
@@ -40,7 +40,7 @@ fn play<W: Writer>(
     writer: &mut W,
     device: &Octets,
     password: &Octets,
-) -> Result<(), InputFault>
+) -> Result<(), CommandFault>
     requires writable { W.can_write writer.now }
     requires named { IsDeviceName device.now }
     requires password { IsPassword password.now }
@@ -49,8 +49,8 @@ fn play<W: Writer>(
 {
     match play_session(alloc, input, writer, device, password) {
         Ok(()) => Ok(()),
-        Err(HexFault::Write) => Err(InputFault::Write),
-        Err(HexFault::Memory) => Err(InputFault::Memory),
+        Err(HexFault::Write) => Err(CommandFault::Write),
+        Err(HexFault::Memory) => Err(CommandFault::Memory),
         Err(HexFault::Digits | HexFault::TooLong | HexFault::Read) => unreachable!(),
     }
 }
@@ -70,16 +70,16 @@ pub fn play_text<R: Reader, W: Writer>(
     writer: &mut W,
     password: &str,
     device: &str,
-) -> Result<(), InputFault>
+) -> Result<(), CommandFault>
     requires readable { R.can_read reader.now }
     requires writable { W.can_write writer.now }
     ensures { PlaysText R.remaining R.failures W.contents W.failures password.now device.now
         reader.old writer.old result reader.new writer.new }
 {
-    let password = option_bytes(alloc, password, MAX_PASSWORD, InputFault::Password)?;
-    let device = option_bytes(alloc, device, MAX_DEVICE_NAME, InputFault::Device)?;
+    let password = option_bytes(alloc, password, MAX_PASSWORD, CommandFault::Password)?;
+    let device = option_bytes(alloc, device, MAX_DEVICE_NAME, CommandFault::Device)?;
     match read_hex(alloc, reader) {
         Ok(input) => play(alloc, input.as_slice(), writer, &device, &password),
-        Err(fault) => Err(InputFault::from(fault)),
+        Err(fault) => Err(CommandFault::from(fault)),
     }
 }

@@ -12,4 +12,4 @@ mod telling;
 
 pub use apdu::answer_text;
 pub use hex_session::play_text;
-pub use telling::{InputFault, report_fault};
+pub use telling::{CommandFault, report_fault};

@@ -5,7 +5,7 @@ ghost use Rattle.hex.specs.Hex.{decode_of};
 ghost use Rattle.hex_commands.specs.Requests.{AddsLine, AddsRequest, ReadsRequests, line_fault, pieces_of, total};
 
 use crate::lines::cut_line;
-use crate::telling::InputFault;
+use crate::telling::CommandFault;
 use hex::FromHexError;
 use std::alloc::{AllocError, Global};
 use std::marker::Model;
@@ -67,16 +67,16 @@ impl Requests {
 
 // What is wrong with the line of this number, by the error of its decoding.
 #[tactic(auto, using(crate::proofs::Decoded::place_within))]
-fn line_fault(number: usize, line: &[u8], error: FromHexError) -> InputFault
+fn line_fault(number: usize, line: &[u8], error: FromHexError) -> CommandFault
     requires { decode_of line.now ≡ Err error }
     ensures { result ≡ line_fault number error }
 {
     match error {
         FromHexError::InvalidHexCharacter { index, .. } => {
-            InputFault::Character(number, index + 1)
+            CommandFault::Character(number, index + 1)
         }
         FromHexError::OddLength | FromHexError::InvalidStringLength | FromHexError::OutOfMemory =>
-            InputFault::Odd(number),
+            CommandFault::Odd(number),
     }
 }
 
@@ -99,17 +99,17 @@ fn add_request(
     line: &[u8],
     bytes: &mut Vec<u8>,
     requests: &mut Requests,
-) -> Result<(), InputFault>
+) -> Result<(), CommandFault>
     ensures { AddsRequest number line.now requests.old result requests.new }
 {
     match decode_line(line, bytes) {
         Ok(()) => {}
-        Err(FromHexError::OutOfMemory) => return Err(InputFault::Memory),
+        Err(FromHexError::OutOfMemory) => return Err(CommandFault::Memory),
         Err(error) => return Err(line_fault(number, line, error)),
     }
     match requests.push(bytes.as_slice()) {
         Ok(()) => Ok(()),
-        Err(_) => Err(InputFault::Memory),
+        Err(_) => Err(CommandFault::Memory),
     }
 }
 
@@ -119,7 +119,7 @@ fn add_line(
     line: &[u8],
     bytes: &mut Vec<u8>,
     requests: &mut Requests,
-) -> Result<(), InputFault>
+) -> Result<(), CommandFault>
     ensures { AddsLine number line.now requests.old result requests.new }
 {
     if line.is_empty() {
@@ -132,7 +132,7 @@ fn add_line(
 //
 // Errors: `Odd` or `Character` of the first line that is no pairs of hexadecimal digits; `Memory`
 // on the way.
-pub(crate) fn read_requests(alloc: Global, text: &[u8]) -> Result<Requests, InputFault>
+pub(crate) fn read_requests(alloc: Global, text: &[u8]) -> Result<Requests, CommandFault>
     requires { length text.now ≤ 1048576 }
     ensures { ReadsRequests text.now result }
 {

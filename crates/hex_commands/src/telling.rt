@@ -10,7 +10,7 @@ use thiserror::Error;
 ///
 /// Lines, bytes and characters count from 1. Its message is the line that `--verbose` writes.
 #[derive(Clone, Copy, Debug, PartialEq, Eq, Error)]
-pub enum InputFault {
+pub enum CommandFault {
     /// There are more than 1,048,576 bytes.
     #[error("byte 1048577: the input has more than 1,048,576 bytes")]
     TooLong,
@@ -44,29 +44,29 @@ pub enum InputFault {
 }
 
 /// The fault of a stream that gave no bytes.
-impl From<TextFault> for InputFault {
+impl From<TextFault> for CommandFault {
     ghost from_gives = { λ text fault. fault ≡ input_fault_of text };
 
-    fn from(fault: TextFault) -> InputFault {
+    fn from(fault: TextFault) -> CommandFault {
         match fault {
-            TextFault::Digit(character) => InputFault::Digit(character),
-            TextFault::OddDigits => InputFault::OddDigits,
-            TextFault::TooLong => InputFault::TooLong,
-            TextFault::Read => InputFault::Read,
-            TextFault::Memory => InputFault::Memory,
+            TextFault::Digit(character) => CommandFault::Digit(character),
+            TextFault::OddDigits => CommandFault::OddDigits,
+            TextFault::TooLong => CommandFault::TooLong,
+            TextFault::Read => CommandFault::Read,
+            TextFault::Memory => CommandFault::Memory,
         }
     }
 }
 
-impl InputFault {
+impl CommandFault {
     /// Returns the fault of the program: `Read`, `Write` or `Memory`, and `Input` for all others.
     pub fn fault(self) -> Fault
         ensures { result ≡ fault_of self }
     {
         match self {
-            InputFault::Read => Fault::Read,
-            InputFault::Write => Fault::Write,
-            InputFault::Memory => Fault::Memory,
+            CommandFault::Read => Fault::Read,
+            CommandFault::Write => Fault::Write,
+            CommandFault::Memory => Fault::Memory,
             _ => Fault::Input,
         }
     }
@@ -74,7 +74,7 @@ impl InputFault {
 
 /// Returns the fault of the program. If `is_verbose`, writes a line on standard error that says
 /// what is wrong.
-pub fn report_fault<R: Eprint>(rt: &R, is_verbose: bool, fault: InputFault) -> Fault
+pub fn report_fault<R: Eprint>(rt: &R, is_verbose: bool, fault: CommandFault) -> Fault
     ensures { result ≡ fault_of fault }
 {
     if is_verbose {

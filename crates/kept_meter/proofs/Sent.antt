@@ -15,11 +15,11 @@ use Rattle.lane_sampler.proofs.samples.Block.TheSendSync.{the_send as block_send
 use Rattle.relay_core.proofs.relay.RelayCore.TheSendSync.{the_field_send as core_field_send}
 use Rattle.relay_core.proofs.parts.Parts.TheSendSync.{the_field_send as parts_field_send}
 use Rattle.relay_events.specs.contracts.event.Event as event
-use Rattle.relay_recorder.specs.contracts.kept.Kept as kept_event
-use Rattle.relay_recorder.specs.contracts.kept.Kept.TheInside as event_inside
+use Rattle.relay_recorder.specs.contracts.kept.RecordedEvent as kept_event
+use Rattle.relay_recorder.specs.contracts.kept.RecordedEvent.TheInside as event_inside
 use Rattle.relay_recorder.specs.contracts.recorder.Recorder as recorder
 use Rattle.relay_recorder.specs.contracts.recorder.Recorder.TheInside as inside
-use Rattle.kept_meter.specs.contracts.kept.Kept as kept
+use Rattle.kept_meter.specs.contracts.kept.RecordedEvent as kept
 
 event_field_send : IsSend (event.the_field).row
 event_field_send = search (sendable, crosses, send-Data, send-Items, octets_send, selection_send, block_send) depth 40 fits 100000

@@ -18,14 +18,14 @@ use Rattle.std_heap.specs.contracts.GlobalAllocator.TheImpl.{ghosts, dict}
 use Rattle.std_heap.proofs.Global.TheLaws as heap
 use Rattle.supply_meter.specs.contracts.supply_meter.SupplyMeter as Held
 use Rattle.supply_meter.proofs.supply_meter.SupplyMeter.TheLaws as held
-use Rattle.boxed_parts.specs.contracts.parts.Parts as Parts
+use Rattle.boxed_parts.specs.contracts.parts.BoxParts as BoxParts
 use Rattle.meter.specs.contracts.slot.Slot as Own
 
 abbrev pub E : Bx
 E = record { row = Held.the_row; laws = held.the_row_laws; al = record { row = Heap.the_row; laws = heap.the_row_laws; g = ghosts; d = dict; drops = impl [] tnil dnil } }
 
 abbrev pub FromParts : Slot 0
-FromParts = plain (λ _. Parts.the_row Held.the_row Heap.the_row ghosts)
+FromParts = plain (λ _. BoxParts.the_row Held.the_row Heap.the_row ghosts)
 
 abbrev pub FromSlot : Slot 0
 FromSlot = plain (λ _. Own.the_row)

@@ -10,8 +10,8 @@ use Rattle.disconnect_control.specs.Transitions.{is_state, state_number, mode_nu
 use Rattle.lane_sampler.specs.Samples.{Samples}
 use Rattle.meter.specs.Outcomes.{code_of, of_fault, of_done, of_given, length_of, of_tick, ran_of}
 use Rattle.meter.specs.declared.events.Firings.{Firings}
-use Rattle.meter.specs.declared.outcome.Outcome.{Outcome}
-use Rattle.meter.specs.declared.outcome.Outcome.TheVariants as outcome
+use Rattle.meter.specs.declared.outcome.CallResult.{CallResult}
+use Rattle.meter.specs.declared.outcome.CallResult.TheVariants as outcome
 use Rattle.meter_serving.specs.Ending.{TellsRun}
 use Rattle.relay_events.specs.declared.event.Event.TheVariants.{Button}
 use Rattle.relay_events.specs.declared.reply.Reply.TheVariants.{Code}
@@ -47,7 +47,7 @@ pub record AreFit (name password : List ℕ) (kept : ℕ) : Type 0 where
   pub kept_few : kept ≤ 1024
 
 -- the outcomes of opening a meter
-abbrev pub OpensTo : List ℕ → List ℕ → ℕ → Option Metering → Outcome → Option Metering → Type 0
+abbrev pub OpensTo : List ℕ → List ℕ → ℕ → Option Metering → CallResult → Option Metering → Type 0
 OpensTo name password kept None outcome.Done (Some m) = AreFit name password kept
     × IsNew name password kept m
 OpensTo name password kept None outcome.WrongArgument None = ¬ (AreFit name password kept)
@@ -59,7 +59,7 @@ OpensTo name password kept (Some m) _ new = ⊥
 -- opening a meter, with the number that C receives
 pub record OpenedTo (name password : List ℕ) (kept : ℕ) (old : Option Metering) (code : ℕ)
     (new : Option Metering) : Type 0 where
-  pub outcome : Outcome
+  pub outcome : CallResult
   pub does : OpensTo name password kept old outcome new
   pub told : code ≡ code_of outcome
 
@@ -69,7 +69,7 @@ pub record IsNoTrace (text : List ℕ) : Type 0 where
   pub told : trace_of text ≡ Err fault
 
 -- the outcomes of opening a meter that continues from a trace
-abbrev pub ResumesTo : List ℕ → List ℕ → ℕ → Option Metering → Outcome → Option Metering → Type 0
+abbrev pub ResumesTo : List ℕ → List ℕ → ℕ → Option Metering → CallResult → Option Metering → Type 0
 ResumesTo text password kept None outcome.Done (Some m) = Resumes text password kept m
 ResumesTo text password kept None outcome.WrongArgument None = (¬ (AreFit (0 ∷ []) password kept))
     ⊎ IsNoTrace text
@@ -80,7 +80,7 @@ ResumesTo text password kept (Some m) _ new = ⊥
 
 pub record ResumedTo (text password : List ℕ) (kept : ℕ) (old : Option Metering) (code : ℕ)
     (new : Option Metering) : Type 0 where
-  pub outcome : Outcome
+  pub outcome : CallResult
   pub does : ResumesTo text password kept old outcome new
   pub told : code ≡ code_of outcome
 
@@ -107,7 +107,7 @@ abbrev pub ClosedAt : ℕ → Metering → ℕ → Metering → Type 0
 ClosedAt session m code m' = DoneTo (λ (r : Result Unit MeterFault). ClosesBy m session r m') code
 
 -- the outcome of `next`
-abbrev pub tells_next : Result Given MeterFault → Outcome
+abbrev pub tells_next : Result Given MeterFault → CallResult
 tells_next (Ok g) = of_given g
 tells_next (Err f) = of_fault f
 
@@ -135,7 +135,7 @@ pub record PressedTo (number : ℕ) (m : Metering) (code : ℕ) (m' : Metering) 
 abbrev pub none_fired : Fired
 none_fired = record { over = 0; under = 0; export_over = 0; export_under = 0 }
 
-abbrev pub tells_samples : Result Fired MeterFault → Outcome
+abbrev pub tells_samples : Result Fired MeterFault → CallResult
 tells_samples (Ok fired) = outcome.Done
 tells_samples (Err f) = of_fault f
 
@@ -185,7 +185,7 @@ SupplyTo is_on m code m' =
     LooksTo code m m' (λ (w : World). is_on ≡ is_state w.control.state Connected)
 
 -- the outcome of reading the last moment: done, or that there was none
-abbrev pub tells_moment : Option ℕ → Outcome
+abbrev pub tells_moment : Option ℕ → CallResult
 tells_moment None = outcome.NoMoment
 tells_moment (Some moment) = outcome.Done
 
@@ -201,7 +201,7 @@ pub record MomentTo (moment : ℕ) (m : Metering) (code : ℕ) (m' : Metering) :
 -- ---- the trace
 
 -- the text was copied to the buffer, or only its length returned
-abbrev pub WritesText : List ℕ → List ℕ → List ℕ → ℕ → Outcome → Type 0
+abbrev pub WritesText : List ℕ → List ℕ → List ℕ → ℕ → CallResult → Type 0
 WritesText text buffer buffer' count outcome.Done = (buffer' ≡ text ++ drop count buffer)
     × (count ≡ length text)
 WritesText text buffer buffer' count outcome.NoRoom = (buffer' ≡ buffer) × (count ≡ length text)
@@ -209,25 +209,25 @@ WritesText text buffer buffer' count outcome.NoRoom = (buffer' ≡ buffer) × (c
 WritesText text buffer buffer' count _ = ⊥
 
 -- the text was copied, only its length returned, or out of memory
-abbrev pub WritesBy : {E : Type 0} → Result (List ℕ) E → List ℕ → List ℕ → ℕ → Outcome → Type 0
+abbrev pub WritesBy : {E : Type 0} → Result (List ℕ) E → List ℕ → List ℕ → ℕ → CallResult → Type 0
 WritesBy (Ok text) buffer buffer' count outcome = WritesText text buffer buffer' count outcome
 WritesBy (Err error) buffer buffer' count outcome.NoMemory = (buffer' ≡ buffer) × (count ≡ 0)
 WritesBy (Err error) buffer buffer' count _ = ⊥
 
 -- a trace was returned
-pub record TellsTrace (r : Recording) (buffer buffer' : List ℕ) (count : ℕ) (outcome : Outcome)
+pub record TellsTrace (r : Recording) (buffer buffer' : List ℕ) (count : ℕ) (outcome : CallResult)
     : Type 0 where
   pub text : List ℕ
   pub tells : TellsRun r text
   pub writes : WritesText text buffer buffer' count outcome
 
-abbrev pub ExportsTo : Recording → List ℕ → List ℕ → ℕ → Outcome → Type 0
+abbrev pub ExportsTo : Recording → List ℕ → List ℕ → ℕ → CallResult → Type 0
 ExportsTo r buffer buffer' count outcome.NoMemory = (buffer' ≡ buffer) × (count ≡ 0)
 ExportsTo r buffer buffer' count outcome = TellsTrace r buffer buffer' count outcome
 
 pub record ExportedTo (buffer buffer' : List ℕ) (count : ℕ) (m : Metering) (code : ℕ)
     (m' : Metering) : Type 0 where
   pub same : m' ≡ m
-  pub outcome : Outcome
+  pub outcome : CallResult
   pub does : ExportsTo m.recorder buffer buffer' count outcome
   pub told : code ≡ code_of outcome

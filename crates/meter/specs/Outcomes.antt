@@ -2,8 +2,8 @@
 --     code_of                                 the number of the result of a call
 --     of_fault, of_done, of_given, of_tick    the outcome of a fault, or of a result of the meter
 use Rattle.std.specs.Prelude.{ℕ, Result, Ok, Err}
-use Rattle.meter.specs.declared.outcome.Outcome.{Outcome}
-use Rattle.meter.specs.declared.outcome.Outcome.TheVariants as outcome
+use Rattle.meter.specs.declared.outcome.CallResult.{CallResult}
+use Rattle.meter.specs.declared.outcome.CallResult.TheVariants as outcome
 use Rattle.session_core.specs.declared.end.SessionEnd.{SessionEnd}
 use Rattle.session_core.specs.declared.end.SessionEnd.TheVariants as ending
 use Rattle.supply_meter.specs.declared.fault.MeterFault.{MeterFault}
@@ -14,7 +14,7 @@ use Rattle.supply_meter.specs.declared.given.Tick.{Tick}
 use Rattle.supply_meter.specs.declared.given.Tick.TheVariants as tick
 
 -- the number of an outcome
-abbrev pub code_of : Outcome → ℕ
+abbrev pub code_of : CallResult → ℕ
 code_of outcome.Done = 0
 code_of outcome.Wait = 1
 code_of outcome.Closed = 2
@@ -32,7 +32,7 @@ code_of outcome.WrongArgument = 13
 code_of outcome.NoRoom = 14
 
 -- the outcome of a fault
-abbrev pub of_fault : MeterFault → Outcome
+abbrev pub of_fault : MeterFault → CallResult
 of_fault fault.NoSession = outcome.NoSession
 of_fault fault.SessionTaken = outcome.SessionTaken
 of_fault fault.TooManySamples = outcome.WrongArgument
@@ -40,19 +40,19 @@ of_fault fault.Uneven = outcome.WrongArgument
 of_fault fault.Memory = outcome.NoMemory
 
 -- the outcome of a call without a value
-abbrev pub of_done : Result Unit MeterFault → Outcome
+abbrev pub of_done : Result Unit MeterFault → CallResult
 of_done (Ok done) = outcome.Done
 of_done (Err f) = of_fault f
 
 -- the outcome of the end of a session
-abbrev pub of_end : SessionEnd → Outcome
+abbrev pub of_end : SessionEnd → CallResult
 of_end ending.Closed = outcome.Closed
 of_end ending.Cut = outcome.Cut
 of_end ending.BadVersion = outcome.BadVersion
 of_end ending.TooLong = outcome.TooLong
 
 -- the outcome of what a session gave
-abbrev pub of_given : Given → Outcome
+abbrev pub of_given : Given → CallResult
 of_given (given.Frame count) = outcome.Done
 of_given (given.NoRoom count) = outcome.NoRoom
 of_given given.Wait = outcome.Wait
@@ -65,7 +65,7 @@ length_of given.Wait = 0
 length_of (given.End end) = 0
 
 -- the outcome of a moment
-abbrev pub of_tick : Tick → Outcome
+abbrev pub of_tick : Tick → CallResult
 of_tick (tick.Ran count) = outcome.Done
 of_tick (tick.Stale last) = outcome.Stale
 

@@ -4,8 +4,8 @@ ghost use Rattle.lane_sampler.specs.Samples.{values_alone, pairs_of};
 ghost use Rattle.meter.specs.Exports.{OnOpen, PressedTo, SampledTo, TickedTo, none_fired, tells_samples, fired_of, firings_of};
 ghost use Rattle.meter.specs.Outcomes.{code_of, of_tick, ran_of};
 
-use crate::handle::Meter;
-use crate::outcome::Outcome;
+use crate::handle::MeterHandle;
+use crate::outcome::CallResult;
 use std::alloc::Global;
 use supply_meter::{Fired, MeterFault, Tick};
 
@@ -21,24 +21,24 @@ pub struct Firings {
 
 /// Applies a press of the meter's button. `code` is its result. Error: `NotOpen`, and `code` is 0.
 #[unsafe(no_mangle)]
-pub extern "C" fn meter_press(alloc: Global, meter: &mut Meter, code: &mut u8) -> u32
+pub extern "C" fn meter_press(alloc: Global, meter: &mut MeterHandle, code: &mut u8) -> u32
     ensures { OnOpen (code.new ≡ 0) (PressedTo code.new) meter.old.slot.held result
         meter.new.slot.held }
 {
     *code = 0;
     let Some(mut held) = meter.take(alloc) else {
-        return Outcome::NotOpen.code();
+        return CallResult::NotOpen.code();
     };
     *code = held.press(alloc).code();
     meter.put(held);
-    Outcome::Done.code()
+    CallResult::Done.code()
 }
 
 /// Applies samples of the imported power, in watts.
 #[unsafe(no_mangle)]
 pub extern "C" fn meter_samples(
     alloc: Global,
-    meter: &mut Meter,
+    meter: &mut MeterHandle,
     watts: &[u32],
     fired: &mut Firings,
 ) -> u32
@@ -48,7 +48,7 @@ pub extern "C" fn meter_samples(
 {
     *fired = no_firings();
     let Some(mut held) = meter.take(alloc) else {
-        return Outcome::NotOpen.code();
+        return CallResult::NotOpen.code();
     };
     let sampled = held.samples(alloc, watts);
     meter.put(held);
@@ -60,7 +60,7 @@ pub extern "C" fn meter_samples(
 #[unsafe(no_mangle)]
 pub extern "C" fn meter_sample_pairs(
     alloc: Global,
-    meter: &mut Meter,
+    meter: &mut MeterHandle,
     imported: &[u32],
     exported: &[u32],
     fired: &mut Firings,
@@ -71,7 +71,7 @@ pub extern "C" fn meter_sample_pairs(
 {
     *fired = no_firings();
     let Some(mut held) = meter.take(alloc) else {
-        return Outcome::NotOpen.code();
+        return CallResult::NotOpen.code();
     };
     let sampled = held.sample_pairs(alloc, imported, exported);
     meter.put(held);
@@ -82,13 +82,13 @@ pub extern "C" fn meter_sample_pairs(
 /// Applies a moment of the meter's clock, in seconds since 2000-01-01 00:00:00. `ran` is the number
 /// of schedules that were due.
 #[unsafe(no_mangle)]
-pub extern "C" fn meter_moment(alloc: Global, meter: &mut Meter, moment: u32, ran: &mut u8) -> u32
+pub extern "C" fn meter_moment(alloc: Global, meter: &mut MeterHandle, moment: u32, ran: &mut u8) -> u32
     ensures { OnOpen (ran.new ≡ 0) (TickedTo moment ran.new) meter.old.slot.held result
         meter.new.slot.held }
 {
     *ran = 0;
     let Some(mut held) = meter.take(alloc) else {
-        return Outcome::NotOpen.code();
+        return CallResult::NotOpen.code();
     };
     let tick = held.moment(alloc, moment);
     meter.put(held);
@@ -122,22 +122,22 @@ fn told_firings(sampled: Result<Fired, MeterFault>) -> Firings
     }
 }
 
-fn sampled_outcome(sampled: Result<Fired, MeterFault>) -> Outcome
+fn sampled_outcome(sampled: Result<Fired, MeterFault>) -> CallResult
     ensures { result ≡ tells_samples sampled }
 {
     match sampled {
-        Ok(_) => Outcome::Done,
-        Err(fault) => Outcome::of_fault(fault),
+        Ok(_) => CallResult::Done,
+        Err(fault) => CallResult::of_fault(fault),
     }
 }
 
 // Returns the outcome of a moment.
-fn tick_outcome(tick: Tick) -> Outcome
+fn tick_outcome(tick: Tick) -> CallResult
     ensures { result ≡ of_tick tick }
 {
     match tick {
-        Tick::Ran(_) => Outcome::Done,
-        Tick::Stale(_) => Outcome::Stale,
+        Tick::Ran(_) => CallResult::Done,
+        Tick::Stale(_) => CallResult::Stale,
     }
 }
 

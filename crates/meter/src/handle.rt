@@ -1,8 +1,8 @@
 ghost use Rattle.std.specs.Prelude.{◌≡◌};
 ghost use Rattle.meter.specs.Held.{is_held};
 
-use crate::slot::Slot;
-use boxed_parts::Parts;
+use crate::slot::HandleSlot;
+use boxed_parts::BoxParts;
 use std::alloc::Global;
 use std::mem::replace;
 use std::ptr::null_mut;
@@ -11,23 +11,23 @@ use supply_meter::SupplyMeter;
 /// The handle of a meter: `struct meter` of `meter.h`. A handle of zeros is closed.
 #[repr(C)]
 #[derive(Drop)]
-pub struct Meter {
-    pub slot: Slot,
+pub struct MeterHandle {
+    pub slot: HandleSlot,
     is_open: bool,
     /// The handle holds a meter exactly if it is open.
     pub ghost agrees: { is_held slot.held ≡ is_open },
 }
 
-impl Meter {
+impl MeterHandle {
     ghost use Rattle.std.specs.Prelude.{◌≡◌, Some, None, IfSome};
 
     /// Returns a closed handle.
-    pub fn closed(alloc: Global) -> Meter
+    pub fn closed(alloc: Global) -> MeterHandle
         ensures { result.slot.held ≡ None }
     {
         let at = nowhere();
-        Meter {
-            slot: Slot::of_null(at, alloc),
+        MeterHandle {
+            slot: HandleSlot::of_null(at, alloc),
             is_open: false,
         }
     }
@@ -41,7 +41,7 @@ impl Meter {
         if !self.is_open {
             return None;
         }
-        let Meter { slot, is_open: _ } = replace(self, Meter::closed(alloc));
+        let MeterHandle { slot, is_open: _ } = replace(self, MeterHandle::closed(alloc));
         Some(slot.into_parts().into_box())
     }
 
@@ -49,8 +49,8 @@ impl Meter {
     pub(crate) fn put(&mut self, held: Box<SupplyMeter, Global>)
         ensures { self.new.slot.held ≡ Some held.value }
     {
-        *self = Meter {
-            slot: Slot::of_parts(Parts::of(held)),
+        *self = MeterHandle {
+            slot: HandleSlot::of_parts(BoxParts::of(held)),
             is_open: true,
         };
     }

@@ -14,9 +14,9 @@ mod standing;
 mod traces;
 
 pub use events::{Firings, meter_moment, meter_press, meter_sample_pairs, meter_samples};
-pub use handle::Meter;
+pub use handle::MeterHandle;
 pub use opening::{meter_close, meter_open};
-pub use outcome::Outcome;
+pub use outcome::CallResult;
 pub use sessions::{meter_close_session, meter_feed, meter_finish, meter_next, meter_open_session};
 pub use standing::{meter_control_mode, meter_control_state, meter_last_moment, meter_supply};
 pub use traces::{meter_export, meter_resume};

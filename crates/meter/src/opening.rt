@@ -3,8 +3,8 @@ ghost use Rattle.std.specs.Prelude.{◌≡◌, None, IfOk, IsTrue, ◌↔◌};
 ghost use Rattle.meter.specs.Exports.{AreFit, OpensTo, OpenedTo};
 ghost use Rattle.supply_meter.specs.Calls.{IsNew};
 
-use crate::handle::Meter;
-use crate::outcome::Outcome;
+use crate::handle::MeterHandle;
+use crate::outcome::CallResult;
 use acse_ber::MAX_PASSWORD;
 use cosem_axdr::Octets;
 use relay_core::MAX_DEVICE_NAME;
@@ -15,7 +15,7 @@ use supply_meter::SupplyMeter;
 #[unsafe(no_mangle)]
 pub extern "C" fn meter_open(
     alloc: Global,
-    meter: &mut Meter,
+    meter: &mut MeterHandle,
     name: &[u8],
     password: &[u8],
     kept_events: u16,
@@ -27,23 +27,23 @@ pub extern "C" fn meter_open(
 }
 
 // Opens a new meter, unless the handle holds one.
-fn open(alloc: Global, meter: &mut Meter, name: &[u8], password: &[u8], kept_events: u16) -> Outcome
+fn open(alloc: Global, meter: &mut MeterHandle, name: &[u8], password: &[u8], kept_events: u16) -> CallResult
     ensures { OpensTo name.now password.now kept_events meter.old.slot.held result
         meter.new.slot.held }
 {
     if let Some(held) = meter.take(alloc) {
         meter.put(held);
-        return Outcome::IsOpen;
+        return CallResult::IsOpen;
     }
     if !are_fit(name, password, kept_events) {
-        return Outcome::WrongArgument;
+        return CallResult::WrongArgument;
     }
     match new_meter(alloc, name, password, kept_events) {
         Ok(held) => {
             meter.put(held);
-            Outcome::Done
+            CallResult::Done
         }
-        Err(_) => Outcome::NoMemory,
+        Err(_) => CallResult::NoMemory,
     }
 }
 
@@ -83,7 +83,7 @@ fn new_meter(
 
 /// Closes a meter, and frees all its memory.
 #[unsafe(no_mangle)]
-pub extern "C" fn meter_close(alloc: Global, meter: &mut Meter)
+pub extern "C" fn meter_close(alloc: Global, meter: &mut MeterHandle)
     ensures { meter.new.slot.held ≡ None }
 {
     if let Some(held) = meter.take(alloc) {

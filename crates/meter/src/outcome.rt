@@ -6,7 +6,7 @@ use supply_meter::{Given, MeterFault};
 
 /// The result of a call for C.
 #[derive(Clone, Copy, Debug, PartialEq, Eq)]
-pub enum Outcome {
+pub enum CallResult {
     /// The call succeeded.
     Done,
     /// There is nothing to send until more bytes arrive.
@@ -39,40 +39,40 @@ pub enum Outcome {
     NoRoom,
 }
 
-impl Outcome {
+impl CallResult {
     // Returns the number of the outcome in `meter.h`.
     pub(crate) fn code(self) -> u32
         ensures { result ≡ code_of self }
     {
         match self {
-            Outcome::Done => 0,
-            Outcome::Wait => 1,
-            Outcome::Closed => 2,
-            Outcome::Cut => 3,
-            Outcome::BadVersion => 4,
-            Outcome::TooLong => 5,
-            Outcome::Stale => 6,
-            Outcome::NoMoment => 7,
-            Outcome::NoMemory => 8,
-            Outcome::NotOpen => 9,
-            Outcome::IsOpen => 10,
-            Outcome::NoSession => 11,
-            Outcome::SessionTaken => 12,
-            Outcome::WrongArgument => 13,
-            Outcome::NoRoom => 14,
+            CallResult::Done => 0,
+            CallResult::Wait => 1,
+            CallResult::Closed => 2,
+            CallResult::Cut => 3,
+            CallResult::BadVersion => 4,
+            CallResult::TooLong => 5,
+            CallResult::Stale => 6,
+            CallResult::NoMoment => 7,
+            CallResult::NoMemory => 8,
+            CallResult::NotOpen => 9,
+            CallResult::IsOpen => 10,
+            CallResult::NoSession => 11,
+            CallResult::SessionTaken => 12,
+            CallResult::WrongArgument => 13,
+            CallResult::NoRoom => 14,
         }
     }
 
     // Returns the outcome of a fault.
-    pub(crate) fn of_fault(fault: MeterFault) -> Outcome
+    pub(crate) fn of_fault(fault: MeterFault) -> CallResult
         ensures { result ≡ of_fault fault }
     {
         match fault {
-            MeterFault::NoSession => Outcome::NoSession,
-            MeterFault::SessionTaken => Outcome::SessionTaken,
-            MeterFault::TooManySamples => Outcome::WrongArgument,
-            MeterFault::Uneven => Outcome::WrongArgument,
-            MeterFault::Memory => Outcome::NoMemory,
+            MeterFault::NoSession => CallResult::NoSession,
+            MeterFault::SessionTaken => CallResult::SessionTaken,
+            MeterFault::TooManySamples => CallResult::WrongArgument,
+            MeterFault::Uneven => CallResult::WrongArgument,
+            MeterFault::Memory => CallResult::NoMemory,
         }
     }
 }

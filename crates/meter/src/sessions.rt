@@ -4,19 +4,19 @@ ghost use Rattle.meter.specs.Exports.{OnOpen, OpenedAt, FedAt, FinishedAt, Given
 ghost use Rattle.meter.specs.Outcomes.{code_of, of_done, of_end};
 ghost use Rattle.supply_meter.specs.Meterings.{Metering};
 
-use crate::handle::Meter;
-use crate::outcome::Outcome;
+use crate::handle::MeterHandle;
+use crate::outcome::CallResult;
 use session_core::SessionEnd;
 use std::alloc::Global;
 use supply_meter::{Given, MeterFault};
 
 /// Opens a session with a number of 0 to 7.
 #[unsafe(no_mangle)]
-pub extern "C" fn meter_open_session(alloc: Global, meter: &mut Meter, session: u8) -> u32
+pub extern "C" fn meter_open_session(alloc: Global, meter: &mut MeterHandle, session: u8) -> u32
     ensures { OnOpen Unit (OpenedAt session) meter.old.slot.held result meter.new.slot.held }
 {
     let Some(mut held) = meter.take(alloc) else {
-        return Outcome::NotOpen.code();
+        return CallResult::NotOpen.code();
     };
     let done = held.open_session(alloc, session);
     meter.put(held);
@@ -25,11 +25,11 @@ pub extern "C" fn meter_open_session(alloc: Global, meter: &mut Meter, session: 
 
 /// Passes the next bytes to a session.
 #[unsafe(no_mangle)]
-pub extern "C" fn meter_feed(alloc: Global, meter: &mut Meter, session: u8, bytes: &[u8]) -> u32
+pub extern "C" fn meter_feed(alloc: Global, meter: &mut MeterHandle, session: u8, bytes: &[u8]) -> u32
     ensures { OnOpen Unit (FedAt session bytes.now) meter.old.slot.held result meter.new.slot.held }
 {
     let Some(mut held) = meter.take(alloc) else {
-        return Outcome::NotOpen.code();
+        return CallResult::NotOpen.code();
     };
     let done = held.feed(session, bytes);
     meter.put(held);
@@ -38,11 +38,11 @@ pub extern "C" fn meter_feed(alloc: Global, meter: &mut Meter, session: u8, byte
 
 /// Ends the input of a session.
 #[unsafe(no_mangle)]
-pub extern "C" fn meter_finish(alloc: Global, meter: &mut Meter, session: u8) -> u32
+pub extern "C" fn meter_finish(alloc: Global, meter: &mut MeterHandle, session: u8) -> u32
     ensures { OnOpen Unit (FinishedAt session) meter.old.slot.held result meter.new.slot.held }
 {
     let Some(mut held) = meter.take(alloc) else {
-        return Outcome::NotOpen.code();
+        return CallResult::NotOpen.code();
     };
     let done = held.finish(session);
     meter.put(held);
@@ -54,7 +54,7 @@ pub extern "C" fn meter_finish(alloc: Global, meter: &mut Meter, session: u8) ->
 #[unsafe(no_mangle)]
 pub extern "C" fn meter_next(
     alloc: Global,
-    meter: &mut Meter,
+    meter: &mut MeterHandle,
     session: u8,
     frame: &mut [u8],
     length: &mut usize,
@@ -65,7 +65,7 @@ pub extern "C" fn meter_next(
 {
     *length = 0;
     let Some(mut held) = meter.take(alloc) else {
-        return Outcome::NotOpen.code();
+        return CallResult::NotOpen.code();
     };
     let given = held.next(alloc, session, frame);
     meter.put(held);
@@ -75,11 +75,11 @@ pub extern "C" fn meter_next(
 
 /// Closes a session.
 #[unsafe(no_mangle)]
-pub extern "C" fn meter_close_session(alloc: Global, meter: &mut Meter, session: u8) -> u32
+pub extern "C" fn meter_close_session(alloc: Global, meter: &mut MeterHandle, session: u8) -> u32
     ensures { OnOpen Unit (ClosedAt session) meter.old.slot.held result meter.new.slot.held }
 {
     let Some(mut held) = meter.take(alloc) else {
-        return Outcome::NotOpen.code();
+        return CallResult::NotOpen.code();
     };
     let done = held.close_session(session);
     meter.put(held);
@@ -91,21 +91,21 @@ fn done_code(done: Result<(), MeterFault>) -> u32
     ensures { result ≡ code_of (of_done done) }
 {
     match done {
-        Ok(()) => Outcome::Done.code(),
-        Err(fault) => Outcome::of_fault(fault).code(),
+        Ok(()) => CallResult::Done.code(),
+        Err(fault) => CallResult::of_fault(fault).code(),
     }
 }
 
 // Returns the outcome of what a session gave.
-fn given_outcome(given: Result<Given, MeterFault>) -> Outcome
+fn given_outcome(given: Result<Given, MeterFault>) -> CallResult
     ensures { result ≡ tells_next given }
 {
     match given {
-        Ok(Given::Frame(_)) => Outcome::Done,
-        Ok(Given::NoRoom(_)) => Outcome::NoRoom,
-        Ok(Given::Wait) => Outcome::Wait,
+        Ok(Given::Frame(_)) => CallResult::Done,
+        Ok(Given::NoRoom(_)) => CallResult::NoRoom,
+        Ok(Given::Wait) => CallResult::Wait,
         Ok(Given::End(end)) => end_outcome(end),
-        Err(fault) => Outcome::of_fault(fault),
+        Err(fault) => CallResult::of_fault(fault),
     }
 }
 
@@ -122,13 +122,13 @@ fn given_length(given: Result<Given, MeterFault>) -> usize
     }
 }
 
-fn end_outcome(end: SessionEnd) -> Outcome
+fn end_outcome(end: SessionEnd) -> CallResult
     ensures { result ≡ of_end end }
 {
     match end {
-        SessionEnd::Closed => Outcome::Closed,
-        SessionEnd::Cut => Outcome::Cut,
-        SessionEnd::BadVersion => Outcome::BadVersion,
-        SessionEnd::TooLong => Outcome::TooLong,
+        SessionEnd::Closed => CallResult::Closed,
+        SessionEnd::Cut => CallResult::Cut,
+        SessionEnd::BadVersion => CallResult::BadVersion,
+        SessionEnd::TooLong => CallResult::TooLong,
     }
 }

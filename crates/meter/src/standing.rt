@@ -2,64 +2,64 @@
 ghost use Rattle.std.specs.Prelude.{◌≡◌, false};
 ghost use Rattle.meter.specs.Exports.{OnOpen, StateTo, ModeTo, SupplyTo, MomentTo, tells_moment, moment_of};
 
-use crate::handle::Meter;
-use crate::outcome::Outcome;
+use crate::handle::MeterHandle;
+use crate::outcome::CallResult;
 use std::alloc::Global;
 
 /// Reads the control state (class 70, attribute 3).
 #[unsafe(no_mangle)]
-pub extern "C" fn meter_control_state(alloc: Global, meter: &mut Meter, state: &mut u8) -> u32
+pub extern "C" fn meter_control_state(alloc: Global, meter: &mut MeterHandle, state: &mut u8) -> u32
     ensures { OnOpen (state.new ≡ 0) (StateTo state.new) meter.old.slot.held result
         meter.new.slot.held }
 {
     *state = 0;
     let Some(held) = meter.take(alloc) else {
-        return Outcome::NotOpen.code();
+        return CallResult::NotOpen.code();
     };
     *state = held.state().number();
     meter.put(held);
-    Outcome::Done.code()
+    CallResult::Done.code()
 }
 
 /// Reads the control mode (class 70, attribute 4).
 #[unsafe(no_mangle)]
-pub extern "C" fn meter_control_mode(alloc: Global, meter: &mut Meter, mode: &mut u8) -> u32
+pub extern "C" fn meter_control_mode(alloc: Global, meter: &mut MeterHandle, mode: &mut u8) -> u32
     ensures { OnOpen (mode.new ≡ 0) (ModeTo mode.new) meter.old.slot.held result
         meter.new.slot.held }
 {
     *mode = 0;
     let Some(held) = meter.take(alloc) else {
-        return Outcome::NotOpen.code();
+        return CallResult::NotOpen.code();
     };
     *mode = held.mode().number();
     meter.put(held);
-    Outcome::Done.code()
+    CallResult::Done.code()
 }
 
 /// Reads whether the supply is on.
 #[unsafe(no_mangle)]
-pub extern "C" fn meter_supply(alloc: Global, meter: &mut Meter, is_on: &mut bool) -> u32
+pub extern "C" fn meter_supply(alloc: Global, meter: &mut MeterHandle, is_on: &mut bool) -> u32
     ensures { OnOpen (is_on.new ≡ false) (SupplyTo is_on.new) meter.old.slot.held result
         meter.new.slot.held }
 {
     *is_on = false;
     let Some(held) = meter.take(alloc) else {
-        return Outcome::NotOpen.code();
+        return CallResult::NotOpen.code();
     };
     *is_on = held.output();
     meter.put(held);
-    Outcome::Done.code()
+    CallResult::Done.code()
 }
 
 /// Reads the last moment of the clock.
 #[unsafe(no_mangle)]
-pub extern "C" fn meter_last_moment(alloc: Global, meter: &mut Meter, moment: &mut u32) -> u32
+pub extern "C" fn meter_last_moment(alloc: Global, meter: &mut MeterHandle, moment: &mut u32) -> u32
     ensures { OnOpen (moment.new ≡ 0) (MomentTo moment.new) meter.old.slot.held result
         meter.new.slot.held }
 {
     *moment = 0;
     let Some(held) = meter.take(alloc) else {
-        return Outcome::NotOpen.code();
+        return CallResult::NotOpen.code();
     };
     let last = held.last_moment();
     meter.put(held);
@@ -77,11 +77,11 @@ fn moment_or_zero(last: Option<u32>) -> u32
     }
 }
 
-fn moment_outcome(last: Option<u32>) -> Outcome
+fn moment_outcome(last: Option<u32>) -> CallResult
     ensures { result ≡ tells_moment last }
 {
     match last {
-        Some(_) => Outcome::Done,
-        None => Outcome::NoMoment,
+        Some(_) => CallResult::Done,
+        None => CallResult::NoMoment,
     }
 }

@@ -2,9 +2,9 @@
 ghost use Rattle.std.specs.Prelude.{◌≡◌};
 ghost use Rattle.meter.specs.Exports.{OnOpen, ResumesTo, ResumedTo, ExportedTo, WritesBy};
 
-use crate::handle::Meter;
+use crate::handle::MeterHandle;
 use crate::opening::are_fit;
-use crate::outcome::Outcome;
+use crate::outcome::CallResult;
 use cosem_axdr::Octets;
 use std::alloc::{AllocError, Global};
 use supply_meter::{SupplyMeter, TraceFault};
@@ -13,7 +13,7 @@ use supply_meter::{SupplyMeter, TraceFault};
 #[unsafe(no_mangle)]
 pub extern "C" fn meter_resume(
     alloc: Global,
-    meter: &mut Meter,
+    meter: &mut MeterHandle,
     trace: &[u8],
     password: &[u8],
     kept_events: u16,
@@ -27,39 +27,39 @@ pub extern "C" fn meter_resume(
 // Opens a meter that continues from the end of a trace, unless the handle holds one.
 fn resume(
     alloc: Global,
-    meter: &mut Meter,
+    meter: &mut MeterHandle,
     trace: &[u8],
     password: &[u8],
     kept_events: u16,
-) -> Outcome
+) -> CallResult
     ensures { ResumesTo trace.now password.now kept_events meter.old.slot.held result
         meter.new.slot.held }
 {
     if let Some(held) = meter.take(alloc) {
         meter.put(held);
-        return Outcome::IsOpen;
+        return CallResult::IsOpen;
     }
     if !are_fit(&[0], password, kept_events) {
-        return Outcome::WrongArgument;
+        return CallResult::WrongArgument;
     }
     let password = match Octets::from_slice(alloc, password) {
         Ok(password) => password,
-        Err(_) => return Outcome::NoMemory,
+        Err(_) => return CallResult::NoMemory,
     };
     match SupplyMeter::resume(alloc, trace, &password, kept_events) {
         Ok(resumed) => match Box::new(alloc, resumed) {
             Ok(held) => {
                 meter.put(held);
-                Outcome::Done
+                CallResult::Done
             }
             Err(failed) => {
                 drop(failed);
-                Outcome::NoMemory
+                CallResult::NoMemory
             }
         },
-        Err(TraceFault::Memory) => Outcome::NoMemory,
-        Err(TraceFault::Line(_)) => Outcome::WrongArgument,
-        Err(TraceFault::TooLong) => Outcome::WrongArgument,
+        Err(TraceFault::Memory) => CallResult::NoMemory,
+        Err(TraceFault::Line(_)) => CallResult::WrongArgument,
+        Err(TraceFault::TooLong) => CallResult::WrongArgument,
     }
 }
 
@@ -67,7 +67,7 @@ fn resume(
 #[unsafe(no_mangle)]
 pub extern "C" fn meter_export(
     alloc: Global,
-    meter: &mut Meter,
+    meter: &mut MeterHandle,
     text: &mut [u8],
     length: &mut usize,
 ) -> u32
@@ -77,7 +77,7 @@ pub extern "C" fn meter_export(
 {
     *length = 0;
     let Some(held) = meter.take(alloc) else {
-        return Outcome::NotOpen.code();
+        return CallResult::NotOpen.code();
     };
     let exported = held.export(alloc);
     meter.put(held);
@@ -86,7 +86,7 @@ pub extern "C" fn meter_export(
 
 // Copies a text to the buffer if it fits. `length` is the length of the text if it was copied or
 // does not fit, else 0.
-fn write_text(exported: Result<Octets, AllocError>, text: &mut [u8], length: &mut usize) -> Outcome
+fn write_text(exported: Result<Octets, AllocError>, text: &mut [u8], length: &mut usize) -> CallResult
     requires { length.old ≡ 0 }
     ensures { WritesBy exported text.old text.new length.new result }
 {
@@ -95,11 +95,11 @@ fn write_text(exported: Result<Octets, AllocError>, text: &mut [u8], length: &mu
             let count = bytes.len();
             *length = count;
             if text.len() < count {
-                return Outcome::NoRoom;
+                return CallResult::NoRoom;
             }
             text[..count].copy_from_slice(bytes.as_slice());
-            Outcome::Done
+            CallResult::Done
         }
-        Err(_) => Outcome::NoMemory,
+        Err(_) => CallResult::NoMemory,
     }
 }

@@ -54,7 +54,7 @@ impl<R: Wait + Drop + Send> ButtonSource for ConsolePresses<R> {
 
 /// The sources that the workers read. Each ends once the console's channels are dropped.
 #[derive(Drop)]
-pub struct Sources<R> {
+pub struct ConsoleSources<R> {
     pub blocks: ConsoleBlocks<R>,
     pub moments: ConsoleMoments<R>,
     pub presses: ConsolePresses<R>,
@@ -130,7 +130,7 @@ pub(crate) type WorkerChannels<R> = Channels<Sending<R, Block>, Sending<R, u32>,
 pub(crate) fn open_channels<R: Wait + Copy>(
     rt: &R,
     alloc: Global,
-) -> Result<(WorkerChannels<R>, Sources<R>), AllocError> {
+) -> Result<(WorkerChannels<R>, ConsoleSources<R>), AllocError> {
     let (to_blocks, blocks) = bounded(alloc, MAX_WAITING)?;
     let (to_moments, moments) = bounded(alloc, MAX_WAITING)?;
     let (to_presses, presses) = bounded(alloc, MAX_WAITING)?;
@@ -149,7 +149,7 @@ pub(crate) fn open_channels<R: Wait + Copy>(
             sender: to_presses,
         },
     };
-    let sources = Sources {
+    let sources = ConsoleSources {
         blocks: ConsoleBlocks { rt, blocks },
         moments: ConsoleMoments { rt, moments },
         presses: ConsolePresses { rt, presses },

@@ -1,5 +1,5 @@
 //! The console: the buffer for its lines, and the channels to the meter's own workers.
-use crate::channels::{Sources, WorkerChannels, open_channels};
+use crate::channels::{ConsoleSources, WorkerChannels, open_channels};
 use crate::lines::LineBuffer;
 use crate::running::{ConsoleEnd, run_console};
 use std::alloc::{AllocError, Global};
@@ -16,7 +16,7 @@ pub struct Console<R> {
 impl<R: Wait + Copy + Drop> Console<R> {
     /// Returns a console, and the sources that it feeds. Allocates all their memory, except that of
     /// the events.
-    pub fn new(rt: &R, alloc: Global) -> Result<(Console<R>, Sources<R>), AllocError> {
+    pub fn new(rt: &R, alloc: Global) -> Result<(Console<R>, ConsoleSources<R>), AllocError> {
         let buffer = LineBuffer::new(alloc)?;
         let (channels, sources) = open_channels(rt, alloc)?;
         Ok((Console { buffer, channels }, sources))

@@ -13,7 +13,7 @@ mod reading;
 mod running;
 mod sink;
 
-pub use channels::{ConsoleBlocks, ConsoleMoments, ConsolePresses, Sources};
+pub use channels::{ConsoleBlocks, ConsoleMoments, ConsolePresses, ConsoleSources};
 pub use console::Console;
 pub use line_event::console_event;
 pub use lines::LineBuffer;

@@ -34,7 +34,7 @@ impl ConsoleEnd {
 
 // The result of one line.
 #[derive(Clone, Copy, Debug, PartialEq, Eq, Drop)]
-enum Step {
+enum LineResult {
     // Its event was passed on, or it has none.
     Passed,
     // The line was lost: out of memory.
@@ -66,28 +66,28 @@ fn pass_line<B: BufRead, S: EventSink>(
     input: &mut B,
     line: &mut Vec<u8>,
     sink: &mut S,
-) -> Step
+) -> LineResult
     requires room { 8192 ≤ vec_capacity line.old }
     ensures room { 8192 ≤ vec_capacity line.new }
-    ensures passed { result ≡ Step.Passed
+    ensures passed { result ≡ LineResult.Passed
         → Hands (B.remaining input.old) (S.taken sink.old) 0 (B.remaining input.new)
         (S.taken sink.new) }
-    ensures lost { result ≡ Step.Lost
+    ensures lost { result ≡ LineResult.Lost
         → Hands (B.remaining input.old) (S.taken sink.old) 1 (B.remaining input.new)
         (S.taken sink.new) }
-    ensures end { result ≡ Step.End → (bytes : List ℕ) → B.remaining input.old ≡ Some bytes
+    ensures end { result ≡ LineResult.End → (bytes : List ℕ) → B.remaining input.old ≡ Some bytes
         → lines_in bytes ≡ [] }
-    ensures end_taken { result ≡ Step.End → S.taken sink.new ≡ S.taken sink.old }
-    ensures failed { result ≡ Step.Failed → S.taken sink.new ≡ S.taken sink.old }
+    ensures end_taken { result ≡ LineResult.End → S.taken sink.new ≡ S.taken sink.old }
+    ensures failed { result ≡ LineResult.Failed → S.taken sink.new ≡ S.taken sink.old }
 {
     match next_line(input, line) {
         NextLine::Whole => match hand_line(alloc, line.as_slice(), sink) {
-            Ok(()) => Step::Passed,
-            Err(_) => Step::Lost,
+            Ok(()) => LineResult::Passed,
+            Err(_) => LineResult::Lost,
         },
-        NextLine::TooLong => Step::Passed,
-        NextLine::End => Step::End,
-        NextLine::Failed => Step::Failed,
+        NextLine::TooLong => LineResult::Passed,
+        NextLine::End => LineResult::End,
+        NextLine::Failed => LineResult::Failed,
     }
 }
 
@@ -122,18 +122,18 @@ pub fn run_console<B: BufRead, S: EventSink, E: Eprint>(
     let mut lost: u64 = 0;
     'lines: for number in 1..u64::MAX {
         match pass_line(alloc, input, &mut line, sink) {
-            Step::Passed => {}
-            Step::Lost => {
+            LineResult::Passed => {}
+            LineResult::Lost => {
                 lost += 1;
                 report_lost(errors, number);
             }
-            Step::End => {
+            LineResult::End => {
                 return ConsoleEnd {
                     has_failed: false,
                     lost,
                 };
             }
-            Step::Failed => {
+            LineResult::Failed => {
                 report_failure(errors);
                 break 'lines;
             }

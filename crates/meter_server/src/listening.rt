@@ -10,7 +10,7 @@ use cosem_axdr::Octets;
 use kept_meter::Kept;
 use session_core::SessionEnd;
 use session_serving::ServeFault;
-use session_threads::{Connection, Incoming, ListenFault};
+use session_threads::{PortConnection, Arrival, ListenFault};
 use std::alloc::Global;
 use std::io::{Read, Write};
 use std::net::TcpStream;
@@ -53,15 +53,15 @@ pub trait Listener {
 
 // An accepted client.
 #[derive(Drop)]
-pub(crate) struct Client<I, O> {
+pub(crate) struct AcceptedClient<I, O> {
     input: I,
     output: O,
     password: Octets,
     ghost sized: { IsPassword password },
 }
 
-impl<I: Read + Drop + Send, O: Write + Observer + Drop + Send> Connection<Port<Kept>>
-    for Client<I, O> {
+impl<I: Read + Drop + Send, O: Write + Observer + Drop + Send> PortConnection<Port<Kept>>
+    for AcceptedClient<I, O> {
     ghost use Rattle.turn_lock.specs.Shown.{IsSame};
     ghost use Rattle.meter_server.specs.Sessions.{AsksThrough};
 
@@ -70,7 +70,7 @@ impl<I: Read + Drop + Send, O: Write + Observer + Drop + Send> Connection<Port<K
     ghost hands_back = { λ password p q. IsSame p q × AsksThrough password p q };
 
     fn serve<W: Wait>(self, rt: &W, alloc: Global, port: Port<Kept>) -> Port<Kept> {
-        let Client {
+        let AcceptedClient {
             input,
             output,
             password,
@@ -89,22 +89,22 @@ fn prepare_client<I: Drop, O: Drop>(
     alloc: Global,
     streams: Option<(I, O)>,
     password: &Octets,
-) -> Incoming<Client<I, O>>
+) -> Arrival<AcceptedClient<I, O>>
     requires { IsPassword password.now }
     ensures password { IfReady (λ client. client.password ≡ password.now) result }
-    ensures some { IfSome streams (λ _. result ≢ Incoming.SetupFailed) }
-    ensures none { IfNone streams (result ≡ Incoming.SetupFailed) }
+    ensures some { IfSome streams (λ _. result ≢ Arrival.SetupFailed) }
+    ensures none { IfNone streams (result ≡ Arrival.SetupFailed) }
 {
     let Some((input, output)) = streams else {
-        return Incoming::SetupFailed;
+        return Arrival::SetupFailed;
     };
     match password.try_clone(alloc) {
-        Ok(password) => Incoming::Ready(Client {
+        Ok(password) => Arrival::Ready(AcceptedClient {
             input,
             output,
             password,
         }),
-        Err(_) => Incoming::OutOfMemory,
+        Err(_) => Arrival::OutOfMemory,
     }
 }
 
@@ -116,8 +116,8 @@ pub(crate) struct Clients<'a, 'b, L> {
     ghost sized: { IsPassword password.now },
 }
 
-impl<'a, 'b, L: Listener> session_threads::Listener<Port<Kept>> for Clients<'a, 'b, L> {
-    type Connection = Client<L::Input, L::Output>;
+impl<'a, 'b, L: Listener> session_threads::ConnectionSource<Port<Kept>> for Clients<'a, 'b, L> {
+    type Connection = AcceptedClient<L::Input, L::Output>;
 
     ghost has_failed = { λ clients. L.has_failed clients.listener.now };
 
@@ -127,7 +127,7 @@ impl<'a, 'b, L: Listener> session_threads::Listener<Port<Kept>> for Clients<'a, 
 
     ghost borrowed = { λ clients. Some clients.listener.ghost_name };
 
-    fn accept(&mut self, alloc: Global) -> Result<Incoming<Self::Connection>, ListenFault> {
+    fn accept(&mut self, alloc: Global) -> Result<Arrival<Self::Connection>, ListenFault> {
         let streams = self.listener.accept()?;
         Ok(prepare_client(alloc, streams, self.password))
     }

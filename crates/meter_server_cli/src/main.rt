@@ -21,7 +21,7 @@ use std::process::ExitCode;
 
 // The next step after the command line is read.
 #[derive(Drop)]
-enum Next {
+enum ServerCommand {
     // Nothing more to do; exit with this status.
     Ended(u8),
     // Serve clients.
@@ -51,25 +51,25 @@ fn run_hex(rt: &HostRuntime, options: &HexOptions) -> Result<(), Fault> {
 }
 
 // Reads the command line and performs its work, up to the first client of a server.
-fn begin(rt: &HostRuntime) -> Result<Next, Fault> {
+fn begin(rt: &HostRuntime) -> Result<ServerCommand, Fault> {
     match asked(rt)? {
-        Work::Nothing(status) => Ok(Next::Ended(status)),
+        Work::Nothing(status) => Ok(ServerCommand::Ended(status)),
         Work::Apdu(is_verbose) => {
             run_apdu(rt, is_verbose)?;
-            Ok(Next::Ended(0))
+            Ok(ServerCommand::Ended(0))
         }
         Work::Hex(options) => {
             run_hex(rt, &options)?;
-            Ok(Next::Ended(0))
+            Ok(ServerCommand::Ended(0))
         }
-        Work::Serve(options) => Ok(Next::Serve(serving::begun(rt, &options)?)),
+        Work::Serve(options) => Ok(ServerCommand::Serve(serving::begun(rt, &options)?)),
     }
 }
 
 fn main(rt: HostRuntime) -> ExitCode {
     match begin(&rt) {
-        Ok(Next::Ended(status)) => ExitCode::from(status),
-        Ok(Next::Serve(server)) => ended(&rt, serving::run(&rt, &rt, server).map(|()| 0)),
+        Ok(ServerCommand::Ended(status)) => ExitCode::from(status),
+        Ok(ServerCommand::Serve(server)) => ended(&rt, serving::run(&rt, &rt, server).map(|()| 0)),
         Err(fault) => ended(&rt, Err(fault)),
     }
 }

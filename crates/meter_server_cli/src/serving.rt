@@ -7,14 +7,14 @@ ghost use Rattle.meter_server_cli.specs.Endings.{PrintsText};
 use crate::ending::{Ends, print_trace, run_fault};
 use crate::messages::{why_not_listening, why_wrong_input};
 use byte_streams::Monitored;
-use client_sockets::{Closing, Limits, Sockets, Stopped};
+use client_sockets::{Closing, StreamLimits, Sockets, Stopped};
 use cosem_axdr::Octets;
-use meter_console::{Console, ConsoleEnd, Reading, Sources as ConsoleSources};
+use meter_console::{Console, ConsoleEnd, Reading, ConsoleSources};
 use meter_run::{MeterRun, Sources, run_meter};
 use meter_server::{ServeFault, Served};
 use program_fault::Fault;
 use relay_recorder::Recorder;
-use serve_plan::{Plan, planned};
+use serve_plan::{ServePlan, planned};
 use server_options::{Bounds, ServeOptions};
 use std::alloc::Global;
 use std::io::{BufReader, Stdin, Write};
@@ -25,7 +25,7 @@ use std::thread::{JoinHandle, Threads};
 
 // The parameters of the clients.
 #[derive(Drop)]
-struct Meter {
+struct ClientParameters {
     // The password of the management client.
     password: Octets,
     // The number of connections to accept; 0 means no limit.
@@ -43,7 +43,7 @@ fn sockets_of(
     let Ok(theirs) = Arc::try_clone(&stopped) else {
         return Err(Fault::Memory);
     };
-    let limits = Limits::of_seconds(bounds.inactivity, bounds.session);
+    let limits = StreamLimits::of_seconds(bounds.inactivity, bounds.session);
     let sockets = Sockets::new(*rt, listener, limits, theirs, bounds.is_verbose);
     Ok((sockets, stopped))
 }
@@ -58,7 +58,7 @@ fn run_and_print<R: Threads + Wait + Copy + Drop + Send + 'static, W: Write>(
     sockets: &mut Sockets<HostRuntime>,
     sources: ConsoleSources<R>,
     recorder: Recorder,
-    meter: &Meter,
+    meter: &ClientParameters,
 ) -> (Result<Served, ServeFault>, Result<(), Fault>)
     requires unused { length recorder.events ≡ 0 }
     ensures { OnOk result.1
@@ -154,7 +154,7 @@ fn started<R: Threads + Wait + Copy + Drop + Send + 'static>(
 // A server that is ready to serve: the meter and the sockets for its clients.
 #[derive(Drop)]
 pub(crate) struct Server {
-    plan: Plan<Stdin>,
+    plan: ServePlan<Stdin>,
     listener: TcpListener,
     address: SocketAddr,
 }
@@ -219,7 +219,7 @@ pub(crate) fn run<R: Threads + Wait + Copy + Drop + Send + 'static>(
         listener,
         address,
     } = server;
-    let Plan {
+    let ServePlan {
         bounds,
         password,
         recorder,
@@ -227,7 +227,7 @@ pub(crate) fn run<R: Threads + Wait + Copy + Drop + Send + 'static>(
     } = plan;
     match started(rt, threads, bounds, input, listener, address) {
         Ok((mut sockets, sources, console)) => {
-            let meter = Meter {
+            let meter = ClientParameters {
                 password,
                 connections: bounds.connections,
             };

@@ -4,7 +4,7 @@ use Rattle.cosem_names.specs.declared.service.GetResult.{GetResult}
 use Rattle.cosem_names.specs.declared.service.GetResult.TheVariants as result
 use Rattle.relay_events.specs.declared.event.Event.{Event}
 use Rattle.relay_events.specs.declared.event.Event.TheVariants.{Get, GetList, Set, Execute, Button, Samples, Moment}
-use Rattle.relay_core.specs.declared.sampling.Firings.{Firings}
+use Rattle.relay_core.specs.declared.sampling.FiringCounts.{FiringCounts}
 use Rattle.relay_core.specs.Clock.{moment_after, at_moment}
 use Rattle.relay_core.specs.Machine.{reply_of, at_event}
 use Rattle.relay_events.specs.Kinds.{IsValueOrCode, IsOfSamples, IsOfClock, Fits}
@@ -16,7 +16,7 @@ value_fits : (r : GetResult) → IsValueOrCode (reply_of r)
 value_fits (result.Value value) = tt
 value_fits (result.Code code) = tt
 
-sampled_fits : (others : Option (List ℕ)) (firings : Firings) → IsOfSamples (sampled others firings)
+sampled_fits : (others : Option (List ℕ)) (firings : FiringCounts) → IsOfSamples (sampled others firings)
 sampled_fits None firings = tt
 sampled_fits (Some others) firings = tt
 

@@ -13,7 +13,7 @@ use Rattle.limiter_core.specs.Rows.{Row}
 use Rattle.limiter_core.specs.Settings.{Limits, limits_at, kind_of}
 use Rattle.limiter_core.specs.State.{State, limits_of, AreOfKind, IsQuiet, Keeps, rows_after}
 use Rattle.relay_core.specs.declared.relay.RelayCore.{RelayCore}
-use Rattle.relay_core.specs.declared.sampling.Firings.{Firings}
+use Rattle.relay_core.specs.declared.sampling.FiringCounts.{FiringCounts}
 use Rattle.relay_core.specs.Limiters.{metered_of, with_metered}
 use Rattle.relay_core.specs.Sampling.{Measurement, Metering, imports, pairs, with_sample, fire_at, after_fire, after_sample, counted, measured, after_samples}
 use Rattle.relay_core.specs.Stands.{StandsFor, MeteredStands}
@@ -150,17 +150,17 @@ pairs-append (v ∷ vs) ws (x ∷ xs) ys even =
     (pairs-append vs ws xs ys (omega (arith, even)))
 
 -- a core that took no samples
-pub takes_none : (core : RelayCore) (firings : Firings) → Takes core core firings firings []
+pub takes_none : (core : RelayCore) (firings : FiringCounts) → Takes core core firings firings []
 unfolding after_samples
 takes_none core firings = record { world = λ w stands. stands; firings = λ w stands. refl }
 
 -- a core that took samples and then more
-pub takes_on : (old now next : RelayCore) (f g h : Firings) (xs ys : List Measurement) → Takes old now f g xs → Takes now next g h ys
+pub takes_on : (old now next : RelayCore) (f g h : FiringCounts) (xs ys : List Measurement) → Takes old now f g xs → Takes now next g h ys
     → Takes old next f h (xs ++ ys)
 takes_on old now next f g h xs ys first later =
     let both : (w : World) → StandsFor old w → after_samples (xs ++ ys) (amid w f) ≡ after_samples ys (amid (after_samples xs (amid w f)).world g) =
     λ w stands. after_samples-append xs ys (amid w f)
-    ∙ ap (λ (i : Firings). after_samples ys (amid (after_samples xs (amid w f)).world i)) (sym (first.firings w stands)) in
+    ∙ ap (λ (i : FiringCounts). after_samples ys (amid (after_samples xs (amid w f)).world i)) (sym (first.firings w stands)) in
     record {
       world = λ w stands. subst (λ (m : Metering). StandsFor next m.world) (sym (both w stands))
           (later.world (after_samples xs (amid w f)).world (first.world w stands));
@@ -168,7 +168,7 @@ takes_on old now next f g h xs ys first later =
     }
 
 -- the samples of further values, and of further pairs
-pub takes_values_on : (old now next : RelayCore) (f g h : Firings) (values : List ℕ) (at n : ℕ) → Takes old now f g (imports (take at values))
+pub takes_values_on : (old now next : RelayCore) (f g h : FiringCounts) (values : List ℕ) (at n : ℕ) → Takes old now f g (imports (take at values))
     → Takes now next g h (imports (take n (drop at values))) → Takes old next f h (imports (take (at + n) values))
 takes_values_on old now next f g h values at n first later =
     subst (Takes old next f h) (sym (ap imports (take-add at n values) ∙ imports-append (take at values) (take n (drop at values))))
@@ -181,7 +181,7 @@ even_take (suc n) [] (x ∷ xs) even = absurd (omega (arith, even))
 even_take (suc n) (v ∷ vs) [] even = absurd (omega (arith, even))
 even_take (suc n) (v ∷ vs) (x ∷ xs) even = ap suc (even_take n vs xs (omega (arith, even)))
 
-pub takes_pairs_on : (old now next : RelayCore) (f g h : Firings) (values others : List ℕ) (at n : ℕ) → length others ≡ length values
+pub takes_pairs_on : (old now next : RelayCore) (f g h : FiringCounts) (values others : List ℕ) (at n : ℕ) → length others ≡ length values
     → Takes old now f g (pairs (take at values) (take at others))
     → Takes now next g h (pairs (take n (drop at values)) (take n (drop at others)))
     → Takes old next f h (pairs (take (at + n) values) (take (at + n) others))
@@ -195,7 +195,7 @@ takes_pairs_on old now next f g h values others at n even first later =
     (takes_on old now next f g h (pairs (take at values) (take at others)) (pairs (take n (drop at values)) (take n (drop at others))) first later)
 
 -- a core that took one sample
-pub takes_one : (old next : RelayCore) (f g : Firings) (x : Measurement) (fire : Fire)
+pub takes_one : (old next : RelayCore) (f g : FiringCounts) (x : Measurement) (fire : Fire)
     → ((w : World) → StandsFor old w → StandsFor next (after_sample x w))
     → ((w : World) → StandsFor old w → fire ≡ fire_at x w)
     → g ≡ counted x.which fire f → Takes old next f g (x ∷ [])
@@ -206,7 +206,7 @@ takes_one old next f g x fire goes fires is = record {
 }
 
 -- a bound on the firings also holds with a larger bound
-pub at_most_more : (n m : ℕ) (firings : Firings) → n ≤ m → AreAtMost n firings → AreAtMost m firings
+pub at_most_more : (n m : ℕ) (firings : FiringCounts) → n ≤ m → AreAtMost n firings → AreAtMost m firings
 at_most_more n m firings more most = record {
   import_over = omega (arith, more, most.import_over);
   import_under = omega (arith, more, most.import_under);
@@ -215,7 +215,7 @@ at_most_more n m firings more most = record {
 }
 
 -- a sample that fires nothing
-pub measured-quiet : (x : Measurement) (w : World) (firings : Firings) → fire_at x w ≡ Quiet
+pub measured-quiet : (x : Measurement) (w : World) (firings : FiringCounts) → fire_at x w ≡ Quiet
     → measured x (amid w firings) ≡ amid (with_metered x.which (with_sample w.moment x.value (metered_of x.which w)) w) firings
 unfolding measured after_sample after_fire counted
 measured-quiet x w firings quiet =
@@ -226,7 +226,7 @@ measured-quiet x w firings quiet =
     ap go quiet
 
 -- import values that fire nothing
-pub quiet_values : (values : List ℕ) (w : World) (firings : Firings) → IsQuiet (limits_at w.import.settings w.moment) values w.import.rows
+pub quiet_values : (values : List ℕ) (w : World) (firings : FiringCounts) → IsQuiet (limits_at w.import.settings w.moment) values w.import.rows
     → after_samples (imports values) (amid w firings) ≡ amid (record w { import = metered_after w.moment values w.import }) firings
 unfolding after_samples fire_at
 quiet_values [] w firings quiet = refl
@@ -235,7 +235,7 @@ quiet_values (value ∷ values) w firings quiet =
     ∙ quiet_values values (record w { import = with_sample w.moment value w.import }) firings quiet.1
 
 -- pairs that fire nothing
-pub quiet_pairs : (values others : List ℕ) (w : World) (firings : Firings) → length values ≡ length others
+pub quiet_pairs : (values others : List ℕ) (w : World) (firings : FiringCounts) → length values ≡ length others
     → IsQuiet (limits_at w.import.settings w.moment) values w.import.rows → IsQuiet (limits_at w.export.settings w.moment) others w.export.rows
     → after_samples (pairs values others) (amid w firings)
     ≡ amid (record w { import = metered_after w.moment values w.import; export = metered_after w.moment others w.export }) firings
@@ -256,7 +256,7 @@ pub skipped_values : (old : RelayCore) (limiter : State) (values : List ℕ) (na
     → limiter.settings ≡ old.import.settings → limiter.moment ≡ old.import.moment → limiter.last ≡ get_or values (length values - 1) 0
     → ((rows : List Row) → Keeps old.import rows → Keeps limiter (rows_after (limits_of old.import) values rows))
     → ((rows : List Row) → Keeps old.import rows → IsQuiet (limits_of old.import) values rows)
-    → (firings : Firings) → Takes old (record old { import = limiter; named = named; one_clock = clock }) firings firings (imports values)
+    → (firings : FiringCounts) → Takes old (record old { import = limiter; named = named; one_clock = clock }) firings firings (imports values)
 skipped_values old limiter values named clock some settings moment last keeps quiet firings =
     let new : RelayCore = record old { import = limiter; named = named; one_clock = clock } in
     let after : (w : World) → StandsFor old w
@@ -288,7 +288,7 @@ pub skipped_pairs : (old : RelayCore) (import export : State) (values others : L
     → ((rows : List Row) → Keeps old.export rows → Keeps export (rows_after (limits_of old.export) others rows))
     → ((rows : List Row) → Keeps old.import rows → IsQuiet (limits_of old.import) values rows)
     → ((rows : List Row) → Keeps old.export rows → IsQuiet (limits_of old.export) others rows)
-    → (firings : Firings) → Takes old (record old { import = import; export = export; named = named; one_clock = clock }) firings firings (pairs values others)
+    → (firings : FiringCounts) → Takes old (record old { import = import; export = export; named = named; one_clock = clock }) firings firings (pairs values others)
 skipped_pairs old import export values others named clock some even settings moment last other_settings other_moment other_last keeps other_keeps quiet other_quiet firings =
     let new : RelayCore = record old { import = import; export = export; named = named; one_clock = clock } in
     let after : (w : World) → StandsFor old w

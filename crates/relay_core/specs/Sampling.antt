@@ -11,7 +11,7 @@ use Rattle.limiter_core.specs.Rows.{fire_of}
 use Rattle.limiter_core.specs.Settings.{limits_at, row_of}
 use Rattle.relay_events.specs.declared.reply.Reply.{Reply}
 use Rattle.relay_events.specs.declared.reply.Reply.TheVariants.{Sampled, SampledBoth}
-use Rattle.relay_core.specs.declared.sampling.Firings.{Firings}
+use Rattle.relay_core.specs.declared.sampling.FiringCounts.{FiringCounts}
 use Rattle.relay_core.specs.declared.scripts.Origin.TheVariants.{Local}
 use Rattle.relay_core.specs.Limiters.{metered_of, with_metered}
 use Rattle.relay_core.specs.Scripts.{at_script}
@@ -65,11 +65,11 @@ after_sample x w =
     (with_metered x.which (with_sample w.moment x.value (metered_of x.which w)) w)
 
 -- the counts before the first sample: no side has fired
-abbrev pub no_firings : Firings
+abbrev pub no_firings : FiringCounts
 no_firings = record { import_over = 0; import_under = 0; export_over = 0; export_under = 0 }
 
 -- the counts with one more firing
-unfoldable pub counted : Which → Fire → Firings → Firings
+unfoldable pub counted : Which → Fire → FiringCounts → FiringCounts
 counted which Quiet firings = firings
 counted Import Over firings = record firings { import_over = firings.import_over + 1 }
 counted Import Under firings = record firings { import_under = firings.import_under + 1 }
@@ -79,7 +79,7 @@ counted Export Under firings = record firings { export_under = firings.export_un
 -- The world during a block of samples, and how often each side has fired in that block.
 pub record Metering : Type 0 where
   pub world : World
-  pub firings : Firings
+  pub firings : FiringCounts
 
 -- the metering after one more sample, and below, after several
 unfoldable pub measured : Measurement → Metering → Metering
@@ -93,7 +93,7 @@ after_samples [] m = m
 after_samples (x ∷ xs) m = after_samples xs (measured x m)
 
 -- the reply to a block: how often each side fired, for one limiter or for both
-abbrev pub sampled : Option (List ℕ) → Firings → Reply
+abbrev pub sampled : Option (List ℕ) → FiringCounts → Reply
 sampled None firings = Sampled firings.import_over firings.import_under
 sampled (Some others) firings =
     SampledBoth firings.import_over firings.import_under firings.export_over firings.export_under

@@ -1,24 +1,24 @@
 -- The effect of samples on a core.
 use Rattle.std.specs.Prelude.{◌≡◌, ℕ, ◌≤◌, List}
 use Rattle.relay_core.specs.declared.relay.RelayCore.{RelayCore}
-use Rattle.relay_core.specs.declared.sampling.Firings.{Firings}
+use Rattle.relay_core.specs.declared.sampling.FiringCounts.{FiringCounts}
 use Rattle.relay_core.specs.Sampling.{Measurement, Metering, after_samples}
 use Rattle.relay_core.specs.Stands.{StandsFor}
 use Rattle.relay_core.specs.World.{World}
 
 -- the metering of a world and the firings so far
-abbrev pub amid : World → Firings → Metering
+abbrev pub amid : World → FiringCounts → Metering
 amid w firings = record { world = w; firings = firings }
 
 -- A core took samples: for every world that it represented, it represents the world after the
 -- samples, and their firings were counted.
-pub record Takes (old new : RelayCore) (before after : Firings) (xs : List Measurement) : Type 0
+pub record Takes (old new : RelayCore) (before after : FiringCounts) (xs : List Measurement) : Type 0
   where
     pub world : (w : World) → StandsFor old w → StandsFor new (after_samples xs (amid w before)).world
     pub firings : (w : World) → StandsFor old w → after ≡ (after_samples xs (amid w before)).firings
 
 -- No side has fired more than `n` times.
-pub record AreAtMost (n : ℕ) (firings : Firings) : Type 0 where
+pub record AreAtMost (n : ℕ) (firings : FiringCounts) : Type 0 where
   pub import_over : firings.import_over ≤ n
   pub import_under : firings.import_under ≤ n
   pub export_over : firings.export_over ≤ n

@@ -16,20 +16,20 @@ use relay_events::Reply;
 
 // The number of times that each side of each limiter has fired in a block.
 #[derive(Clone, Copy, Debug)]
-pub(crate) struct Firings {
+pub(crate) struct FiringCounts {
     pub(crate) import_over: u16,
     pub(crate) import_under: u16,
     pub(crate) export_over: u16,
     pub(crate) export_under: u16,
 }
 
-impl Firings {
+impl FiringCounts {
     // Returns the counts before the first sample of a block: all 0.
-    fn none() -> Firings
+    fn none() -> FiringCounts
         ensures firings { result ≡ no_firings }
         ensures none { AreAtMost 0 result }
     {
-        Firings {
+        FiringCounts {
             import_over: 0,
             import_under: 0,
             export_over: 0,
@@ -98,12 +98,12 @@ impl RelayCore {
 
     // Takes import samples only, and counts the firings. A scan is used while its threshold is the
     // active one.
-    fn take_values(&mut self, values: &[u32], scan: Option<Scan>) -> Firings
+    fn take_values(&mut self, values: &[u32], scan: Option<Scan>) -> FiringCounts
         requires few { length values.now ≤ 256 }
         requires right { IfSome scan (IsRightScan values.now) }
         ensures { Takes self.old self.new no_firings result (imports values.now) }
     {
-        let mut firings = Firings::none();
+        let mut firings = FiringCounts::none();
         let mut scan = scan_at(scan, values, self.import.threshold());
         let mut at = 0;
         'samples: while at < values.len() {
@@ -121,14 +121,14 @@ impl RelayCore {
         others: &[u32],
         scan: Option<Scan>,
         other_scan: Option<Scan>,
-    ) -> Firings
+    ) -> FiringCounts
         requires few { length values.now ≤ 256 }
         requires even { length others.now ≡ length values.now }
         requires right { IfSome scan (IsRightScan values.now) }
         requires other_right { IfSome other_scan (IsRightScan others.now) }
         ensures { Takes self.old self.new no_firings result (pairs values.now others.now) }
     {
-        let mut firings = Firings::none();
+        let mut firings = FiringCounts::none();
         let mut scan = scan_at(scan, values, self.import.threshold());
         let mut other_scan = scan_at(other_scan, others, self.export.threshold());
         let mut at = 0;

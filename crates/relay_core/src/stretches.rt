@@ -3,12 +3,12 @@
 ghost use Rattle.std.specs.Prelude.{◌≡◌, ℕ, ◌+◌, ◌*◌, ◌<◌, ◌≤◌, length, take, drop, slice_index_or, IfSome};
 ghost use Rattle.lane_sampler.specs.Scans.{IsRightScan};
 ghost use Rattle.limiter_core.specs.State.{limits_of, AreOfKind, quiet_count};
-ghost use Rattle.relay_core.specs.declared.sampling.Firings.{Firings};
+ghost use Rattle.relay_core.specs.declared.sampling.FiringCounts.{FiringCounts};
 ghost use Rattle.relay_core.specs.Sampling.{imports, pairs};
 ghost use Rattle.relay_core.specs.Taking.{Takes, AreAtMost};
 
 use crate::relay::RelayCore;
-use crate::sampling::Firings;
+use crate::sampling::FiringCounts;
 use cosem_names::Which;
 use lane_sampler::{Scan, classify, run_from};
 use limiter_core::{Kind, Limiter};
@@ -82,7 +82,7 @@ impl RelayCore {
         requires some { 0 < length values.now }
         requires quiet { length values.now ≤ quiet_count kind self.old.import }
         requires kind { AreOfKind kind (limits_of self.old.import).threshold values.now }
-        ensures { (firings : Firings)
+        ensures { (firings : FiringCounts)
             → Takes self.old self.new firings firings (imports values.now) }
     {
         let last = values[values.len() - 1];
@@ -99,7 +99,7 @@ impl RelayCore {
         requires kind { AreOfKind kind (limits_of self.old.import).threshold values.now }
         requires other_kind { AreOfKind other_kind (limits_of self.old.export).threshold
             others.now }
-        ensures { (firings : Firings)
+        ensures { (firings : FiringCounts)
             → Takes self.old self.new firings firings (pairs values.now others.now) }
     {
         let count = values.len();
@@ -115,7 +115,7 @@ impl RelayCore {
         values: &[u32],
         scan: &Scan,
         at: usize,
-        firings: &mut Firings,
+        firings: &mut FiringCounts,
     ) -> usize
         requires few { length values.now ≤ 256 }
         requires within { at < length values.now }
@@ -148,7 +148,7 @@ impl RelayCore {
         scan: &Scan,
         other_scan: &Scan,
         at: usize,
-        firings: &mut Firings,
+        firings: &mut FiringCounts,
     ) -> usize
         requires few { length values.now ≤ 256 }
         requires even { length others.now ≡ length values.now }

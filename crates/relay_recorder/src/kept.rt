@@ -14,12 +14,12 @@ use std::marker::Model;
 // A kept event with the owned values that it writes. They were decoded when the event arrived, so
 // that the opening core can take it later without allocating.
 #[derive(Debug, Drop)]
-pub(crate) struct Kept {
+pub(crate) struct RecordedEvent {
     event: Event,
     parts: Parts,
 }
 
-impl Model for Kept {
+impl Model for RecordedEvent {
     ghost use Rattle.std.specs.Prelude.{◌≡◌};
     ghost use Rattle.relay_events.specs.contracts.event.Event as event_row;
     ghost use Rattle.relay_events.specs.declared.event.Event.{Event};
@@ -34,13 +34,13 @@ impl Model for Kept {
     ghost invariant = { λ kept. kept.parts ≡ parts_of kept.event };
 }
 
-impl Kept {
+impl RecordedEvent {
     // Returns the event with its owned values.
-    pub(crate) fn new(event: Event, parts: Parts) -> Kept
+    pub(crate) fn new(event: Event, parts: Parts) -> RecordedEvent
         requires { parts ≡ parts_of event }
         ensures { result ≡ event }
     {
-        Kept { event, parts }
+        RecordedEvent { event, parts }
     }
 
     // Returns the event.
@@ -55,18 +55,18 @@ impl Kept {
         ensures { (w : World) → StandsFor core.old w
             → StandsFor core.new (world_after (self ∷ []) w) }
     {
-        let Kept { event, parts } = self;
+        let RecordedEvent { event, parts } = self;
         core.advance(&event, parts);
         drop(event);
     }
 }
 
 // The kept events, oldest first.
-pub(crate) type Ring = HeapCircularBuffer<Kept>;
+pub(crate) type Ring = HeapCircularBuffer<RecordedEvent>;
 
 // Appends an event to the ring. If the ring is full, removes the oldest and applies it to the
 // opening core.
-pub(crate) fn keep(ring: &mut Ring, opening: &mut RelayCore, newest: Kept)
+pub(crate) fn keep(ring: &mut Ring, opening: &mut RelayCore, newest: RecordedEvent)
     requires { length ring.old.items ≤ ring.old.capacity }
     ensures ring { ring.new
         ≡ buffer (keep_last ring.old.capacity (ring.old.items ++ newest ∷ [])) ring.old.capacity }

@@ -9,7 +9,7 @@ ghost use Rattle.relay_core.specs.World.{World, IsDeviceName, new_world};
 ghost use Rattle.relay_recorder.specs.Histories.{StandsForHistory, HasHistory, Continues};
 ghost use Rattle.relay_recorder.specs.Replaying.{Replays};
 
-use crate::kept::{Kept, Ring, keep};
+use crate::kept::{RecordedEvent, Ring, keep};
 use crate::trace::Trace;
 use circular_buffer::HeapCircularBuffer;
 use cosem_axdr::Octets;
@@ -106,7 +106,7 @@ impl Recorder {
     {
         let parts = RelayCore::parts(alloc, &event)?;
         let reply = self.core.step(alloc, &event)?;
-        keep(&mut self.kept, &mut self.opening, Kept::new(event, parts));
+        keep(&mut self.kept, &mut self.opening, RecordedEvent::new(event, parts));
         Ok(reply)
     }
 

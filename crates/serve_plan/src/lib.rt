@@ -4,4 +4,4 @@
 
 mod plan;
 
-pub use plan::{Plan, planned};
+pub use plan::{ServePlan, planned};

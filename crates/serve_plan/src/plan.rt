@@ -94,7 +94,7 @@ fn first_recorder<I: Read>(
 
 /// What to serve: the meter, and the lines of its console.
 #[derive(Drop)]
-pub struct Plan<I> {
+pub struct ServePlan<I> {
     /// The limits of the run.
     pub bounds: Bounds,
     /// The password of the management client.
@@ -117,7 +117,7 @@ pub fn planned<I: Read + Drop>(
     alloc: Global,
     input: I,
     options: &ServeOptions,
-) -> Result<Plan<I>, Fault>
+) -> Result<ServePlan<I>, Fault>
     ensures bounds { IfOk result (λ plan. plan.bounds ≡ options.now.bounds) }
     ensures password { IfOk result (λ plan. plan.password ≡ string_bytes options.now.password) }
     ensures capacity { IfOk result (λ plan. plan.recorder.capacity ≡ options.now.bounds.depth) }
@@ -140,7 +140,7 @@ pub fn planned<I: Read + Drop>(
         return Err(Fault::Memory);
     };
     match first_recorder(alloc, &device, bounds, &mut input) {
-        Ok(recorder) => Ok(Plan {
+        Ok(recorder) => Ok(ServePlan {
             bounds,
             password,
             recorder,

@@ -5,7 +5,7 @@ ghost use Rattle.relay_core.specs.Opening.{IsFitOpening};
 
 use byte_streams::Monitored;
 use meter_console::{
-    Console, ConsoleEnd, Ended, EventSink, LineBuffer, Reading, Sources, console_event,
+    Console, ConsoleEnd, Ended, EventSink, LineBuffer, Reading, ConsoleSources, console_event,
     run_console, start,
 };
 use meter_server::{BlockSource, ButtonSource, MomentSource};
@@ -234,8 +234,8 @@ impl Ended for Silent {
 }
 
 /// Returns whether each source gives what the three lines contain, and ends.
-fn are_right<R: Wait + Drop + Send>(sources: Sources<R>) -> bool {
-    let Sources {
+fn are_right<R: Wait + Drop + Send>(sources: ConsoleSources<R>) -> bool {
+    let ConsoleSources {
         mut blocks,
         mut moments,
         mut presses,

@@ -22,8 +22,8 @@ use Rattle.session_core.specs.declared.link.Link.{Link}
 use Rattle.session_core.specs.declared.next.Next.TheVariants as next
 use Rattle.session_core.specs.declared.session.Session.{Session}
 use Rattle.session_core.specs.declared.state.State.{State}
-use Rattle.session_core.specs.declared.step.Step.TheVariants as step
-use Rattle.session_core.specs.declared.task.Task.TheVariants.{Listen, Await, Send}
+use Rattle.session_core.specs.declared.step.TurnStep.TheVariants as step
+use Rattle.session_core.specs.declared.task.SessionTask.TheVariants.{Listen, Await, Send}
 use Rattle.wrapper_frame.specs.Header.{head_of, header_size, src_of, dst_of}
 use Rattle.wrapper_frame.specs.Messages.{first_frame, after_first}
 use Rattle.wrapper_frame.specs.Stream.{GoesOn}

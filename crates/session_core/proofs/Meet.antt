@@ -30,7 +30,7 @@ use Rattle.session_core.specs.declared.link.Link.{Link}
 use Rattle.session_core.specs.declared.state.State.{State}
 use Rattle.wrapper_frame.specs.Messages.{frames_of}
 use Rattle.wrapper_frame.specs.declared.parts.Frame.{Frame}
-use Rattle.xdlms_apdu.specs.declared.block.Block.{Block}
+use Rattle.xdlms_apdu.specs.declared.block.DataBlock.{DataBlock}
 use Rattle.xdlms_blocks.specs.Transfer.{Sending, Joining}
 
 -- ---- the association
@@ -84,7 +84,7 @@ last_by true incoming = refl
 last_by false incoming = refl
 
 -- the transfer after a block, by whether its number is right and whether it is too long
-added_by : (p : Purpose) (block : Block) (j : Joining) (right long : Bool)
+added_by : (p : Purpose) (block : DataBlock) (j : Joining) (right long : Bool)
     → after_by_fault p block j (if not right then Some WrongNumber else if long then Some TooLong else None)
     ≡ (if right && not block.last && not long then Some (record { purpose = p; blocks = after_added false block.raw j }) else None)
 added_by p block j false long = refl
@@ -95,7 +95,7 @@ added_by p block j true false = last_by block.last (Some (record { purpose = p; 
 abbrev too_long : List ℕ → Bool
 too_long bytes = nat_lt max_joined (length bytes)
 
-added : (p : Purpose) (block : Block) (n : ℕ) (bytes : List ℕ)
+added : (p : Purpose) (block : DataBlock) (n : ℕ) (bytes : List ℕ)
     → block_after p block (record { number = n; bytes = bytes; is_open = true })
     ≡ (if goes_on (n + 1) (Some block) && not (too_long (bytes ++ block.raw)) then going p (n + 1) (bytes ++ block.raw) else None)
 unfolding block_after
@@ -104,7 +104,7 @@ added p block n bytes =
     ∙ ap (λ (size : ℕ). if goes_on (n + 1) (Some block) && not (nat_lt max_joined size) then going p (n + 1) (bytes ++ block.raw) else None) (sym (length-append bytes block.raw))
 
 -- the transfer after a first request
-first_block : (p : Purpose) (block : Block) → incoming_by [] (record { purpose = p; block = block }) ≡ block_after p block no_blocks
+first_block : (p : Purpose) (block : DataBlock) → incoming_by [] (record { purpose = p; block = block }) ≡ block_after p block no_blocks
 first_block p block =
     ap (λ (b : Bool). if b && not (too_long block.raw) then going p 1 block.raw else None) (and_true (goes_on 1 (Some block)))
     ∙ sym (added p block 0 [])
@@ -114,7 +114,7 @@ longer : (bytes raw : List ℕ) → too_long bytes ≡ true → too_long (bytes 
 longer bytes raw e = let h = leb-true (max_joined + 1) (length bytes) e in le-leb (max_joined + 1) (length (bytes ++ raw)) (omega (arith, length-append bytes raw))
 
 -- the transfer after one more block of its service, by whether the bytes before were too many
-later_long : (K : Option Incoming → Option Incoming) (p : Purpose) (n : ℕ) (bytes : List ℕ) (block : Block) (long : Bool) → too_long bytes ≡ long
+later_long : (K : Option Incoming → Option Incoming) (p : Purpose) (n : ℕ) (bytes : List ℕ) (block : DataBlock) (long : Bool) → too_long bytes ≡ long
     → K None ≡ None → K (going p n bytes) ≡ block_after p block (record { number = n; bytes = bytes; is_open = true })
     → (if goes_on (n + 1) (Some block) && not (too_long (bytes ++ block.raw)) then going p (n + 1) (bytes ++ block.raw) else None) ≡ K (if not long then going p n bytes else None)
 later_long K p n bytes block true e none some =
@@ -123,7 +123,7 @@ later_long K p n bytes block true e none some =
     ∙ sym none
 later_long K p n bytes block false e none some = sym (added p block n bytes) ∙ sym some
 
-later_block : (K : Option Incoming → Option Incoming) (p : Purpose) (first others : Bool) (n : ℕ) (bytes : List ℕ) (block : Block)
+later_block : (K : Option Incoming → Option Incoming) (p : Purpose) (first others : Bool) (n : ℕ) (bytes : List ℕ) (block : DataBlock)
     → K None ≡ None → K (going p n bytes) ≡ block_after p block (record { number = n; bytes = bytes; is_open = true })
     → (if first && (others && goes_on (n + 1) (Some block)) && not (too_long (bytes ++ block.raw)) then going p (n + 1) (bytes ++ block.raw) else None)
     ≡ K (if first && others && not (too_long bytes) then going p n bytes else None)
@@ -141,7 +141,7 @@ other_block K next p true true true next_short n bytes none some = sym some
 other_block K next p true true false next_short n bytes none some = sym none
 
 -- the transfer after one more later request
-follows_block : (s : LongService) (block : Block) (later : List Role) (p : Purpose) (first : Block)
+follows_block : (s : LongService) (block : DataBlock) (later : List Role) (p : Purpose) (first : DataBlock)
     → incoming_by (follows s block ∷ later) (record { purpose = p; block = first }) ≡ later_after block (transfer_of s (incoming_by later (record { purpose = p; block = first })))
 follows_block service.Set block later (purpose.Set target) first =
     later_block (λ i. later_after block (transfer_of service.Set i)) (purpose.Set target) (goes_on 1 (Some first)) (in_order service.Set later) (blocks_so_far later)
@@ -156,7 +156,7 @@ follows_block service.Action block later (purpose.Action method) first =
     later_block (λ i. later_after block (transfer_of service.Action i)) (purpose.Action method) (goes_on 1 (Some first)) (in_order service.Action later) (blocks_so_far later)
     (joined_so_far service.Action first.raw later) block refl refl
 
-follows_more : (s : LongService) (block : Block) (later : List Role) (first : Option First)
+follows_more : (s : LongService) (block : DataBlock) (later : List Role) (first : Option First)
     → option_and_then (incoming_by (follows s block ∷ later)) first ≡ later_after block (transfer_of s (option_and_then (incoming_by later) first))
 follows_more service.Set block later None = refl
 follows_more service.Action block later None = refl

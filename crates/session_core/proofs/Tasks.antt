@@ -42,10 +42,10 @@ use Rattle.session_core.specs.declared.next.Next.{Next}
 use Rattle.session_core.specs.declared.next.Next.TheVariants as next
 use Rattle.session_core.specs.declared.session.Session.{Session}
 use Rattle.session_core.specs.declared.state.State.{State}
-use Rattle.session_core.specs.declared.step.Step.{Step}
-use Rattle.session_core.specs.declared.step.Step.TheVariants as step
-use Rattle.session_core.specs.declared.task.Task.{Task}
-use Rattle.session_core.specs.declared.task.Task.TheVariants.{Listen, Read, Await, Say, Send, Over}
+use Rattle.session_core.specs.declared.step.TurnStep.{TurnStep}
+use Rattle.session_core.specs.declared.step.TurnStep.TheVariants as step
+use Rattle.session_core.specs.declared.task.SessionTask.{SessionTask}
+use Rattle.session_core.specs.declared.task.SessionTask.TheVariants.{Listen, Read, Await, Say, Send, Over}
 use Rattle.wrapper_frame.specs.Header.{head_of, header_size, src_of, dst_of}
 use Rattle.wrapper_frame.specs.Messages.{frames_of, rest_of, first_frame, after_first}
 use Rattle.wrapper_frame.specs.Stream.{IsPart, Fronts, GoesOn, Stops, StopsBy}
@@ -54,7 +54,7 @@ use Rattle.wrapper_frame.specs.declared.fault.WrapperFault.TheVariants as fault
 use Rattle.wrapper_frame.specs.declared.header.Head.{Head}
 use Rattle.wrapper_frame.specs.declared.header.Head.TheVariants as head
 use Rattle.wrapper_frame.specs.declared.parts.Frame.{Frame}
-use Rattle.xdlms_apdu.specs.declared.block.Block.{Block}
+use Rattle.xdlms_apdu.specs.declared.block.DataBlock.{DataBlock}
 use Rattle.xdlms_apdu.specs.declared.invoke_id.InvokeId.{InvokeId}
 use Rattle.xdlms_apdu.specs.declared.request.Request.{Request}
 use Rattle.xdlms_apdu.specs.declared.response.Exception.TheVariants.{NotAllowed, Unknown}
@@ -86,7 +86,7 @@ read_whole joined reply =
       | None ↦ refl
     ]
 
-block_by : (link : Link) (id : InvokeId) (p : Purpose) (block : Block) (j : Joining) (reply : Option Reply) → None ≡ sending_with (block_outcome_of link id p block j) reply None
+block_by : (link : Link) (id : InvokeId) (p : Purpose) (block : DataBlock) (j : Joining) (reply : Option Reply) → None ≡ sending_with (block_outcome_of link id p block j) reply None
 unfolding block_outcome_of
 block_by link id p block j reply =
     elim (fault_of block j) as (λ f. None ≡ sending_with (outcome_by_fault link id p block j f) reply None) [
@@ -98,7 +98,7 @@ block_by link id p block j reply =
     last_by true = read_whole _ reply
     last_by false = refl
 
-later_by : (link : Link) (s : LongService) (id : InvokeId) (block : Block) (transfer : Option Incoming) (reply : Option Reply) → None ≡ sending_with (later_outcome link s id block transfer) reply None
+later_by : (link : Link) (s : LongService) (id : InvokeId) (block : DataBlock) (transfer : Option Incoming) (reply : Option Reply) → None ≡ sending_with (later_outcome link s id block transfer) reply None
 later_by link s id block None reply = refl
 later_by link s id block (Some incoming) reply = block_by link id incoming.purpose block incoming.blocks reply
 
@@ -183,7 +183,7 @@ awaited_texts : (password : List ℕ) (s : State) (event : Event) (asked : Asked
 awaited_texts password s event asked fs [] = refl
 awaited_texts password s event asked fs (reply ∷ replies) = refl
 
-step_texts : (password : List ℕ) (s : State) (st : Step) (fs : List Frame) (replies : List Reply)
+step_texts : (password : List ℕ) (s : State) (st : TurnStep) (fs : List Frame) (replies : List Reply)
     → texts_from password s (step_outcome st) fs replies ≡ texts_of password s (task_by st) fs replies
 step_texts password s (step.Ask event asked) fs replies = awaited_texts password s event asked fs replies
 step_texts password s (step.Say due) fs replies = refl
@@ -204,7 +204,7 @@ abbrev asked_in : Option Next → List Event
 asked_in None = []
 asked_in (Some next) = asked_by next
 
-step_asks : (password : List ℕ) (s : State) (st : Step) (fs : List Frame)
+step_asks : (password : List ℕ) (s : State) (st : TurnStep) (fs : List Frame)
     → option_to_list (event_of (step_outcome st)) ++ asks_on password (known_in s) fs ≡ asked_in (next_by st) ++ asks_of password s (task_by st) fs
 step_asks password s (step.Ask event asked) fs = refl
 step_asks password s (step.Say due) fs = refl
@@ -213,25 +213,25 @@ step_asks password s (step.Join joined) fs = refl
 -- ---- the tasks
 
 -- a session made of these parts
-abbrev session : List ℕ → List ℕ → Bool → State → Task → Session
+abbrev session : List ℕ → List ℕ → Bool → State → SessionTask → Session
 session password pending finished state task = record { password = password; deframer = pending; is_finished = finished; state = state; task = task }
 
 -- the bytes yet to come
 abbrev tail : Bool → List ℕ → List ℕ
 tail finished more = if finished then [] else more
 
-task_ends : (st : Step) (end : SessionEnd) → ends_of (task_by st) end ≡ end
+task_ends : (st : TurnStep) (end : SessionEnd) → ends_of (task_by st) end ≡ end
 task_ends (step.Ask event asked) end = refl
 task_ends (step.Say due) end = refl
 task_ends (step.Join joined) end = refl
 
 -- A task leads to a step that has the task's events and texts.
-record ComesTo (password : List ℕ) (s : State) (task : Task) (t : State) (st : Step) : Type 0 where
+record ComesTo (password : List ℕ) (s : State) (task : SessionTask) (t : State) (st : TurnStep) : Type 0 where
   asks : (fs : List Frame) → asks_of password s task fs ≡ option_to_list (event_of (step_outcome st)) ++ asks_on password (known_in t) fs
   texts : (fs : List Frame) (replies : List Reply) → texts_of password s task fs replies ≡ texts_from password t (step_outcome st) fs replies
   ends : (end : SessionEnd) → ends_of task end ≡ end
 
-steps_to : (password pending : List ℕ) (finished : Bool) (s t : State) (task : Task) (st : Step) → ComesTo password s task t st
+steps_to : (password pending : List ℕ) (finished : Bool) (s t : State) (task : SessionTask) (st : TurnStep) → ComesTo password s task t st
     → Steps (session password pending finished s task) (asked_in (next_by st)) [] (session password pending finished t (task_by st))
 unfolding still_asks still_sends still_ends is_finished
 steps_to password pending finished s t task st c = record {
@@ -241,7 +241,7 @@ steps_to password pending finished s t task st c = record {
   finished = refl;
 }
 
-works_to : (E : Type 0) (password pending : List ℕ) (finished : Bool) (s t : State) (task : Task) (st : Step) → ComesTo password s task t st → task_load (task_by st) < task_load task
+works_to : (E : Type 0) (password pending : List ℕ) (finished : Bool) (s t : State) (task : SessionTask) (st : TurnStep) → ComesTo password s task t st → task_load (task_by st) < task_load task
     → WorksBy {E = E} (session password pending finished s task) (Ok (next_by st)) (session password pending finished t (task_by st))
 unfolding load is_asking still_sends
 works_to E password pending finished s t task (step.Ask event asked) c less =
@@ -249,13 +249,13 @@ works_to E password pending finished s t task (step.Ask event asked) c less =
 works_to E password pending finished s t task (step.Say due) c less = (steps_to password pending finished s t task (step.Say due) c, (refl, omega arith))
 works_to E password pending finished s t task (step.Join joined) c less = (steps_to password pending finished s t task (step.Join joined) c, (refl, omega arith))
 
-read_load : (st : Step) → IsTrue (is_settled st) → task_load (task_by st) < 4
+read_load : (st : TurnStep) → IsTrue (is_settled st) → task_load (task_by st) < 4
 read_load (step.Ask event asked) done = omega arith
 read_load (step.Say due) done = omega arith
 read_load (step.Join joined) done = absurd cc
 
 -- joined bytes are decoded
-pub reads : (E : Type 0) (password pending : List ℕ) (finished : Bool) (s : State) (joined : Joined) (st : Step)
+pub reads : (E : Type 0) (password pending : List ℕ) (finished : Bool) (s : State) (joined : Joined) (st : TurnStep)
     → step_outcome st ≡ whole_outcome joined → IsTrue (is_settled st)
     → WorksBy {E = E} (session password pending finished s (Read joined)) (Ok (next_by st)) (session password pending finished s (task_by st))
 reads E password pending finished s joined st outcome done =
@@ -331,7 +331,7 @@ unfolding end_of
 ends_alike bytes others e = ap (λ (rest : List ℕ). end_by (head_of rest) rest) e
 
 -- a frame for the server is handled
-hears_steps : (password old new : List ℕ) (finished : Bool) (s t : State) (f : Frame) (st : Step) → GoesOn old (Some f) new → (f.dst == management_device) ≡ true
+hears_steps : (password old new : List ℕ) (finished : Bool) (s t : State) (f : Frame) (st : TurnStep) → GoesOn old (Some f) new → (f.dst == management_device) ≡ true
     → ((fs : List Frame) → asks_on password (known_in s) (f ∷ fs) ≡ option_to_list (event_of (step_outcome st)) ++ asks_on password (known_in t) fs)
     → ((fs : List Frame) (replies : List Reply) → answers_on password s (f ∷ fs) replies ≡ texts_from password t (step_outcome st) fs replies)
     → Steps (session password old finished s Listen) (asked_in (next_by st)) [] (session password new finished t (task_by st))
@@ -349,12 +349,12 @@ hears_steps password old new finished s t f st goes_on here events texts = recor
   finished = refl;
 }
 
-heard_load : (old new : ℕ) (st : Step) → new + header_size ≤ old → new + task_load (task_by st) < old + task_load Listen
+heard_load : (old new : ℕ) (st : TurnStep) → new + header_size ≤ old → new + task_load (task_by st) < old + task_load Listen
 heard_load old new (step.Ask event asked) less = omega arith
 heard_load old new (step.Say due) less = omega arith
 heard_load old new (step.Join joined) less = omega arith
 
-heard_by : (E : Type 0) (password old new : List ℕ) (finished : Bool) (s t : State) (st : Step)
+heard_by : (E : Type 0) (password old new : List ℕ) (finished : Bool) (s t : State) (st : TurnStep)
     → Steps (session password old finished s Listen) (asked_in (next_by st)) [] (session password new finished t (task_by st))
     → length new + task_load (task_by st) < length old + task_load Listen
     → WorksBy {E = E} (session password old finished s Listen) (Ok (next_by st)) (session password new finished t (task_by st))
@@ -363,7 +363,7 @@ heard_by E password old new finished s t (step.Ask event asked) steps less = (st
 heard_by E password old new finished s t (step.Say due) steps less = (steps, (refl, less))
 heard_by E password old new finished s t (step.Join joined) steps less = (steps, (refl, less))
 
-pub hears : (E : Type 0) (password old new : List ℕ) (finished : Bool) (s t : State) (f : Frame) (n : ℕ) (st : Step)
+pub hears : (E : Type 0) (password old new : List ℕ) (finished : Bool) (s t : State) (f : Frame) (n : ℕ) (st : TurnStep)
     → head_of old ≡ head.Whole n → new ≡ after_first n old → GoesOn old (Some f) new → (f.dst == management_device) ≡ true
     → step_outcome st ≡ outcome_at password s f → t ≡ state_after password s f None
     → WorksBy {E = E} (session password old finished s Listen) (Ok (next_by st)) (session password new finished t (task_by st))
@@ -499,7 +499,7 @@ pub fresh_by : (password p pending : List ℕ) (s : State) → p ≡ password �
 fresh_by password p pending s same empty none = rw (same, empty, none) (fresh password)
 
 -- after the end of the input no bytes are taken
-pub feeds_finished : (password pending : List ℕ) (s : State) (task : Task) (bytes : List ℕ) → Feeds (session password pending true s task) bytes (session password pending true s task)
+pub feeds_finished : (password pending : List ℕ) (s : State) (task : SessionTask) (bytes : List ℕ) → Feeds (session password pending true s task) bytes (session password pending true s task)
 unfolding still_asks still_sends still_ends
 feeds_finished password pending s task bytes = record { asks = λ more. refl; sends = λ more replies. refl; ends = λ more. refl; asking = refl; over = refl; finished = refl }
 
@@ -516,7 +516,7 @@ feeds_over password pending finished s end bytes = record {
   finished = refl;
 }
 
-pub feeds : (password pending : List ℕ) (s : State) (task : Task) (bytes : List ℕ) → Feeds (session password pending false s task) bytes (session password (pending ++ bytes) false s task)
+pub feeds : (password pending : List ℕ) (s : State) (task : SessionTask) (bytes : List ℕ) → Feeds (session password pending false s task) bytes (session password (pending ++ bytes) false s task)
 unfolding still_asks still_sends still_ends is_asking ended is_finished
 feeds password pending s task bytes = record {
   asks = λ more. ap (λ (all : List ℕ). asks_of password s task (to_server (frames_of all))) (append_assoc pending bytes more);
@@ -528,7 +528,7 @@ feeds password pending s task bytes = record {
 }
 
 -- after an invalid header no bytes are taken
-feeds_none : (password pending : List ℕ) (s : State) (task : Task) (bytes : List ℕ) (end : SessionEnd) → NoFrame false pending end
+feeds_none : (password pending : List ℕ) (s : State) (task : SessionTask) (bytes : List ℕ) (end : SessionEnd) → NoFrame false pending end
     → Feeds (session password pending false s task) bytes (session password pending false s task)
 unfolding still_asks still_sends still_ends
 feeds_none password pending s task bytes end none = record {
@@ -545,7 +545,7 @@ tail_none true = refl
 tail_none false = refl
 
 -- the input has ended
-pub finishes : (password pending : List ℕ) (finished : Bool) (s : State) (task : Task) → Finishes (session password pending finished s task) (session password pending true s task)
+pub finishes : (password pending : List ℕ) (finished : Bool) (s : State) (task : SessionTask) → Finishes (session password pending finished s task) (session password pending true s task)
 unfolding still_asks still_sends still_ends is_asking ended is_finished
 finishes password pending finished s task = record {
   asks = λ more. ap (λ (rest : List ℕ). asks_of password s task (to_server (frames_of (pending ++ rest)))) (sym (tail_none finished));
@@ -584,16 +584,16 @@ values_cut id results = refl
 -- ---- the tasks of any session
 
 -- what holds for a session made of its parts holds for the session
-by_parts : (P : Session → Type 0) (s : Session) (finished : Bool) (task : Task) → s.is_finished ≡ finished → s.task ≡ task → P (session s.password s.deframer finished s.state task) → P s
+by_parts : (P : Session → Type 0) (s : Session) (finished : Bool) (task : SessionTask) → s.is_finished ≡ finished → s.task ≡ task → P (session s.password s.deframer finished s.state task) → P s
 by_parts P s finished task f t p =
-    subst (λ (b : Bool). P (session s.password s.deframer b s.state s.task)) (sym f) (subst (λ (u : Task). P (session s.password s.deframer finished s.state u)) (sym t) p)
+    subst (λ (b : Bool). P (session s.password s.deframer b s.state s.task)) (sym f) (subst (λ (u : SessionTask). P (session s.password s.deframer finished s.state u)) (sym t) p)
 
 -- the frame at the front, by the fields that were read
 front_frame : (bytes payload : List ℕ) (src dst n : ℕ) → src ≡ src_of bytes → dst ≡ dst_of bytes → payload ≡ take n (drop header_size bytes) → dst ≡ management_device
     → first_frame n bytes ≡ heard_frame src payload
 front_frame bytes payload src dst n a b c d = let e : dst_of bytes ≡ management_device = sym b ∙ d in cc
 
-pub hears_any : (E : Type 0) (s t : Session) (pending payload : List ℕ) (kept : State) (src dst n : ℕ) (st : Step) (r : Option Next) → s.task ≡ Listen
+pub hears_any : (E : Type 0) (s t : Session) (pending payload : List ℕ) (kept : State) (src dst n : ℕ) (st : TurnStep) (r : Option Next) → s.task ≡ Listen
     → head_of s.deframer ≡ head.Whole n → src ≡ src_of s.deframer → dst ≡ dst_of s.deframer → dst ≡ management_device → payload ≡ take n (drop header_size s.deframer)
     → pending ≡ after_first n s.deframer → GoesOn s.deframer (Some (first_frame n s.deframer)) pending
     → step_outcome st ≡ outcome_at s.password s.state (heard_frame src payload) → kept ≡ state_after s.password s.state (heard_frame src payload) None
@@ -610,7 +610,7 @@ pub passes_any : (E : Type 0) (s : Session) (pending : List ℕ) (dst n : ℕ) �
     → dst ≡ dst_of s.deframer → (dst == management_device) ≡ false → pending ≡ after_first n s.deframer → GoesOn s.deframer (Some (first_frame n s.deframer)) pending
     → WorksBy {E = E} s (Ok None) (session s.password pending s.is_finished s.state s.task)
 passes_any E s pending dst n listening whole dst_is elsewhere left goes_on =
-    subst (λ (u : Task). WorksBy {E = E} (session s.password s.deframer s.is_finished s.state u) (Ok None) (session s.password pending s.is_finished s.state u)) (sym listening)
+    subst (λ (u : SessionTask). WorksBy {E = E} (session s.password s.deframer s.is_finished s.state u) (Ok None) (session s.password pending s.is_finished s.state u)) (sym listening)
     (passes_frame E s.password s.deframer pending s.is_finished s.state (first_frame n s.deframer) n whole left goes_on (ap (λ (d : ℕ). d == management_device) (sym dst_is) ∙ elsewhere))
 
 pub listens_on : (E : Type 0) (s : Session) (h : Head) → s.task ≡ Listen → s.is_finished ≡ false → h ≡ head.Part → Fronts s.deframer h → WorksBy {E = E} s (Ok (Some next.Wait)) s
@@ -660,7 +660,7 @@ pub ends_again : (s : Session) (end : SessionEnd) → ended s ≡ Some end → s
 unfolding ended
 ends_again s end = over_by s.task end
   where
-    over_by : (task : Task) (end : SessionEnd) → end_in task ≡ Some end → task ≡ Over end
+    over_by : (task : SessionTask) (end : SessionEnd) → end_in task ≡ Some end → task ≡ Over end
     over_by Listen end e = absurd cc
     over_by (Read joined) end e = absurd cc
     over_by (Await asked) end e = absurd cc
@@ -702,7 +702,7 @@ feeds_behind_length s bytes pending goes_on same stops = feeds_behind s bytes pe
 
 -- ---- the other tasks of any session
 
-pub reads_any : (E : Type 0) (s t : Session) (joined : Joined) (st : Step) (r : Option Next) → s.task ≡ Read joined → step_outcome st ≡ whole_outcome joined → IsTrue (is_settled st)
+pub reads_any : (E : Type 0) (s t : Session) (joined : Joined) (st : TurnStep) (r : Option Next) → s.task ≡ Read joined → step_outcome st ≡ whole_outcome joined → IsTrue (is_settled st)
     → r ≡ next_by st → t ≡ session s.password s.deframer s.is_finished s.state (task_by st) → WorksBy {E = E} s (Ok r) t
 reads_any E s t joined st r reading outcome done given after =
     subst (λ (u : Session). WorksBy {E = E} s (Ok r) u) (sym after)
@@ -721,10 +721,10 @@ says_any E s t due text saying e after =
     (by_parts (λ (u : Session). WorksBy {E = E} u (Ok (Some (next.Send text))) (session s.password s.deframer s.is_finished s.state Listen)) s s.is_finished (Say due) refl saying
     (says_text E s.password s.deframer s.is_finished s.state due text e))
 
-pub gives_any : (E : Type 0) (s : Session) (text : List ℕ) (task : Task) → s.task ≡ Send text → task ≡ Listen
+pub gives_any : (E : Type 0) (s : Session) (text : List ℕ) (task : SessionTask) → s.task ≡ Send text → task ≡ Listen
     → WorksBy {E = E} s (Ok (Some (next.Send text))) (session s.password s.deframer s.is_finished s.state task)
 gives_any E s text task sending after =
-    subst (λ (u : Task). WorksBy {E = E} s (Ok (Some (next.Send text))) (session s.password s.deframer s.is_finished s.state u)) (sym after)
+    subst (λ (u : SessionTask). WorksBy {E = E} s (Ok (Some (next.Send text))) (session s.password s.deframer s.is_finished s.state u)) (sym after)
     (by_parts (λ (u : Session). WorksBy {E = E} u (Ok (Some (next.Send text))) (session s.password s.deframer s.is_finished s.state Listen)) s s.is_finished (Send text) refl sending
     (gives_text E s.password s.deframer s.is_finished s.state text))
 
@@ -749,7 +749,7 @@ pub waits_again : (s : Session) → is_asking s ≡ true → IsAwaiting s
 unfolding is_asking still_sends
 waits_again s = awaiting_by s.password s.deframer s.is_finished s.state s.task
   where
-    awaiting_by : (password pending : List ℕ) (finished : Bool) (state : State) (task : Task) → awaits task ≡ true → IsAwaiting (session password pending finished state task)
+    awaiting_by : (password pending : List ℕ) (finished : Bool) (state : State) (task : SessionTask) → awaits task ≡ true → IsAwaiting (session password pending finished state task)
     awaiting_by password pending finished state Listen e = absurd cc
     awaiting_by password pending finished state (Read joined) e = absurd cc
     awaiting_by password pending finished state (Await asked) e = record { asking = refl; sends = λ more. refl }
@@ -763,4 +763,4 @@ over_again s end e = by_parts (λ (u : Session). IsOver end u) s s.is_finished (
 -- a session that awaits a reply is not over
 pub asks_or_ends : (s : Session) (end : SessionEnd) → is_asking s ≡ true → ended s ≡ Some end → ⊥
 unfolding is_asking
-asks_or_ends s end asking e = let over : awaits (Over end) ≡ true = subst (λ (t : Task). awaits t ≡ true) (ends_again s end e) asking in absurd cc
+asks_or_ends s end asking e = let over : awaits (Over end) ≡ true = subst (λ (t : SessionTask). awaits t ≡ true) (ends_again s end e) asking in absurd cc

@@ -30,7 +30,7 @@ use Rattle.wrapper_frame.specs.Messages.{frames_of, rest_of}
 use Rattle.wrapper_frame.specs.declared.header.Head.{Head}
 use Rattle.wrapper_frame.specs.declared.header.Head.TheVariants as head
 use Rattle.wrapper_frame.specs.declared.parts.Frame.{Frame}
-use Rattle.xdlms_apdu.specs.declared.block.Block.{Block}
+use Rattle.xdlms_apdu.specs.declared.block.DataBlock.{DataBlock}
 use Rattle.xdlms_blocks.specs.Limits.{max_joined}
 use Rattle.xdlms_blocks.specs.Transfer.{Sending}
 
@@ -59,7 +59,7 @@ heard link earlier = map (role_in link) (filter (is_heard link) (since opens ear
 -- ---- a long SET or ACTION
 
 -- the block in a later request of a long SET or ACTION, if the request is of this service
-abbrev pub block_of : LongService → Role → Option Block
+abbrev pub block_of : LongService → Role → Option DataBlock
 block_of service.Set (follows service.Set block) = Some block
 block_of service.Action (follows service.Action block) = Some block
 block_of _ _ = None
@@ -72,7 +72,7 @@ is_no_later_form _ = true
 -- The first request of a long SET or ACTION: its purpose, and the first block.
 pub record First : Type 0 where
   pub purpose : Purpose
-  pub block : Block
+  pub block : DataBlock
 
 abbrev pub first_of : Role → Option First
 first_of (starts purpose block) = Some (record { purpose = purpose; block = block })
@@ -84,12 +84,12 @@ blocks_so_far [] = 1
 blocks_so_far (x ∷ later) = blocks_so_far later + 1
 
 -- whether a block has this number and is not the last
-abbrev pub goes_on : ℕ → Option Block → Bool
+abbrev pub goes_on : ℕ → Option DataBlock → Bool
 goes_on number None = false
 goes_on number (Some block) = block.number == number && not block.last
 
 -- the raw bytes of a block
-abbrev pub raw_of : Option Block → List ℕ
+abbrev pub raw_of : Option DataBlock → List ℕ
 raw_of None = []
 raw_of (Some block) = block.raw
 

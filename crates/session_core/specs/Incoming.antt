@@ -25,7 +25,7 @@ use Rattle.session_core.specs.declared.incoming.LongService.TheVariants as servi
 use Rattle.session_core.specs.declared.incoming.Purpose.{Purpose}
 use Rattle.session_core.specs.declared.incoming.Purpose.TheVariants as purpose
 use Rattle.session_core.specs.declared.link.Link.{Link}
-use Rattle.xdlms_apdu.specs.declared.block.Block.{Block}
+use Rattle.xdlms_apdu.specs.declared.block.DataBlock.{DataBlock}
 use Rattle.xdlms_apdu.specs.declared.invoke_id.InvokeId.{InvokeId}
 use Rattle.xdlms_apdu.specs.declared.response.Response.{Response}
 use Rattle.xdlms_apdu.specs.declared.response.Response.TheVariants as response
@@ -94,7 +94,7 @@ whole_outcome j = whole_by_data j (whole_data j.bytes)
 
 -- why a block is not added: there is no transfer, it has the wrong number, or there are too many
 -- bytes
-abbrev pub fault_of : Block → Joining → Option BlockFault
+abbrev pub fault_of : DataBlock → Joining → Option BlockFault
 fault_of block j =
     if not j.is_open then Some NoTransfer
     else if not (block.number == j.number + 1) then Some WrongNumber
@@ -106,7 +106,7 @@ abbrev pub no_blocks : Joining
 no_blocks = record { number = 0; bytes = []; is_open = true }
 
 -- the whole transfer, once its last block is added
-abbrev pub joined_by : Link → InvokeId → Purpose → Block → Joining → Joined
+abbrev pub joined_by : Link → InvokeId → Purpose → DataBlock → Joining → Joined
 joined_by link id purpose block j =
     record {
       link = link;
@@ -116,7 +116,7 @@ joined_by link id purpose block j =
       bytes = j.bytes ++ block.raw;
     }
 
-abbrev pub outcome_by_fault : Link → InvokeId → Purpose → Block → Joining → Option BlockFault
+abbrev pub outcome_by_fault : Link → InvokeId → Purpose → DataBlock → Joining → Option BlockFault
     → Outcome
 outcome_by_fault link id purpose block j (Some fault) =
     says link.source (Service
@@ -126,17 +126,17 @@ outcome_by_fault link id purpose block j None =
     else says link.source (Service (received (service_of purpose) id block.number))
 
 -- the outcome of a block
-unfoldable pub block_outcome_of : Link → InvokeId → Purpose → Block → Joining → Outcome
+unfoldable pub block_outcome_of : Link → InvokeId → Purpose → DataBlock → Joining → Outcome
 block_outcome_of link id purpose block j =
     outcome_by_fault link id purpose block j (fault_of block j)
 
-abbrev pub after_by_fault : Purpose → Block → Joining → Option BlockFault → Option Incoming
+abbrev pub after_by_fault : Purpose → DataBlock → Joining → Option BlockFault → Option Incoming
 after_by_fault purpose block j (Some fault) = None
 after_by_fault purpose block j None = if block.last then None
     else Some (record { purpose = purpose; blocks = after_added false block.raw j })
 
 -- the transfer after a block: a refusal and the last block end it
-unfoldable pub block_after : Purpose → Block → Joining → Option Incoming
+unfoldable pub block_after : Purpose → DataBlock → Joining → Option Incoming
 block_after purpose block j = after_by_fault purpose block j (fault_of block j)
 
 -- ---- a later block
@@ -153,14 +153,14 @@ transfer_of service None = None
 transfer_of service (Some incoming) = if is_of service incoming.purpose then Some incoming else None
 
 -- the outcome of a later block of a transfer
-abbrev pub later_outcome : Link → LongService → InvokeId → Block → Option Incoming → Outcome
+abbrev pub later_outcome : Link → LongService → InvokeId → DataBlock → Option Incoming → Outcome
 later_outcome link service id block None =
     says link.source (Service (refused service id block.number (block_code service NoTransfer)))
 later_outcome link service id block (Some incoming) =
     block_outcome_of link id incoming.purpose block incoming.blocks
 
 -- the transfer after a later block
-abbrev pub later_after : Block → Option Incoming → Option Incoming
+abbrev pub later_after : DataBlock → Option Incoming → Option Incoming
 later_after block None = None
 later_after block (Some incoming) = block_after incoming.purpose block incoming.blocks
 

@@ -20,10 +20,10 @@ use Rattle.session_core.specs.declared.end.SessionEnd.{SessionEnd}
 use Rattle.session_core.specs.declared.next.Next.{Next}
 use Rattle.session_core.specs.declared.next.Next.TheVariants.{Ask, Send, Wait, End}
 use Rattle.session_core.specs.declared.session.Session.{Session}
-use Rattle.session_core.specs.declared.step.Step.{Step}
-use Rattle.session_core.specs.declared.step.Step.TheVariants as step
-use Rattle.session_core.specs.declared.task.Task.{Task}
-use Rattle.session_core.specs.declared.task.Task.TheVariants as task
+use Rattle.session_core.specs.declared.step.TurnStep.{TurnStep}
+use Rattle.session_core.specs.declared.step.TurnStep.TheVariants as step
+use Rattle.session_core.specs.declared.task.SessionTask.{SessionTask}
+use Rattle.session_core.specs.declared.task.SessionTask.TheVariants as task
 
 -- A session has yet to do what a session with this password does, whatever its input is.
 pub record Owes (password : List ℕ) (s : Session) : Type 0 where
@@ -140,11 +140,11 @@ WorksBy old (Ok (Some next)) new = Steps old (asked_by next) (sent_by next) new
 WorksBy old (Err error) new = Steps old [] [] new
 
 -- the task that a step leads to, and below, what it returns to the caller
-abbrev pub task_by : Step → Task
+abbrev pub task_by : TurnStep → SessionTask
 task_by (step.Ask event asked) = task.Await asked
 task_by (step.Say due) = task.Say due
 task_by (step.Join joined) = task.Read joined
 
-abbrev pub next_by : Step → Option Next
+abbrev pub next_by : TurnStep → Option Next
 next_by (step.Ask event asked) = Some (Ask event)
 next_by _ = None

@@ -18,8 +18,8 @@ use Rattle.session_core.specs.declared.asked.Asked.{Asked}
 use Rattle.session_core.specs.declared.end.SessionEnd.{SessionEnd}
 use Rattle.session_core.specs.declared.session.Session.{Session}
 use Rattle.session_core.specs.declared.state.State.{State}
-use Rattle.session_core.specs.declared.task.Task.{Task}
-use Rattle.session_core.specs.declared.task.Task.TheVariants.{Listen, Read, Await, Say, Send, Over}
+use Rattle.session_core.specs.declared.task.SessionTask.{SessionTask}
+use Rattle.session_core.specs.declared.task.SessionTask.TheVariants.{Listen, Read, Await, Say, Send, Over}
 use Rattle.wrapper_frame.specs.Header.{head_of}
 use Rattle.wrapper_frame.specs.Messages.{frames_of}
 use Rattle.wrapper_frame.specs.declared.header.Head.{Head}
@@ -38,7 +38,7 @@ frames_ahead s more = to_server (frames_of (bytes_ahead s more))
 -- ---- the events
 
 -- the events of a task and of the frames after it
-abbrev pub asks_of : List ℕ → State → Task → List Frame → List Event
+abbrev pub asks_of : List ℕ → State → SessionTask → List Frame → List Event
 asks_of password state Listen fs = asks_on password (known_in state) fs
 asks_of password state (Read joined) fs =
     option_to_list (event_of (whole_outcome joined)) ++ asks_on password (known_in state) fs
@@ -77,7 +77,7 @@ texts_after password state asked fs (reply ∷ replies) =
     reply_text asked reply ∷ answers_on password (replied asked reply state) fs replies
 
 -- the texts of a task and of the frames after it
-abbrev pub texts_of : List ℕ → State → Task → List Frame → List Reply → List (List ℕ)
+abbrev pub texts_of : List ℕ → State → SessionTask → List Frame → List Reply → List (List ℕ)
 texts_of password state Listen fs replies = answers_on password state fs replies
 texts_of password state (Read joined) fs replies =
     texts_from password state (whole_outcome joined) fs replies
@@ -94,7 +94,7 @@ still_sends s more replies = texts_of s.password s.state s.task (frames_ahead s 
 -- ---- the end
 
 -- how a session ends from a task on, if the end of its input is `end`
-abbrev pub ends_of : Task → SessionEnd → SessionEnd
+abbrev pub ends_of : SessionTask → SessionEnd → SessionEnd
 ends_of (Over over) end = over
 ends_of _ end = end
 
@@ -104,7 +104,7 @@ still_ends s more = ends_of s.task (end_of (bytes_ahead s more))
 
 -- ---- what it waits for
 
-abbrev pub awaits : Task → Bool
+abbrev pub awaits : SessionTask → Bool
 awaits (Await asked) = true
 awaits _ = false
 
@@ -112,7 +112,7 @@ awaits _ = false
 unfoldable pub is_asking : Session → Bool
 is_asking s = awaits s.task
 
-abbrev pub awaits_value : Task → Bool
+abbrev pub awaits_value : SessionTask → Bool
 awaits_value (Await asked) = asks_value asked.form
 awaits_value _ = false
 
@@ -120,7 +120,7 @@ awaits_value _ = false
 unfoldable pub is_asking_value : Session → Bool
 is_asking_value s = awaits_value s.task
 
-abbrev pub end_in : Task → Option SessionEnd
+abbrev pub end_in : SessionTask → Option SessionEnd
 end_in (Over end) = Some end
 end_in _ = None
 
@@ -132,7 +132,7 @@ ended s = end_in s.task
 unfoldable pub is_finished : Session → Bool
 is_finished s = s.is_finished
 
-abbrev pub listens : Task → Bool
+abbrev pub listens : SessionTask → Bool
 listens Listen = true
 listens _ = false
 
@@ -149,7 +149,7 @@ is_idle s = listens s.task && not s.is_finished && is_part (head_of s.deframer)
 
 -- the work in a task: each task is more work than those it leads to, and a frame has more bytes
 -- than its tasks are work
-abbrev pub task_load : Task → ℕ
+abbrev pub task_load : SessionTask → ℕ
 task_load Listen = 0
 task_load (Read joined) = 4
 task_load (Await asked) = 3

@@ -11,7 +11,7 @@ use Rattle.session_core.specs.declared.incoming.LongService.{LongService}
 use Rattle.session_core.specs.declared.incoming.LongService.TheVariants as service
 use Rattle.session_core.specs.declared.incoming.Purpose.{Purpose}
 use Rattle.session_core.specs.declared.incoming.Purpose.TheVariants as purpose
-use Rattle.xdlms_apdu.specs.declared.block.Block.{Block}
+use Rattle.xdlms_apdu.specs.declared.block.DataBlock.{DataBlock}
 use Rattle.xdlms_apdu.specs.declared.request.Request.{Request}
 use Rattle.xdlms_apdu.specs.declared.request.Request.TheVariants as request
 
@@ -19,8 +19,8 @@ use Rattle.xdlms_apdu.specs.declared.request.Request.TheVariants as request
 -- a later request of one; `gets`: a GET, whose answer may be long; `gets_next`: a GET-next, with
 -- the block number that it names; `stops`: any other request, which ends all transfers.
 pub data Role : Type 0 where
-  starts : Purpose → Block → Role
-  follows : LongService → Block → Role
+  starts : Purpose → DataBlock → Role
+  follows : LongService → DataBlock → Role
   gets : ReplyForm → Role
   gets_next : ℕ → Role
   stops : Role

@@ -36,8 +36,8 @@ use Rattle.session_core.specs.declared.incoming.LongService.TheVariants as servi
 use Rattle.session_core.specs.declared.incoming.Purpose.TheVariants as purpose
 use Rattle.session_core.specs.declared.link.Link.{Link}
 use Rattle.session_core.specs.declared.state.State.{State}
-use Rattle.session_core.specs.declared.step.Step.{Step}
-use Rattle.session_core.specs.declared.step.Step.TheVariants.{Ask, Say, Join}
+use Rattle.session_core.specs.declared.step.TurnStep.{TurnStep}
+use Rattle.session_core.specs.declared.step.TurnStep.TheVariants.{Ask, Say, Join}
 use Rattle.wrapper_frame.specs.declared.parts.Frame.{Frame}
 use Rattle.xdlms_apdu.specs.declared.request.Request.{Request}
 use Rattle.xdlms_apdu.specs.declared.request.Request.TheVariants as request
@@ -217,13 +217,13 @@ reply_text asked reply =
     due_text asked.link.source (answer_text (Service (reply_response asked reply)))
 
 -- the outcome of a step of the code, which may still have to decode the joined bytes
-abbrev pub step_outcome : Step → Outcome
+abbrev pub step_outcome : TurnStep → Outcome
 step_outcome (Ask event asked) = asks event asked
 step_outcome (Say due) = says due.to due.answer
 step_outcome (Join joined) = whole_outcome joined
 
 -- whether a step has no bytes left to decode
-abbrev pub is_settled : Step → Bool
+abbrev pub is_settled : TurnStep → Bool
 is_settled (Ask event asked) = true
 is_settled (Say due) = true
 is_settled (Join joined) = false

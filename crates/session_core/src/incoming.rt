@@ -8,7 +8,7 @@ use crate::joined::Joined;
 use crate::link::Link;
 use cosem_names::{AttributeSelection, MethodRef, ResultCode};
 use std::alloc::AllocError;
-use xdlms_apdu::{Block, InvokeId, Response};
+use xdlms_apdu::{DataBlock, InvokeId, Response};
 use xdlms_blocks::{BlockFault, JoinBlocks};
 
 // The services whose requests may arrive in blocks.
@@ -134,7 +134,7 @@ impl Incoming {
         &mut self,
         link: Link,
         id: InvokeId,
-        block: &Block,
+        block: &DataBlock,
     ) -> Result<Added, AllocError>
         ensures outcome { IfOk result (λ added. outcome_of_added added
             ≡ block_outcome_of link id self.old.purpose block.now self.old.blocks) }
@@ -170,7 +170,7 @@ pub(crate) fn add_to(
     link: Link,
     id: InvokeId,
     service: LongService,
-    block: &Block,
+    block: &DataBlock,
 ) -> Result<Added, AllocError>
     ensures outcome { IfOk result (λ added. outcome_of_added added
         ≡ later_outcome link service id block.now (transfer_of service transfer.old)) }

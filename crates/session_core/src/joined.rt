@@ -7,7 +7,7 @@ use crate::asked::{Asked, ReplyForm};
 use crate::due::Due;
 use crate::incoming::Purpose;
 use crate::link::Link;
-use crate::step::Step;
+use crate::step::TurnStep;
 use cosem_axdr::{Data, DataFault, Octets, read};
 use cosem_names::ResultCode;
 use relay_events::Event;
@@ -29,7 +29,7 @@ pub(crate) struct Joined {
 impl Joined {
     // Decodes the joined bytes. Unless they are exactly one Data, the request is refused.
     #[tactic(auto, unfolding(crate::specs::Incoming::whole_outcome))]
-    pub(crate) fn read(&self, alloc: Global) -> Result<Step, AllocError>
+    pub(crate) fn read(&self, alloc: Global) -> Result<TurnStep, AllocError>
         ensures outcome { IfOk result (λ step. step_outcome step ≡ whole_outcome self.now) }
         ensures settled { IfOk result (λ step. IsTrue (is_settled step)) }
     {
@@ -38,13 +38,13 @@ impl Joined {
             None => {
                 let service = self.purpose.service();
                 let refusal = service.refused(self.id, self.number, ResultCode::OtherReason);
-                Ok(Step::Say(Due::response(self.link.source, refusal)))
+                Ok(TurnStep::Say(Due::response(self.link.source, refusal)))
             }
         }
     }
 
     // Returns the event of a transfer that contains this value.
-    fn ask(&self, value: Data) -> Step
+    fn ask(&self, value: Data) -> TurnStep
         ensures step { step_outcome result
             ≡ asks (event_by self.now.link.level self.now.purpose value)
             (record {
@@ -56,7 +56,7 @@ impl Joined {
         let link = self.link;
         let level = link.level;
         match self.purpose {
-            Purpose::Set(target) => Step::Ask(
+            Purpose::Set(target) => TurnStep::Ask(
                 Event::Set {
                     level,
                     attr: target.attr,
@@ -68,7 +68,7 @@ impl Joined {
                     form: ReplyForm::SetLastBlock(self.id, self.number),
                 },
             ),
-            Purpose::Action(method) => Step::Ask(
+            Purpose::Action(method) => TurnStep::Ask(
                 Event::Execute {
                     level,
                     method,

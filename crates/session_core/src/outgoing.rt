@@ -11,7 +11,7 @@ use cosem_axdr::Octets;
 use cosem_names::ResultCode;
 use std::alloc::{AllocError, Global};
 use std::marker::Model;
-use xdlms_apdu::{Block, InvokeId, Response};
+use xdlms_apdu::{DataBlock, InvokeId, Response};
 use xdlms_blocks::{BlockFault, GetBlocks, Piece};
 
 // A long answer to a GET, sent in blocks that each fit in a PDU. Contracts see the transfer of
@@ -116,7 +116,7 @@ pub(crate) fn block_given(to: u16, id: InvokeId, piece: Piece) -> Due
         to,
         Response::GetBlock {
             id,
-            block: Block { last, number, raw },
+            block: DataBlock { last, number, raw },
         },
     )
 }

@@ -1,6 +1,6 @@
 ghost use Rattle.std.specs.Prelude.{◌≡◌, ◌≤◌, ◌+◌, length, true, false, Some, IfSome, IfNone, IfOk, IfErr, IsOk, OnOk, OnErr, Ok};
 ghost use Rattle.acse_ber.specs.Password.{IsPassword};
-ghost use Rattle.session_core.specs.declared.task.Task.TheVariants.{Listen, Over};
+ghost use Rattle.session_core.specs.declared.task.SessionTask.TheVariants.{Listen, Over};
 ghost use Rattle.wrapper_frame.specs.Header.{header_size, head_of};
 ghost use Rattle.wrapper_frame.specs.declared.header.Head.TheVariants.{Whole};
 
@@ -10,8 +10,8 @@ use crate::next::Next;
 use crate::password::Password;
 use crate::replying::{Answered, answer_get, answer_reply};
 use crate::state::State;
-use crate::step::Step;
-use crate::task::Task;
+use crate::step::TurnStep;
+use crate::task::SessionTask;
 use cosem_axdr::Octets;
 use cosem_names::{AttrRef, Level};
 use relay_events::Reply;
@@ -31,7 +31,7 @@ pub struct Session {
     deframer: Deframer,
     is_finished: bool,
     state: State,
-    task: Task,
+    task: SessionTask,
 }
 
 // It shows neither the password nor bytes that may contain one.
@@ -56,7 +56,7 @@ impl Session {
             deframer: Deframer::new(alloc),
             is_finished: false,
             state: State::new(),
-            task: Task::Listen,
+            task: SessionTask::Listen,
         })
     }
 
@@ -97,8 +97,8 @@ impl Session {
         ensures { result ≡ is_asking self.now }
     {
         match &self.task {
-            Task::Await(_) => true,
-            Task::Listen | Task::Read(_) | Task::Say(_) | Task::Send(_) | Task::Over(_) => false,
+            SessionTask::Await(_) => true,
+            SessionTask::Listen | SessionTask::Read(_) | SessionTask::Say(_) | SessionTask::Send(_) | SessionTask::Over(_) => false,
         }
     }
 
@@ -140,12 +140,12 @@ impl Session {
         ensures err { OnErr result (self.new ≡ self.old) }
         ensures back { IfErr result (λ failed. failed.1 ≡ reply) }
     {
-        let Task::Await(asked) = self.task else {
+        let SessionTask::Await(asked) = self.task else {
             unreachable!()
         };
         let Answered { text, outgoing } = answer_reply(alloc, asked, Way::Framed, reply)?;
         self.state.outgoing = outgoing;
-        self.turn_to(Task::Send(text));
+        self.turn_to(SessionTask::Send(text));
         Ok(())
     }
 
@@ -158,7 +158,7 @@ impl Session {
         ensures asks { IfSome result (λ get. AsksFor self.old get.0 get.1 self.new) }
         ensures none { IfNone result (self.new ≡ self.old) }
     {
-        let Task::Listen = &self.task else {
+        let SessionTask::Listen = &self.task else {
             return None;
         };
         let Head::Whole(size) = self.deframer.front() else {
@@ -172,7 +172,7 @@ impl Session {
         let (asked, attr) = self.state.hear_get(source, payload)?;
         let level = asked.link.level;
         self.deframer.pass(size);
-        self.turn_to(Task::Await(asked));
+        self.turn_to(SessionTask::Await(asked));
         Some((level, attr))
     }
 
@@ -185,11 +185,11 @@ impl Session {
         ensures ok { IfOk result (λ frame. AnswersBy self.old reply.now frame self.new) }
         ensures err { OnErr result (self.new ≡ self.old) }
     {
-        let Task::Await(asked) = self.task else {
+        let SessionTask::Await(asked) = self.task else {
             unreachable!()
         };
         let text = answer_get(alloc, asked, reply, &mut self.state.outgoing)?;
-        self.turn_to(Task::Listen);
+        self.turn_to(SessionTask::Listen);
         Ok(text)
     }
 
@@ -199,8 +199,8 @@ impl Session {
         ensures { result ≡ ended self.now }
     {
         match &self.task {
-            Task::Over(end) => Some(*end),
-            Task::Listen | Task::Read(_) | Task::Await(_) | Task::Say(_) | Task::Send(_) => None,
+            SessionTask::Over(end) => Some(*end),
+            SessionTask::Listen | SessionTask::Read(_) | SessionTask::Await(_) | SessionTask::Say(_) | SessionTask::Send(_) => None,
         }
     }
 
@@ -211,8 +211,8 @@ impl Session {
         ensures quiet { result ≡ true → IsQuiet self.now }
     {
         match &self.task {
-            Task::Listen => !self.is_finished && matches!(self.deframer.front(), Head::Part),
-            Task::Read(_) | Task::Await(_) | Task::Say(_) | Task::Send(_) | Task::Over(_) => false,
+            SessionTask::Listen => !self.is_finished && matches!(self.deframer.front(), Head::Part),
+            SessionTask::Read(_) | SessionTask::Await(_) | SessionTask::Say(_) | SessionTask::Send(_) | SessionTask::Over(_) => false,
         }
     }
 
@@ -224,24 +224,24 @@ impl Session {
         ensures err { OnErr result (self.new ≡ self.old) }
     {
         match &self.task {
-            Task::Listen => self.listen(alloc),
-            Task::Read(joined) => {
+            SessionTask::Listen => self.listen(alloc),
+            SessionTask::Read(joined) => {
                 let step = joined.read(alloc)?;
                 Ok(self.take(step))
             }
-            Task::Await(_) => Ok(Some(Next::Wait)),
-            Task::Say(due) => {
+            SessionTask::Await(_) => Ok(Some(Next::Wait)),
+            SessionTask::Say(due) => {
                 let text = due.text(alloc)?;
-                self.turn_to(Task::Listen);
+                self.turn_to(SessionTask::Listen);
                 Ok(Some(Next::Send(text)))
             }
-            Task::Send(_) => {
-                let Task::Send(text) = replace(&mut self.task, Task::Listen) else {
+            SessionTask::Send(_) => {
+                let SessionTask::Send(text) = replace(&mut self.task, SessionTask::Listen) else {
                     unreachable!()
                 };
                 Ok(Some(Next::Send(text)))
             }
-            Task::Over(end) => Ok(Some(Next::End(*end))),
+            SessionTask::Over(end) => Ok(Some(Next::End(*end))),
         }
     }
 
@@ -290,26 +290,26 @@ impl Session {
         ensures after { self.new ≡ record self.old { task = Over end } }
         ensures next { result ≡ Some (Next.End end) }
     {
-        self.turn_to(Task::Over(end));
+        self.turn_to(SessionTask::Over(end));
         Some(Next::End(end))
     }
 
     // Turns to the task of a step, and returns what it needs from the caller, if anything.
-    fn take(&mut self, step: Step) -> Option<Next>
+    fn take(&mut self, step: TurnStep) -> Option<Next>
         ensures after { self.new ≡ record self.old { task = task_by step } }
         ensures next { result ≡ next_by step }
     {
         match step {
-            Step::Ask(event, asked) => {
-                self.turn_to(Task::Await(asked));
+            TurnStep::Ask(event, asked) => {
+                self.turn_to(SessionTask::Await(asked));
                 Some(Next::Ask(event))
             }
-            Step::Say(due) => {
-                self.turn_to(Task::Say(due));
+            TurnStep::Say(due) => {
+                self.turn_to(SessionTask::Say(due));
                 None
             }
-            Step::Join(joined) => {
-                self.turn_to(Task::Read(joined));
+            TurnStep::Join(joined) => {
+                self.turn_to(SessionTask::Read(joined));
                 None
             }
         }
@@ -317,7 +317,7 @@ impl Session {
 
     // Sets the next task.
     #[inline(always)]
-    fn turn_to(&mut self, task: Task)
+    fn turn_to(&mut self, task: SessionTask)
         ensures { self.new ≡ record self.old { task = task } }
     {
         self.task = task;

@@ -15,13 +15,13 @@ use crate::link::{Link, answer_to, opened};
 use crate::outgoing::{Outgoing, continue_by};
 use crate::password::Password;
 use crate::single_get::read_single_get;
-use crate::step::Step;
+use crate::step::TurnStep;
 use acse_ber::{AcseFault, judge, read_aarq};
 use cosem_axdr::Data;
 use cosem_names::{AttrRef, AttributeSelection, Level};
 use relay_events::Event;
 use std::alloc::{AllocError, Global};
-use xdlms_apdu::{Block, Exception, InvokeId, Request};
+use xdlms_apdu::{DataBlock, Exception, InvokeId, Request};
 use xdlms_blocks::JoinBlocks;
 
 // The state that a session keeps from one frame to the next: the association and the transfers in
@@ -57,7 +57,7 @@ impl State {
         password: &Password,
         src: u16,
         payload: &[u8],
-    ) -> Result<Step, AllocError>
+    ) -> Result<TurnStep, AllocError>
         ensures outcome { IfOk result (λ step. step_outcome step
             ≡ outcome_at password.now self.old (heard_frame src payload.now)) }
         ensures after { OnOk result (self.new
@@ -68,11 +68,11 @@ impl State {
             return self.open(alloc, password, src, payload);
         }
         if !is_call(payload) {
-            return Ok(Step::Say(Due::exception(src, Exception::Unknown)));
+            return Ok(TurnStep::Say(Due::exception(src, Exception::Unknown)));
         }
         match self.link {
             Some(link) if link.source == src => self.call(alloc, link, payload),
-            Some(_) | None => Ok(Step::Say(Due::exception(src, Exception::NotAllowed))),
+            Some(_) | None => Ok(TurnStep::Say(Due::exception(src, Exception::NotAllowed))),
         }
     }
 
@@ -106,7 +106,7 @@ impl State {
         password: &Password,
         src: u16,
         payload: &[u8],
-    ) -> Result<Step, AllocError>
+    ) -> Result<TurnStep, AllocError>
         ensures outcome { IfOk result (λ step. step_outcome step
             ≡ says src (opening_answer password.now src (aarq_of payload.now))) }
         ensures after { OnOk result (self.new
@@ -123,7 +123,7 @@ impl State {
             incoming: None,
             outgoing: None,
         };
-        Ok(Step::Say(due))
+        Ok(TurnStep::Say(due))
     }
 
     // Handles a request from the client of the association.
@@ -132,7 +132,7 @@ impl State {
         alloc: Global,
         link: Link,
         payload: &[u8],
-    ) -> Result<Step, AllocError>
+    ) -> Result<TurnStep, AllocError>
         ensures outcome { IfOk result (λ step. step_outcome step
             ≡ resolved self.old.outgoing
             (call_turn link self.old.incoming (call_of link.conformance.0 payload.now))) }
@@ -144,18 +144,18 @@ impl State {
             Call::Service(request) => self.serve(alloc, link, request),
             Call::Release => {
                 *self = State::new();
-                Ok(Step::Say(Due::release(link.source)))
+                Ok(TurnStep::Say(Due::release(link.source)))
             }
             Call::Refused(exception) => {
                 self.incoming = None;
                 self.outgoing = None;
-                Ok(Step::Say(Due::exception(link.source, exception)))
+                Ok(TurnStep::Say(Due::exception(link.source, exception)))
             }
         }
     }
 
     // Handles a request for a service.
-    fn serve(&mut self, alloc: Global, link: Link, request: Request) -> Result<Step, AllocError>
+    fn serve(&mut self, alloc: Global, link: Link, request: Request) -> Result<TurnStep, AllocError>
         ensures outcome { IfOk result (λ step. step_outcome step
             ≡ resolved self.old.outgoing (request_turn link self.old.incoming request)) }
         ensures after { OnOk result (self.new
@@ -202,14 +202,14 @@ impl State {
     }
 
     // Returns the step that asks the meter an event. This ends the transfers.
-    fn ask(&mut self, event: Event, link: Link, form: ReplyForm) -> Step
+    fn ask(&mut self, event: Event, link: Link, form: ReplyForm) -> TurnStep
         ensures step { step_outcome result ≡ asks event (record { link = link; form = form }) }
         ensures after { self.new
             ≡ record { link = self.old.link; incoming = None; outgoing = None } }
     {
         self.incoming = None;
         self.outgoing = None;
-        Step::Ask(event, Asked { link, form })
+        TurnStep::Ask(event, Asked { link, form })
     }
 
     // Sends the next block of a long GET. This ends a long SET or ACTION.
@@ -219,7 +219,7 @@ impl State {
         link: Link,
         id: InvokeId,
         number: u32,
-    ) -> Result<Step, AllocError>
+    ) -> Result<TurnStep, AllocError>
         ensures outcome { IfOk result (λ step. step_outcome step
             ≡ says link.source (Service (continued_response id number self.old.outgoing))) }
         ensures after { OnOk result (self.new
@@ -232,7 +232,7 @@ impl State {
     {
         let due = continue_by(&mut self.outgoing, alloc, link.source, id, number)?;
         self.incoming = None;
-        Ok(Step::Say(due))
+        Ok(TurnStep::Say(due))
     }
 
     // Handles the first block of a long SET or ACTION. This ends the transfers before it.
@@ -242,8 +242,8 @@ impl State {
         link: Link,
         id: InvokeId,
         purpose: Purpose,
-        block: Block,
-    ) -> Result<Step, AllocError>
+        block: DataBlock,
+    ) -> Result<TurnStep, AllocError>
         ensures outcome { IfOk result (λ step. step_outcome step
             ≡ block_outcome_of link id purpose block no_blocks) }
         ensures after { OnOk result (self.new
@@ -269,7 +269,7 @@ impl State {
                 } else {
                     Some(incoming)
                 };
-                Ok(Step::from(added))
+                Ok(TurnStep::from(added))
             }
             Err(error) => {
                 drop(incoming);
@@ -284,8 +284,8 @@ impl State {
         link: Link,
         id: InvokeId,
         service: LongService,
-        block: Block,
-    ) -> Result<Step, AllocError>
+        block: DataBlock,
+    ) -> Result<TurnStep, AllocError>
         ensures outcome { IfOk result (λ step. step_outcome step
             ≡ later_outcome link service id block (transfer_of service self.old.incoming)) }
         ensures after { OnOk result (self.new
@@ -300,7 +300,7 @@ impl State {
         drop(block);
         let added = added?;
         self.outgoing = None;
-        Ok(Step::from(added))
+        Ok(TurnStep::from(added))
     }
 }
 

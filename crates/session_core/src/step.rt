@@ -6,7 +6,7 @@ use relay_events::Event;
 
 // The outcome of a frame.
 #[derive(Drop)]
-pub(crate) enum Step {
+pub(crate) enum TurnStep {
     // An event, whose reply is then awaited.
     Ask(Event, Asked),
     // An answer, which must be sent.
@@ -15,17 +15,17 @@ pub(crate) enum Step {
     Join(Joined),
 }
 
-impl From<Added> for Step {
+impl From<Added> for TurnStep {
     ghost use Rattle.std.specs.Prelude.{◌≡◌};
     ghost use Rattle.session_core.specs.Incoming.{outcome_of_added};
     ghost use Rattle.session_core.specs.Rules.{step_outcome};
 
     ghost from_gives = { λ added step. step_outcome step ≡ outcome_of_added added };
 
-    fn from(added: Added) -> Step {
+    fn from(added: Added) -> TurnStep {
         match added {
-            Added::GoesOn(due) | Added::Refused(due) => Step::Say(due),
-            Added::Whole(joined) => Step::Join(joined),
+            Added::GoesOn(due) | Added::Refused(due) => TurnStep::Say(due),
+            Added::Whole(joined) => TurnStep::Join(joined),
         }
     }
 }

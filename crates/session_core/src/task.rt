@@ -6,7 +6,7 @@ use cosem_axdr::Octets;
 
 // What a session does next.
 #[derive(Drop)]
-pub(crate) enum Task {
+pub(crate) enum SessionTask {
     // Takes the next frame.
     Listen,
     // Decodes the value that arrived in blocks.

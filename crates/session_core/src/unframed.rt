@@ -16,7 +16,7 @@ use crate::limit::{Limit, MAX_PDU};
 use crate::link::Link;
 use crate::replying::{Answered, answer_reply};
 use crate::state::State;
-use crate::step::Step;
+use crate::step::TurnStep;
 use acse_ber::OFFERED_CONFORMANCE;
 use cosem_axdr::Octets;
 use cosem_names::Level;
@@ -56,13 +56,13 @@ pub fn ask_unframed(alloc: Global, payload: &[u8]) -> Result<Unframed, AllocErro
         limit: Limit::of(MAX_PDU),
     };
     match call_alone(alloc, link, payload)? {
-        Step::Join(joined) => unframed_by(alloc, read_joined(alloc, joined)?),
+        TurnStep::Join(joined) => unframed_by(alloc, read_joined(alloc, joined)?),
         step => unframed_by(alloc, step),
     }
 }
 
 // Handles a request that no other precedes.
-fn call_alone(alloc: Global, link: Link, payload: &[u8]) -> Result<Step, AllocError>
+fn call_alone(alloc: Global, link: Link, payload: &[u8]) -> Result<TurnStep, AllocError>
     ensures { IfOk result (λ step. step_outcome step
         ≡ resolved None (call_turn link None (call_of link.conformance.0 payload.now))) }
 {
@@ -73,7 +73,7 @@ fn call_alone(alloc: Global, link: Link, payload: &[u8]) -> Result<Step, AllocEr
 }
 
 // Decodes the joined bytes of a transfer.
-fn read_joined(alloc: Global, joined: Joined) -> Result<Step, AllocError>
+fn read_joined(alloc: Global, joined: Joined) -> Result<TurnStep, AllocError>
     ensures outcome { IfOk result (λ step. step_outcome step ≡ whole_outcome joined) }
     ensures settled { IfOk result (λ step. IsTrue (is_settled step)) }
 {
@@ -83,14 +83,14 @@ fn read_joined(alloc: Global, joined: Joined) -> Result<Step, AllocError>
 }
 
 // Returns the outcome of a step.
-fn unframed_by(alloc: Global, step: Step) -> Result<Unframed, AllocError>
+fn unframed_by(alloc: Global, step: TurnStep) -> Result<Unframed, AllocError>
     requires { IsTrue (is_settled step) }
     ensures { IfOk result (λ unframed. unframed ≡ unframed_of (step_outcome step)) }
 {
     match step {
-        Step::Ask(event, asked) => Ok(Unframed::Ask(event, asked)),
-        Step::Say(due) => say(alloc, due),
-        Step::Join(_) => unreachable!(),
+        TurnStep::Ask(event, asked) => Ok(Unframed::Ask(event, asked)),
+        TurnStep::Say(due) => say(alloc, due),
+        TurnStep::Join(_) => unreachable!(),
     }
 }
 

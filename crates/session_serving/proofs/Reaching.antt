@@ -17,8 +17,8 @@ use Rattle.session_core.specs.Progress.{Owes, Feeds, Finishes, Steps, Takes, Ans
 use Rattle.session_core.specs.Remaining.{still_asks, still_sends, still_ends, is_asking, ended, is_finished, end_in, awaits}
 use Rattle.session_core.specs.declared.end.SessionEnd.{SessionEnd}
 use Rattle.session_core.specs.declared.session.Session.{Session}
-use Rattle.session_core.specs.declared.task.Task.{Task}
-use Rattle.session_core.specs.declared.task.Task.TheVariants as task
+use Rattle.session_core.specs.declared.task.SessionTask.{SessionTask}
+use Rattle.session_core.specs.declared.task.SessionTask.TheVariants as task
 use Rattle.call_fault.specs.declared.fault.CallFault.{CallFault}
 use Rattle.call_fault.specs.declared.fault.CallFault.TheVariants as call
 
@@ -411,7 +411,7 @@ steps_none s = record { asks = λ more. refl; sends = λ more replies. refl; end
 
 -- ---- everything that the input asks for was done
 
-by_task : (task : Task) (end : SessionEnd) → end_in task ≡ Some end → awaits task ≡ false
+by_task : (task : SessionTask) (end : SessionEnd) → end_in task ≡ Some end → awaits task ≡ false
 by_task task.Listen end over = refl
 by_task (task.Read joined) end over = refl
 by_task (task.Await asked) end over = absurd (true≢false (ap is_some (sym over)))

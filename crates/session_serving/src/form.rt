@@ -6,7 +6,7 @@ ghost use Rattle.session_serving.specs.Order.{Passes, FailsToPass, writes};
 ghost use Rattle.session_serving.specs.Settling.{FailsToWrite};
 
 use crate::fault::ServeFault;
-use crate::watch::Watch;
+use crate::watch::SessionWatch;
 use byte_streams::Writer;
 use std::alloc::{AllocError, Global};
 
@@ -16,7 +16,7 @@ pub(crate) trait Form {
     ghost written_as: { List ℕ → List ℕ };
 
     // Writes a frame.
-    fn write<V: Watch, W: Writer>(
+    fn write<V: SessionWatch, W: Writer>(
         alloc: Global,
         watch: &mut V,
         writer: &mut W,
@@ -42,7 +42,7 @@ pub(crate) struct AsBytes;
 impl Form for AsBytes {
     ghost written_as = { as_bytes };
 
-    fn write<V: Watch, W: Writer>(
+    fn write<V: SessionWatch, W: Writer>(
         _alloc: Global,
         watch: &mut V,
         writer: &mut W,
@@ -61,7 +61,7 @@ pub(crate) struct AsHexLine;
 impl Form for AsHexLine {
     ghost written_as = { hex_line };
 
-    fn write<V: Watch, W: Writer>(
+    fn write<V: SessionWatch, W: Writer>(
         alloc: Global,
         watch: &mut V,
         writer: &mut W,

@@ -6,7 +6,7 @@ use crate::fault::{HexFault, ServeFault};
 use crate::form::AsHexLine;
 use crate::hex_text::read_hex;
 use crate::serving::end_input;
-use crate::watch::Unwatched;
+use crate::watch::UnwatchedSession;
 use byte_streams::{Reader, Writer};
 use cosem_axdr::Octets;
 use relay_core::RelayCore;
@@ -34,8 +34,8 @@ fn play_on<W: Writer>(
             return Err(HexFault::Memory);
         }
     }
-    let mut watch = Unwatched;
-    let ended = end_input::<AsHexLine, Unwatched, W, RelayCore>(
+    let mut watch = UnwatchedSession;
+    let ended = end_input::<AsHexLine, UnwatchedSession, W, RelayCore>(
         alloc,
         &mut session,
         &mut watch,

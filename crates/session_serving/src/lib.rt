@@ -17,4 +17,4 @@ pub use hex_session::{play_session, run_hex};
 pub use hex_text::read_hex;
 pub use meter::Meter;
 pub use serving::{serve_session, watch_session};
-pub use watch::Watch;
+pub use watch::SessionWatch;

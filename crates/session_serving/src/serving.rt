@@ -11,7 +11,7 @@ ghost use Rattle.session_core.specs.Remaining.{still_asks, still_sends, still_en
 use crate::fault::ServeFault;
 use crate::form::{AsBytes, Form};
 use crate::meter::Meter;
-use crate::watch::{Unwatched, Watch};
+use crate::watch::{UnwatchedSession, SessionWatch};
 use byte_streams::{Reader, Writer};
 use cosem_axdr::Octets;
 use relay_events::Event;
@@ -26,7 +26,7 @@ const MOST_READS: u32 = 4_294_967_295;
 
 // Asks the meter and writes the answers until the session needs more input or is over. Returns the
 // session's end if it is over.
-fn settle<F: Form, V: Watch, W: Writer, M: Meter>(
+fn settle<F: Form, V: SessionWatch, W: Writer, M: Meter>(
     alloc: Global,
     session: &mut Session,
     watch: &mut V,
@@ -83,7 +83,7 @@ fn settle<F: Form, V: Watch, W: Writer, M: Meter>(
 }
 
 // Feeds the session bytes, and does everything that they ask for.
-fn take_in<V: Watch, W: Writer, M: Meter>(
+fn take_in<V: SessionWatch, W: Writer, M: Meter>(
     alloc: Global,
     session: &mut Session,
     bytes: &[u8],
@@ -116,7 +116,7 @@ fn take_in<V: Watch, W: Writer, M: Meter>(
 }
 
 // Ends the input, and does everything that is left to do.
-pub(crate) fn end_input<F: Form, V: Watch, W: Writer, M: Meter>(
+pub(crate) fn end_input<F: Form, V: SessionWatch, W: Writer, M: Meter>(
     alloc: Global,
     session: &mut Session,
     watch: &mut V,
@@ -160,7 +160,7 @@ fn wrong_header(end: Option<SessionEnd>) -> Option<SessionEnd>
 }
 
 // Serves a session that was fed no bytes yet.
-fn serve<V: Watch, R: Reader, W: Writer, M: Meter>(
+fn serve<V: SessionWatch, R: Reader, W: Writer, M: Meter>(
     alloc: Global,
     session: &mut Session,
     watch: &mut V,
@@ -203,7 +203,7 @@ fn serve<V: Watch, R: Reader, W: Writer, M: Meter>(
 ///
 /// If the watch's list is known, it states the order in time: before each read and each call, all
 /// answers to what was read and replied so far were written, and nothing follows a failure.
-pub fn watch_session<V: Watch, R: Reader, W: Writer, M: Meter>(
+pub fn watch_session<V: SessionWatch, R: Reader, W: Writer, M: Meter>(
     alloc: Global,
     watch: &mut V,
     reader: &mut R,
@@ -248,6 +248,6 @@ pub fn serve_session<R: Reader, W: Writer, M: Meter>(
     ensures { Served R.remaining R.reads R.failures W.contents W.failures M.steps password.now
         reader.old writer.old meter.old result reader.new writer.new meter.new }
 {
-    let mut watch = Unwatched;
+    let mut watch = UnwatchedSession;
     watch_session(alloc, &mut watch, reader, writer, meter, password)
 }

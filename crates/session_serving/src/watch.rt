@@ -14,7 +14,7 @@ use std::alloc::Global;
 ///
 /// Reader, writer and meter are three values without a common history. A watch has one: a list of
 /// all reads, writes and calls, so that the contract of `watch_session` can state their order.
-pub trait Watch {
+pub trait SessionWatch {
     // The reads, writes and calls so far, the last one first, if they are known.
     ghost passed: { Self → Option (List Happening) };
 
@@ -55,9 +55,9 @@ pub trait Watch {
 
 // Records nothing.
 #[derive(Drop)]
-pub(crate) struct Unwatched;
+pub(crate) struct UnwatchedSession;
 
-impl Watch for Unwatched {
+impl SessionWatch for UnwatchedSession {
     ghost passed = { λ _. None };
 
     #[inline(always)]

@@ -1,10 +1,10 @@
 -- The connections that a listener accepts, and the change of their number.
 use Rattle.std.specs.Prelude.{◌≡◌, ⊤, ℕ, ◌+◌, ◌<◌, Option, Some, IfSome}
-use Rattle.session_threads.specs.declared.connections.Incoming.{Incoming}
-use Rattle.session_threads.specs.declared.connections.Incoming.TheVariants as incoming
+use Rattle.session_threads.specs.declared.connections.Arrival.{Arrival}
+use Rattle.session_threads.specs.declared.connections.Arrival.TheVariants as incoming
 
 -- a property of the connection, if there is one to serve
-abbrev pub IfReady : {C : Type 0} → (C → Type 0) → Incoming C → Type 0
+abbrev pub IfReady : {C : Type 0} → (C → Type 0) → Arrival C → Type 0
 IfReady P (incoming.Ready connection) = P connection
 IfReady P incoming.OutOfMemory = ⊤
 IfReady P incoming.SetupFailed = ⊤

@@ -7,10 +7,10 @@ use Rattle.turn_lock.specs.declared.port.Port.{Port}
 use Rattle.turn_lock.specs.History.{IsAmong, calls_by}
 use Rattle.turn_lock.specs.Shown.{ShownPort}
 use Rattle.session_threads.specs.declared.accepted.Accepted.{Accepted}
-use Rattle.session_threads.specs.declared.accepted.Outcome.{Outcome}
-use Rattle.session_threads.specs.declared.accepted.Outcome.TheVariants.{Served, Crowded, Starved, SetupFailed}
-use Rattle.session_threads.specs.declared.connections.Incoming.{Incoming}
-use Rattle.session_threads.specs.declared.connections.Incoming.TheVariants as incoming
+use Rattle.session_threads.specs.declared.accepted.Admission.{Admission}
+use Rattle.session_threads.specs.declared.accepted.Admission.TheVariants.{Served, Crowded, Starved, SetupFailed}
+use Rattle.session_threads.specs.declared.connections.Arrival.{Arrival}
+use Rattle.session_threads.specs.declared.connections.Arrival.TheVariants as incoming
 use Rattle.session_threads.specs.declared.session.Lent.{Lent}
 use Rattle.session_threads.specs.Ports.{GoesOn, AreCallsOf, child}
 
@@ -74,7 +74,7 @@ pub record IsComplete (limit : ℕ) (a : Accepted) : Type 0 where
 
 -- the effect of a connection on the count of splits: a port is split off for one that is served,
 -- and may have been for one that is not
-abbrev pub Takes : Outcome → ℕ → ℕ → Type 0
+abbrev pub Takes : Admission → ℕ → ℕ → Type 0
 Takes Served splits later = later ≡ splits + 1
 Takes Crowded splits later = later ≡ splits
 Takes Starved splits later = splits ≤ later
@@ -82,13 +82,13 @@ Takes SetupFailed splits later = later ≡ splits
 
 -- a connection that its listener closed is reported with the listener's reason; no other is
 -- reported as one whose stream could not be set up
-abbrev pub IsClosedFor : {C : Type 0} → Incoming C → Outcome → Type 0
+abbrev pub IsClosedFor : {C : Type 0} → Arrival C → Admission → Type 0
 IsClosedFor (incoming.Ready connection) outcome = outcome ≢ SetupFailed
 IsClosedFor incoming.OutOfMemory outcome = outcome ≡ Starved
 IsClosedFor incoming.SetupFailed outcome = outcome ≡ SetupFailed
 
 -- a connection is closed as one too many only if eight sessions are open
-abbrev pub IsCrowd : {H : Type 0} → Outcome → Slab H → Type 0
+abbrev pub IsCrowd : {H : Type 0} → Admission → Slab H → Type 0
 IsCrowd outcome held = outcome ≡ Crowded → 8 ≤ slab_len held
 
 -- No more connections were served than ports were split off; and as many, if none was closed for

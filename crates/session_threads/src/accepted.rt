@@ -4,7 +4,7 @@ ghost use Rattle.session_threads.specs.Sessions.{Takes, IsServed};
 
 // The result of one connection.
 #[derive(Clone, Copy)]
-pub(crate) enum Outcome {
+pub(crate) enum Admission {
     // A thread serves the connection.
     Served,
     // The maximum number of sessions were open; the connection was closed.
@@ -47,23 +47,23 @@ impl Accepted {
     }
 
     // Adds the result of one more connection.
-    pub(crate) fn count(&mut self, outcome: Outcome)
+    pub(crate) fn count(&mut self, outcome: Admission)
         ensures counted { self.old.served + self.old.turned_away < u64.MAX
             → self.new.served + self.new.turned_away ≡ self.old.served + self.old.turned_away + 1 }
         ensures rises { self.old.served + self.old.turned_away ≤ self.new.served
             + self.new.turned_away }
         ensures starved { self.new.has_starved ≡ true → (self.old.has_starved ≡ true)
-            ⊎ (outcome ≡ Outcome.Starved) }
+            ⊎ (outcome ≡ Admission.Starved) }
         ensures served { (before : ℕ) (now : ℕ) (later : ℕ) → IsServed before now self.old
             → Takes outcome now later → IsServed before later self.new }
         ensures failed { self.new.has_failed ≡ self.old.has_failed }
     {
         match outcome {
-            Outcome::Served => self.served = self.served.saturating_add(1),
-            Outcome::Crowded | Outcome::SetupFailed => {
+            Admission::Served => self.served = self.served.saturating_add(1),
+            Admission::Crowded | Admission::SetupFailed => {
                 self.turned_away = self.turned_away.saturating_add(1);
             }
-            Outcome::Starved => {
+            Admission::Starved => {
                 self.turned_away = self.turned_away.saturating_add(1);
                 self.has_starved = true;
             }

@@ -13,7 +13,7 @@ use thiserror::Error;
 /// is served, as bytes (for example a password). The relation `hands_back` states what a session on
 /// these terms does with the port: for [`serve_connections`](crate::serve_connections) it must
 /// imply `IsSame` of turn_lock.
-pub trait Connection<P>: Drop + Send {
+pub trait PortConnection<P>: Drop + Send {
     ghost terms: { Self → List ℕ } = { λ _. [] };
 
     ghost hands_back: { List ℕ → P → P → Type 0 };
@@ -28,7 +28,7 @@ pub trait Connection<P>: Drop + Send {
 /// The result of an accepted connection: one to serve, or the reason why the listener closed it
 /// without a byte sent.
 #[derive(Drop)]
-pub enum Incoming<C> {
+pub enum Arrival<C> {
     /// A connection to serve.
     Ready(C),
     /// Closed: out of memory.
@@ -43,8 +43,8 @@ pub enum Incoming<C> {
 pub struct ListenFault;
 
 /// A source of connections.
-pub trait Listener<P> {
-    type Connection: Connection<P> + 'static;
+pub trait ConnectionSource<P> {
+    type Connection: PortConnection<P> + 'static;
 
     /// Ghost predicate: the listener has failed. The default claims nothing.
     ghost has_failed: { Self → Type 0 } = { λ _. ⊤ };
@@ -61,7 +61,7 @@ pub trait Listener<P> {
 
     /// Waits for the next connection, and returns it or the reason why it was closed. After an
     /// error no further connection is accepted.
-    fn accept(&mut self, alloc: Global) -> Result<Incoming<Self::Connection>, ListenFault>
+    fn accept(&mut self, alloc: Global) -> Result<Arrival<Self::Connection>, ListenFault>
         ensures failed { OnErr result (has_failed self.new) }
         ensures terms { terms self.new ≡ terms self.old }
         ensures served { IfOk result (IfReady (λ c. Self.Connection.terms c ≡ terms self.old)) }

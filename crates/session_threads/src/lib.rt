@@ -1,7 +1,7 @@
 //! Threads over the ports of one lock: a thread for each connection, and threads for workers.
 //!
 //! [`serve_connections`] serves at most eight connections in parallel, each through a port of its
-//! own. A [`Listener`] accepts connections, and a [`Connection`] serves its peer through the port
+//! own. A [`ConnectionSource`] accepts connections, and a [`PortConnection`] serves its peer through the port
 //! that it is lent. [`start_worker`] and [`join_worker`] do likewise for a [`Worker`]. Every port
 //! that is split off is joined in again. This crate is independent of the protocol of a connection
 //! and of the value that the lock protects.
@@ -16,7 +16,7 @@ mod sessions;
 mod worker;
 
 pub use accepted::Accepted;
-pub use connections::{Connection, Incoming, ListenFault, Listener};
+pub use connections::{PortConnection, Arrival, ListenFault, ConnectionSource};
 pub use flags::SESSIONS;
 pub use serving::serve_connections;
-pub use worker::{Handed, Task, Worker, WorkerThread, join_worker, start_worker};
+pub use worker::{Handed, WorkerPromise, Worker, WorkerThread, join_worker, start_worker};

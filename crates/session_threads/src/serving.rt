@@ -6,8 +6,8 @@ ghost use Rattle.session_threads.specs.Sessions.{port_of, terms_of, AreHeld, Ten
 ghost use Rattle.turn_lock.specs.Calls.{IsLegal};
 ghost use Rattle.turn_lock.specs.Shown.{IsSame};
 
-use crate::accepted::{Accepted, Outcome};
-use crate::connections::Listener;
+use crate::accepted::{Accepted, Admission};
+use crate::connections::ConnectionSource;
 use crate::sessions::Sessions;
 use std::alloc::{AllocError, Global};
 use std::sync::Wait;
@@ -17,7 +17,7 @@ use turn_lock::{Port, Turned};
 // Waits for a connection and admits it. Returns `None` if the listener failed.
 fn take_next<
     T: Turned + Send + 'static,
-    L: Listener<Port<T>>,
+    L: ConnectionSource<Port<T>>,
     R: Threads + Wait + Copy + Send + 'static,
 >(
     rt: &R,
@@ -25,7 +25,7 @@ fn take_next<
     listener: &mut L,
     sessions: &mut Sessions<T, L::Connection>,
     port: &mut Port<T>,
-) -> Option<Outcome>
+) -> Option<Admission>
 where
     T::Event: Send + 'static,
     T::Reply: Send + 'static,
@@ -55,7 +55,7 @@ where
 // Admits connections until the limit is reached or the listener fails.
 fn accept_all<
     T: Turned + Send + 'static,
-    L: Listener<Port<T>>,
+    L: ConnectionSource<Port<T>>,
     R: Threads + Wait + Copy + Send + 'static,
 >(
     rt: &R,
@@ -105,7 +105,7 @@ where
 /// allocated; then no connection was accepted.
 pub fn serve_connections<
     T: Turned + Send + 'static,
-    L: Listener<Port<T>>,
+    L: ConnectionSource<Port<T>>,
     R: Threads + Wait + Copy + Send + 'static,
 >(
     rt: &R,

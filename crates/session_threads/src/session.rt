@@ -2,7 +2,7 @@
 ghost use Rattle.std.specs.Prelude.{◌≡◌, ◌<◌, IfOk, IfErr};
 ghost use Rattle.session_threads.specs.Ports.{Returns};
 
-use crate::connections::Connection;
+use crate::connections::PortConnection;
 use crate::flags::{Flags, SESSIONS};
 use std::alloc::Global;
 use std::snapshot::Snapshot;
@@ -19,7 +19,7 @@ pub(crate) struct Lent<T: Turned, C> {
     pub(crate) port: Snapshot<Port<T>>,
 }
 
-impl<T: Turned, C: Connection<Port<T>>> Promise<Port<T>> for Lent<T, C> {
+impl<T: Turned, C: PortConnection<Port<T>>> Promise<Port<T>> for Lent<T, C> {
     ghost use Rattle.session_threads.specs.Ports.{Returns};
 
     ghost kept_by = { λ lent port.
@@ -27,11 +27,11 @@ impl<T: Turned, C: Connection<Port<T>>> Promise<Port<T>> for Lent<T, C> {
 }
 
 // The handle of a session's thread.
-pub(crate) type Session<T, C> = PromisedHandle<Port<T>, Lent<T, C>>;
+pub(crate) type SessionThread<T, C> = PromisedHandle<Port<T>, Lent<T, C>>;
 
 // Serves the connection at this place, in the session's thread. If the thread was refused, closes
 // the connection without a byte sent.
-pub(crate) fn attend<T: Turned, C: Connection<Port<T>>, W: Wait + Copy>(
+pub(crate) fn attend<T: Turned, C: PortConnection<Port<T>>, W: Wait + Copy>(
     rt: W,
     alloc: Global,
     flags: Arc<Flags, Global>,
@@ -54,7 +54,7 @@ pub(crate) fn attend<T: Turned, C: Connection<Port<T>>, W: Wait + Copy>(
 // the connection and returns the port.
 pub(crate) fn start<
     T: Turned + Send + 'static,
-    C: Connection<Port<T>> + 'static,
+    C: PortConnection<Port<T>> + 'static,
     R: Threads + Wait + Copy + Send + 'static,
 >(
     rt: &R,
@@ -63,7 +63,7 @@ pub(crate) fn start<
     key: usize,
     connection: C,
     port: Port<T>,
-) -> Result<Session<T, C>, Port<T>>
+) -> Result<SessionThread<T, C>, Port<T>>
 where
     T::Event: Send + 'static,
     T::Reply: Send + 'static,

@@ -7,10 +7,10 @@ ghost use Rattle.session_threads.specs.Listening.{IfReady};
 ghost use Rattle.turn_lock.specs.Calls.{Joins};
 ghost use Rattle.turn_lock.specs.Shown.{IsSame};
 
-use crate::accepted::Outcome;
-use crate::connections::{Connection, Incoming};
+use crate::accepted::Admission;
+use crate::connections::{PortConnection, Arrival};
 use crate::flags::{Flags, SESSIONS};
-use crate::session::{Session, start};
+use crate::session::{SessionThread, start};
 use slab::Slab;
 use std::alloc::{AllocError, Global};
 use std::sync::{Arc, Wait};
@@ -19,23 +19,23 @@ use turn_lock::{Port, Turned};
 
 // The open sessions, at most eight, and the flags of their places.
 #[derive(Drop)]
-pub(crate) struct Sessions<T: Turned, C: Connection<Port<T>>> {
-    pub(crate) handles: Slab<Session<T, C>>,
+pub(crate) struct Sessions<T: Turned, C: PortConnection<Port<T>>> {
+    pub(crate) handles: Slab<SessionThread<T, C>>,
     flags: Arc<Flags, Global>,
 }
 
 // Joins a port in again for which no thread could be started.
-fn take_back<T: Turned>(port: &mut Port<T>, unused: Port<T>) -> Outcome
+fn take_back<T: Turned>(port: &mut Port<T>, unused: Port<T>) -> Admission
     requires { unused.lock ≡ port.old.lock }
     ensures lock { (port.new.lock ≡ port.old.lock) × (port.new.bound ≡ port.old.bound) }
     ensures joins { Joins T.legal port.old.known unused.known port.new.known }
-    ensures outcome { result ≡ Outcome.Starved }
+    ensures outcome { result ≡ Admission.Starved }
 {
     port.join(unused);
-    Outcome::Starved
+    Admission::Starved
 }
 
-impl<T: Turned, C: Connection<Port<T>>> Sessions<T, C> {
+impl<T: Turned, C: PortConnection<Port<T>>> Sessions<T, C> {
     // Returns an empty set of sessions. Allocates all memory for eight sessions.
     pub(crate) fn new(alloc: Global) -> Result<Sessions<T, C>, AllocError>
         ensures { IfOk result (λ sessions. IsEmpty sessions.handles) }
@@ -116,7 +116,7 @@ impl<T: Turned, C: Connection<Port<T>>> Sessions<T, C> {
         alloc: Global,
         connection: C,
         port: &mut Port<T>,
-    ) -> Outcome
+    ) -> Admission
     where
         T: Send + 'static,
         C: 'static,
@@ -129,22 +129,22 @@ impl<T: Turned, C: Connection<Port<T>>> Sessions<T, C> {
             self.old.handles port.new self.new.handles }
         ensures splits { Takes result port.old.known.splits port.new.known.splits }
         ensures crowded { IsCrowd result self.old.handles }
-        ensures admitted { result ≢ Outcome.SetupFailed }
+        ensures admitted { result ≢ Admission.SetupFailed }
     {
         if self.handles.len() >= SESSIONS {
-            return Outcome::Crowded;
+            return Admission::Crowded;
         }
         let key = self.handles.vacant_key();
         if key >= SESSIONS {
-            return Outcome::Starved;
+            return Admission::Starved;
         }
         let Ok(own) = port.split() else {
-            return Outcome::Starved;
+            return Admission::Starved;
         };
         match start(rt, alloc, &self.flags, key, connection, own) {
             Ok(session) => {
                 self.handles.insert_reserved(session);
-                Outcome::Served
+                Admission::Served
             }
             Err(own) => take_back(port, own),
         }
@@ -156,9 +156,9 @@ impl<T: Turned, C: Connection<Port<T>>> Sessions<T, C> {
         &mut self,
         rt: &R,
         alloc: Global,
-        incoming: Incoming<C>,
+        incoming: Arrival<C>,
         port: &mut Port<T>,
-    ) -> Outcome
+    ) -> Admission
     where
         T: Send + 'static,
         C: 'static,
@@ -174,9 +174,9 @@ impl<T: Turned, C: Connection<Port<T>>> Sessions<T, C> {
         ensures closed { IsClosedFor incoming result }
     {
         match incoming {
-            Incoming::Ready(connection) => self.admit(rt, alloc, connection, port),
-            Incoming::OutOfMemory => Outcome::Starved,
-            Incoming::SetupFailed => Outcome::SetupFailed,
+            Arrival::Ready(connection) => self.admit(rt, alloc, connection, port),
+            Arrival::OutOfMemory => Admission::Starved,
+            Arrival::SetupFailed => Admission::SetupFailed,
         }
     }
 }

@@ -36,18 +36,18 @@ pub type Handed<T> = (Port<T>, Option<Result<(), CallFault>>);
 
 /// The promise of a worker's thread: the worker did its work through this port.
 #[derive(Drop)]
-pub struct Task<T: Turned, K> {
+pub struct WorkerPromise<T: Turned, K> {
     pub worker: Snapshot<K>,
     pub port: Snapshot<Port<T>>,
 }
 
-impl<T: Turned, K: Worker<Port<T>>> Promise<Handed<T>> for Task<T, K> {
+impl<T: Turned, K: Worker<Port<T>>> Promise<Handed<T>> for WorkerPromise<T, K> {
     ghost kept_by = { λ task handed.
         Ended (K.did task.worker.value) task.port.value handed.0 handed.1 };
 }
 
 /// The handle of a running worker's thread.
-pub type WorkerThread<T, K> = PromisedHandle<Handed<T>, Task<T, K>>;
+pub type WorkerThread<T, K> = PromisedHandle<Handed<T>, WorkerPromise<T, K>>;
 
 // Does the work of a worker's thread. If the thread was refused, does nothing.
 pub(crate) fn do_work<T: Turned, K: Worker<Port<T>>, W: Wait + Copy>(
@@ -89,7 +89,7 @@ where
         return Err(port);
     };
     let here = *rt;
-    let task = Task {
+    let task = WorkerPromise {
         worker: Snapshot::of(&worker),
         port: Snapshot::of(&port),
     };

@@ -24,7 +24,7 @@ pub(crate) enum Rest {
 
 // A session of a client, with its pending event, reply or frame.
 #[derive(Drop)]
-pub(crate) struct Connection {
+pub(crate) struct ClientSession {
     session: Session,
     under_way: UnderWay,
 }
@@ -36,7 +36,7 @@ fn put(under_way: &mut UnderWay, next: UnderWay)
     *under_way = next;
 }
 
-impl Model for Connection {
+impl Model for ClientSession {
     ghost use Rattle.std.specs.Coded.{codes};
     ghost use Rattle.session_core.specs.contracts.session.Session as session_row;
     ghost use Rattle.supply_meter.specs.contracts.under_way.UnderWay as under_way_row;
@@ -51,17 +51,17 @@ impl Model for Connection {
     ghost invariant = { λ c. IsDialogue (record { session = c.session; under_way = c.under_way }) };
 }
 
-impl Connection {
+impl ClientSession {
     ghost use Rattle.supply_meter.specs.Progress.{Owes, Feeds, Finishes, GivesBy};
     ghost use Rattle.supply_meter.specs.Working.{AsksBy, WorksBy, RestsBy, AppliesBy, AnswersBy, IsAsked, IsAnswered, IsDue, GivesDue};
 
     // Returns a new session that has received no byte. `password`, 1 to 32 bytes, is that of the
     // management client.
-    pub(crate) fn new(alloc: Global, password: &Octets) -> Result<Connection, AllocError>
+    pub(crate) fn new(alloc: Global, password: &Octets) -> Result<ClientSession, AllocError>
         requires { IsPassword password.now }
         ensures { IfOk result (Owes password.now) }
     {
-        Ok(Connection {
+        Ok(ClientSession {
             session: Session::new(alloc, password)?,
             under_way: UnderWay::Nothing,
         })

@@ -12,7 +12,7 @@ ghost use Rattle.relay_events.specs.declared.reply.Reply.TheVariants.{Code};
 ghost use Rattle.supply_meter.specs.Calls.{IsNew, OpensBy, FeedsBy, FinishesBy, NextBy, ClosesBy, SamplesBy, TakesMoment};
 ghost use Rattle.supply_meter.specs.Meterings.{Takes, dialogue_at};
 
-use crate::connection::Connection;
+use crate::connection::ClientSession;
 use crate::fault::MeterFault;
 use crate::given::{Fired, Given, Tick};
 use cosem_axdr::Octets;
@@ -34,11 +34,11 @@ pub const SESSIONS: usize = 8;
 pub struct SupplyMeter {
     recorder: Recorder,
     password: Octets,
-    places: [Option<Connection>; SESSIONS],
+    places: [Option<ClientSession>; SESSIONS],
 }
 
 // Puts a session into a place.
-fn put(place: &mut Option<Connection>, connection: Connection)
+fn put(place: &mut Option<ClientSession>, connection: ClientSession)
     ensures { place.new ≡ Some connection }
 {
     *place = Some(connection);
@@ -47,7 +47,7 @@ fn put(place: &mut Option<Connection>, connection: Connection)
 impl Model for SupplyMeter {
     ghost use Rattle.std.specs.Coded.{codes};
     ghost use Rattle.relay_recorder.specs.contracts.recorder.Recorder as recorder_row;
-    ghost use Rattle.supply_meter.specs.contracts.connection.Connection as connection_row;
+    ghost use Rattle.supply_meter.specs.contracts.connection.ClientSession as connection_row;
     ghost use Rattle.supply_meter.specs.Meterings.{Metering, IsMetering};
 
     ghost Value = { Metering };
@@ -126,7 +126,7 @@ impl SupplyMeter {
         if place.is_some() {
             return Err(MeterFault::SessionTaken);
         }
-        match Connection::new(alloc, &self.password) {
+        match ClientSession::new(alloc, &self.password) {
             Ok(connection) => {
                 put(place, connection);
                 Ok(())

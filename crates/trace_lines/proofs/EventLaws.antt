@@ -24,8 +24,8 @@ use Rattle.trace_lines.specs.Traced.{IsNamed, AreNamed, AreSamples, AreExports, 
 use Rattle.trace_words.specs.Writing.{IsHeld, flag_number, all_words, data_word, value_words}
 use Rattle.trace_lines.specs.Verbs.{verb_word, verb_in}
 use Rattle.trace_lines.specs.Writing.{level_number, method_words, selection_words, parameter_word, pairs_words, samples_kind, samples_words, kind_of, event_words, event_row}
-use Rattle.trace_lines.specs.declared.verb.Verb.{Verb}
-use Rattle.trace_lines.specs.declared.verb.Verb.TheVariants.{OfGet, OfGetList, OfSet, OfExecute, OfButton, OfSamples, OfPairs, OfMoment}
+use Rattle.trace_lines.specs.declared.verb.EventWord.{EventWord}
+use Rattle.trace_lines.specs.declared.verb.EventWord.TheVariants.{OfGet, OfGetList, OfSet, OfExecute, OfButton, OfSamples, OfPairs, OfMoment}
 use Rattle.trace_words.specs.declared.version.Version.TheVariants.{Two}
 use Rattle.trace_words.proofs.PlaceLemmas.{line_again}
 use Rattle.trace_words.proofs.WordLaws.{labelled_again, number_word_again, flag_again, bytes_word_again, data_word_again}
@@ -45,7 +45,7 @@ name_again name long are =
     let six : (length name.0 == 6) ≡ true = eq-eqb (length name.0) 6 long in
     rw (h, six) refl
 
-verb_again : (verb : Verb) → verb_in (verb_word verb) ≡ Ok verb
+verb_again : (verb : EventWord) → verb_in (verb_word verb) ≡ Ok verb
 unfolding verb_in
 verb_again OfGet = refl
 verb_again OfGetList = refl

@@ -18,8 +18,8 @@ use Rattle.trace_lines.specs.Traced.{IsNamed, AreNamed, AreSamples, AreExports, 
 use Rattle.trace_words.specs.Writing.{IsHeld, flag_number, all_words, data_word, value_words}
 use Rattle.trace_lines.specs.Verbs.{verb_word}
 use Rattle.trace_lines.specs.Writing.{level_number, selection_words, parameter_word, pairs_words, samples_words, kind_of, event_words, event_row}
-use Rattle.trace_lines.specs.declared.verb.Verb.{Verb}
-use Rattle.trace_lines.specs.declared.verb.Verb.TheVariants.{OfGet, OfGetList, OfSet, OfExecute, OfButton, OfSamples, OfPairs, OfMoment}
+use Rattle.trace_lines.specs.declared.verb.EventWord.{EventWord}
+use Rattle.trace_lines.specs.declared.verb.EventWord.TheVariants.{OfGet, OfGetList, OfSet, OfExecute, OfButton, OfSamples, OfPairs, OfMoment}
 use Rattle.trace_words.specs.declared.version.Version.TheVariants.{Two}
 use Rattle.trace_lines.proofs.EventLaws.{event_again}
 use Rattle.trace_words.proofs.WordLaws.{number_is_word, number_is_row, AreWords, flag_is_word, data_is_word, more}
@@ -36,7 +36,7 @@ parameter_is_word : (parameter : Option Data) → IfSome parameter IsHeld → is
 parameter_is_word None held = refl
 parameter_is_word (Some value) held = data_is_word value held
 
-verb_is_word : (verb : Verb) → is_word (verb_word verb) ≡ true
+verb_is_word : (verb : EventWord) → is_word (verb_word verb) ≡ true
 verb_is_word OfGet = refl
 verb_is_word OfGetList = refl
 verb_is_word OfSet = refl

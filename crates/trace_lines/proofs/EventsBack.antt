@@ -27,8 +27,8 @@ use Rattle.trace_lines.specs.Writing.{level_number, attribute_words, method_word
 use Rattle.trace_words.specs.Writing.{flag_number, all_words, data_word, value_words}
 use Rattle.trace_words.specs.declared.fault.RowFault.{RowFault}
 use Rattle.trace_words.specs.declared.fault.RowFault.TheVariants.{Wrong}
-use Rattle.trace_lines.specs.declared.verb.Verb.{Verb}
-use Rattle.trace_lines.specs.declared.verb.Verb.TheVariants.{OfGet, OfGetList, OfSet, OfExecute, OfButton, OfSamples, OfPairs, OfMoment}
+use Rattle.trace_lines.specs.declared.verb.EventWord.{EventWord}
+use Rattle.trace_lines.specs.declared.verb.EventWord.TheVariants.{OfGet, OfGetList, OfSet, OfExecute, OfButton, OfSamples, OfPairs, OfMoment}
 use Rattle.trace_words.specs.declared.version.Version.{Version}
 use Rattle.trace_words.specs.declared.version.Version.TheVariants.{One, Two}
 use Rattle.trace_words.specs.Labels.{number_row}
@@ -62,7 +62,7 @@ name_back word name e =
 -- ---- the first word
 
 -- a word is that of this kind, or of one that is tried later
-kind_back : (kind : Verb) (word : Word) (later : Result Verb RowFault) (verb : Verb) → (later ≡ Ok verb → word ≡ verb_word verb)
+kind_back : (kind : EventWord) (word : Word) (later : Result EventWord RowFault) (verb : EventWord) → (later ≡ Ok verb → word ≡ verb_word verb)
     → cond (is_word_of kind word) (Ok kind) later ≡ Ok verb → word ≡ verb_word verb
 kind_back kind word later verb back e =
     elim (chosen (is_word_of kind word) (done RowFault kind) later (Ok verb) e) [
@@ -70,7 +70,7 @@ kind_back kind word later verb back e =
       | inr other ↦ back other.1
     ]
 
-verb_back : IsWrittenBack Verb verb_in verb_word
+verb_back : IsWrittenBack EventWord verb_in verb_word
 unfolding verb_in
 verb_back word verb e =
     kind_back OfGet word _ verb (
@@ -155,7 +155,7 @@ all_pairs (pair ∷ pairs) = ap (pair_words pair) (all_pairs pairs)
 -- ---- events
 
 -- the words after the first one that are read as an event are those of its line
-abbrev IsLineBack : Verb → (Row → Result Event RowFault) → Type 0
+abbrev IsLineBack : EventWord → (Row → Result Event RowFault) → Type 0
 IsLineBack verb event_from = (words : Row) (event : Event) → event_from words ≡ Ok event → verb_word verb ∷ words ≡ event_row event
 
 get_back : IsLineBack OfGet get_from
@@ -237,7 +237,7 @@ moment_back words event e =
     ap (λ (ws : Row). verb_word OfMoment ∷ ws) (last_number_back 4294967295 (omega arith) words now.0 now.1)
     ∙ ap event_row (ok_is (Moment now.0) event now.2)
 
-words_back : (version : Version) (verb : Verb) → IsLineBack verb (event_from version verb)
+words_back : (version : Version) (verb : EventWord) → IsLineBack verb (event_from version verb)
 unfolding event_from
 words_back version OfGet = get_back
 words_back version OfGetList = get_list_back

@@ -11,13 +11,13 @@ use Rattle.std.specs.Prelude.{Bool, true, false, IfSome}
 use Rattle.trace_lines.specs.Traced.{AreExports, AreNamed, AreSamples, IsNamed, IsTraced}
 use Rattle.trace_lines.specs.Verbs.{verb_word}
 use Rattle.trace_lines.specs.Writing.{event_row, event_words, kind_of, level_number, pairs_words, parameter_word, samples_words, selection_words}
-use Rattle.trace_lines.specs.declared.verb.Verb.{Verb}
-use Rattle.trace_lines.specs.declared.verb.Verb.TheVariants.{OfGet, OfGetList, OfSet, OfExecute, OfButton, OfSamples, OfPairs, OfMoment}
+use Rattle.trace_lines.specs.declared.verb.EventWord.{EventWord}
+use Rattle.trace_lines.specs.declared.verb.EventWord.TheVariants.{OfGet, OfGetList, OfSet, OfExecute, OfButton, OfSamples, OfPairs, OfMoment}
 use Rattle.trace_words.specs.Rows.{Word, Row}
 use Rattle.trace_words.specs.Writing.{IsHeld, all_words, data_word, flag_number, value_words}
 use Rattle.trace_words.proofs.ShortRows.{HasWords, IsShort, bytes_short, data_short, flag_short, no_words, number_short, word_on, words_in}
 
-verb_short : (verb : Verb) → length (verb_word verb) ≤ 7
+verb_short : (verb : EventWord) → length (verb_word verb) ≤ 7
 verb_short OfGet = omega arith
 verb_short OfGetList = omega arith
 verb_short OfSet = omega arith

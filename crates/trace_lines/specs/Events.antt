@@ -13,8 +13,8 @@ use Rattle.trace_words.specs.Rows.{Row, ended, word_at, all_at}
 use Rattle.trace_lines.specs.Verbs.{verb_in}
 use Rattle.trace_words.specs.declared.fault.RowFault.{RowFault}
 use Rattle.trace_words.specs.declared.fault.RowFault.TheVariants.{Wrong}
-use Rattle.trace_lines.specs.declared.verb.Verb.{Verb}
-use Rattle.trace_lines.specs.declared.verb.Verb.TheVariants.{OfGet, OfGetList, OfSet, OfExecute, OfButton, OfSamples, OfPairs, OfMoment}
+use Rattle.trace_lines.specs.declared.verb.EventWord.{EventWord}
+use Rattle.trace_lines.specs.declared.verb.EventWord.TheVariants.{OfGet, OfGetList, OfSet, OfExecute, OfButton, OfSamples, OfPairs, OfMoment}
 use Rattle.trace_words.specs.declared.version.Version.{Version}
 use Rattle.trace_words.specs.declared.version.Version.TheVariants.{One, Two}
 use Rattle.trace_words.specs.Labels.{labelled}
@@ -78,7 +78,7 @@ moment_from words = do
   Ok (Moment now)
 
 -- the event of this kind; version 1 has no pairs
-unfoldable pub event_from : Version → Verb → Row → Result Event RowFault
+unfoldable pub event_from : Version → EventWord → Row → Result Event RowFault
 event_from version OfGet words = get_from words
 event_from version OfGetList words = get_list_from words
 event_from version OfSet words = set_from words

@@ -13,8 +13,8 @@ use Rattle.relay_events.specs.declared.event.Event.{Event}
 use Rattle.relay_events.specs.declared.event.Event.TheVariants.{Get, GetList, Set, Execute, Button, Samples, Moment}
 use Rattle.trace_words.specs.Rows.{Word, Row}
 use Rattle.trace_lines.specs.Verbs.{verb_word}
-use Rattle.trace_lines.specs.declared.verb.Verb.{Verb}
-use Rattle.trace_lines.specs.declared.verb.Verb.TheVariants.{OfGet, OfGetList, OfSet, OfExecute, OfButton, OfSamples, OfPairs, OfMoment}
+use Rattle.trace_lines.specs.declared.verb.EventWord.{EventWord}
+use Rattle.trace_lines.specs.declared.verb.EventWord.TheVariants.{OfGet, OfGetList, OfSet, OfExecute, OfButton, OfSamples, OfPairs, OfMoment}
 use Rattle.trace_words.specs.Writing.{data_word, flag_number, all_words, value_words}
 
 -- the port of a client
@@ -46,7 +46,7 @@ pairs_words (import ∷ imports) (export ∷ exports) =
 pairs_words _ _ = []
 
 -- the kind of a block of samples: import samples alone, or pairs
-abbrev pub samples_kind : Option (List ℕ) → Verb
+abbrev pub samples_kind : Option (List ℕ) → EventWord
 samples_kind None = OfSamples
 samples_kind (Some exports) = OfPairs
 
@@ -55,7 +55,7 @@ samples_words imports None = all_words value_words imports
 samples_words imports (Some exports) = pairs_words imports exports
 
 -- the kind of an event, which determines its first word
-abbrev pub kind_of : Event → Verb
+abbrev pub kind_of : Event → EventWord
 kind_of (Get level attr selected) = OfGet
 kind_of (GetList level items) = OfGetList
 kind_of (Set level attr selected value) = OfSet

@@ -3,7 +3,7 @@ ghost use Rattle.trace_text.specs.Words.{line_of};
 ghost use Rattle.trace_words.specs.Writing.{blanked, flag_number};
 ghost use Rattle.trace_lines.specs.Writing.{attribute_words, level_number, kind_of, event_words, event_row, samples_kind, samples_words};
 
-use crate::verb::Verb;
+use crate::verb::EventWord;
 use crate::writing::{
     add_attribute, add_level, add_method, add_pairs, add_parameter, add_selections, add_values,
 };
@@ -15,27 +15,27 @@ use trace_text::add_number;
 use trace_words::{add_data, add_flag};
 
 // Returns the kind of the line of a block of samples: `samples` or `pairs`.
-fn samples_kind(block: &Block) -> Verb
+fn samples_kind(block: &Block) -> EventWord
     ensures { result ≡ samples_kind block.now.export }
 {
     match block.export() {
-        Some(_) => Verb::OfPairs,
-        None => Verb::OfSamples,
+        Some(_) => EventWord::OfPairs,
+        None => EventWord::OfSamples,
     }
 }
 
 // Returns the kind of an event's line.
-fn kind_of(event: &Event) -> Verb
+fn kind_of(event: &Event) -> EventWord
     ensures { result ≡ kind_of event.now }
 {
     match event {
-        Event::Get { .. } => Verb::OfGet,
-        Event::GetList { .. } => Verb::OfGetList,
-        Event::Set { .. } => Verb::OfSet,
-        Event::Execute { .. } => Verb::OfExecute,
-        Event::Button => Verb::OfButton,
+        Event::Get { .. } => EventWord::OfGet,
+        Event::GetList { .. } => EventWord::OfGetList,
+        Event::Set { .. } => EventWord::OfSet,
+        Event::Execute { .. } => EventWord::OfExecute,
+        Event::Button => EventWord::OfButton,
         Event::Samples(block) => samples_kind(block),
-        Event::Moment(_) => Verb::OfMoment,
+        Event::Moment(_) => EventWord::OfMoment,
     }
 }
 

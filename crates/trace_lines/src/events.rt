@@ -9,7 +9,7 @@ ghost use Rattle.trace_words.specs.declared.fault.RowFault.TheVariants.{Memory};
 
 use crate::items::{next_method, next_selection, selections};
 use crate::samples::{pairs, values};
-use crate::verb::{Verb, verb_of};
+use crate::verb::{EventWord, verb_of};
 use crate::words::level;
 use cosem_axdr::Data;
 use cosem_names::Level;
@@ -146,26 +146,26 @@ fn moment(words: &mut Words) -> Result<Event, RowFault>
 fn event_from(
     alloc: Global,
     version: Version,
-    verb: Verb,
+    verb: EventWord,
     words: &mut Words,
 ) -> Result<Event, RowFault>
     ensures { Gives Memory (λ event. event) result (event_from version verb words.old) }
 {
     match verb {
-        Verb::OfGet => get(alloc, words),
-        Verb::OfGetList => get_list(alloc, words),
-        Verb::OfSet => set(alloc, words),
-        Verb::OfExecute => execute(alloc, words),
-        Verb::OfButton => {
+        EventWord::OfGet => get(alloc, words),
+        EventWord::OfGetList => get_list(alloc, words),
+        EventWord::OfSet => set(alloc, words),
+        EventWord::OfExecute => execute(alloc, words),
+        EventWord::OfButton => {
             ended(words)?;
             Ok(Event::Button)
         }
-        Verb::OfSamples => samples(alloc, words),
-        Verb::OfPairs => match version {
+        EventWord::OfSamples => samples(alloc, words),
+        EventWord::OfPairs => match version {
             Version::One => Err(RowFault::Wrong),
             Version::Two => sample_pairs(alloc, words),
         },
-        Verb::OfMoment => moment(words),
+        EventWord::OfMoment => moment(words),
     }
 }
 

@@ -5,7 +5,7 @@ use trace_words::RowFault;
 
 // The first word of an event's line.
 #[derive(Clone, Copy)]
-pub(crate) enum Verb {
+pub(crate) enum EventWord {
     // `get`
     OfGet,
     // `getlist`
@@ -24,26 +24,26 @@ pub(crate) enum Verb {
     OfMoment,
 }
 
-impl Verb {
+impl EventWord {
     // Returns the word of this kind.
     pub(crate) fn word(self) -> &'static [u8]
         ensures { result.now ≡ verb_word self }
     {
         match self {
-            Verb::OfGet => b"get",
-            Verb::OfGetList => b"getlist",
-            Verb::OfSet => b"set",
-            Verb::OfExecute => b"execute",
-            Verb::OfButton => b"button",
-            Verb::OfSamples => b"samples",
-            Verb::OfPairs => b"pairs",
-            Verb::OfMoment => b"moment",
+            EventWord::OfGet => b"get",
+            EventWord::OfGetList => b"getlist",
+            EventWord::OfSet => b"set",
+            EventWord::OfExecute => b"execute",
+            EventWord::OfButton => b"button",
+            EventWord::OfSamples => b"samples",
+            EventWord::OfPairs => b"pairs",
+            EventWord::OfMoment => b"moment",
         }
     }
 }
 
 // Returns whether a word is that of this kind.
-fn is_word_of(kind: Verb, word: &[u8]) -> bool
+fn is_word_of(kind: EventWord, word: &[u8]) -> bool
     ensures { result ≡ is_word_of kind word.now }
 {
     word == kind.word()
@@ -51,25 +51,25 @@ fn is_word_of(kind: Verb, word: &[u8]) -> bool
 
 // Returns the kind of event that a first word names. Errors: `Wrong` for any other word.
 #[tactic(auto, unfolding(crate::specs::Verbs::verb_in))]
-pub(crate) fn verb_of(word: &[u8]) -> Result<Verb, RowFault>
+pub(crate) fn verb_of(word: &[u8]) -> Result<EventWord, RowFault>
     ensures { result ≡ verb_in word.now }
 {
-    if is_word_of(Verb::OfGet, word) {
-        Ok(Verb::OfGet)
-    } else if is_word_of(Verb::OfGetList, word) {
-        Ok(Verb::OfGetList)
-    } else if is_word_of(Verb::OfSet, word) {
-        Ok(Verb::OfSet)
-    } else if is_word_of(Verb::OfExecute, word) {
-        Ok(Verb::OfExecute)
-    } else if is_word_of(Verb::OfButton, word) {
-        Ok(Verb::OfButton)
-    } else if is_word_of(Verb::OfSamples, word) {
-        Ok(Verb::OfSamples)
-    } else if is_word_of(Verb::OfPairs, word) {
-        Ok(Verb::OfPairs)
-    } else if is_word_of(Verb::OfMoment, word) {
-        Ok(Verb::OfMoment)
+    if is_word_of(EventWord::OfGet, word) {
+        Ok(EventWord::OfGet)
+    } else if is_word_of(EventWord::OfGetList, word) {
+        Ok(EventWord::OfGetList)
+    } else if is_word_of(EventWord::OfSet, word) {
+        Ok(EventWord::OfSet)
+    } else if is_word_of(EventWord::OfExecute, word) {
+        Ok(EventWord::OfExecute)
+    } else if is_word_of(EventWord::OfButton, word) {
+        Ok(EventWord::OfButton)
+    } else if is_word_of(EventWord::OfSamples, word) {
+        Ok(EventWord::OfSamples)
+    } else if is_word_of(EventWord::OfPairs, word) {
+        Ok(EventWord::OfPairs)
+    } else if is_word_of(EventWord::OfMoment, word) {
+        Ok(EventWord::OfMoment)
     } else {
         Err(RowFault::Wrong)
     }

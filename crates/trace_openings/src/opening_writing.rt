@@ -1,4 +1,4 @@
-#![tactic(auto, unfolding(trace_text::specs::Lines::rows_text, trace_text::specs::Lines::text_of, trace_text::specs::Words::line_of))]
+#![tactic(auto, unfolding(trace_text::specs::TextLines::rows_text, trace_text::specs::TextLines::text_of, trace_text::specs::Words::line_of))]
 
 ghost use Rattle.std.specs.Prelude.{◌≡◌, ◌++◌, ◌∷◌, [], OnOk, codes};
 ghost use Rattle.action_schedule.specs.Writing.{entries_data};

@@ -11,10 +11,10 @@ use Rattle.trace_player.specs.Playing.{PlaysTrace, played}
 use Rattle.trace_player.specs.Traces.{most_bytes, trace_of}
 use Rattle.trace_player.specs.declared.fault.PlayFault.{PlayFault}
 use Rattle.trace_player.specs.declared.fault.PlayFault.TheVariants as fault
-use Rattle.trace_player.specs.declared.output.Output.{Output}
+use Rattle.trace_player.specs.declared.output.PlayedLines.{PlayedLines}
 
 -- the result for the bytes that were read: the output of the trace that they all are, or a fault
-abbrev pub Gave : List ℕ → ℕ → Result Output PlayFault → Option (List ℕ) → ℕ → Type 0
+abbrev pub Gave : List ℕ → ℕ → Result PlayedLines PlayFault → Option (List ℕ) → ℕ → Type 0
 Gave bytes failed (Ok output) left' failed' =
     PlaysTrace (trace_of bytes) output.lines.items output.count × IsAtEnd left'
 Gave bytes failed (Err (fault.Line number)) left' failed' =
@@ -25,7 +25,7 @@ Gave bytes failed (Err fault.Write) left' failed' = ⊥
 Gave bytes failed (Err fault.Memory) left' failed' = ⊤
 
 -- bytes were read, and the result is that for these bytes
-pub record TakesTrace (left : Option (List ℕ)) (failed : ℕ) (result : Result Output PlayFault)
+pub record TakesTrace (left : Option (List ℕ)) (failed : ℕ) (result : Result PlayedLines PlayFault)
     (left' : Option (List ℕ)) (failed' : ℕ) : Type 0 where
   pub bytes : List ℕ
   pub read : Consumes left left' bytes

@@ -16,7 +16,7 @@ use trace_words::{HeldLines, TraceFault, TraceLines, Version};
 
 // The lines that a trace prints, and the number of its events.
 #[derive(Debug, Drop)]
-pub(crate) struct Output {
+pub(crate) struct PlayedLines {
     pub(crate) lines: Vec<u8>,
     pub(crate) count: u32,
 }
@@ -29,7 +29,7 @@ fn play_behind(
     count: u32,
     opening: &Opening,
     lines: &mut HeldLines,
-) -> Result<Output, TraceFault>
+) -> Result<PlayedLines, TraceFault>
     requires { IsFitOpening opening.now }
     ensures ok { IfOk result
         (λ output. PlaysTrace (trace_behind version count opening.now lines.old) output.lines.items
@@ -41,7 +41,7 @@ fn play_behind(
     let mut core = RelayCore::of_fit_opening(alloc, opening)?;
     let played = play_events(alloc, version, count, lines, &mut core);
     drop(core);
-    let output = Output {
+    let output = PlayedLines {
         lines: played?,
         count,
     };
@@ -59,7 +59,7 @@ fn play_held(
     text: Vec<u8>,
     number: u64,
     left: usize,
-) -> Result<Output, TraceFault>
+) -> Result<PlayedLines, TraceFault>
     requires fit { IsFitOpening opening.now }
     requires within { left ≤ length text.items }
     requires counted { number + length text.items < 2 ^ 64 }
@@ -82,7 +82,7 @@ fn play_held(
 
 // Plays the trace of a text.
 #[tactic(auto, unfolding(crate::specs::Traces::trace_from))]
-fn play_lines(alloc: Global, text: Vec<u8>) -> Result<Output, TraceFault>
+fn play_lines(alloc: Global, text: Vec<u8>) -> Result<PlayedLines, TraceFault>
     requires { length text.items ≤ most_bytes }
     ensures ok { IfOk result
         (λ output. PlaysTrace (trace_from (place_of text.items)) output.lines.items output.count) }
@@ -107,7 +107,7 @@ fn play_lines(alloc: Global, text: Vec<u8>) -> Result<Output, TraceFault>
 // Plays the text of a trace, each event as soon as its line is read. Errors: `TooLong`; `Line`
 // with the number of the first line that is missing or malformed; `Memory`.
 #[tactic(auto, unfolding(crate::specs::Traces::trace_of), using(crate::proofs::Faults::told_too_long))]
-pub(crate) fn play_text(alloc: Global, text: Vec<u8>) -> Result<Output, TraceFault>
+pub(crate) fn play_text(alloc: Global, text: Vec<u8>) -> Result<PlayedLines, TraceFault>
     ensures ok { IfOk result
         (λ output. PlaysTrace (trace_of text.items) output.lines.items output.count) }
     ensures err { IfErr result (λ fault. Fails trace_fault.Memory fault (trace_of text.items)) }

@@ -1,7 +1,7 @@
 ghost use Rattle.trace_player.specs.Plays.{Plays, TakesTrace};
 
 use crate::fault::PlayFault;
-use crate::output::{Output, play_text};
+use crate::output::{PlayedLines, play_text};
 use crate::reading::MAX_BYTES;
 use byte_streams::{Reader, Writer, read_to_end_within};
 use std::alloc::Global;
@@ -9,7 +9,7 @@ use trace_words::TraceFault;
 
 // Reads all bytes of a reader and plays the trace in them. The bytes are dropped before it
 // returns.
-fn play_input<R: Reader>(alloc: Global, reader: &mut R) -> Result<Output, PlayFault>
+fn play_input<R: Reader>(alloc: Global, reader: &mut R) -> Result<PlayedLines, PlayFault>
     requires { R.can_read reader.now }
     ensures { TakesTrace (R.remaining reader.old) (R.failures reader.old) result
         (R.remaining reader.new) (R.failures reader.new) }
@@ -41,7 +41,7 @@ pub fn play<R: Reader, W: Writer>(
     ensures { Plays R.remaining R.failures W.contents W.failures reader.old writer.old result
         reader.new writer.new }
 {
-    let Output { lines, count } = play_input(alloc, reader)?;
+    let PlayedLines { lines, count } = play_input(alloc, reader)?;
     match writer.write_all(lines.as_slice()) {
         Ok(()) => Ok(u64::from(count)),
         Err(_) => Err(PlayFault::Write),

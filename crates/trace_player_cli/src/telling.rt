@@ -1,7 +1,7 @@
 //! Why a text is not a trace, as a line for people.
 use thiserror::Error;
 use trace_player::{MAX_BYTES, PlayFault};
-use trace_text::{Lines, Words, read_number};
+use trace_text::{TextLines, Words, read_number};
 
 // The lines of an opening of version 2 in their order, each as its first word and the names of the
 // others. Version 1 does not have those that begin with `x`.
@@ -167,7 +167,7 @@ fn is_version_1(text: &[u8]) -> bool {
 // Returns the line of a text with that number, counted from 1. `None` if the text ends before the
 // end of that line.
 fn line_of(text: &[u8], number: u64) -> Option<&[u8]> {
-    Lines::new(text).nth(number.checked_sub(1)? as usize)
+    TextLines::new(text).nth(number.checked_sub(1)? as usize)
 }
 
 // The form of the line with this number: that of a line of the opening, or of the event that its

@@ -9,7 +9,7 @@ use std::test::Fail;
 use trace_lines::{read_event, write_event};
 use trace_openings::write_opening;
 use trace_player::{play, write_trace};
-use trace_text::Lines;
+use trace_text::TextLines;
 use trace_words::Version;
 
 // Script 1 writes a threshold of 9,000 watts. It runs after 4 seconds over the threshold of 5,000,
@@ -65,7 +65,7 @@ fn take_line(recorder: &mut Recorder, alloc: Global, line: &[u8]) -> Result<(), 
 
 // Applies the event of each line of a text to a recorder.
 fn take(recorder: &mut Recorder, alloc: Global, text: &[u8]) -> Result<(), AllocError> {
-    for line in Lines::new(text) {
+    for line in TextLines::new(text) {
         take_line(recorder, alloc, line)?;
     }
     Ok(())
@@ -118,7 +118,7 @@ fn exported(alloc: Global, recorder: &Recorder) -> Result<Octets, AllocError> {
 // Returns whether the line with this number, counted from 1, is the one wanted.
 fn has_line(text: &[u8], number: usize, wanted: &[u8]) -> bool {
     let mut at = 0usize;
-    for line in Lines::new(text) {
+    for line in TextLines::new(text) {
         at = at.saturating_add(1);
         if at == number {
             return line == wanted;

@@ -10,7 +10,7 @@ use relay_core::{Event, Line, Reply};
 use std::alloc::{AllocError, Global};
 use std::test::Fail;
 use trace_lines::{read_event, write_event, write_line};
-use trace_text::Lines;
+use trace_text::TextLines;
 use trace_words::{RowFault, Version};
 
 // 0.0.96.3.10.255, the disconnect control.
@@ -125,7 +125,7 @@ fn is_read_again(alloc: Global, version: Version, line: &[u8]) -> Result<bool, A
 
 // Returns whether each line of a text is read, and its event written as the same line.
 fn are_read_again(alloc: Global, version: Version, text: &[u8]) -> Result<bool, AllocError> {
-    for line in Lines::new(text) {
+    for line in TextLines::new(text) {
         if !is_read_again(alloc, version, line)? {
             return Ok(false);
         }
@@ -146,7 +146,7 @@ fn is_wrong(alloc: Global, version: Version, line: &[u8]) -> bool {
 
 // Returns whether each line of a text is refused as the line of an event.
 fn are_wrong(alloc: Global, version: Version, text: &[u8]) -> bool {
-    for line in Lines::new(text) {
+    for line in TextLines::new(text) {
         if !is_wrong(alloc, version, line) {
             return false;
         }

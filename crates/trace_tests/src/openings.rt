@@ -7,7 +7,7 @@ use std::alloc::{AllocError, Global};
 use std::test::Fail;
 use trace_lines::{next_event, read_event_count};
 use trace_openings::read_opening;
-use trace_text::Lines;
+use trace_text::TextLines;
 use trace_words::{TraceFault, TraceLines, Version};
 
 // A new meter, in version 1.
@@ -73,7 +73,7 @@ fn add_with_line(
     other: &[u8],
 ) -> Result<(), AllocError> {
     let mut at: u64 = 0;
-    for line in Lines::new(text) {
+    for line in TextLines::new(text) {
         at = at.wrapping_add(1);
         changed.extend_from_slice(if at == number { other } else { line })?;
         changed.push(b'\n')?;
@@ -84,7 +84,7 @@ fn add_with_line(
 // Appends a text without its line `number`.
 fn add_without_line(changed: &mut Vec<u8>, text: &[u8], number: u64) -> Result<(), AllocError> {
     let mut at: u64 = 0;
-    for line in Lines::new(text) {
+    for line in TextLines::new(text) {
         at = at.wrapping_add(1);
         if at != number {
             changed.extend_from_slice(line)?;
@@ -208,7 +208,7 @@ fn are_wrong_at(
     number: u64,
     others: &[u8],
 ) -> Result<bool, AllocError> {
-    for other in Lines::new(others) {
+    for other in TextLines::new(others) {
         if wrong_line_with(alloc, text, number, other)? != Some(at) {
             return Ok(false);
         }
@@ -222,7 +222,7 @@ fn are_read_with(
     number: u64,
     others: &[u8],
 ) -> Result<bool, AllocError> {
-    for other in Lines::new(others) {
+    for other in TextLines::new(others) {
         if !is_read_with(alloc, text, number, other)? {
             return Ok(false);
         }

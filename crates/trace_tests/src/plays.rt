@@ -5,7 +5,7 @@ use std::alloc::{AllocError, Global};
 use std::io;
 use std::io::{ErrorKind, Read, Write};
 use trace_player::{PlayFault, TraceFault, play, read_trace, write_trace};
-use trace_text::{Lines, end_line};
+use trace_text::{TextLines, end_line};
 
 // A switch that is cut and reconnected remotely, the button pressed between, a read, samples and
 // moments.
@@ -216,7 +216,7 @@ fn is_wrong_at(alloc: Global, text: &[u8], line: u64) -> bool {
 // Adds a text with another line in place of one, counted from 1.
 fn add_with_line(out: &mut Vec<u8>, text: &[u8], at: u64, other: &[u8]) -> Result<(), AllocError> {
     let mut number: u64 = 0;
-    for line in Lines::new(text) {
+    for line in TextLines::new(text) {
         number = number.saturating_add(1);
         out.extend_from_slice(if number == at { other } else { line })?;
         end_line(out)?;
@@ -227,7 +227,7 @@ fn add_with_line(out: &mut Vec<u8>, text: &[u8], at: u64, other: &[u8]) -> Resul
 // Adds a text without one of its lines, counted from 1.
 fn add_without_line(out: &mut Vec<u8>, text: &[u8], at: u64) -> Result<(), AllocError> {
     let mut number: u64 = 0;
-    for line in Lines::new(text) {
+    for line in TextLines::new(text) {
         number = number.saturating_add(1);
         if number != at {
             out.extend_from_slice(line)?;

@@ -2,7 +2,7 @@
 //! separates words, numbers are decimal without leading zeros, and bytes are hexadecimal in
 //! capitals.
 //!
-//! `Lines` and `Words` read such a text, `read_number` and `read_hex` its words; `write_number`,
+//! `TextLines` and `Words` read such a text, `read_number` and `read_hex` its words; `write_number`,
 //! `write_hex`, `add_word`, `add_number`, `add_hex` and `end_line` write one. What is written is
 //! read back, and each value is read from one word only.
 #![tactic(auto)]
@@ -20,7 +20,7 @@ pub use laws::{
     text_may_be_cut_behind_a_line, written_bytes_are_read, written_lines_are_read,
     written_number_is_read, written_words_are_read,
 };
-pub use lines::{Lines, split_line};
+pub use lines::{TextLines, split_line};
 pub use numbers::{read_number, write_number};
 pub use words::Words;
 pub use writing::{add_hex, add_number, add_word, end_line};

@@ -20,11 +20,11 @@ pub fn split_line(text: &[u8]) -> Option<(&[u8], &[u8])>
 /// The lines of a text that are still to be read, each without the byte 0A that ends it. Contracts
 /// see the text that is left.
 #[derive(Drop)]
-pub struct Lines<'a> {
+pub struct TextLines<'a> {
     text: &'a [u8],
 }
 
-impl<'a> Model for Lines<'a> {
+impl<'a> Model for TextLines<'a> {
     ghost use Rattle.std.specs.Prelude.{List, ℕ};
 
     ghost Value = { List ℕ };
@@ -32,12 +32,12 @@ impl<'a> Model for Lines<'a> {
     ghost view = { λ lines. lines.text.now };
 }
 
-impl<'a> Lines<'a> {
+impl<'a> TextLines<'a> {
     /// Returns an iterator over all lines of a text.
     pub fn new(text: &'a [u8]) -> Self
         ensures { result ≡ text.now }
     {
-        Lines { text }
+        TextLines { text }
     }
 
     /// Returns the text after the lines that have been read.
@@ -48,7 +48,7 @@ impl<'a> Lines<'a> {
     }
 }
 
-impl<'a> Iterator for Lines<'a> {
+impl<'a> Iterator for TextLines<'a> {
     type Item = &'a [u8];
 
     ghost next_gives = { TakesLine };

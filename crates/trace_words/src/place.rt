@@ -6,13 +6,13 @@ ghost use Rattle.trace_words.specs.declared.fault.RowFault.{RowFault};
 
 use crate::fault::{RowFault, TraceFault};
 use std::marker::Model;
-use trace_text::{Lines, Words};
+use trace_text::{TextLines, Words};
 
 /// The lines of a trace that are still to be read. Contracts see the words of each line, the number
 /// of the first, and the text after the last byte 0A.
 #[derive(Drop)]
 pub struct TraceLines<'a> {
-    lines: Lines<'a>,
+    lines: TextLines<'a>,
     number: u64,
 }
 
@@ -39,7 +39,7 @@ impl<'a> TraceLines<'a> {
         ensures { result ≡ place_of text.now }
     {
         TraceLines {
-            lines: Lines::new(text),
+            lines: TextLines::new(text),
             number: 1,
         }
     }

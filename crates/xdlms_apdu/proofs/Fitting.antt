@@ -13,7 +13,7 @@ use Rattle.xdlms_apdu.specs.Fit.{IsFitData, IsFitAttribute, IsFitMethod, IsFitTa
 use Rattle.xdlms_apdu.specs.Heads.{request_head, response_head}
 use Rattle.xdlms_apdu.specs.Spelling.{IsNumber, IsRaw, IsData, IsAttribute, IsMethod, IsTarget, IsParameter, IsBlock, IsResult, AreItems, IsList, IsRequestBody, IsResponseBody, SpellsRequest, SpellsResponse}
 use Rattle.xdlms_apdu.specs.Text.{request_text, response_text}
-use Rattle.xdlms_apdu.specs.declared.block.Block.{Block}
+use Rattle.xdlms_apdu.specs.declared.block.DataBlock.{DataBlock}
 use Rattle.xdlms_apdu.specs.declared.request.Request.{Request}
 use Rattle.xdlms_apdu.specs.declared.request.Request.TheVariants as request
 use Rattle.xdlms_apdu.specs.declared.response.Response.{Response}
@@ -57,7 +57,7 @@ parameter_fits (Some value) text bytes j = data_fits value j.others (other_bytes
 raw_fits : (raw text : List ℕ) → IsBytes text → IsRaw raw text → length raw < 2 ^ 32
 raw_fits raw text bytes s = (length_is_short s.length_text (length raw) (front_bytes s.length_text raw text s.parts bytes) s.is_length).0
 
-block_fits : (block : Block) (text : List ℕ) → IsBytes text → IsBlock block text → IsFitBlock block
+block_fits : (block : DataBlock) (text : List ℕ) → IsBytes text → IsBlock block text → IsFitBlock block
 block_fits block text bytes j =
     let k = j.are_others in
     let behind = other_bytes text bytes j in

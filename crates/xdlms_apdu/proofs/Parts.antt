@@ -23,7 +23,7 @@ use Rattle.cosem_names.specs.declared.service.GetResult.{GetResult}
 use Rattle.cosem_names.specs.declared.service.GetResult.TheVariants.{Value, Code}
 use Rattle.xdlms_apdu.specs.Reading.{Read, front_of, one_at, two_at, byte_at, bytes_at, flag_at, number_at, length_at, raw_at, data_at, invoke_id_at, known_result, code_at, class_at, name_at, attribute_at, method_at, selection_at, target_at, parameter_at, block_at, result_at, items_at, list_at, nothing_at}
 use Rattle.xdlms_apdu.specs.Spelling.{IsByte, IsFlag, IsNumber, IsRaw, IsData, IsCode, IsClass, IsName, IsAttribute, IsMethod, IsSelection, IsTarget, IsParameter, IsBlock, IsResult, AreItems, IsList}
-use Rattle.xdlms_apdu.specs.declared.block.Block.{Block}
+use Rattle.xdlms_apdu.specs.declared.block.DataBlock.{DataBlock}
 use Rattle.xdlms_apdu.specs.declared.fault.ApduFault.{ApduFault}
 use Rattle.xdlms_apdu.specs.declared.fault.ApduFault.TheVariants.{Unreadable}
 use Rattle.xdlms_apdu.specs.declared.invoke_id.InvokeId.{InvokeId}
@@ -292,12 +292,12 @@ parameter_agrees =
 
 -- ---- blocks
 
-pub block_agrees : Agrees Block block_at IsBlock
+pub block_agrees : Agrees DataBlock block_at IsBlock
 unfolding block_at
 block_agrees =
-    let make : Bool → ℕ → List ℕ → Block = λ last number raw. record { last = last; number = number; raw = raw } in
+    let make : Bool → ℕ → List ℕ → DataBlock = λ last number raw. record { last = last; number = number; raw = raw } in
     seen_as block_at (IsTriple make IsFlag IsNumber IsRaw) IsBlock (three_agrees make flag_at number_at raw_at IsFlag IsNumber IsRaw flag_agrees number_agrees raw_agrees)
-    (λ block text s. subst (λ (b : Block). IsBlock b text) s.3 s.4)
+    (λ block text s. subst (λ (b : DataBlock). IsBlock b text) s.3 s.4)
     (λ block text s. (block.last, block.number, block.raw, refl, s))
 
 -- ---- one of two choices

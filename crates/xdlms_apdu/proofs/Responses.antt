@@ -12,7 +12,7 @@ use Rattle.xdlms_apdu.specs.Heads.{head, response_head}
 use Rattle.xdlms_apdu.specs.Reading.{Read, whole, one_at, two_at, three_at, flag_at, number_at, raw_at, code_at, invoke_id_at, result_at, list_at, nothing_at, get_block_at, get_response_at, set_response_at, action_response_at, exception_at, response_at, response_of}
 use Rattle.xdlms_apdu.specs.Spelling.{IsByte, IsFlag, IsNumber, IsRaw, IsCode, IsResult, IsList, IsResponseBody, SpellsResponse}
 use Rattle.xdlms_apdu.specs.Text.{exception_text}
-use Rattle.xdlms_apdu.specs.declared.block.Block.{Block}
+use Rattle.xdlms_apdu.specs.declared.block.DataBlock.{DataBlock}
 use Rattle.xdlms_apdu.specs.declared.fault.ApduFault.{ApduFault}
 use Rattle.xdlms_apdu.specs.declared.fault.ApduFault.TheVariants.{UnknownTag, UnknownForm, Unreadable}
 use Rattle.xdlms_apdu.specs.declared.invoke_id.InvokeId.{InvokeId}
@@ -115,7 +115,7 @@ block_found tag form t f more r s =
           (record { body = j.others; parts = parts; is_body = with_others k (with_others l (with_others m m.are_others.2)) })
     ]
 
-pub is_get_block : (id : InvokeId) (block : Block) (body : List ℕ) → IsResponseBody (response.GetBlock id block) body → IsGetBlock (response.GetBlock id block) (id.0 ∷ body)
+pub is_get_block : (id : InvokeId) (block : DataBlock) (body : List ℕ) → IsResponseBody (response.GetBlock id block) body → IsGetBlock (response.GetBlock id block) (id.0 ∷ body)
 is_get_block id block body s =
     (id, join (id.0 ∷ []) body refl (block.last, behind body (λ t k. (block.number, behind t (λ u l. inl (behind u (λ v raw. (block.raw, refl, raw)) l)) k)) s))
 

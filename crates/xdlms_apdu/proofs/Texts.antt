@@ -17,7 +17,7 @@ use Rattle.cosem_names.specs.declared.service.GetResult.TheVariants.{Value, Code
 use Rattle.xdlms_apdu.specs.Fit.{IsFitData, IsFitAttribute, IsFitMethod, IsFitTarget, IsFitNumber, IsFitBlock, IsFitParameter, IsFitResult, AreFit, IsFitRequest, IsFitResponse}
 use Rattle.xdlms_apdu.specs.Spelling.{IsFlag, IsNumber, IsRaw, IsData, IsAttribute, IsMethod, IsSelection, IsTarget, IsParameter, IsBlock, IsResult, AreItems, IsList, IsRequestBody, IsResponseBody, SpellsRequest, SpellsResponse}
 use Rattle.xdlms_apdu.specs.Text.{flag_text, number_text, data_text, attribute_text, method_text, selection_text, target_text, parameter_text, block_text, result_text, list_text, request_body, response_body, request_text, response_text}
-use Rattle.xdlms_apdu.specs.declared.block.Block.{Block}
+use Rattle.xdlms_apdu.specs.declared.block.DataBlock.{DataBlock}
 use Rattle.xdlms_apdu.specs.declared.request.Request.{Request}
 use Rattle.xdlms_apdu.specs.declared.request.Request.TheVariants as request
 use Rattle.xdlms_apdu.specs.declared.response.Response.{Response}
@@ -60,7 +60,7 @@ parameter_spells : (parameter : Option Data) → IsFitParameter parameter → Is
 parameter_spells None fit = refl
 parameter_spells (Some value) fit = join (1 ∷ []) (data_text value) (1, refl, refl) (data_spells value fit)
 
-block_spells : (block : Block) → IsFitBlock block → IsBlock block (block_text block)
+block_spells : (block : DataBlock) → IsFitBlock block → IsBlock block (block_text block)
 block_spells block fit = join (flag_text block.last) _ (flag_spells block.last) (join (number_text block.number) (string_text block.raw) (number_spells block.number fit.0) (raw_spells block.raw fit.1))
 
 result_spells : (result : GetResult) → IsFitResult result → IsResult result (result_text result)

@@ -12,7 +12,7 @@ use Rattle.cosem_names.specs.declared.name.Obis.{Obis}
 use Rattle.cosem_names.specs.declared.service.AttributeSelection.{AttributeSelection}
 use Rattle.cosem_names.specs.declared.service.GetResult.{GetResult}
 use Rattle.cosem_names.specs.declared.service.GetResult.TheVariants.{Value, Code}
-use Rattle.xdlms_apdu.specs.declared.block.Block.{Block}
+use Rattle.xdlms_apdu.specs.declared.block.DataBlock.{DataBlock}
 use Rattle.xdlms_apdu.specs.declared.request.Request.{Request}
 use Rattle.xdlms_apdu.specs.declared.request.Request.TheVariants as request
 use Rattle.xdlms_apdu.specs.declared.response.Response.{Response}
@@ -42,7 +42,7 @@ abbrev pub IsFitNumber : ℕ → Type 0
 IsFitNumber number = number < 2 ^ 32
 
 -- a block whose length fits in four bytes
-abbrev pub IsFitBlock : Block → Type 0
+abbrev pub IsFitBlock : DataBlock → Type 0
 IsFitBlock block = IsFitNumber block.number × (length block.raw < 2 ^ 32)
 
 -- the optional parameter of a method

@@ -23,7 +23,7 @@ use Rattle.cosem_names.specs.declared.result_code.ResultCode.{ResultCode}
 use Rattle.cosem_names.specs.declared.service.AttributeSelection.{AttributeSelection}
 use Rattle.cosem_names.specs.declared.service.GetResult.{GetResult}
 use Rattle.cosem_names.specs.declared.service.GetResult.TheVariants.{Value, Code}
-use Rattle.xdlms_apdu.specs.declared.block.Block.{Block}
+use Rattle.xdlms_apdu.specs.declared.block.DataBlock.{DataBlock}
 use Rattle.xdlms_apdu.specs.declared.fault.ApduFault.{ApduFault}
 use Rattle.xdlms_apdu.specs.declared.fault.ApduFault.TheVariants.{UnknownTag, UnknownForm, Unreadable, Memory}
 use Rattle.xdlms_apdu.specs.declared.invoke_id.InvokeId.{InvokeId}
@@ -161,7 +161,7 @@ parameter_at bytes = do
   if present.0 then one_at Some data_at present.1 else Ok (None, present.1)
 
 -- whether a block is the last, its number and its bytes
-unfoldable pub block_at : List ℕ → Read Block
+unfoldable pub block_at : List ℕ → Read DataBlock
 block_at bytes = three_at (λ last number raw. record { last = last; number = number; raw = raw })
     flag_at number_at raw_at bytes
 

@@ -19,7 +19,7 @@ use Rattle.cosem_names.specs.declared.service.GetResult.{GetResult}
 use Rattle.cosem_names.specs.declared.service.GetResult.TheVariants.{Value, Code}
 use Rattle.xdlms_apdu.specs.Heads.{request_head, response_head}
 use Rattle.xdlms_apdu.specs.Text.{exception_text}
-use Rattle.xdlms_apdu.specs.declared.block.Block.{Block}
+use Rattle.xdlms_apdu.specs.declared.block.DataBlock.{DataBlock}
 use Rattle.xdlms_apdu.specs.declared.request.Request.{Request}
 use Rattle.xdlms_apdu.specs.declared.request.Request.TheVariants as request
 use Rattle.xdlms_apdu.specs.declared.response.Exception.{Exception}
@@ -93,7 +93,7 @@ IsParameter None bytes = IsByte 0x00 bytes
 IsParameter (Some value) bytes = IsJoined (IsFlag true) (IsData value) bytes
 
 -- a block: whether it is the last, its number and its bytes
-abbrev pub IsBlock : Block → List ℕ → Type 0
+abbrev pub IsBlock : DataBlock → List ℕ → Type 0
 IsBlock block bytes =
     IsJoined (IsFlag block.last) (IsJoined (IsNumber block.number) (IsRaw block.raw)) bytes
 

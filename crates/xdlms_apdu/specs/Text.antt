@@ -18,7 +18,7 @@ use Rattle.cosem_names.specs.declared.service.AttributeSelection.{AttributeSelec
 use Rattle.cosem_names.specs.declared.service.GetResult.{GetResult}
 use Rattle.cosem_names.specs.declared.service.GetResult.TheVariants.{Value, Code}
 use Rattle.xdlms_apdu.specs.Heads.{request_head, response_head}
-use Rattle.xdlms_apdu.specs.declared.block.Block.{Block}
+use Rattle.xdlms_apdu.specs.declared.block.DataBlock.{DataBlock}
 use Rattle.xdlms_apdu.specs.declared.request.Request.{Request}
 use Rattle.xdlms_apdu.specs.declared.request.Request.TheVariants as request
 use Rattle.xdlms_apdu.specs.declared.response.Exception.{Exception}
@@ -64,7 +64,7 @@ parameter_text None = 0x00 ∷ []
 parameter_text (Some value) = 0x01 ∷ data_text value
 
 -- a block: whether it is the last, its number and its bytes
-abbrev pub block_text : Block → List ℕ
+abbrev pub block_text : DataBlock → List ℕ
 block_text block = flag_text block.last ++ (number_text block.number ++ string_text block.raw)
 
 -- a value, or a result

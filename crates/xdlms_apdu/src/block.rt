@@ -3,7 +3,7 @@ use cosem_axdr::Octets;
 /// One block of a value sent by block transfer: DataBlock-SA, or DataBlock-G with raw data (IEC
 /// 62056-5-3).
 #[derive(Debug, Drop)]
-pub struct Block {
+pub struct DataBlock {
     /// Whether this is the last block.
     pub last: bool,
     /// The block number, starting at 1.

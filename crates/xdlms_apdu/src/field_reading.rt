@@ -2,25 +2,25 @@
 ghost use Rattle.std.specs.Prelude.{◌≡◌};
 ghost use Rattle.xdlms_apdu.specs.Reading.{Reads, flag_at, number_at, length_at, raw_at, data_at, invoke_id_at, code_at, class_at, name_at, attribute_at, method_at, selection_at, target_at, parameter_at, block_at, result_at};
 
-use crate::block::Block;
+use crate::block::DataBlock;
 use crate::choice;
 use crate::fault::ApduFault;
 use crate::invoke_id::InvokeId;
-use byte_reading::Reader;
+use byte_reading::Cursor;
 use byteorder::{BigEndian, ByteOrder};
 use cosem_axdr::{Data, DataFault, Octets, number_of};
 use cosem_names::{AttrRef, AttributeSelection, ClassId, GetResult, MethodRef, Obis, ResultCode};
 use std::alloc::Global;
 
 // Reads a byte as a boolean: false for 0, true for any other value.
-pub(crate) fn read_flag(reader: &mut Reader) -> Result<bool, ApduFault>
+pub(crate) fn read_flag(reader: &mut Cursor) -> Result<bool, ApduFault>
     ensures { Reads (λ flag. flag) result reader.new (flag_at reader.old) }
 {
     Ok(reader.byte(ApduFault::Unreadable)? != 0)
 }
 
 // Reads a block number: four bytes, highest first.
-pub(crate) fn read_block_number(reader: &mut Reader) -> Result<u32, ApduFault>
+pub(crate) fn read_block_number(reader: &mut Cursor) -> Result<u32, ApduFault>
     ensures { Reads (λ number. number) result reader.new (number_at reader.old) }
 {
     Ok(BigEndian::read_u32(reader.bytes(4, ApduFault::Unreadable)?))
@@ -28,7 +28,7 @@ pub(crate) fn read_block_number(reader: &mut Reader) -> Result<u32, ApduFault>
 
 // Reads a length or count: one byte below 80 hex, or 81 to 84 hex followed by one to four bytes.
 #[tactic(auto, unfolding(crate::specs::Reading::length_at))]
-pub(crate) fn read_length(reader: &mut Reader) -> Result<usize, ApduFault>
+pub(crate) fn read_length(reader: &mut Cursor) -> Result<usize, ApduFault>
     ensures { Reads (λ n. n) result reader.new (length_at reader.old) }
 {
     match reader.byte(ApduFault::Unreadable)? {
@@ -42,7 +42,7 @@ pub(crate) fn read_length(reader: &mut Reader) -> Result<usize, ApduFault>
 }
 
 // Reads a length and that number of bytes into a newly allocated buffer.
-pub(crate) fn read_raw(alloc: Global, reader: &mut Reader) -> Result<Octets, ApduFault>
+pub(crate) fn read_raw(alloc: Global, reader: &mut Cursor) -> Result<Octets, ApduFault>
     ensures { Reads (λ raw. raw) result reader.new (raw_at reader.old) }
 {
     let count = read_length(reader)?;
@@ -51,12 +51,12 @@ pub(crate) fn read_raw(alloc: Global, reader: &mut Reader) -> Result<Octets, Apd
 
 // Reads a Data. Its limit on bytes counts from its own tag.
 #[tactic(auto, unfolding(crate::specs::Reading::data_at))]
-pub(crate) fn read_data(alloc: Global, reader: &mut Reader) -> Result<Data, ApduFault>
+pub(crate) fn read_data(alloc: Global, reader: &mut Cursor) -> Result<Data, ApduFault>
     ensures { Reads (λ value. value) result reader.new (data_at reader.old) }
 {
     match cosem_axdr::read(alloc, reader.rest()) {
         Ok((value, count)) => {
-            *reader = Reader::new(&reader.rest()[count..]);
+            *reader = Cursor::new(&reader.rest()[count..]);
             Ok(value)
         }
         Err(DataFault::Memory) => Err(ApduFault::Memory),
@@ -65,7 +65,7 @@ pub(crate) fn read_data(alloc: Global, reader: &mut Reader) -> Result<Data, Apdu
 }
 
 // Reads an Invoke-Id-And-Priority.
-pub(crate) fn read_invoke_id(reader: &mut Reader) -> Result<InvokeId, ApduFault>
+pub(crate) fn read_invoke_id(reader: &mut Cursor) -> Result<InvokeId, ApduFault>
     ensures { Reads (λ id. id) result reader.new (invoke_id_at reader.old) }
 {
     Ok(InvokeId(reader.byte(ApduFault::Unreadable)?))
@@ -73,19 +73,19 @@ pub(crate) fn read_invoke_id(reader: &mut Reader) -> Result<InvokeId, ApduFault>
 
 // Reads a Data-Access-Result or an Action-Result.
 #[tactic(auto, unfolding(crate::specs::Reading::code_at))]
-pub(crate) fn read_code(reader: &mut Reader) -> Result<ResultCode, ApduFault>
+pub(crate) fn read_code(reader: &mut Cursor) -> Result<ResultCode, ApduFault>
     ensures { Reads (λ code. code) result reader.new (code_at reader.old) }
 {
     ResultCode::of_code(reader.byte(ApduFault::Unreadable)?).ok_or(ApduFault::Unreadable)
 }
 
-fn read_class(reader: &mut Reader) -> Result<ClassId, ApduFault>
+fn read_class(reader: &mut Cursor) -> Result<ClassId, ApduFault>
     ensures { Reads (λ class. class) result reader.new (class_at reader.old) }
 {
     Ok(ClassId(BigEndian::read_u16(reader.bytes(2, ApduFault::Unreadable)?)))
 }
 
-fn read_name(reader: &mut Reader) -> Result<Obis, ApduFault>
+fn read_name(reader: &mut Cursor) -> Result<Obis, ApduFault>
     ensures { Reads (λ name. name) result reader.new (name_at reader.old) }
 {
     Ok(Obis(reader.array(ApduFault::Unreadable)?))
@@ -93,7 +93,7 @@ fn read_name(reader: &mut Reader) -> Result<Obis, ApduFault>
 
 // Reads a Cosem-Attribute-Descriptor.
 #[tactic(auto, unfolding(crate::specs::Reading::attribute_at))]
-pub(crate) fn read_attribute(reader: &mut Reader) -> Result<AttrRef, ApduFault>
+pub(crate) fn read_attribute(reader: &mut Cursor) -> Result<AttrRef, ApduFault>
     ensures { Reads (λ attribute. attribute) result reader.new (attribute_at reader.old) }
 {
     Ok(AttrRef {
@@ -105,7 +105,7 @@ pub(crate) fn read_attribute(reader: &mut Reader) -> Result<AttrRef, ApduFault>
 
 // Reads a Cosem-Method-Descriptor.
 #[tactic(auto, unfolding(crate::specs::Reading::method_at))]
-pub(crate) fn read_method(reader: &mut Reader) -> Result<MethodRef, ApduFault>
+pub(crate) fn read_method(reader: &mut Cursor) -> Result<MethodRef, ApduFault>
     ensures { Reads (λ method. method) result reader.new (method_at reader.old) }
 {
     Ok(MethodRef {
@@ -118,7 +118,7 @@ pub(crate) fn read_method(reader: &mut Reader) -> Result<MethodRef, ApduFault>
 // Reads an optional Selective-Access-Descriptor and returns whether it is present. Its selector
 // and parameters are discarded.
 #[tactic(auto, unfolding(crate::specs::Reading::selection_at))]
-pub(crate) fn read_selection(alloc: Global, reader: &mut Reader) -> Result<bool, ApduFault>
+pub(crate) fn read_selection(alloc: Global, reader: &mut Cursor) -> Result<bool, ApduFault>
     ensures { Reads (λ selected. selected) result reader.new (selection_at reader.old) }
 {
     let selected = read_flag(reader)?;
@@ -133,7 +133,7 @@ pub(crate) fn read_selection(alloc: Global, reader: &mut Reader) -> Result<bool,
 #[tactic(auto, unfolding(crate::specs::Reading::target_at))]
 pub(crate) fn read_target(
     alloc: Global,
-    reader: &mut Reader,
+    reader: &mut Cursor,
 ) -> Result<AttributeSelection, ApduFault>
     ensures { Reads (λ target. target) result reader.new (target_at reader.old) }
 {
@@ -145,7 +145,7 @@ pub(crate) fn read_target(
 
 // Reads the optional parameter of a method.
 #[tactic(auto, unfolding(crate::specs::Reading::parameter_at))]
-pub(crate) fn read_parameter(alloc: Global, reader: &mut Reader) -> Result<Option<Data>, ApduFault>
+pub(crate) fn read_parameter(alloc: Global, reader: &mut Cursor) -> Result<Option<Data>, ApduFault>
     ensures { Reads (λ parameter. parameter) result reader.new (parameter_at reader.old) }
 {
     Ok(if read_flag(reader)? {
@@ -157,10 +157,10 @@ pub(crate) fn read_parameter(alloc: Global, reader: &mut Reader) -> Result<Optio
 
 // Reads a DataBlock-SA.
 #[tactic(auto, unfolding(crate::specs::Reading::block_at))]
-pub(crate) fn read_block(alloc: Global, reader: &mut Reader) -> Result<Block, ApduFault>
+pub(crate) fn read_block(alloc: Global, reader: &mut Cursor) -> Result<DataBlock, ApduFault>
     ensures { Reads (λ block. block) result reader.new (block_at reader.old) }
 {
-    Ok(Block {
+    Ok(DataBlock {
         last: read_flag(reader)?,
         number: read_block_number(reader)?,
         raw: read_raw(alloc, reader)?,
@@ -169,7 +169,7 @@ pub(crate) fn read_block(alloc: Global, reader: &mut Reader) -> Result<Block, Ap
 
 // Reads a Get-Data-Result.
 #[tactic(auto, unfolding(crate::specs::Reading::result_at))]
-pub(crate) fn read_result(alloc: Global, reader: &mut Reader) -> Result<GetResult, ApduFault>
+pub(crate) fn read_result(alloc: Global, reader: &mut Cursor) -> Result<GetResult, ApduFault>
     ensures { Reads (λ result. result) result reader.new (result_at reader.old) }
 {
     match reader.byte(ApduFault::Unreadable)? {

@@ -5,7 +5,7 @@ ghost use Rattle.cosem_axdr.specs.Spelling.{string_text};
 ghost use Rattle.xdlms_apdu.specs.Heads.{head};
 ghost use Rattle.xdlms_apdu.specs.Text.{flag_text, number_text, descriptor_text, attribute_text, method_text, selection_text, target_text, parameter_text, block_text, result_text};
 
-use crate::block::Block;
+use crate::block::DataBlock;
 use crate::choice;
 use crate::field_value::{ABSENT, PRESENT};
 use crate::invoke_id::InvokeId;
@@ -118,7 +118,7 @@ pub(crate) fn put_parameter(parameter: &Option<Data>, out: &mut Octets) -> Resul
 }
 
 // Appends a DataBlock-SA.
-pub(crate) fn put_block(block: &Block, out: &mut Octets) -> Result<(), AllocError>
+pub(crate) fn put_block(block: &DataBlock, out: &mut Octets) -> Result<(), AllocError>
     ensures { OnOk result (out.new ≡ out.old ++ block_text block.now) }
 {
     put_flag(block.last, out)?;

@@ -21,7 +21,7 @@ mod response_reading;
 mod response_writing;
 pub mod tag;
 
-pub use block::Block;
+pub use block::DataBlock;
 pub use fault::ApduFault;
 pub use invoke_id::InvokeId;
 pub use laws::{no_spelling_begins_another, text_of_request_spells, text_of_response_spells};

@@ -4,7 +4,7 @@ ghost use Rattle.xdlms_apdu.specs.Reading.{Reads, target_at, result_at, items_at
 
 use crate::fault::ApduFault;
 use crate::field_reading::{read_length, read_result, read_target};
-use byte_reading::Reader;
+use byte_reading::Cursor;
 use cosem_names::{AttributeSelection, GetResult};
 use listed::Listed;
 use std::alloc::Global;
@@ -13,7 +13,7 @@ use std::alloc::Global;
 #[tactic(auto, unfolding(crate::specs::Reading::list_at))]
 pub(crate) fn read_targets(
     alloc: Global,
-    reader: &mut Reader,
+    reader: &mut Cursor,
 ) -> Result<Listed<AttributeSelection>, ApduFault>
     ensures { Reads (λ targets. targets) result reader.new (list_at target_at reader.old) }
 {
@@ -25,7 +25,7 @@ pub(crate) fn read_targets(
 fn read_target_items(
     alloc: Global,
     count: usize,
-    reader: &mut Reader,
+    reader: &mut Cursor,
 ) -> Result<Vec<AttributeSelection>, ApduFault>
     ensures { Reads (λ items. items.items) result reader.new (items_at target_at count reader.old) }
 {
@@ -40,7 +40,7 @@ fn read_target_items(
 #[tactic(auto, unfolding(crate::specs::Reading::list_at))]
 pub(crate) fn read_results(
     alloc: Global,
-    reader: &mut Reader,
+    reader: &mut Cursor,
 ) -> Result<Listed<GetResult>, ApduFault>
     ensures { Reads (λ results. results) result reader.new (list_at result_at reader.old) }
 {
@@ -52,7 +52,7 @@ pub(crate) fn read_results(
 fn read_result_items(
     alloc: Global,
     count: usize,
-    reader: &mut Reader,
+    reader: &mut Cursor,
 ) -> Result<Vec<GetResult>, ApduFault>
     ensures { Reads (λ items. items.items) result reader.new (items_at result_at count reader.old) }
 {

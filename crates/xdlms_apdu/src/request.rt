@@ -1,4 +1,4 @@
-use crate::block::Block;
+use crate::block::DataBlock;
 use crate::invoke_id::InvokeId;
 use cosem_axdr::Data;
 use cosem_names::{AttributeSelection, MethodRef};
@@ -32,12 +32,12 @@ pub enum Request {
     SetFirst {
         id: InvokeId,
         target: AttributeSelection,
-        block: Block,
+        block: DataBlock,
     },
     /// Set-Request-With-Datablock: a further block of the value.
     SetNext {
         id: InvokeId,
-        block: Block,
+        block: DataBlock,
     },
     /// Action-Request-Normal: invokes a method, with a parameter if it has one.
     Action {
@@ -49,11 +49,11 @@ pub enum Request {
     ActionFirst {
         id: InvokeId,
         method: MethodRef,
-        block: Block,
+        block: DataBlock,
     },
     /// Action-Request-With-Pblock: a further block of the parameter.
     ActionNext {
         id: InvokeId,
-        block: Block,
+        block: DataBlock,
     },
 }

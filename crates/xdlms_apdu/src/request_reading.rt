@@ -12,7 +12,7 @@ use crate::field_reading::{
 use crate::list_reading::read_targets;
 use crate::request::Request;
 use crate::{form, tag};
-use byte_reading::Reader;
+use byte_reading::Cursor;
 use std::alloc::Global;
 
 /// Reads a request: the tag of a GET, SET or ACTION, the form, and its contents, which must end at
@@ -43,14 +43,14 @@ fn read_whole(alloc: Global, bytes: &[u8]) -> Result<Request, ApduFault>
     let [tag, body @ ..] = bytes else {
         return Err(ApduFault::UnknownTag);
     };
-    let mut reader = Reader::new(body);
+    let mut reader = Cursor::new(body);
     let request = read_tagged(alloc, *tag, &mut reader)?;
     reader.finish(request, ApduFault::Unreadable)
 }
 
 // Reads the rest of a request after its tag.
 #[tactic(auto, unfolding(crate::specs::Reading::request_at))]
-fn read_tagged(alloc: Global, tag: u8, reader: &mut Reader) -> Result<Request, ApduFault>
+fn read_tagged(alloc: Global, tag: u8, reader: &mut Cursor) -> Result<Request, ApduFault>
     ensures { Reads (λ request. request) result reader.new (request_at tag reader.old) }
 {
     match tag {
@@ -63,7 +63,7 @@ fn read_tagged(alloc: Global, tag: u8, reader: &mut Reader) -> Result<Request, A
 
 // Reads a Get-Request after its tag.
 #[tactic(auto, unfolding(crate::specs::Reading::get_request_at))]
-fn read_get(alloc: Global, reader: &mut Reader) -> Result<Request, ApduFault>
+fn read_get(alloc: Global, reader: &mut Cursor) -> Result<Request, ApduFault>
     ensures { Reads (λ request. request) result reader.new (get_request_at reader.old) }
 {
     match reader.byte(ApduFault::Unreadable)? {
@@ -75,7 +75,7 @@ fn read_get(alloc: Global, reader: &mut Reader) -> Result<Request, ApduFault>
 }
 
 // Reads a Get-Request-Normal after its form.
-fn read_get_normal(alloc: Global, reader: &mut Reader) -> Result<Request, ApduFault>
+fn read_get_normal(alloc: Global, reader: &mut Cursor) -> Result<Request, ApduFault>
     ensures { Reads (λ request. request) result reader.new
         (two_at Request.Get invoke_id_at target_at reader.old) }
 {
@@ -85,7 +85,7 @@ fn read_get_normal(alloc: Global, reader: &mut Reader) -> Result<Request, ApduFa
 }
 
 // Reads a Get-Request-Next after its form.
-fn read_get_next(reader: &mut Reader) -> Result<Request, ApduFault>
+fn read_get_next(reader: &mut Cursor) -> Result<Request, ApduFault>
     ensures { Reads (λ request. request) result reader.new
         (two_at Request.GetNext invoke_id_at number_at reader.old) }
 {
@@ -95,7 +95,7 @@ fn read_get_next(reader: &mut Reader) -> Result<Request, ApduFault>
 }
 
 // Reads a Get-Request-With-List after its form.
-fn read_get_list(alloc: Global, reader: &mut Reader) -> Result<Request, ApduFault>
+fn read_get_list(alloc: Global, reader: &mut Cursor) -> Result<Request, ApduFault>
     ensures { Reads (λ request. request) result reader.new
         (two_at Request.GetList invoke_id_at (list_at target_at) reader.old) }
 {
@@ -106,7 +106,7 @@ fn read_get_list(alloc: Global, reader: &mut Reader) -> Result<Request, ApduFaul
 
 // Reads a Set-Request after its tag.
 #[tactic(auto, unfolding(crate::specs::Reading::set_request_at))]
-fn read_set(alloc: Global, reader: &mut Reader) -> Result<Request, ApduFault>
+fn read_set(alloc: Global, reader: &mut Cursor) -> Result<Request, ApduFault>
     ensures { Reads (λ request. request) result reader.new (set_request_at reader.old) }
 {
     match reader.byte(ApduFault::Unreadable)? {
@@ -118,7 +118,7 @@ fn read_set(alloc: Global, reader: &mut Reader) -> Result<Request, ApduFault>
 }
 
 // Reads a Set-Request-Normal after its form.
-fn read_set_normal(alloc: Global, reader: &mut Reader) -> Result<Request, ApduFault>
+fn read_set_normal(alloc: Global, reader: &mut Cursor) -> Result<Request, ApduFault>
     ensures { Reads (λ request. request) result reader.new
         (three_at Request.Set invoke_id_at target_at data_at reader.old) }
 {
@@ -129,7 +129,7 @@ fn read_set_normal(alloc: Global, reader: &mut Reader) -> Result<Request, ApduFa
 }
 
 // Reads a Set-Request-With-First-Datablock after its form.
-fn read_set_first(alloc: Global, reader: &mut Reader) -> Result<Request, ApduFault>
+fn read_set_first(alloc: Global, reader: &mut Cursor) -> Result<Request, ApduFault>
     ensures { Reads (λ request. request) result reader.new
         (three_at Request.SetFirst invoke_id_at target_at block_at reader.old) }
 {
@@ -140,7 +140,7 @@ fn read_set_first(alloc: Global, reader: &mut Reader) -> Result<Request, ApduFau
 }
 
 // Reads a Set-Request-With-Datablock after its form.
-fn read_set_next(alloc: Global, reader: &mut Reader) -> Result<Request, ApduFault>
+fn read_set_next(alloc: Global, reader: &mut Cursor) -> Result<Request, ApduFault>
     ensures { Reads (λ request. request) result reader.new
         (two_at Request.SetNext invoke_id_at block_at reader.old) }
 {
@@ -151,7 +151,7 @@ fn read_set_next(alloc: Global, reader: &mut Reader) -> Result<Request, ApduFaul
 
 // Reads an Action-Request after its tag.
 #[tactic(auto, unfolding(crate::specs::Reading::action_request_at))]
-fn read_action(alloc: Global, reader: &mut Reader) -> Result<Request, ApduFault>
+fn read_action(alloc: Global, reader: &mut Cursor) -> Result<Request, ApduFault>
     ensures { Reads (λ request. request) result reader.new (action_request_at reader.old) }
 {
     match reader.byte(ApduFault::Unreadable)? {
@@ -163,7 +163,7 @@ fn read_action(alloc: Global, reader: &mut Reader) -> Result<Request, ApduFault>
 }
 
 // Reads an Action-Request-Normal after its form.
-fn read_action_normal(alloc: Global, reader: &mut Reader) -> Result<Request, ApduFault>
+fn read_action_normal(alloc: Global, reader: &mut Cursor) -> Result<Request, ApduFault>
     ensures { Reads (λ request. request) result reader.new
         (three_at Request.Action invoke_id_at method_at parameter_at reader.old) }
 {
@@ -178,7 +178,7 @@ fn read_action_normal(alloc: Global, reader: &mut Reader) -> Result<Request, Apd
 }
 
 // Reads an Action-Request-With-First-Pblock after its form.
-fn read_action_first(alloc: Global, reader: &mut Reader) -> Result<Request, ApduFault>
+fn read_action_first(alloc: Global, reader: &mut Cursor) -> Result<Request, ApduFault>
     ensures { Reads (λ request. request) result reader.new
         (three_at Request.ActionFirst invoke_id_at method_at block_at reader.old) }
 {
@@ -189,7 +189,7 @@ fn read_action_first(alloc: Global, reader: &mut Reader) -> Result<Request, Apdu
 }
 
 // Reads an Action-Request-With-Pblock after its form.
-fn read_action_next(alloc: Global, reader: &mut Reader) -> Result<Request, ApduFault>
+fn read_action_next(alloc: Global, reader: &mut Cursor) -> Result<Request, ApduFault>
     ensures { Reads (λ request. request) result reader.new
         (two_at Request.ActionNext invoke_id_at block_at reader.old) }
 {

@@ -1,4 +1,4 @@
-use crate::block::Block;
+use crate::block::DataBlock;
 use crate::invoke_id::InvokeId;
 use cosem_names::{GetResult, ResultCode};
 use listed::Listed;
@@ -26,7 +26,7 @@ pub enum Response {
     /// Get-Response-With-Datablock with raw data: one block of the value.
     GetBlock {
         id: InvokeId,
-        block: Block,
+        block: DataBlock,
     },
     /// Get-Response-With-Datablock with a result: the reason why the block is not returned.
     GetBlockRefused {

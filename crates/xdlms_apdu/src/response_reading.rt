@@ -4,7 +4,7 @@ ghost use Rattle.xdlms_apdu.specs.Reading.{Reads, one_at, two_at, three_at, numb
 ghost use Rattle.xdlms_apdu.specs.Spelling.{SpellsResponse};
 ghost use Rattle.xdlms_apdu.specs.declared.response.Response.{Response};
 
-use crate::block::Block;
+use crate::block::DataBlock;
 use crate::fault::ApduFault;
 use crate::field_reading::{
     read_block_number, read_code, read_flag, read_invoke_id, read_raw, read_result,
@@ -14,7 +14,7 @@ use crate::invoke_id::InvokeId;
 use crate::list_reading::read_results;
 use crate::response::{Exception, Response};
 use crate::{choice, form, tag};
-use byte_reading::Reader;
+use byte_reading::Cursor;
 use std::alloc::Global;
 
 /// Reads a response: the tag of a GET, SET or ACTION response, the form, and its contents, which
@@ -46,14 +46,14 @@ fn read_whole(alloc: Global, bytes: &[u8]) -> Result<Response, ApduFault>
     let [tag, body @ ..] = bytes else {
         return Err(ApduFault::UnknownTag);
     };
-    let mut reader = Reader::new(body);
+    let mut reader = Cursor::new(body);
     let response = read_tagged(alloc, *tag, &mut reader)?;
     reader.finish(response, ApduFault::Unreadable)
 }
 
 // Reads the rest of a response after its tag.
 #[tactic(auto, unfolding(crate::specs::Reading::response_at))]
-fn read_tagged(alloc: Global, tag: u8, reader: &mut Reader) -> Result<Response, ApduFault>
+fn read_tagged(alloc: Global, tag: u8, reader: &mut Cursor) -> Result<Response, ApduFault>
     ensures { Reads (λ response. response) result reader.new (response_at tag reader.old) }
 {
     match tag {
@@ -67,7 +67,7 @@ fn read_tagged(alloc: Global, tag: u8, reader: &mut Reader) -> Result<Response, 
 
 // Reads a Get-Response after its tag.
 #[tactic(auto, unfolding(crate::specs::Reading::get_response_at))]
-fn read_get(alloc: Global, reader: &mut Reader) -> Result<Response, ApduFault>
+fn read_get(alloc: Global, reader: &mut Cursor) -> Result<Response, ApduFault>
     ensures { Reads (λ response. response) result reader.new (get_response_at reader.old) }
 {
     match reader.byte(ApduFault::Unreadable)? {
@@ -79,7 +79,7 @@ fn read_get(alloc: Global, reader: &mut Reader) -> Result<Response, ApduFault>
 }
 
 // Reads a Get-Response-Normal after its form.
-fn read_get_normal(alloc: Global, reader: &mut Reader) -> Result<Response, ApduFault>
+fn read_get_normal(alloc: Global, reader: &mut Cursor) -> Result<Response, ApduFault>
     ensures { Reads (λ response. response) result reader.new
         (two_at Response.Get invoke_id_at result_at reader.old) }
 {
@@ -89,7 +89,7 @@ fn read_get_normal(alloc: Global, reader: &mut Reader) -> Result<Response, ApduF
 }
 
 // Reads a Get-Response-With-List after its form.
-fn read_get_list(alloc: Global, reader: &mut Reader) -> Result<Response, ApduFault>
+fn read_get_list(alloc: Global, reader: &mut Cursor) -> Result<Response, ApduFault>
     ensures { Reads (λ response. response) result reader.new
         (two_at Response.GetList invoke_id_at (list_at result_at) reader.old) }
 {
@@ -100,7 +100,7 @@ fn read_get_list(alloc: Global, reader: &mut Reader) -> Result<Response, ApduFau
 
 // Reads a Get-Response-With-Datablock after its form: a DataBlock-G with raw data or a result.
 #[tactic(auto, unfolding(crate::specs::Reading::get_block_at))]
-fn read_get_block(alloc: Global, reader: &mut Reader) -> Result<Response, ApduFault>
+fn read_get_block(alloc: Global, reader: &mut Cursor) -> Result<Response, ApduFault>
     ensures { Reads (λ response. response) result reader.new (get_block_at reader.old) }
 {
     let id = read_invoke_id(reader)?;
@@ -119,7 +119,7 @@ fn read_block_raw(
     id: InvokeId,
     last: bool,
     number: u32,
-    reader: &mut Reader,
+    reader: &mut Cursor,
 ) -> Result<Response, ApduFault>
     ensures { Reads (λ response. response) result reader.new
         (one_at (λ raw. Response.GetBlock id (record { last = last; number = number; raw = raw }))
@@ -128,7 +128,7 @@ fn read_block_raw(
     let raw = read_raw(alloc, reader)?;
     Ok(Response::GetBlock {
         id,
-        block: Block { last, number, raw },
+        block: DataBlock { last, number, raw },
     })
 }
 
@@ -137,7 +137,7 @@ fn read_block_refusal(
     id: InvokeId,
     last: bool,
     number: u32,
-    reader: &mut Reader,
+    reader: &mut Cursor,
 ) -> Result<Response, ApduFault>
     ensures { Reads (λ response. response) result reader.new
         (one_at (Response.GetBlockRefused id last number) code_at reader.old) }
@@ -153,7 +153,7 @@ fn read_block_refusal(
 
 // Reads a Set-Response after its tag.
 #[tactic(auto, unfolding(crate::specs::Reading::set_response_at))]
-fn read_set(reader: &mut Reader) -> Result<Response, ApduFault>
+fn read_set(reader: &mut Cursor) -> Result<Response, ApduFault>
     ensures { Reads (λ response. response) result reader.new (set_response_at reader.old) }
 {
     match reader.byte(ApduFault::Unreadable)? {
@@ -165,7 +165,7 @@ fn read_set(reader: &mut Reader) -> Result<Response, ApduFault>
 }
 
 // Reads a Set-Response-Normal after its form.
-fn read_set_normal(reader: &mut Reader) -> Result<Response, ApduFault>
+fn read_set_normal(reader: &mut Cursor) -> Result<Response, ApduFault>
     ensures { Reads (λ response. response) result reader.new
         (two_at Response.Set invoke_id_at code_at reader.old) }
 {
@@ -175,7 +175,7 @@ fn read_set_normal(reader: &mut Reader) -> Result<Response, ApduFault>
 }
 
 // Reads a Set-Response-Datablock after its form.
-fn read_set_block(reader: &mut Reader) -> Result<Response, ApduFault>
+fn read_set_block(reader: &mut Cursor) -> Result<Response, ApduFault>
     ensures { Reads (λ response. response) result reader.new
         (two_at Response.SetBlock invoke_id_at number_at reader.old) }
 {
@@ -185,7 +185,7 @@ fn read_set_block(reader: &mut Reader) -> Result<Response, ApduFault>
 }
 
 // Reads a Set-Response-Last-Datablock after its form.
-fn read_set_last(reader: &mut Reader) -> Result<Response, ApduFault>
+fn read_set_last(reader: &mut Cursor) -> Result<Response, ApduFault>
     ensures { Reads (λ response. response) result reader.new
         (three_at Response.SetLastBlock invoke_id_at code_at number_at reader.old) }
 {
@@ -197,7 +197,7 @@ fn read_set_last(reader: &mut Reader) -> Result<Response, ApduFault>
 
 // Reads an Action-Response after its tag.
 #[tactic(auto, unfolding(crate::specs::Reading::action_response_at))]
-fn read_action(reader: &mut Reader) -> Result<Response, ApduFault>
+fn read_action(reader: &mut Cursor) -> Result<Response, ApduFault>
     ensures { Reads (λ response. response) result reader.new (action_response_at reader.old) }
 {
     match reader.byte(ApduFault::Unreadable)? {
@@ -208,7 +208,7 @@ fn read_action(reader: &mut Reader) -> Result<Response, ApduFault>
 }
 
 // Reads an Action-Response-Normal after its form.
-fn read_action_normal(reader: &mut Reader) -> Result<Response, ApduFault>
+fn read_action_normal(reader: &mut Cursor) -> Result<Response, ApduFault>
     ensures { Reads (λ response. response) result reader.new
         (three_at (λ id code nothing. Response.Action id code) invoke_id_at code_at nothing_at
         reader.old) }
@@ -220,7 +220,7 @@ fn read_action_normal(reader: &mut Reader) -> Result<Response, ApduFault>
 }
 
 // Reads an Action-Response-Next-Pblock after its form.
-fn read_action_block(reader: &mut Reader) -> Result<Response, ApduFault>
+fn read_action_block(reader: &mut Cursor) -> Result<Response, ApduFault>
     ensures { Reads (λ response. response) result reader.new
         (two_at Response.ActionBlock invoke_id_at number_at reader.old) }
 {
@@ -230,7 +230,7 @@ fn read_action_block(reader: &mut Reader) -> Result<Response, ApduFault>
 }
 
 // Reads the byte that marks the return parameters as absent.
-fn read_nothing(reader: &mut Reader) -> Result<(), ApduFault>
+fn read_nothing(reader: &mut Cursor) -> Result<(), ApduFault>
     ensures { Reads (λ nothing. nothing) result reader.new (nothing_at reader.old) }
 {
     if reader.byte(ApduFault::Unreadable)? != ABSENT {
@@ -241,7 +241,7 @@ fn read_nothing(reader: &mut Reader) -> Result<(), ApduFault>
 
 // Reads the state-error and the service-error of an ExceptionResponse.
 #[tactic(auto, unfolding(crate::specs::Reading::exception_at))]
-fn read_exception(reader: &mut Reader) -> Result<Response, ApduFault>
+fn read_exception(reader: &mut Cursor) -> Result<Response, ApduFault>
     ensures { Reads (λ response. response) result reader.new (exception_at reader.old) }
 {
     let state = reader.byte(ApduFault::Unreadable)?;

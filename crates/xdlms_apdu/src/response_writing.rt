@@ -5,7 +5,7 @@ ghost use Rattle.cosem_names.specs.ResultCode.{code_of};
 ghost use Rattle.xdlms_apdu.specs.Heads.{response_head};
 ghost use Rattle.xdlms_apdu.specs.Text.{exception_text, flag_text, number_text, response_body, response_text};
 
-use crate::block::Block;
+use crate::block::DataBlock;
 use crate::field_value::{ABSENT, service_error, state_error};
 use crate::field_writing::{put_flag, put_head, put_number, put_raw, put_result};
 use crate::form::{action_response, get_response, set_response};
@@ -106,7 +106,7 @@ fn put_response_body(response: &Response, out: &mut Octets) -> Result<(), AllocE
 
 // Appends a DataBlock-G with raw data.
 #[tactic(auto, using(cosem_axdr::proofs::Appending::extends_same, cosem_axdr::proofs::Appending::extends_more))]
-fn put_get_block(block: &Block, out: &mut Octets) -> Result<(), AllocError>
+fn put_get_block(block: &DataBlock, out: &mut Octets) -> Result<(), AllocError>
     ensures ok { OnOk result (out.new ≡ out.old
         ++ (flag_text block.now.last
         ++ (number_text block.now.number ++ 0x00 ∷ string_text block.now.raw))) }

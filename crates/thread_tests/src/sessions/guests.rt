@@ -1,6 +1,6 @@
 //! Connections and a listener in memory.
 use crate::locks::counter::{Bump, Counter};
-use session_threads::{Connection, Incoming, ListenFault, Listener};
+use session_threads::{PortConnection, Arrival, ListenFault, ConnectionSource};
 use std::alloc::Global;
 use std::sync::atomic::{AtomicBool, AtomicU64, Ordering};
 use std::sync::{Arc, Wait};
@@ -130,7 +130,7 @@ impl Drop for Guest {
     }
 }
 
-impl Connection<Port<Counter>> for Guest {
+impl PortConnection<Port<Counter>> for Guest {
     ghost use Rattle.turn_lock.specs.Shown.{IsSame};
 
     ghost hands_back = { λ _. IsSame };
@@ -218,17 +218,17 @@ impl Door {
     }
 }
 
-impl Listener<Port<Counter>> for Door {
+impl ConnectionSource<Port<Counter>> for Door {
     type Connection = Guest;
 
-    fn accept(&mut self, _alloc: Global) -> Result<Incoming<Guest>, ListenFault> {
+    fn accept(&mut self, _alloc: Global) -> Result<Arrival<Guest>, ListenFault> {
         if self.closed.out_of_memory > 0 {
             self.closed.out_of_memory -= 1;
-            return Ok(Incoming::OutOfMemory);
+            return Ok(Arrival::OutOfMemory);
         }
         if self.closed.setup_failed > 0 {
             self.closed.setup_failed -= 1;
-            return Ok(Incoming::SetupFailed);
+            return Ok(Arrival::SetupFailed);
         }
         if self.guests == 0 {
             return Err(ListenFault);
@@ -238,8 +238,8 @@ impl Listener<Port<Counter>> for Door {
         let patience = self.patience();
         self.given = self.given.saturating_add(1);
         match Arc::try_clone(&self.hall) {
-            Ok(hall) => Ok(Incoming::Ready(Guest::new(hall, patience))),
-            Err(_) => Ok(Incoming::OutOfMemory),
+            Ok(hall) => Ok(Arrival::Ready(Guest::new(hall, patience))),
+            Err(_) => Ok(Arrival::OutOfMemory),
         }
     }
 }

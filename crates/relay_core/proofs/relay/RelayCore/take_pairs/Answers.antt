@@ -1,6 +1,6 @@
 use Rattle.std.proofs.Common.{ℕ, List, [], take, arith, subst, sym}
 use Rattle.std.proofs.lemmas.List.{take_all}
-use Rattle.relay_core.specs.declared.sampling.Firings.{Firings}
+use Rattle.relay_core.specs.declared.sampling.FiringCounts.{FiringCounts}
 use Rattle.relay_core.specs.Sampling.{no_firings, pairs}
 use Rattle.relay_core.specs.Taking.{Takes}
 use Rattle.relay_core.proofs.SampleLemmas.{takes_none, takes_pairs_on}
@@ -8,7 +8,7 @@ use Rattle.relay_core.proofs.relay.RelayCore.take_pairs.Goals as goal
 
 pub samples-init : goal.samples-init
 samples-init c = record {
-  takes = subst (λ (f : Firings). Takes c.args.self.now c.args.self.now no_firings f []) (sym c.none-firings.ensures.firings)
+  takes = subst (λ (f : FiringCounts). Takes c.args.self.now c.args.self.now no_firings f []) (sym c.none-firings.ensures.firings)
       (takes_none c.args.self.now no_firings);
   within = omega arith;
   right = c.scan_at-scan.ensures.right;

@@ -1,7 +1,7 @@
 use Rattle.std.proofs.Common.{[]}
 use Rattle.supply_meter.proofs.Advancing.{advances_none, advances_on}
 use Rattle.supply_meter.proofs.Steps.{rests_short}
-use Rattle.supply_meter.proofs.connection.Connection.settle.Goals as goal
+use Rattle.supply_meter.proofs.connection.ClientSession.settle.Goals as goal
 
 pub work-init : goal.work-init
 work-init c = advances_none _ _

@@ -3,7 +3,7 @@
 use Rattle.std.proofs.Common.{[]}
 use Rattle.supply_meter.specs.Progress.{Advances}
 use Rattle.supply_meter.specs.Working.{weight}
-use Rattle.supply_meter.proofs.connection.Connection.settle.Given as goal
+use Rattle.supply_meter.proofs.connection.ClientSession.settle.Given as goal
 
 abbrev pub invariant-work : goal.invariant-work
 invariant-work l = Advances l.initial.self l.initial.recorder [] l.self l.recorder

@@ -1,5 +1,5 @@
 use Rattle.supply_meter.proofs.Advancing.{applied}
-use Rattle.supply_meter.proofs.connection.Connection.apply.Goals as goal
+use Rattle.supply_meter.proofs.connection.ClientSession.apply.Goals as goal
 
 pub returns : goal.returns
 returns c =

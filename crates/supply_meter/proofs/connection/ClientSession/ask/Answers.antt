@@ -7,7 +7,7 @@ use Rattle.session_core.specs.declared.end.SessionEnd.{SessionEnd}
 use Rattle.supply_meter.specs.Dialogues.{Dialogue, awaits_reply}
 use Rattle.supply_meter.specs.declared.under_way.UnderWay.{UnderWay}
 use Rattle.supply_meter.specs.declared.under_way.UnderWay.TheVariants.{Nothing}
-use Rattle.supply_meter.proofs.connection.Connection.ask.Goals as goal
+use Rattle.supply_meter.proofs.connection.ClientSession.ask.Goals as goal
 
 -- a session that is over awaits no reply
 over_silent : (s : Session) (end : SessionEnd) (b : Bool) → is_asking s ≡ b → IsOver end s → is_asking s ≡ false

@@ -24,11 +24,11 @@ use Rattle.std_heap.specs.contracts.Global as Heap
 use Rattle.std_heap.proofs.Global.TheLaws as heap
 use Rattle.std.proofs.raw_atomic.Walks.{proved_at}
 use Rattle.meter.proofs.AsBox.{both, both_tt, two_in}
-use Rattle.meter.specs.contracts.slot.Slot as Own
-use Rattle.meter.specs.contracts.slot.Slot.of_null.{ended, clauses}
-use Rattle.meter.specs.contracts.slot.Slot.of_null.Key.{name as #self}
-use Rattle.meter.proofs.slot.Slot.of_null.Statement.{statement}
-use Rattle.meter.proofs.slot.Slot.of_null.Code as code
+use Rattle.meter.specs.contracts.slot.HandleSlot as Own
+use Rattle.meter.specs.contracts.slot.HandleSlot.of_null.{ended, clauses}
+use Rattle.meter.specs.contracts.slot.HandleSlot.of_null.Key.{name as #self}
+use Rattle.meter.proofs.slot.HandleSlot.of_null.Statement.{statement}
+use Rattle.meter.proofs.slot.HandleSlot.of_null.Code as code
 
 pub of_null_spec : {M : Type 1} → statement M
 of_null_spec 𝓤 𝓛 𝓜 𝓡 wired =

@@ -1,7 +1,7 @@
 use Rattle.std.proofs.Common.{refl}
 use Rattle.supply_meter.proofs.Advancing.{advances_same, advances_none, advances_kept, due_by}
 use Rattle.supply_meter.proofs.Steps.{asks_works, works_short}
-use Rattle.supply_meter.proofs.connection.Connection.work.Goals as goal
+use Rattle.supply_meter.proofs.connection.ClientSession.work.Goals as goal
 
 pub returns-in-Nothing : goal.returns-in-Nothing
 returns-in-Nothing c = asks_works c.args.self.now c.ask.new.self c.args.recorder.now c.ask.result c.ask.ensures
