@@ -6,7 +6,7 @@ use Rattle.byte_reading.specs.Outcome.{◌>>=◌, ◌>>◌, guard}
 use Rattle.byte_reading.specs.Reading.{read_as}
 use Rattle.byte_reading.proofs.Agreeing.{Agrees, IsNone, IsMade, IsByte, AreBytes, none_agrees, made_agrees, byte_agrees, bytes_agrees, seen_as, all_read, all_taken}
 use Rattle.byte_reading.proofs.OutcomeLemmas.{done, ok_is, bind_ok, guard_ok}
-use Rattle.acse_ber.specs.Reading.{Read, Field, whole, byte_at, bytes_at, size_at, literal_at, tagged, fields_of, field_of, needed, inner_of, optional_byte_at, conformance_at, response_at, byte_behind, initiate_error_at, info_in, info_of, is_response, result_at, diagnostic_at, aare_told, aare_judged, aare_in, aare_of}
+use Rattle.acse_ber.specs.Reading.{Read, Field, whole, byte_at, bytes_at, size_at, literal_at, tag_contents, fields_of, field_of, or_unreadable, inner_of, optional_byte_at, conformance_at, response_at, byte_behind, initiate_error_at, info_in, info_of, is_response, result_at, diagnostic_at, aare_with_diagnostic, aare_with_result, aare_in, aare_of}
 use Rattle.acse_ber.specs.Spelling.{HasInfo, IsResult, IsDiagnostic, IsOptionalByte, IsResponse, IsInitiateError, IsInfo, SpellsAare}
 use Rattle.acse_ber.specs.declared.aare.Aare.{Aare}
 use Rattle.acse_ber.specs.declared.aare.Info.{Info}
@@ -358,12 +358,12 @@ accepts_again outcome false if_zero =
 
 -- what is read is spelled
 pub aare_found : (bytes : List ℕ) (aare : Aare) → aare_of bytes ≡ Ok aare → SpellsAare bytes aare
-unfolding aare_of aare_in aare_judged aare_told
+unfolding aare_of aare_in aare_with_result aare_with_diagnostic
 aare_found bytes aare e =
-    let t = bind_ok (tagged 0x61 bytes) _ aare e in
-    let r = bind_ok (field_of 0xA2 t.0 >>= needed) _ aare t.2 in
+    let t = bind_ok (tag_contents 0x61 bytes) _ aare e in
+    let r = bind_ok (field_of 0xA2 t.0 >>= or_unreadable) _ aare t.2 in
     let o = bind_ok (whole (result_at r.0)) _ aare r.2 in
-    let s = bind_ok (field_of 0xA3 t.0 >>= needed) _ aare o.2 in
+    let s = bind_ok (field_of 0xA3 t.0 >>= or_unreadable) _ aare o.2 in
     let d = bind_ok (whole (diagnostic_at s.0)) _ aare s.2 in
     let u = bind_ok (inner_of 0xBE 0x04 t.0) _ aare d.2 in
     let made : Aare = record { result = o.0; diagnostic = d.0; info = info_of u.0 } in
@@ -382,7 +382,7 @@ aare_found bytes aare e =
 
 -- what is spelled is read
 pub aare_again : (bytes : List ℕ) (aare : Aare) → SpellsAare bytes aare → aare_of bytes ≡ Ok aare
-unfolding aare_of aare_in aare_judged aare_told
+unfolding aare_of aare_in aare_with_result aare_with_diagnostic
 aare_again bytes aare s =
     let a = apdu_again 0x61 bytes s.fields s.is_apdu in
     let body = s.is_apdu.body in

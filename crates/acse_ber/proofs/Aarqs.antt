@@ -3,7 +3,7 @@ use Rattle.std.proofs.Common.{◌≡◌, ℕ, Option, Some, None, List, [], leng
 use Rattle.std.specs.Prelude.{unwrap_or}
 use Rattle.byte_reading.specs.Outcome.{◌>>=◌}
 use Rattle.byte_reading.proofs.OutcomeLemmas.{done, ok_is, bind_ok}
-use Rattle.acse_ber.specs.Reading.{Field, tagged, fields_of, field_of, needed, inner_of, aarq_in, aarq_of}
+use Rattle.acse_ber.specs.Reading.{Field, tag_contents, fields_of, field_of, or_unreadable, inner_of, aarq_in, aarq_of}
 use Rattle.acse_ber.specs.Spelling.{HasMechanism, IsApdu, SpellsAarq}
 use Rattle.acse_ber.specs.declared.aarq.Aarq.{Aarq}
 use Rattle.acse_ber.specs.declared.fault.AcseFault.{AcseFault}
@@ -15,10 +15,10 @@ unfolding field_of
 fields_known tag body o e = let b = bind_ok (fields_of body) _ o e in (b.0, b.1)
 
 -- an APDU from its parts
-pub apdu_found : (tag : ℕ) (bytes body : List ℕ) (fields : List Field) → tagged tag bytes ≡ Ok body → fields_of body ≡ Ok fields → IsApdu tag fields bytes
+pub apdu_found : (tag : ℕ) (bytes body : List ℕ) (fields : List Field) → tag_contents tag bytes ≡ Ok body → fields_of body ≡ Ok fields → IsApdu tag fields bytes
 apdu_found tag bytes body fields t f = record { body = body; is_tagged = tagged_found tag bytes body t; are_fields = fields_found (length body) body fields f }
 
-pub apdu_again : (tag : ℕ) (bytes : List ℕ) (fields : List Field) (a : IsApdu tag fields bytes) → (tagged tag bytes ≡ Ok a.body) × (fields_of a.body ≡ Ok fields)
+pub apdu_again : (tag : ℕ) (bytes : List ℕ) (fields : List Field) (a : IsApdu tag fields bytes) → (tag_contents tag bytes ≡ Ok a.body) × (fields_of a.body ≡ Ok fields)
 apdu_again tag bytes fields a = (tagged_again tag bytes a.body a.is_tagged, fields_again fields (length a.body) a.body (omega arith) a.are_fields)
 
 mechanism_found : (body : List ℕ) (fields : List Field) (given : Option (List ℕ)) → fields_of body ≡ Ok fields → field_of 0x8B body ≡ Ok given → HasMechanism fields (unwrap_or given [])
@@ -33,11 +33,11 @@ mechanism_again body fields mechanism e (inr h) = (Some h.contents, one_again 0x
 pub aarq_found : (bytes : List ℕ) (aarq : Aarq) → aarq_of bytes ≡ Ok aarq → SpellsAarq bytes aarq
 unfolding aarq_of aarq_in
 aarq_found bytes aarq e =
-    let t = bind_ok (tagged 0x60 bytes) _ aarq e in
-    let c = bind_ok (inner_of 0xA1 0x06 t.0 >>= needed) _ aarq t.2 in
+    let t = bind_ok (tag_contents 0x60 bytes) _ aarq e in
+    let c = bind_ok (inner_of 0xA1 0x06 t.0 >>= or_unreadable) _ aarq t.2 in
     let m = bind_ok (field_of 0x8B t.0) _ aarq c.2 in
     let p = bind_ok (inner_of 0xAC 0x80 t.0) _ aarq m.2 in
-    let u = bind_ok (inner_of 0xBE 0x04 t.0 >>= needed) _ aarq p.2 in
+    let u = bind_ok (inner_of 0xBE 0x04 t.0 >>= or_unreadable) _ aarq p.2 in
     let f = fields_known 0x8B t.0 m.0 m.1 in
     let made : Aarq = record { context = c.0; mechanism = unwrap_or m.0 []; password = p.0; user = u.0 } in
     subst (λ (a : Aarq). SpellsAarq bytes a) (ok_is {F = AcseFault} made aarq u.2) (record {

@@ -4,7 +4,7 @@ use Rattle.std.proofs.Common.{◌≡◌, ◌↔◌, ℕ, Bool, true, List, [], �
 use Rattle.std.specs.Prelude.{is_ok}
 use Rattle.byte_reading.specs.Outcome.{◌>>=◌}
 use Rattle.byte_reading.proofs.OutcomeLemmas.{ok_is, bind_ok}
-use Rattle.acse_ber.specs.Reading.{tagged, tagged_at, fields_of, aarq_of, aare_of, is_release_text}
+use Rattle.acse_ber.specs.Reading.{tag_contents, tagged_at, fields_of, aarq_of, aare_of, is_release_text}
 use Rattle.acse_ber.specs.Spelling.{IsTagged, SpellsAarq, SpellsAare, SpellsRelease}
 use Rattle.acse_ber.specs.declared.aarq.Aarq.{Aarq}
 use Rattle.acse_ber.specs.declared.aare.Aare.{Aare}
@@ -48,8 +48,8 @@ is_there (Err fault) e = absurd cc
 release_found : (bytes : List ℕ) → is_release_text bytes ≡ true → SpellsRelease bytes
 unfolding is_release_text
 release_found bytes e =
-    let there = is_there (tagged 0x62 bytes >>= fields_of) e in
-    let b = bind_ok (tagged 0x62 bytes) fields_of there.0 there.1 in
+    let there = is_there (tag_contents 0x62 bytes >>= fields_of) e in
+    let b = bind_ok (tag_contents 0x62 bytes) fields_of there.0 there.1 in
     (there.0, apdu_found 0x62 bytes b.0 there.0 b.1 b.2)
 
 release_again : (bytes : List ℕ) → SpellsRelease bytes → is_release_text bytes ≡ true

@@ -9,7 +9,7 @@ use Rattle.byte_reading.specs.Reading.{read_as}
 use Rattle.byte_reading.proofs.Agreeing.{Agrees, IsNone, IsMade, IsByte, AreBytes, none_agrees, made_agrees, byte_agrees, bytes_agrees, seen_as, all_read, all_taken}
 use Rattle.byte_reading.proofs.OutcomeLemmas.{done, ok_is, bind_ok}
 use Rattle.cosem_axdr.specs.Spelling.{IsUnsigned, IsJoined}
-use Rattle.acse_ber.specs.Reading.{Field, byte_at, bytes_at, size_at, literal_at, length_at, contents_at, tagged_at, tagged, field_at, fields_within, fields_of, contents_of, at_most_one, field_of, needed, optional, inner_of}
+use Rattle.acse_ber.specs.Reading.{Field, byte_at, bytes_at, size_at, literal_at, length_at, contents_at, tagged_at, tag_contents, field_at, fields_within, fields_of, contents_of, at_most_one, field_of, or_unreadable, optional, inner_of}
 use Rattle.acse_ber.specs.Spelling.{IsLength, IsTagged, IsField, AreFields, HasNone, HasInner}
 use Rattle.acse_ber.specs.declared.fault.AcseFault.{AcseFault}
 use Rattle.acse_ber.specs.declared.fault.AcseFault.TheVariants.{Unreadable}
@@ -114,12 +114,12 @@ tagged_agrees tag =
     (λ x text s. (tag, record { first = tag ∷ []; others = s.length_text ++ x; parts = s.parts; is_first = refl; are_others = (eq-eqb tag tag refl, (s.length_text, refl, s.is_length)) }))
 
 -- the contents of a tag that fill the bytes
-pub tagged_found : (tag : ℕ) (bytes contents : List ℕ) → tagged tag bytes ≡ Ok contents → IsTagged tag contents bytes
-unfolding tagged
+pub tagged_found : (tag : ℕ) (bytes contents : List ℕ) → tag_contents tag bytes ≡ Ok contents → IsTagged tag contents bytes
+unfolding tag_contents
 tagged_found tag bytes contents e = all_taken Unreadable (tagged_at tag) (IsTagged tag) (tagged_agrees tag) contents bytes e
 
-pub tagged_again : (tag : ℕ) (bytes contents : List ℕ) → IsTagged tag contents bytes → tagged tag bytes ≡ Ok contents
-unfolding tagged
+pub tagged_again : (tag : ℕ) (bytes contents : List ℕ) → IsTagged tag contents bytes → tag_contents tag bytes ≡ Ok contents
+unfolding tag_contents
 tagged_again tag bytes contents s = all_read Unreadable (tagged_at tag) (IsTagged tag) (tagged_agrees tag) contents bytes s
 
 -- ---- fields
@@ -211,22 +211,22 @@ pub one_again : (tag : ℕ) (body : List ℕ) (fields : List Field) (contents : 
 one_again tag body fields contents e one = field_is tag body fields e ∙ rw one refl
 
 -- the contents of the inner tag of a field
-inner_case : (tag inner : ℕ) (body : List ℕ) (fields : List Field) (given o : Option (List ℕ)) → fields_of body ≡ Ok fields → field_of tag body ≡ Ok given → optional (tagged inner) given ≡ Ok o → HasInner tag inner fields o
+inner_case : (tag inner : ℕ) (body : List ℕ) (fields : List Field) (given o : Option (List ℕ)) → fields_of body ≡ Ok fields → field_of tag body ≡ Ok given → optional (tag_contents inner) given ≡ Ok o → HasInner tag inner fields o
 inner_case tag inner body fields None None e f g = none_found tag body fields e f
 inner_case tag inner body fields None (Some text) e f g = absurd cc
 inner_case tag inner body fields (Some contents) None e f g =
-    let b = bind_ok (tagged inner contents) (λ y. done AcseFault (Some y)) None g in
+    let b = bind_ok (tag_contents inner contents) (λ y. done AcseFault (Some y)) None g in
     let wrong : done AcseFault (Some b.0) ≡ Ok None = b.2 in
     absurd cc
 inner_case tag inner body fields (Some contents) (Some text) e f g =
-    let b = bind_ok (tagged inner contents) (λ y. done AcseFault (Some y)) (Some text) g in
+    let b = bind_ok (tag_contents inner contents) (λ y. done AcseFault (Some y)) (Some text) g in
     let same : b.0 ≡ text = ap (λ (z : Option (List ℕ)). unwrap_or z []) (ok_is {F = AcseFault} (Some b.0) (Some text) b.2) in
     record { contents = contents; one = one_found tag body fields contents e f; holds = subst (λ (t : List ℕ). IsTagged inner t contents) same (tagged_found inner contents b.0 b.1) }
 
 pub inner_found : (tag inner : ℕ) (body : List ℕ) (fields : List Field) (o : Option (List ℕ)) → fields_of body ≡ Ok fields → inner_of tag inner body ≡ Ok o → HasInner tag inner fields o
 unfolding inner_of
 inner_found tag inner body fields o e f =
-    let b = bind_ok (field_of tag body) (optional (tagged inner)) o f in
+    let b = bind_ok (field_of tag body) (optional (tag_contents inner)) o f in
     inner_case tag inner body fields b.0 o e b.1 b.2
 
 pub inner_again : (tag inner : ℕ) (body : List ℕ) (fields : List Field) (o : Option (List ℕ)) → fields_of body ≡ Ok fields → HasInner tag inner fields o → inner_of tag inner body ≡ Ok o
@@ -235,7 +235,7 @@ inner_again tag inner body fields None e h = rw (none_again tag body fields e h)
 inner_again tag inner body fields (Some text) e h = rw (one_again tag body fields h.contents e h.one, tagged_again inner h.contents text h.holds) refl
 
 -- a needed value that was read is present
-pub needed_ok : {X : Type 0} (r : Result (Option X) AcseFault) (x : X) → (r >>= needed) ≡ Ok x → r ≡ Ok (Some x)
+pub needed_ok : {X : Type 0} (r : Result (Option X) AcseFault) (x : X) → (r >>= or_unreadable) ≡ Ok x → r ≡ Ok (Some x)
 needed_ok (Ok None) x e = absurd cc
 needed_ok {X = X} (Ok (Some y)) x e = ap (λ (z : X). done AcseFault (Some z)) (ok_is {F = AcseFault} y x e)
 needed_ok (Err fault) x e = absurd cc

@@ -82,8 +82,8 @@ tagged_at tag bytes = do
   contents_at first.1
 
 -- the contents of this tag, which must fill the bytes
-unfoldable pub tagged : ℕ → List ℕ → Result (List ℕ) AcseFault
-tagged tag bytes = whole (tagged_at tag bytes)
+unfoldable pub tag_contents : ℕ → List ℕ → Result (List ℕ) AcseFault
+tag_contents tag bytes = whole (tagged_at tag bytes)
 
 -- ---- fields
 
@@ -131,9 +131,9 @@ field_of tag body = do
   at_most_one (contents_of tag fields)
 
 -- a value that must be present
-abbrev pub needed : {X : Type 0} → Option X → Result X AcseFault
-needed None = Err Unreadable
-needed (Some x) = Ok x
+abbrev pub or_unreadable : {X : Type 0} → Option X → Result X AcseFault
+or_unreadable None = Err Unreadable
+or_unreadable (Some x) = Ok x
 
 -- a reading of an optional part
 abbrev pub optional : {X Y : Type 0} → (X → Result Y AcseFault) → Option X
@@ -148,15 +148,15 @@ optional read (Some x) = do
 unfoldable pub inner_of : ℕ → ℕ → List ℕ → Result (Option (List ℕ)) AcseFault
 inner_of tag inner body = do
   contents ← field_of tag body
-  optional (tagged inner) contents
+  optional (tag_contents inner) contents
 
 -- the contents of the field with a tag, which must be present
 abbrev pub needed_field : ℕ → List ℕ → Result (List ℕ) AcseFault
-needed_field tag body = field_of tag body >>= needed
+needed_field tag body = field_of tag body >>= or_unreadable
 
 -- the contents of an inner tag, which must fill the field with the outer tag, which must be present
 abbrev pub needed_inner : ℕ → ℕ → List ℕ → Result (List ℕ) AcseFault
-needed_inner tag inner body = inner_of tag inner body >>= needed
+needed_inner tag inner body = inner_of tag inner body >>= or_unreadable
 
 -- ---- user information (IEC 62056-5-3, InitiateRequest, InitiateResponse and
 -- ConfirmedServiceError)
@@ -243,10 +243,10 @@ is_response _ = false
 -- the fields of an AARQ; the application context and the user information must be present
 unfoldable pub aarq_in : List ℕ → Result Aarq AcseFault
 aarq_in body = do
-  context ← inner_of 0xA1 0x06 body >>= needed
+  context ← inner_of 0xA1 0x06 body >>= or_unreadable
   mechanism ← field_of 0x8B body
   password ← inner_of 0xAC 0x80 body
-  user ← inner_of 0xBE 0x04 body >>= needed
+  user ← inner_of 0xBE 0x04 body >>= or_unreadable
   Ok (record {
     context = context;
     mechanism = unwrap_or mechanism [];
@@ -256,7 +256,7 @@ aarq_in body = do
 
 -- an AARQ
 unfoldable pub aarq_of : List ℕ → Result Aarq AcseFault
-aarq_of bytes = tagged 0x60 bytes >>= aarq_in
+aarq_of bytes = tag_contents 0x60 bytes >>= aarq_in
 
 -- the association result: an integer of one byte
 unfoldable pub result_at : List ℕ → Read ℕ
@@ -270,31 +270,31 @@ diagnostic_at bytes = do
   byte_behind (0x03 ∷ 0x02 ∷ 0x01 ∷ []) source.1
 
 -- the user information of an AARE with this result and diagnostic
-unfoldable pub aare_told : ℕ → ℕ → List ℕ → Result Aare AcseFault
-aare_told outcome diagnostic body = do
+unfoldable pub aare_with_diagnostic : ℕ → ℕ → List ℕ → Result Aare AcseFault
+aare_with_diagnostic outcome diagnostic body = do
   user ← inner_of 0xBE 0x04 body
   guard (not (outcome == 0) || is_response (info_of user)) Unreadable
   Ok (record { result = outcome; diagnostic = diagnostic; info = info_of user })
 
 -- the diagnostic and the user information of an AARE with this result
-unfoldable pub aare_judged : ℕ → List ℕ → Result Aare AcseFault
-aare_judged outcome body = do
-  diagnostic_field ← field_of 0xA3 body >>= needed
+unfoldable pub aare_with_result : ℕ → List ℕ → Result Aare AcseFault
+aare_with_result outcome body = do
+  diagnostic_field ← field_of 0xA3 body >>= or_unreadable
   diagnostic ← whole (diagnostic_at diagnostic_field)
-  aare_told outcome diagnostic body
+  aare_with_diagnostic outcome diagnostic body
 
 -- the fields of an AARE; the result and the diagnostic must be present, and an InitiateResponse too
 -- if the result accepts
 unfoldable pub aare_in : List ℕ → Result Aare AcseFault
 aare_in body = do
-  result_field ← field_of 0xA2 body >>= needed
+  result_field ← field_of 0xA2 body >>= or_unreadable
   outcome ← whole (result_at result_field)
-  aare_judged outcome body
+  aare_with_result outcome body
 
 -- an AARE
 unfoldable pub aare_of : List ℕ → Result Aare AcseFault
-aare_of bytes = tagged 0x61 bytes >>= aare_in
+aare_of bytes = tag_contents 0x61 bytes >>= aare_in
 
 -- whether bytes are an RLRQ: its tag, and fields that fill it
 unfoldable pub is_release_text : List ℕ → Bool
-is_release_text bytes = is_ok (tagged 0x62 bytes >>= fields_of)
+is_release_text bytes = is_ok (tag_contents 0x62 bytes >>= fields_of)

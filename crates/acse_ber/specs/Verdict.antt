@@ -47,40 +47,40 @@ proposal_or_refusal (Err fault) = Err (Rejected 1)
 
 -- the services that the meter offers: block transfer with GET, SET and ACTION, multiple references,
 -- GET, SET and ACTION
-abbrev pub offered : ℕ
-offered = get_in_blocks + set_in_blocks + action_in_blocks + multiple_references + get_service
+abbrev pub offered_services : ℕ
+offered_services = get_in_blocks + set_in_blocks + action_in_blocks + multiple_references + get_service
     + set_service + action_service
 
 -- the checks of an InitiateRequest (IEC 62056-5-3, InitiateRequest; the refusals:
 -- ConfirmedServiceError)
-unfoldable pub agreed : Level → Proposal → Result Verdict Verdict
-agreed level proposal = do
+unfoldable pub proposal_check : Level → Proposal → Result Verdict Verdict
+proposal_check level proposal = do
   guard (nat_le 6 proposal.version) (InitiateError 1)
-  guard (not (bit_and offered proposal.conformance.0 == 0)) (InitiateError 2)
+  guard (not (bit_and offered_services proposal.conformance.0 == 0)) (InitiateError 2)
   guard (proposal.size == 0 || nat_le 64 proposal.size) (InitiateError 3)
-  Ok (Accepted level (bit_and offered proposal.conformance.0) proposal.size)
+  Ok (Accepted level (bit_and offered_services proposal.conformance.0) proposal.size)
 
 -- the checks of the client's authentication
-unfoldable pub authenticated : Level → Aarq → List ℕ → Result (Unit {0}) Verdict
-authenticated level aarq password = do
+unfoldable pub authentication_check : Level → Aarq → List ℕ → Result (Unit {0}) Verdict
+authentication_check level aarq password = do
   guard (is_no_mechanism aarq.mechanism || bytes_eq aarq.mechanism low_level) (Rejected 11)
   guard (not (must_authenticate level && is_no_mechanism aarq.mechanism)) (Rejected 14)
   guard (not (must_authenticate level) || is_password password aarq.password) (Rejected 13)
 
 -- all the checks: the refusal of the first that fails, or the accepted association
-unfoldable pub judged : Aarq → ℕ → List ℕ → Result Verdict Verdict
-judged aarq sap password = do
+unfoldable pub association_check : Aarq → ℕ → List ℕ → Result Verdict Verdict
+association_check aarq sap password = do
   level ← level_of sap
   guard (bytes_eq aarq.context ln_context) (Rejected 2)
-  authenticated level aarq password
+  authentication_check level aarq password
   proposal ← proposal_or_refusal (proposal_of aarq.user)
-  agreed level proposal
+  proposal_check level proposal
 
 -- the verdict, from an acceptance or a refusal
-abbrev pub settled : Result Verdict Verdict → Verdict
-settled (Ok accepted) = accepted
-settled (Err refusal) = refusal
+abbrev pub verdict_by : Result Verdict Verdict → Verdict
+verdict_by (Ok accepted) = accepted
+verdict_by (Err refusal) = refusal
 
 -- the verdict on an AARQ from a client's port, with this password
 unfoldable pub verdict_of : Aarq → ℕ → List ℕ → Verdict
-verdict_of aarq sap password = settled (judged aarq sap password)
+verdict_of aarq sap password = verdict_by (association_check aarq sap password)

@@ -1,6 +1,6 @@
 ghost use Rattle.std.specs.Prelude.{◌≡◌, Ok, IfOk, option_map};
 ghost use Rattle.byte_reading.specs.Reading.{Reads};
-ghost use Rattle.acse_ber.specs.Reading.{whole, byte_behind, result_at, diagnostic_at, response_at, initiate_error_at, info_in, info_of, is_response, aare_told, aare_judged, aare_in, aare_of};
+ghost use Rattle.acse_ber.specs.Reading.{whole, byte_behind, result_at, diagnostic_at, response_at, initiate_error_at, info_in, info_of, is_response, aare_with_diagnostic, aare_with_result, aare_in, aare_of};
 ghost use Rattle.acse_ber.specs.Spelling.{SpellsAare};
 ghost use Rattle.acse_ber.specs.declared.aare.Aare.{Aare};
 
@@ -36,7 +36,7 @@ pub fn read_aare(_alloc: Global, bytes: &[u8]) -> Result<Aare, AcseFault>
 }
 
 // Reads an AARE as `read_aare` does; its contract refers to the definition `aare_of` alone.
-#[tactic(auto, unfolding(crate::specs::Reading::aare_of, crate::specs::Reading::aare_in, crate::specs::Reading::aare_judged, crate::specs::Reading::aare_told))]
+#[tactic(auto, unfolding(crate::specs::Reading::aare_of, crate::specs::Reading::aare_in, crate::specs::Reading::aare_with_result, crate::specs::Reading::aare_with_diagnostic))]
 fn read_whole(bytes: &[u8]) -> Result<Aare, AcseFault>
     ensures { result ≡ aare_of bytes.now }
 {
@@ -53,18 +53,18 @@ fn read_fields(body: &[u8]) -> Result<Aare, AcseFault>
 }
 
 // Reads the diagnostic and the user information of an AARE with this result.
-#[tactic(auto, unfolding(crate::specs::Reading::aare_judged))]
+#[tactic(auto, unfolding(crate::specs::Reading::aare_with_result))]
 fn read_judged(outcome: u8, body: &[u8]) -> Result<Aare, AcseFault>
-    ensures { result ≡ aare_judged outcome body.now }
+    ensures { result ≡ aare_with_result outcome body.now }
 {
     let diagnostic = read_diagnostic(find_needed(tag::aare::RESULT_SOURCE_DIAGNOSTIC, body)?)?;
     read_told(outcome, diagnostic, body)
 }
 
 // Reads the user information of an AARE with this result and diagnostic.
-#[tactic(auto, unfolding(crate::specs::Reading::aare_told))]
+#[tactic(auto, unfolding(crate::specs::Reading::aare_with_diagnostic))]
 fn read_told(outcome: u8, diagnostic: u8, body: &[u8]) -> Result<Aare, AcseFault>
-    ensures { result ≡ aare_told outcome diagnostic body.now }
+    ensures { result ≡ aare_with_diagnostic outcome diagnostic body.now }
 {
     let user = find_inner(tag::USER_INFORMATION, tag::OCTET_STRING, body)?;
     let info = read_info(user);

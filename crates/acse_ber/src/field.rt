@@ -1,7 +1,7 @@
 //! The fields of an APDU, which may be in any order.
 ghost use Rattle.std.specs.Prelude.{◌≡◌, option_map, is_ok};
 ghost use Rattle.byte_reading.specs.Reading.{Reads};
-ghost use Rattle.acse_ber.specs.Reading.{Yields, field_at, tagged, fields_of, field_of, inner_of, needed_field, needed_inner};
+ghost use Rattle.acse_ber.specs.Reading.{Yields, field_at, tag_contents, fields_of, field_of, inner_of, needed_field, needed_inner};
 
 use crate::fault::AcseFault;
 use crate::length::read_contents;
@@ -31,9 +31,9 @@ fn read_field<'a>(reader: &mut Cursor<'a>) -> Result<Field<'a>, AcseFault>
 }
 
 // Returns the contents of a tag, which must fill the bytes.
-#[tactic(auto, unfolding(crate::specs::Reading::tagged, crate::specs::Reading::tagged_at))]
+#[tactic(auto, unfolding(crate::specs::Reading::tag_contents, crate::specs::Reading::tagged_at))]
 pub(crate) fn read_tagged(tag: u8, bytes: &[u8]) -> Result<&[u8], AcseFault>
-    ensures { Yields (λ contents. contents.now) result (tagged tag bytes.now) }
+    ensures { Yields (λ contents. contents.now) result (tag_contents tag bytes.now) }
 {
     let mut reader = Cursor::new(bytes);
     if reader.byte(AcseFault::Unreadable)? != tag {

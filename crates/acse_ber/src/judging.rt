@@ -1,7 +1,7 @@
 //! The decision on an association request (IEC 62056-5-3).
 ghost use Rattle.std.specs.Prelude.{◌≡◌, bytes_eq};
 ghost use Rattle.acse_ber.specs.Password.{IsPassword};
-ghost use Rattle.acse_ber.specs.Verdict.{is_no_mechanism, is_password, agreed, authenticated, judged, verdict_of};
+ghost use Rattle.acse_ber.specs.Verdict.{is_no_mechanism, is_password, proposal_check, authentication_check, association_check, verdict_of};
 
 use crate::aarq::Aarq;
 use crate::conformance::Conformance;
@@ -78,9 +78,9 @@ pub fn judge(aarq: &Aarq, sap: u16, password: &Octets) -> Verdict
 }
 
 // Performs the checks. An `Err` is a refusal.
-#[tactic(auto, unfolding(crate::specs::Verdict::judged))]
+#[tactic(auto, unfolding(crate::specs::Verdict::association_check))]
 fn associate(aarq: &Aarq, sap: u16, password: &Octets) -> Result<Verdict, Verdict>
-    ensures { result ≡ judged aarq.now sap password.now }
+    ensures { result ≡ association_check aarq.now sap password.now }
 {
     let level = match sap {
         MANAGEMENT_CLIENT => Level::Management,
@@ -98,9 +98,9 @@ fn associate(aarq: &Aarq, sap: u16, password: &Octets) -> Result<Verdict, Verdic
 }
 
 // Checks the client's authentication. Only the management client must give the password.
-#[tactic(auto, unfolding(crate::specs::Verdict::authenticated))]
+#[tactic(auto, unfolding(crate::specs::Verdict::authentication_check))]
 fn authenticate(level: Level, aarq: &Aarq, password: &Octets) -> Result<(), Verdict>
-    ensures { result ≡ authenticated level aarq.now password.now }
+    ensures { result ≡ authentication_check level aarq.now password.now }
 {
     let is_absent = is_no_mechanism(&aarq.mechanism);
     if !is_absent && aarq.mechanism.as_slice() != LOW_LEVEL_SECURITY.as_slice() {
@@ -151,9 +151,9 @@ fn is_same(given: &[u8], password: &[u8]) -> bool
 }
 
 // Checks the client's proposal.
-#[tactic(auto, unfolding(crate::specs::Verdict::agreed))]
+#[tactic(auto, unfolding(crate::specs::Verdict::proposal_check))]
 fn agree(level: Level, proposal: Proposal) -> Result<Verdict, Verdict>
-    ensures { result ≡ agreed level proposal }
+    ensures { result ≡ proposal_check level proposal }
 {
     if proposal.version < LOWEST_VERSION {
         return Err(Verdict::InitiateError(initiate_error::DLMS_VERSION_TOO_LOW));

@@ -6,7 +6,7 @@ ghost use Rattle.acse_ber.specs.Fit.{IsFitAarq, IsFitAare};
 ghost use Rattle.acse_ber.specs.Reading.{aarq_of, aare_of};
 ghost use Rattle.acse_ber.specs.Spelling.{IsLength, SpellsAarq, SpellsAare, SpellsRelease};
 ghost use Rattle.acse_ber.specs.Text.{low_level, low_level_aarq, aarq_text, aare_text, release_request, release_response};
-ghost use Rattle.acse_ber.specs.Verdict.{offered, verdict_of};
+ghost use Rattle.acse_ber.specs.Verdict.{offered_services, verdict_of};
 ghost use Rattle.acse_ber.specs.declared.aarq.Aarq.{Aarq};
 ghost use Rattle.acse_ber.specs.declared.aare.Aare.{Aare};
 ghost use Rattle.acse_ber.specs.declared.verdict.Verdict.TheVariants.{Accepted};
@@ -76,9 +76,9 @@ pub fn management_needs_the_password()
     ensures public { (aarq : Aarq) (sap : ℕ) (password : List ℕ) (bits limit : ℕ)
         → verdict_of aarq sap password ≡ Accepted Public bits limit → sap ≡ 16 }
     ensures accepted { (password : List ℕ) (bits limit : ℕ) → bits < 2 ^ 24 → limit < 2 ^ 16
-        → bit_and offered bits ≢ 0 → (limit ≡ 0) ⊎ (64 ≤ limit)
+        → bit_and offered_services bits ≢ 0 → (limit ≡ 0) ⊎ (64 ≤ limit)
         → verdict_of (low_level_aarq password bits limit) 1 password
-        ≡ Accepted Management (bit_and offered bits) limit }
+        ≡ Accepted Management (bit_and offered_services bits) limit }
 {}
 
 /// The RLRQ that a client sends and the RLRE that answers it have the reason normal, and the former

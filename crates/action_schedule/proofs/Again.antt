@@ -20,7 +20,7 @@ use Rattle.cosem_names.specs.WriteFault.{values}
 use Rattle.action_schedule.specs.Reading.{max_entries, selector_of, kind_of, entry_of, judged_entries, entries_of}
 use Rattle.action_schedule.specs.Schedule.{Schedule, IsEntry, AreEntries}
 use Rattle.action_schedule.specs.Writing.{entry_data, entries_data, ReadsBack}
-use Rattle.cosem_names.specs.Scripts.{named, script_data}
+use Rattle.cosem_names.specs.Scripts.{script_at, script_data}
 use Rattle.action_schedule.specs.declared.attribute.ScheduleAttribute.{ScheduleAttribute}
 use Rattle.cosem_names.specs.declared.write_fault.WriteFault.{WriteFault}
 use Rattle.cosem_names.specs.declared.write_fault.WriteFault.TheVariants.{Unmatched, Value}
@@ -28,7 +28,7 @@ use Rattle.action_schedule.specs.declared.kind.ScheduleType.{ScheduleType}
 use Rattle.action_schedule.specs.declared.kind.ScheduleType.TheVariants.{Type1, Type2, Type3, Type4, Type5}
 
 -- a written script reads as itself
-selector_again : (selector : ℕ) → selector_of (script_data (named selector)) ≡ Ok selector
+selector_again : (selector : ℕ) → selector_of (script_data (script_at selector)) ≡ Ok selector
 unfolding selector_of script_data
 selector_again selector = refl
 
@@ -70,7 +70,7 @@ entries_again entries fits =
     few = grind (arith, nat_tests, fits.few, length-map)
 
 -- a script whose writing did not run out of memory reads as itself
-pub selector_written : {E : Type 0} (result : Result Data E) (selector : ℕ) → IfOk result (λ value. value ≡ script_data (named selector)) → IfOk result (λ value. selector_of value ≡ Ok selector)
+pub selector_written : {E : Type 0} (result : Result Data E) (selector : ℕ) → IfOk result (λ value. value ≡ script_data (script_at selector)) → IfOk result (λ value. selector_of value ≡ Ok selector)
 selector_written (Ok value) selector is = ap selector_of is ∙ selector_again selector
 selector_written (Err error) selector is = tt
 

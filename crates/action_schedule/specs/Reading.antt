@@ -11,7 +11,7 @@ use Rattle.cosem_datetime.specs.declared.entry.EntryPattern.{EntryPattern}
 use Rattle.action_schedule.specs.Forms.{entry_parts_of}
 use Rattle.action_schedule.specs.Kinds.{type_of_number}
 use Rattle.cosem_names.specs.Scripts.{script_of, is_of_the_table}
-use Rattle.cosem_names.specs.WriteFault.{told, values}
+use Rattle.cosem_names.specs.WriteFault.{fault_of_items, values}
 use Rattle.cosem_names.specs.declared.write_fault.WriteFault.{WriteFault}
 use Rattle.cosem_names.specs.declared.write_fault.WriteFault.TheVariants.{Unmatched, Value}
 use Rattle.action_schedule.specs.declared.kind.ScheduleType.{ScheduleType}
@@ -44,7 +44,7 @@ max_entries = 16
 -- the fault of entries: there are at most sixteen
 unfoldable pub judged_entries : List Data → Result (Unit {0}) WriteFault
 judged_entries items = do
-  told entry_of items
+  fault_of_items entry_of items
   guard (nat_le (length items) max_entries) Value
 
 -- execution_time: the entries

@@ -6,7 +6,7 @@ use Rattle.cosem_axdr.specs.declared.value.Data.TheVariants.{OctetString, Enum}
 use Rattle.cosem_datetime.specs.Fields.{time_bytes, date_bytes}
 use Rattle.cosem_datetime.specs.declared.entry.EntryPattern.{EntryPattern}
 use Rattle.cosem_names.specs.Forms.{array_with, structure_with}
-use Rattle.cosem_names.specs.Scripts.{named, script_data}
+use Rattle.cosem_names.specs.Scripts.{script_at, script_data}
 use Rattle.action_schedule.specs.Kinds.{number_of}
 use Rattle.action_schedule.specs.Reading.{selector_of, kind_of, entries_of}
 use Rattle.action_schedule.specs.Schedule.{Schedule}
@@ -22,7 +22,7 @@ entries_data entries = array_with (map entry_data entries)
 
 -- the value of an attribute
 abbrev pub data_at : ScheduleAttribute → Schedule → Data
-data_at ExecutedScript schedule = script_data (named schedule.selector)
+data_at ExecutedScript schedule = script_data (script_at schedule.selector)
 data_at Kind schedule = Enum (number_of schedule.kind)
 data_at ExecutionTime schedule = entries_data schedule.entries
 

@@ -1,5 +1,5 @@
 ghost use Rattle.std.specs.Prelude.{◌≡◌, IfOk};
-ghost use Rattle.cosem_names.specs.Scripts.{script_data, named};
+ghost use Rattle.cosem_names.specs.Scripts.{script_data, script_at};
 ghost use Rattle.action_schedule.specs.Writing.{entry_data, entries_data};
 
 use cosem_axdr::{Data, Items, Octets};
@@ -9,7 +9,7 @@ use std::alloc::{AllocError, Global};
 
 // Writes a script of the script table: a structure of a logical name and a selector.
 pub(crate) fn write_script(alloc: Global, selector: u16) -> Result<Data, AllocError>
-    ensures { IfOk result (λ value. value ≡ script_data (named selector)) }
+    ensures { IfOk result (λ value. value ≡ script_data (script_at selector)) }
 {
     NamedScript::of_the_table(selector).to_data(alloc)
 }

@@ -7,8 +7,8 @@ use Rattle.client_core.specs.declared.job.Outcome.{Outcome}
 use Rattle.client_core.specs.declared.job.Outcome.TheVariants.{Unknown}
 use Rattle.client_core.specs.declared.progress.Progress.{Progress}
 use Rattle.client_core.specs.Replies.{fresh}
-use Rattle.client_core.specs.Outcomes.{progress_of, decided, outcome_of}
-use Rattle.client_core.specs.Steps.{goes, Hears}
+use Rattle.client_core.specs.Outcomes.{progress_of, outcome_after, outcome_of}
+use Rattle.client_core.specs.Steps.{after_bytes, Hears}
 use Rattle.client_core.specs.Standing.{AreLeft, Stands, Feeds, Tells}
 use Rattle.client_core.proofs.Moving.{goes_settled}
 use Rattle.client_core.proofs.Lookups.{progress_goes, nothing_said}
@@ -19,7 +19,7 @@ pub starts : (verb : Verb) (password : List ℕ) (c : Client) → c.verb ≡ ver
 starts verb password c verb_is progress_is deframer_is ended_is left = record {
   verb_is = verb_is;
   now = progress_is ∙ sym (nothing_said verb);
-  later = λ more. progress_goes verb more ∙ ap (λ (p : Progress). goes verb p more) (sym progress_is) ∙ ap (λ (bytes : List ℕ). goes verb c.progress (bytes ++ more)) (sym deframer_is);
+  later = λ more. progress_goes verb more ∙ ap (λ (p : Progress). after_bytes verb p more) (sym progress_is) ∙ ap (λ (bytes : List ℕ). after_bytes verb c.progress (bytes ++ more)) (sym deframer_is);
   left = left;
   over_is = ended_is;
 }
@@ -32,11 +32,11 @@ heard_stands : (verb : Verb) (password fed bytes : List ℕ) (given : ℕ) (old 
 heard_stands verb password fed bytes given old new s h verb_is ended_is aarq_is request_is release_is = record {
   verb_is = verb_is ∙ s.verb_is;
   now =
-      sym h.here ∙ ap (goes verb new.progress) (sym (append-nil new.deframer)) ∙ sym (h.moves.on []) ∙ ap (goes verb old.progress) (append-nil (old.deframer ++ bytes))
+      sym h.here ∙ ap (after_bytes verb new.progress) (sym (append-nil new.deframer)) ∙ sym (h.moves.on []) ∙ ap (after_bytes verb old.progress) (append-nil (old.deframer ++ bytes))
       ∙ sym (s.later bytes);
   later = λ more.
       ap (progress_of verb) (append_assoc fed bytes more) ∙ s.later (bytes ++ more)
-      ∙ ap (goes verb old.progress) (sym (append_assoc old.deframer bytes more)) ∙ h.moves.on more;
+      ∙ ap (after_bytes verb old.progress) (sym (append_assoc old.deframer bytes more)) ∙ h.moves.on more;
   left = rw (aarq_is, request_is, release_is) s.left;
   over_is = ended_is ∙ s.over_is;
 }
@@ -56,7 +56,7 @@ settled_stands verb password fed bytes given over c outcome s is = record {
 
 -- a settled outcome remains, whatever bytes follow
 stays_settled : (verb : Verb) (password fed : List ℕ) (given : ℕ) (over : Bool) (c : Client) → Stands verb password fed given over c
-    → (outcome : Outcome) → decided verb fed ≡ Some outcome → (more : List ℕ) → outcome_of verb (fed ++ more) ≡ outcome
+    → (outcome : Outcome) → outcome_after verb fed ≡ Some outcome → (more : List ℕ) → outcome_of verb (fed ++ more) ≡ outcome
 unfolding outcome_of
 stays_settled verb password fed given over c s outcome is more =
     let here : c.progress.outcome ≡ Some outcome = ap (λ (p : Progress). p.outcome) s.now ∙ is in
@@ -106,7 +106,7 @@ feeds_heard old bytes progress deframer hears open_still = record {
 
 -- the outcome if the connection is over
 told_ended : (verb : Verb) (fed : List ℕ) (over : Bool) (p : Progress) → over ≡ true → p ≡ progress_of verb fed
-    → Some (unwrap_or p.outcome Unknown) ≡ (if over then Some (outcome_of verb fed) else decided verb fed)
+    → Some (unwrap_or p.outcome Unknown) ≡ (if over then Some (outcome_of verb fed) else outcome_after verb fed)
 unfolding outcome_of
 told_ended verb fed true p is now = ap (λ (q : Progress). Some (unwrap_or q.outcome Unknown)) now
 told_ended verb fed false p is now = absurd cc
@@ -120,7 +120,7 @@ tells_ended c over = record {
 
 -- the outcome if the connection is open
 told_open : (verb : Verb) (fed : List ℕ) (over : Bool) (p : Progress) → over ≡ false → p ≡ progress_of verb fed
-    → p.outcome ≡ (if over then Some (outcome_of verb fed) else decided verb fed)
+    → p.outcome ≡ (if over then Some (outcome_of verb fed) else outcome_after verb fed)
 told_open verb fed true p is now = absurd cc
 told_open verb fed false p is now = ap (λ (q : Progress). q.outcome) now
 

@@ -12,15 +12,15 @@ use Rattle.client_core.specs.declared.job.Verb.{Verb}
 use Rattle.client_core.specs.declared.job.Outcome.{Outcome}
 use Rattle.client_core.specs.declared.job.Outcome.TheVariants.{Unknown}
 use Rattle.client_core.specs.declared.progress.Progress.{Progress}
-use Rattle.client_core.specs.Outcomes.{heard, or_unknown, ended_by}
-use Rattle.client_core.specs.Steps.{after, after_all, after_frame, goes, Moves, Hears}
+use Rattle.client_core.specs.Outcomes.{payloads_of, or_unknown, ended_by}
+use Rattle.client_core.specs.Steps.{after, after_all, after_frame, after_bytes, Moves, Hears}
 
 -- the effect of frames and of the front of the bytes after them
 abbrev does : Verb → Progress → List Frame → Head → Progress
-does verb p frames front = ended_by (after_all verb p (heard frames)) front
+does verb p frames front = ended_by (after_all verb p (payloads_of frames)) front
 
-goes_does : (verb : Verb) (p : Progress) (bytes : List ℕ) → goes verb p bytes ≡ does verb p (frames_of bytes) (head_of (rest_of bytes))
-unfolding goes
+goes_does : (verb : Verb) (p : Progress) (bytes : List ℕ) → after_bytes verb p bytes ≡ does verb p (frames_of bytes) (head_of (rest_of bytes))
+unfolding after_bytes
 goes_does verb p bytes = refl
 
 -- ---- a settled outcome remains
@@ -40,10 +40,10 @@ ended_settled accepted outcome BadVersion = refl
 ended_settled accepted outcome TooLong = refl
 ended_settled accepted outcome (Whole n) = refl
 
-settled_goes : (verb : Verb) (accepted : Bool) (outcome : Outcome) (bytes : List ℕ) → goes verb (with_outcome accepted outcome) bytes ≡ with_outcome accepted outcome
+settled_goes : (verb : Verb) (accepted : Bool) (outcome : Outcome) (bytes : List ℕ) → after_bytes verb (with_outcome accepted outcome) bytes ≡ with_outcome accepted outcome
 settled_goes verb accepted outcome bytes =
     goes_does verb (with_outcome accepted outcome) bytes
-    ∙ ap (λ (p : Progress). ended_by p (head_of (rest_of bytes))) (all_settled verb accepted outcome (heard (frames_of bytes)))
+    ∙ ap (λ (p : Progress). ended_by p (head_of (rest_of bytes))) (all_settled verb accepted outcome (payloads_of (frames_of bytes)))
     ∙ ended_settled accepted outcome (head_of (rest_of bytes))
 
 -- a progress with this outcome
@@ -51,10 +51,10 @@ abbrev outcome_as : Progress → Option Outcome → Progress
 outcome_as p o = record p { outcome = o }
 
 -- a settled outcome remains, whatever bytes follow
-pub goes_settled : (verb : Verb) (p : Progress) (outcome : Outcome) (bytes : List ℕ) → p.outcome ≡ Some outcome → goes verb p bytes ≡ p
+pub goes_settled : (verb : Verb) (p : Progress) (outcome : Outcome) (bytes : List ℕ) → p.outcome ≡ Some outcome → after_bytes verb p bytes ≡ p
 goes_settled verb p outcome bytes is =
     let same : with_outcome p.accepted outcome ≡ p = ap (λ (o : Option Outcome). outcome_as p o) (sym is) in
-    subst (λ (q : Progress). goes verb q bytes ≡ q) same (settled_goes verb p.accepted outcome bytes)
+    subst (λ (q : Progress). after_bytes verb q bytes ≡ q) same (settled_goes verb p.accepted outcome bytes)
 
 -- ---- one more frame
 
@@ -71,7 +71,7 @@ moves_frame verb p old frame new goes_on = record {
       ∙ ap (λ (frames : List Frame). does verb p frames (head_of (rest_of (old ++ more)))) (goes_on.frames more)
       ∙ ap (λ (rest : List ℕ). does verb p (frame ∷ frames_of (new ++ more)) (head_of rest)) (goes_on.rest more)
       ∙ ap (λ (q : Progress). ended_by q (head_of (rest_of (new ++ more))))
-      (frame_cases (frame.src == 1 && frame.dst == 1) verb p frame.payload (heard (frames_of (new ++ more))))
+      (frame_cases (frame.src == 1 && frame.dst == 1) verb p frame.payload (payloads_of (frames_of (new ++ more))))
       ∙ sym (goes_does verb (after_frame verb p frame) (new ++ more));
 }
 
@@ -87,7 +87,7 @@ moves_twice verb first old p bytes q new a b = record { on = λ more. a.on more 
 -- ---- the end of the frames that can be removed
 
 -- part of a frame has no effect
-pub part_says : (verb : Verb) (p : Progress) (bytes : List ℕ) → IsPart bytes → goes verb p bytes ≡ p
+pub part_says : (verb : Verb) (p : Progress) (bytes : List ℕ) → IsPart bytes → after_bytes verb p bytes ≡ p
 part_says verb p bytes part =
     goes_does verb p bytes
     ∙ ap (λ (frames : List Frame). does verb p frames (head_of (rest_of bytes))) part.frames
@@ -98,7 +98,7 @@ pub hears_part : (verb : Verb) (first : Progress) (old : List ℕ) (p : Progress
 hears_part verb first old p bytes moves part = record { moves = moves; here = part_says verb p bytes part }
 
 -- a wrong header ends the reading
-stops_goes : (verb : Verb) (p : Progress) (front : Head) (bytes more : List ℕ) → Stops front bytes → goes verb p (bytes ++ more) ≡ ended_by p front
+stops_goes : (verb : Verb) (p : Progress) (front : Head) (bytes more : List ℕ) → Stops front bytes → after_bytes verb p (bytes ++ more) ≡ ended_by p front
 stops_goes verb p front bytes more stops =
     goes_does verb p (bytes ++ more)
     ∙ ap (λ (frames : List Frame). does verb p frames (head_of (rest_of (bytes ++ more)))) (stops.frames more)
@@ -106,7 +106,7 @@ stops_goes verb p front bytes more stops =
     ∙ ap (λ (at : Head). does verb p [] at) (stops.heads more)
 
 -- an unknown outcome remains
-unknown_goes : (verb : Verb) (p : Progress) (bytes : List ℕ) → goes verb (or_unknown p) bytes ≡ or_unknown p
+unknown_goes : (verb : Verb) (p : Progress) (bytes : List ℕ) → after_bytes verb (or_unknown p) bytes ≡ or_unknown p
 unknown_goes verb p bytes = goes_settled verb (or_unknown p) (unwrap_or p.outcome Unknown) bytes refl
 
 -- bytes that begin with a wrong header, whatever is kept of them

@@ -15,30 +15,30 @@ use Rattle.client_core.specs.declared.job.Verb.{Verb}
 use Rattle.client_core.specs.declared.job.Outcome.{Outcome}
 use Rattle.client_core.specs.declared.job.Outcome.TheVariants.{Done, Refused, Rejected, Unknown}
 use Rattle.client_core.specs.declared.progress.Progress.{Progress}
-use Rattle.client_core.specs.Replies.{fresh, opened, replied}
+use Rattle.client_core.specs.Replies.{fresh, after_aare, outcome_of_response}
 use Rattle.client_core.specs.Texts.{aarq_frame, request_frame, release_frame}
 
 -- the payloads of the frames from port 1 to port 1 (IEC 62056-4-7, wPort), in order; the others are
 -- skipped
-abbrev pub heard : List Frame → List (List ℕ)
-heard [] = []
-heard (frame ∷ frames) = if frame.src == 1 && frame.dst == 1 then frame.payload ∷ heard frames
-    else heard frames
+abbrev pub payloads_of : List Frame → List (List ℕ)
+payloads_of [] = []
+payloads_of (frame ∷ frames) = if frame.src == 1 && frame.dst == 1 then frame.payload ∷ payloads_of frames
+    else payloads_of frames
 
 -- the request may be sent, and its response has not come
 abbrev pub is_asking : Progress → Bool
 is_asking progress = progress.accepted && is_none progress.outcome
 
 -- the response to the request, which is the first of these payloads, settles the outcome
-abbrev pub answered : Verb → Progress → List (List ℕ) → Progress
-answered verb progress [] = progress
-answered verb progress (answer ∷ later) = if is_asking progress
-    then record progress { outcome = Some (replied verb answer) } else progress
+abbrev pub with_answer : Verb → Progress → List (List ℕ) → Progress
+with_answer verb progress [] = progress
+with_answer verb progress (answer ∷ later) = if is_asking progress
+    then record progress { outcome = Some (outcome_of_response verb answer) } else progress
 
 -- the progress by all payloads: the first is the AARE, the second the response to the request
 abbrev pub said : Verb → List (List ℕ) → Progress
 said verb [] = fresh
-said verb (aare ∷ later) = answered verb (opened verb aare) later
+said verb (aare ∷ later) = with_answer verb (after_aare verb aare) later
 
 -- an outcome that is not settled becomes unknown
 abbrev pub or_unknown : Progress → Progress
@@ -52,13 +52,13 @@ ended_by progress BadVersion = or_unknown progress
 ended_by progress TooLong = or_unknown progress
 
 unfoldable pub progress_of : Verb → List ℕ → Progress
-progress_of verb bytes = ended_by (said verb (heard (frames_of bytes))) (head_of (rest_of bytes))
+progress_of verb bytes = ended_by (said verb (payloads_of (frames_of bytes))) (head_of (rest_of bytes))
 
-abbrev pub decided : Verb → List ℕ → Option Outcome
-decided verb bytes = (progress_of verb bytes).outcome
+abbrev pub outcome_after : Verb → List ℕ → Option Outcome
+outcome_after verb bytes = (progress_of verb bytes).outcome
 
 unfoldable pub outcome_of : Verb → List ℕ → Outcome
-outcome_of verb bytes = unwrap_or (decided verb bytes) Unknown
+outcome_of verb bytes = unwrap_or (outcome_after verb bytes) Unknown
 
 -- the meter has responded to the request
 abbrev pub is_served : Option Outcome → Bool

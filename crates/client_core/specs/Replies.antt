@@ -25,8 +25,8 @@ fresh = record { accepted = false; outcome = None }
 abbrev pub asking : Progress
 asking = record { accepted = true; outcome = None }
 
-abbrev pub settled : Outcome → Progress
-settled outcome = record { accepted = false; outcome = Some outcome }
+abbrev pub with_outcome : Outcome → Progress
+with_outcome outcome = record { accepted = false; outcome = Some outcome }
 
 -- the bit of the request's service in the conformance block, whose bit 0 is the highest of 24 (IEC
 -- 62056-5-3): GET is bit 19, ACTION bit 23
@@ -44,12 +44,12 @@ grants verb (InitiateError code) = false
 -- an AARE opens the association or settles the outcome; any other bytes settle it as unknown
 abbrev pub opened_by : Verb → Result Aare AcseFault → Progress
 opened_by verb (Ok aare) =
-    if aare.result == 0 then (if grants verb aare.info then asking else settled (Rejected 0))
-    else settled (Rejected aare.diagnostic)
-opened_by verb (Err fault) = settled Unknown
+    if aare.result == 0 then (if grants verb aare.info then asking else with_outcome (Rejected 0))
+    else with_outcome (Rejected aare.diagnostic)
+opened_by verb (Err fault) = with_outcome Unknown
 
-unfoldable pub opened : Verb → List ℕ → Progress
-opened verb payload = opened_by verb (aare_of payload)
+unfoldable pub after_aare : Verb → List ℕ → Progress
+after_aare verb payload = opened_by verb (aare_of payload)
 
 -- ---- the response to the request (IEC 62056-5-3, ACTION and GET; IEC 62056-6-2, class 70,
 -- control_state)
@@ -72,7 +72,7 @@ state_reply (tag ∷ form ∷ id ∷ choice ∷ kind ∷ state ∷ []) =
     then Done state else Unknown
 state_reply _ = Unknown
 
-unfoldable pub replied : Verb → List ℕ → Outcome
-replied Disconnect payload = action_reply payload
-replied Reconnect payload = action_reply payload
-replied ReadState payload = state_reply payload
+unfoldable pub outcome_of_response : Verb → List ℕ → Outcome
+outcome_of_response Disconnect payload = action_reply payload
+outcome_of_response Reconnect payload = action_reply payload
+outcome_of_response ReadState payload = state_reply payload

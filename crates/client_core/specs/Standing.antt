@@ -10,8 +10,8 @@ use Rattle.client_core.specs.declared.client.Client.{Client}
 use Rattle.client_core.specs.declared.job.Verb.{Verb}
 use Rattle.client_core.specs.declared.job.Outcome.{Outcome}
 use Rattle.client_core.specs.Texts.{aarq_frame, request_frame, release_frame, text_at}
-use Rattle.client_core.specs.Outcomes.{progress_of, decided, outcome_of, due}
-use Rattle.client_core.specs.Steps.{goes}
+use Rattle.client_core.specs.Outcomes.{progress_of, outcome_after, outcome_of, due}
+use Rattle.client_core.specs.Steps.{after_bytes}
 
 -- the messages that are left after this number of them was returned
 abbrev pub AreLeft : Verb → List ℕ → ℕ → Option (List ℕ) → Option (List ℕ) → Option (List ℕ)
@@ -33,7 +33,7 @@ pub record Stands (verb : Verb) (password fed : List ℕ) (given : ℕ) (over : 
   pub verb_is : c.verb ≡ verb
   pub now : c.progress ≡ progress_of verb fed
   pub later : (more : List ℕ)
-      → progress_of verb (fed ++ more) ≡ goes verb c.progress (c.deframer ++ more)
+      → progress_of verb (fed ++ more) ≡ after_bytes verb c.progress (c.deframer ++ more)
   pub left : AreLeft verb password given c.aarq c.request c.release
   pub over_is : c.is_ended ≡ over
 
@@ -63,8 +63,8 @@ pub record Ends (old new : Client) : Type 0 where
 pub record Tells (c : Client) (result : Option Outcome) : Type 0 where
   pub told : (verb : Verb) (password fed : List ℕ) (given : ℕ) (over : Bool)
       → Stands verb password fed given over c
-      → result ≡ (if over then Some (outcome_of verb fed) else decided verb fed)
+      → result ≡ (if over then Some (outcome_of verb fed) else outcome_after verb fed)
   pub stays : (verb : Verb) (password fed : List ℕ) (given : ℕ) (over : Bool)
       → Stands verb password fed given over c
-      → (outcome : Outcome) → decided verb fed ≡ Some outcome → (more : List ℕ)
+      → (outcome : Outcome) → outcome_after verb fed ≡ Some outcome → (more : List ℕ)
       → outcome_of verb (fed ++ more) ≡ outcome

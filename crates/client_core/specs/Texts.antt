@@ -50,18 +50,18 @@ abbrev pub release_payload : List ℕ
 release_payload = 0x62 ∷ 0x03 ∷ 0x80 ∷ 0x01 ∷ 0x00 ∷ []
 
 -- a payload in a frame from port 1 to port 1 (IEC 62056-4-7)
-abbrev pub framed : List ℕ → List ℕ
-framed payload = frame_text (record { src = 1; dst = 1; payload = payload })
+abbrev pub frame_around : List ℕ → List ℕ
+frame_around payload = frame_text (record { src = 1; dst = 1; payload = payload })
 
 -- the three messages of a job
 unfoldable pub aarq_frame : List ℕ → List ℕ
-aarq_frame password = framed (aarq_payload password)
+aarq_frame password = frame_around (aarq_payload password)
 
 unfoldable pub request_frame : Verb → List ℕ
-request_frame verb = framed (request_payload verb)
+request_frame verb = frame_around (request_payload verb)
 
 unfoldable pub release_frame : List ℕ
-release_frame = framed release_payload
+release_frame = frame_around release_payload
 
 -- the message at an index, or none after the last
 abbrev pub text_at : List (List ℕ) → ℕ → Option (List ℕ)

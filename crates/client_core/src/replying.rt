@@ -1,6 +1,6 @@
 //! The interpretation of the meter's responses.
 ghost use Rattle.std.specs.Prelude.{◌≡◌};
-ghost use Rattle.client_core.specs.Replies.{fresh, settled, grants, opened, action_reply, state_reply, replied};
+ghost use Rattle.client_core.specs.Replies.{fresh, with_outcome, grants, after_aare, action_reply, state_reply, outcome_of_response};
 ghost use Rattle.client_core.specs.Outcomes.{or_unknown};
 ghost use Rattle.client_core.specs.Steps.{after};
 
@@ -34,8 +34,8 @@ pub fn fresh() -> Progress
 }
 
 // Returns the progress with an outcome that is settled before the request is sent.
-fn settled(outcome: Outcome) -> Progress
-    ensures { result ≡ settled outcome }
+fn with_outcome(outcome: Outcome) -> Progress
+    ensures { result ≡ with_outcome outcome }
 {
     Progress {
         accepted: false,
@@ -51,11 +51,11 @@ pub fn after(alloc: Global, verb: Verb, progress: Progress, payload: &[u8]) -> P
         return progress;
     }
     if !progress.accepted {
-        return opened(alloc, verb, payload);
+        return after_aare(alloc, verb, payload);
     }
     Progress {
         accepted: true,
-        outcome: Some(replied(verb, payload)),
+        outcome: Some(outcome_of_response(verb, payload)),
     }
 }
 
@@ -71,18 +71,18 @@ pub fn or_unknown(progress: Progress) -> Progress
 }
 
 // Returns the progress after the response to the AARQ.
-#[tactic(auto, unfolding(crate::specs::Replies::opened))]
-fn opened(alloc: Global, verb: Verb, payload: &[u8]) -> Progress
-    ensures { result ≡ opened verb payload.now }
+#[tactic(auto, unfolding(crate::specs::Replies::after_aare))]
+fn after_aare(alloc: Global, verb: Verb, payload: &[u8]) -> Progress
+    ensures { result ≡ after_aare verb payload.now }
 {
     let Ok(aare) = read_aare(alloc, payload) else {
-        return settled(Outcome::Unknown);
+        return with_outcome(Outcome::Unknown);
     };
     if aare.result != 0 {
-        return settled(Outcome::Rejected(aare.diagnostic));
+        return with_outcome(Outcome::Rejected(aare.diagnostic));
     }
     if !grants(verb, aare.info) {
-        return settled(Outcome::Rejected(0));
+        return with_outcome(Outcome::Rejected(0));
     }
     Progress {
         accepted: true,
@@ -105,9 +105,9 @@ fn grants(verb: Verb, info: Info) -> bool
 }
 
 // Returns the outcome according to the response to the request.
-#[tactic(auto, unfolding(crate::specs::Replies::replied))]
-fn replied(verb: Verb, payload: &[u8]) -> Outcome
-    ensures { result ≡ replied verb payload.now }
+#[tactic(auto, unfolding(crate::specs::Replies::outcome_of_response))]
+fn outcome_of_response(verb: Verb, payload: &[u8]) -> Outcome
+    ensures { result ≡ outcome_of_response verb payload.now }
 {
     match verb {
         Verb::Disconnect | Verb::Reconnect => action_reply(payload),

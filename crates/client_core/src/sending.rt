@@ -2,7 +2,7 @@
 ghost use Rattle.std.specs.Prelude.{◌≡◌, ◌≤◌, length, IfOk};
 ghost use Rattle.acse_ber.specs.Password.{IsPassword};
 ghost use Rattle.xdlms_apdu.specs.Text.{request_text};
-ghost use Rattle.client_core.specs.Texts.{framed, aarq_payload, action_payload, request_payload, aarq_frame, request_frame, release_frame};
+ghost use Rattle.client_core.specs.Texts.{frame_around, aarq_payload, action_payload, request_payload, aarq_frame, request_frame, release_frame};
 
 use crate::job::Verb;
 use acse_ber::{Conformance, RELEASE_REQUEST, low_level_aarq, write_aarq};
@@ -41,7 +41,7 @@ pub fn aarq_frame(alloc: Global, password: &Octets) -> Result<Octets, AllocError
     ensures { IfOk result (λ text. text ≡ aarq_frame password.now) }
 {
     let payload = aarq_payload(alloc, password)?;
-    framed(alloc, payload.as_slice())
+    frame_around(alloc, payload.as_slice())
 }
 
 // Returns the AARQ, with a password of 1 to 32 bytes.
@@ -60,7 +60,7 @@ pub fn request_frame(alloc: Global, verb: Verb) -> Result<Octets, AllocError>
     ensures { IfOk result (λ text. text ≡ request_frame verb) }
 {
     let payload = write_request(alloc, &request(verb))?;
-    framed(alloc, payload.as_slice())
+    frame_around(alloc, payload.as_slice())
 }
 
 /// Returns the frame that releases the association.
@@ -68,13 +68,13 @@ pub fn request_frame(alloc: Global, verb: Verb) -> Result<Octets, AllocError>
 pub fn release_frame(alloc: Global) -> Result<Octets, AllocError>
     ensures { IfOk result (λ text. text ≡ release_frame) }
 {
-    framed(alloc, &RELEASE_REQUEST)
+    frame_around(alloc, &RELEASE_REQUEST)
 }
 
 // Returns a payload in a frame from port 1 to port 1.
-fn framed(alloc: Global, payload: &[u8]) -> Result<Octets, AllocError>
+fn frame_around(alloc: Global, payload: &[u8]) -> Result<Octets, AllocError>
     requires { length payload.now ≤ 1024 }
-    ensures { IfOk result (λ text. text ≡ framed payload.now) }
+    ensures { IfOk result (λ text. text ≡ frame_around payload.now) }
 {
     match frame(alloc, PORT, PORT, payload) {
         Ok(text) => Ok(text),

@@ -8,7 +8,7 @@ use Rattle.std.proofs.lemmas.Bool.{and_parts, ltb-true, leb-true, eqb-true}
 use Rattle.std.proofs.lemmas.List.{take-append-drop, length-append, length-take}
 use Rattle.byte_reading.specs.Outcome.{◌>>=◌, ◌>>◌, guard}
 use Rattle.byte_reading.proofs.OutcomeLemmas.{done, failed, ok_is, bind_ok, guard_ok, chosen}
-use Rattle.cosem_axdr.specs.Limits.{max_items, bytes_for, cleared}
+use Rattle.cosem_axdr.specs.Limits.{max_items, bytes_for, without_unused_bits}
 use Rattle.cosem_axdr.specs.Reading.{Place, Read, read_as, bytes_at, byte_at, big_endian, length_at, string_at, unsigned_at, bits_at, fixed_at, leaf_at, items_at, counted_at, value_at, nested_at}
 use Rattle.cosem_axdr.specs.Spelling.{IsLength, IsString, IsBits, IsCounted, IsUnsigned, IsFixed, AreContents, AreSpelled, Spells, tag_of}
 use Rattle.cosem_axdr.specs.Tree.{Trees, trees_of, count_of, nesting, nests}
@@ -138,12 +138,12 @@ IsBody levels tag contents d = (tag ≡ tag_of (tree_of d)) × AreContents conte
 pub bits_takes : (levels : ℕ) (place : Place) (x : Data × Place) → bits_at place ≡ Ok x → Took Data (IsBody levels 0x04) place x
 unfolding bits_at
 bits_takes levels place x e =
-    let b = bind_ok (length_at place) (λ bits. bytes_at (bytes_for bits.0) bits.1 >>= λ bytes. done DataFault (BitString bits.0 (cleared bits.0 bytes.0), bytes.1)) x e in
-    let c = bind_ok (bytes_at (bytes_for b.0.0) b.0.1) (λ bytes. done DataFault (BitString b.0.0 (cleared b.0.0 bytes.0), bytes.1)) x b.2 in
+    let b = bind_ok (length_at place) (λ bits. bytes_at (bytes_for bits.0) bits.1 >>= λ bytes. done DataFault (BitString bits.0 (without_unused_bits bits.0 bytes.0), bytes.1)) x e in
+    let c = bind_ok (bytes_at (bytes_for b.0.0) b.0.1) (λ bytes. done DataFault (BitString b.0.0 (without_unused_bits b.0.0 bytes.0), bytes.1)) x b.2 in
     let t = length_takes place b.0 b.1 in
     let u = bytes_takes (bytes_for b.0.0) b.0.1 c.0 c.1 in
-    let made : Data × Place = (BitString b.0.0 (cleared b.0.0 c.0.0), c.0.1) in
-    let bits : IsBits (t.text ++ u.text) b.0.0 (cleared b.0.0 c.0.0) = record { length_text = t.text; raw = u.text; parts = refl {a = t.text ++ u.text}; is_length = t.spelled; long = u.spelled.0; value = ap (cleared b.0.0) u.spelled.1 } in
+    let made : Data × Place = (BitString b.0.0 (without_unused_bits b.0.0 c.0.0), c.0.1) in
+    let bits : IsBits (t.text ++ u.text) b.0.0 (without_unused_bits b.0.0 c.0.0) = record { length_text = t.text; raw = u.text; parts = refl {a = t.text ++ u.text}; is_length = t.spelled; long = u.spelled.0; value = ap (without_unused_bits b.0.0) u.spelled.1 } in
     subst (λ (z : Data × Place). Took Data (IsBody levels 0x04) place z) (ok_is made x c.2)
     (record { text = t.text ++ u.text; takes = Takes-then place t.text b.0.1 u.text c.0.1 t.takes u.takes; spelled = (refl, bits, least levels) })
 

@@ -23,6 +23,6 @@ highest_bits bits byte = byte / 2 ^ (8 - bits) * 2 ^ (8 - bits)
 
 -- the bytes of a bit-string with the bits past its count set to 0; these are in the byte in which
 -- the count ends, if it ends within one
-abbrev pub cleared : ℕ → List ℕ → List ℕ
-cleared bits bytes =
+abbrev pub without_unused_bits : ℕ → List ℕ → List ℕ
+without_unused_bits bits bytes =
     slice_set bytes (bits / 8) (highest_bits (bits % 8) (slice_index bytes (bits / 8)))

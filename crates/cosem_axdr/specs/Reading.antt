@@ -9,7 +9,7 @@
 use Rattle.std.specs.Prelude.{◌≡◌, ℕ, zero, suc, ◌+◌, ◌-◌, ◌*◌, not, ◌&&◌, List, [], ◌∷◌, length, take, drop, fold, Result, Ok, Err, nat_lt, nat_le, ◌==◌, slice_index, if◌then◌else◌}
 use Rattle.std.specs.Int.{Width, w8, w16, w32, w64, byte_len, from_be_bytes, cast_signed}
 use Rattle.byte_reading.specs.Outcome.{◌>>=◌, ◌>>◌, guard, Fails}
-use Rattle.cosem_axdr.specs.Limits.{max_text, max_items, max_nesting, bytes_for, cleared}
+use Rattle.cosem_axdr.specs.Limits.{max_text, max_items, max_nesting, bytes_for, without_unused_bits}
 use Rattle.cosem_axdr.specs.Tree.{Trees, trees_of}
 use Rattle.cosem_axdr.specs.View.{all_trees}
 use Rattle.cosem_axdr.specs.declared.fault.DataFault.{DataFault}
@@ -80,7 +80,7 @@ unfoldable pub bits_at : Place → Read Data
 bits_at place = do
   bits ← length_at place
   bytes ← bytes_at (bytes_for bits.0) bits.1
-  Ok (BitString bits.0 (cleared bits.0 bytes.0), bytes.1)
+  Ok (BitString bits.0 (without_unused_bits bits.0 bytes.0), bytes.1)
 
 -- a value of fixed length, by its tag
 unfoldable pub fixed_at : ℕ → Place → Read Data

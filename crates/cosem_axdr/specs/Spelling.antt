@@ -9,7 +9,7 @@
 --     IsFit                           a value whose text is within the limits
 use Rattle.std.specs.Prelude.{◌≡◌, ◌⊎◌, ℕ, ◌+◌, ◌^◌, ◌<◌, ◌≤◌, Bool, not, ◌==◌, nat_lt, if◌then◌else◌, ℤ, FitsSigned, List, [], ◌∷◌, ◌++◌, length, slice_index}
 use Rattle.std.specs.Int.{Width, w8, w16, w32, w64, byte_len, from_be_bytes, to_be_bytes, cast_signed, cast_unsigned, bytes_high_first}
-use Rattle.cosem_axdr.specs.Limits.{max_text, max_items, max_nesting, bytes_for, cleared}
+use Rattle.cosem_axdr.specs.Limits.{max_text, max_items, max_nesting, bytes_for, without_unused_bits}
 use Rattle.cosem_axdr.specs.Reading.{big_endian}
 use Rattle.cosem_axdr.specs.Tree.{Tree, Trees, count_of, nesting, null, array, structure, boolean, bit_string, double_long, double_long_unsigned, octet_string, visible_string, utf8_string, integer, long, unsigned, long_unsigned, long64, long64_unsigned, enumerated, date_time, date, time, no_trees, tree}
 
@@ -58,7 +58,7 @@ pub record IsBits (contents : List ℕ) (bits : ℕ) (bytes : List ℕ) : Type 0
   pub parts : contents ≡ length_text ++ raw
   pub is_length : IsLength length_text bits
   pub long : length raw ≡ bytes_for bits
-  pub value : bytes ≡ cleared bits raw
+  pub value : bytes ≡ without_unused_bits bits raw
 
 -- the number of items, within the limit, followed by the items
 pub record IsCounted (AreItems : List ℕ → Type 0) (contents : List ℕ) (count : ℕ) : Type 0 where
@@ -230,7 +230,7 @@ abbrev mutual
   IsFine (array ts) = (count_of ts ≤ max_items) × AreFine ts
   IsFine (structure ts) = (count_of ts ≤ max_items) × AreFine ts
   IsFine (boolean b) = Unit {0}
-  IsFine (bit_string bits bytes) = (length bytes ≡ bytes_for bits) × (cleared bits bytes ≡ bytes)
+  IsFine (bit_string bits bytes) = (length bytes ≡ bytes_for bits) × (without_unused_bits bits bytes ≡ bytes)
   IsFine (double_long z) = Unit {0}
   IsFine (double_long_unsigned n) = Unit {0}
   IsFine (octet_string bytes) = Unit {0}

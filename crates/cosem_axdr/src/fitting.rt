@@ -1,5 +1,5 @@
 ghost use Rattle.std.specs.Prelude.{◌≡◌, ◌≤◌, ◌↔◌, IsTrue, length};
-ghost use Rattle.cosem_axdr.specs.Limits.{bytes_for, cleared};
+ghost use Rattle.cosem_axdr.specs.Limits.{bytes_for, without_unused_bits};
 ghost use Rattle.cosem_axdr.specs.Tree.{trees_of, nesting, nests};
 ghost use Rattle.cosem_axdr.specs.View.{tree_of, all_trees};
 ghost use Rattle.cosem_axdr.specs.Spelling.{IsFit, IsFine, AreFine, IsWithin, AreWithin, IsBytes};
@@ -90,7 +90,7 @@ fn are_fine(items: &[Data]) -> bool
 // Returns whether a bit-string has exactly the bytes that its bits need, with the unused bits 0.
 fn is_clear(bits: usize, bytes: &[u8]) -> bool
     ensures clear { IsTrue result ↔ (length bytes.now ≡ bytes_for bits)
-        × (cleared bits bytes.now ≡ bytes.now) }
+        × (without_unused_bits bits bytes.now ≡ bytes.now) }
     ensures within { IsBytes bytes.now }
 {
     if bytes.len() != bytes_for(bits) {

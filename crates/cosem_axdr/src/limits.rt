@@ -1,6 +1,6 @@
 //! The limits of a Data, and the unused bits of a bit-string.
 ghost use Rattle.std.specs.Prelude.{◌≡◌, length};
-ghost use Rattle.cosem_axdr.specs.Limits.{bytes_for, cleared};
+ghost use Rattle.cosem_axdr.specs.Limits.{bytes_for, without_unused_bits};
 
 // The maximum length of the text of a Data, in bytes.
 pub(crate) const MAX_TEXT: usize = 8192;
@@ -24,7 +24,7 @@ pub(crate) fn bytes_for(bits: usize) -> usize
 // Sets the bits past the bit count of a bit-string to 0.
 pub(crate) fn clear_unused(bits: usize, bytes: &mut [u8])
     requires { length bytes.old ≡ bytes_for bits }
-    ensures { bytes.new ≡ cleared bits bytes.old }
+    ensures { bytes.new ≡ without_unused_bits bits bytes.old }
 {
     let used = bits % BITS_OF_BYTE;
     if used > 0 {

@@ -89,8 +89,8 @@ date_time_bytes p =
     date_bytes p.date ++ time_bytes p.time ++ deviation_bytes p.deviation ++ p.status ∷ []
 
 -- no field is specified
-abbrev pub unspecified : DateTimeFields
-unspecified =
+abbrev pub unspecified_date_time : DateTimeFields
+unspecified_date_time =
     record {
       date = record { year = None; month = None; day = Any; weekday = None };
       time = record { hour = None; minute = None; second = None; hundredths = None };

@@ -1,5 +1,5 @@
 ghost use Rattle.std.specs.Prelude.{◌≡◌, ◌≢◌, ◌≤◌, ◌↔◌, length, slice_index, IsTrue, IfOk, IfSome, IsErrOf, Ok};
-ghost use Rattle.cosem_datetime.specs.Fields.{DateFields, IsDateFields, day_byte, date_bytes, unspecified};
+ghost use Rattle.cosem_datetime.specs.Fields.{DateFields, IsDateFields, day_byte, date_bytes, unspecified_date_time};
 ghost use Rattle.cosem_datetime.specs.Matching.{holds, day_holds, date_holds, last_week_holds, past_week_holds, month_day_holds, date_matches, is_plain};
 ghost use Rattle.cosem_datetime.specs.Moment.{plain_date};
 ghost use Rattle.cosem_datetime.specs.Calendar.{weekday};
@@ -179,8 +179,8 @@ fn year_holds(year: Option<u16>, number: u16) -> bool
 
 impl DatePattern {
     // Returns the date with no field specified.
-    pub(crate) const fn unspecified() -> DatePattern
-        ensures { result ≡ unspecified.date }
+    pub(crate) const fn unspecified_date_time() -> DatePattern
+        ensures { result ≡ unspecified_date_time.date }
     {
         DatePattern {
             year: None,

@@ -1,6 +1,6 @@
 ghost use Rattle.std.specs.Prelude.{◌≡◌, ◌≢◌, ◌≤◌, ◌↔◌, [], ◌∷◌, length, slice_index, Ok, IsTrue, IfOk, IsErrOf};
 ghost use Rattle.byteorder.specs.Endian.{big_number};
-ghost use Rattle.cosem_datetime.specs.Fields.{DateTimeFields, IsDateTimeFields, date_time_bytes, unspecified};
+ghost use Rattle.cosem_datetime.specs.Fields.{DateTimeFields, IsDateTimeFields, date_time_bytes, unspecified_date_time};
 ghost use Rattle.cosem_datetime.specs.Reading.{is_season, deviation_of, date_time_of};
 
 use crate::date::{DatePattern, date_fields};
@@ -92,8 +92,8 @@ pub fn read_date_time(bytes: &[u8]) -> Result<DateTimeField, PatternFault>
 
 impl DateTimeField {
     /// Returns the date-time with no field specified, `FFFFFFFFFFFFFFFFFF8000FF`.
-    pub const fn unspecified() -> DateTimeField
-        ensures fields { result ≡ unspecified }
+    pub const fn unspecified_date_time() -> DateTimeField
+        ensures fields { result ≡ unspecified_date_time }
         ensures bytes { date_time_bytes result
             ≡ 0xFF ∷ 0xFF ∷ 0xFF ∷ 0xFF ∷ 0xFF ∷ 0xFF ∷ 0xFF ∷ 0xFF ∷ 0xFF ∷ 0x80 ∷ 0x00 ∷ 0xFF
             ∷ [] }

@@ -1,6 +1,6 @@
 ghost use Rattle.std.specs.Prelude.{◌≡◌, ◌+◌, ◌*◌, ◌/◌, ◌<◌, ◌≢◌, ◌↔◌, length, Ok, IsTrue, IfOk, IfSome, IsErrOf};
 ghost use Rattle.cosem_datetime.specs.Reading.{time_of};
-ghost use Rattle.cosem_datetime.specs.Fields.{TimeFields, IsTimeFields, time_bytes, unspecified};
+ghost use Rattle.cosem_datetime.specs.Fields.{TimeFields, IsTimeFields, time_bytes, unspecified_date_time};
 ghost use Rattle.cosem_datetime.specs.Matching.{holds, time_matches};
 ghost use Rattle.cosem_datetime.specs.Moment.{second_of_day};
 ghost use Rattle.cosem_datetime.specs.First.{IsFirstIfAny, TellsPassing, hour_second_holds, day_second_holds};
@@ -124,8 +124,8 @@ fn first_in_hour(minute: Option<u8>, second: Option<u8>, from: u32) -> Option<u3
 
 impl TimePattern {
     // Returns the time with no field specified.
-    pub(crate) const fn unspecified() -> TimePattern
-        ensures { result ≡ unspecified.time }
+    pub(crate) const fn unspecified_date_time() -> TimePattern
+        ensures { result ≡ unspecified_date_time.time }
     {
         TimePattern {
             hour: None,

@@ -5,7 +5,7 @@ use Rattle.std.proofs.lemmas.List.Folds.{list_any_more}
 use Rattle.std.specs.List.{list_any}
 use Rattle.std.specs.Result.{result_map_both}
 use Rattle.byte_reading.proofs.OutcomeLemmas.{done}
-use Rattle.cosem_names.specs.WriteFault.{is_unmatched, told}
+use Rattle.cosem_names.specs.WriteFault.{is_unmatched, fault_of_items}
 use Rattle.cosem_names.specs.declared.write_fault.WriteFault.{WriteFault}
 use Rattle.cosem_names.specs.declared.write_fault.WriteFault.TheVariants.{Unmatched, Value, Memory}
 
@@ -25,8 +25,8 @@ HasJudged-more {read = read} {items = items} {i = i} so_far item given within is
 
 -- after all items, the fault that is reported
 pub HasJudged-all : {A B : Type 0} {read : A → Result B WriteFault} {items : List A} {i : ℕ} {unmatched faulty : Bool} → HasJudged read items i unmatched faulty
-    → length items ≤ i → (r : Result (Unit {0}) WriteFault) → cond unmatched (Err Unmatched) (cond faulty (Err Value) (done WriteFault tt)) ≡ r → r ≡ told read items
-unfolding told
+    → length items ≤ i → (r : Result (Unit {0}) WriteFault) → cond unmatched (Err Unmatched) (cond faulty (Err Value) (done WriteFault tt)) ≡ r → r ≡ fault_of_items read items
+unfolding fault_of_items
 HasJudged-all {read = read} {items = items} {i = i} judged all r is =
     sym is
     ∙ ap₂ (λ a b. cond a (Err Unmatched) (cond b (Err Value) (done WriteFault tt)))
@@ -35,8 +35,8 @@ HasJudged-all {read = read} {items = items} {i = i} judged all r is =
 
 -- two ways of reading that agree on the fault of each item agree on the fault of several
 pub told_alike : {A B C : Type 0} (f : A → Result B WriteFault) (g : A → Result C WriteFault) → ((x : A) → is_unmatched (f x) ≡ is_unmatched (g x))
-    → ((x : A) → is_err (f x) ≡ is_err (g x)) → (items : List A) → told f items ≡ told g items
-unfolding told
+    → ((x : A) → is_err (f x) ≡ is_err (g x)) → (items : List A) → fault_of_items f items ≡ fault_of_items g items
+unfolding fault_of_items
 told_alike {A = A} f g typed faults items =
     ap₂ (λ a b. cond a (Err Unmatched) (cond b (Err Value) (done WriteFault tt))) (any_alike (λ x. is_unmatched (f x)) (λ x. is_unmatched (g x)) typed items)
     (any_alike (λ x. is_err (f x)) (λ x. is_err (g x)) faults items)
@@ -47,7 +47,7 @@ told_alike {A = A} f g typed faults items =
 
 -- reading that drops the values reports the same fault
 pub told_of_faults : {A B : Type 0} (read : A → Result B WriteFault) (items : List A)
-    → told (λ x. result_map_both (λ value. tt {0}) (λ fault. fault) (read x)) items ≡ told read items
+    → fault_of_items (λ x. result_map_both (λ value. tt {0}) (λ fault. fault) (read x)) items ≡ fault_of_items read items
 told_of_faults {A = A} {B = B} read items = told_alike (λ x. result_map_both (λ value. tt {0}) (λ fault. fault) (read x)) read (λ x. typed (read x)) (λ x. faulty (read x)) items
   where
     typed : (r : Result B WriteFault) → is_unmatched (result_map_both (λ value. tt {0}) (λ fault. fault) r) ≡ is_unmatched r

@@ -6,7 +6,7 @@ use Rattle.std.proofs.lemmas.List.Elements.{filter_map-append, All-push, All-hea
 use Rattle.std.specs.List.{All, list_any, cons_option}
 use Rattle.std.specs.Result.{result_ok}
 use Rattle.byte_reading.proofs.OutcomeLemmas.{done}
-use Rattle.cosem_names.specs.WriteFault.{is_unmatched, told, values}
+use Rattle.cosem_names.specs.WriteFault.{is_unmatched, fault_of_items, values}
 use Rattle.cosem_names.specs.declared.write_fault.WriteFault.{WriteFault}
 use Rattle.cosem_names.specs.declared.write_fault.WriteFault.TheVariants.{Unmatched, Value}
 
@@ -61,13 +61,13 @@ all_again read write P again (x ∷ xs) all =
     }
 
 -- no fault is reported for items without a fault
-pub told_again : {A B : Type 0} {read : A → Result B WriteFault} {items : List A} {xs : List B} → AreRead read items xs → told read items ≡ Ok tt
-unfolding told
+pub told_again : {A B : Type 0} {read : A → Result B WriteFault} {items : List A} {xs : List B} → AreRead read items xs → fault_of_items read items ≡ Ok tt
+unfolding fault_of_items
 told_again are = ap₂ (λ a b. cond a (Err Unmatched) (cond b (Err Value) (done WriteFault tt))) are.typed are.faultless
 
 -- if no fault is reported, no item has one
-pub told_ok : {A B : Type 0} (read : A → Result B WriteFault) (items : List A) (u : Unit {0}) → told read items ≡ Ok u → list_any (λ item. is_err (read item)) items ≡ false
-unfolding told
+pub told_ok : {A B : Type 0} (read : A → Result B WriteFault) (items : List A) (u : Unit {0}) → fault_of_items read items ≡ Ok u → list_any (λ item. is_err (read item)) items ≡ false
+unfolding fault_of_items
 told_ok read items u e = here (list_any (λ item. is_unmatched (read item)) items) (list_any (λ item. is_err (read item)) items) e
   where
     here : (a b : Bool) → cond a (Err Unmatched) (cond b (Err Value) (done WriteFault tt)) ≡ Ok u → b ≡ false

@@ -16,8 +16,8 @@ abbrev pub script_table : Obis
 script_table = obis 0 0 10 0 106 255
 
 -- a script of that table
-abbrev pub named : ℕ → NamedScript
-named selector = record { table = script_table; selector = selector }
+abbrev pub script_at : ℕ → NamedScript
+script_at selector = record { table = script_table; selector = selector }
 
 -- whether a script is one of that table
 abbrev pub is_of_the_table : NamedScript → Bool

@@ -23,9 +23,9 @@ is_unmatched (Err Value) = false
 is_unmatched (Err Memory) = false
 
 -- the fault of several values: a wrong type of any before any other fault
-unfoldable pub told : {A B : Type 0} → (A → Result B WriteFault) → List A
+unfoldable pub fault_of_items : {A B : Type 0} → (A → Result B WriteFault) → List A
     → Result (Unit {0}) WriteFault
-told read items =
+fault_of_items read items =
     if list_any (λ item. is_unmatched (read item)) items then Err Unmatched
     else if list_any (λ item. is_err (read item)) items then Err Value
     else Ok tt

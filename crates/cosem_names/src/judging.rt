@@ -1,6 +1,6 @@
 ghost use Rattle.std.specs.Prelude.{◌≡◌, Result, IsErrOf};
 ghost use Rattle.cosem_names.specs.Judging.{IsReader};
-ghost use Rattle.cosem_names.specs.WriteFault.{is_unmatched, told};
+ghost use Rattle.cosem_names.specs.WriteFault.{is_unmatched, fault_of_items};
 
 use crate::write_fault::WriteFault;
 use cosem_axdr::Data;
@@ -14,14 +14,14 @@ fn is_unmatched<X>(given: &Result<X, WriteFault>) -> bool
 
 /// Judges several items by reading each: `Unmatched` if any has a wrong type, then `Value` if
 /// reading any fails for another reason. That order is a rule of this meter.
-#[tactic(auto, unfolding(crate::specs::WriteFault::told))]
+#[tactic(auto, unfolding(crate::specs::WriteFault::fault_of_items))]
 pub fn judge_each<X: Drop, F: Fn(&Data) -> Result<X, WriteFault>>(
     items: &[Data],
     read: F,
 ) -> Result<(), WriteFault>
     requires { F.IsAlwaysCallable read }
     ensures told { (of_item : Data → Result X WriteFault) → IsReader F.Fn read of_item
-        → result ≡ told of_item items.now }
+        → result ≡ fault_of_items of_item items.now }
     ensures no_memory { ¬ IsErrOf result WriteFault.Memory }
 {
     let mut unmatched = false;

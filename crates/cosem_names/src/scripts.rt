@@ -1,5 +1,5 @@
 ghost use Rattle.std.specs.Prelude.{◌≡◌, Some, IfOk};
-ghost use Rattle.cosem_names.specs.Scripts.{script_data, script_of, is_of_the_table, named};
+ghost use Rattle.cosem_names.specs.Scripts.{script_data, script_of, is_of_the_table, script_at};
 
 use crate::forms::name_in;
 use crate::name::Obis;
@@ -22,7 +22,7 @@ pub struct NamedScript {
 impl NamedScript {
     /// Returns a script of the meter's script table.
     pub fn of_the_table(selector: u16) -> NamedScript
-        ensures { result ≡ named selector }
+        ensures { result ≡ script_at selector }
     {
         NamedScript {
             table: SCRIPT_TABLE,

@@ -14,8 +14,8 @@ pub record Control : Type 0 where
   pub mode : ControlMode
 
 -- the switch after a trigger: its mode does not change
-abbrev pub triggered : Trigger → Control → Control
-triggered trigger control =
+abbrev pub control_after : Trigger → Control → Control
+control_after trigger control =
     record { state = after control.mode trigger control.state; mode = control.mode }
 
 -- whether a mode may be written: in mode 0 the switch is always connected (IEC 62056-6-2, class 70,

@@ -106,14 +106,14 @@ abbrev pub is_state : ControlState → ControlState → Bool
 is_state one other = state_number one == state_number other
 
 -- the transition that a mode allows on a trigger in a state
-unfoldable pub allowed : ControlMode → Trigger → ControlState → Option Row
-allowed mode trigger state =
+unfoldable pub allowed_transition : ControlMode → Trigger → ControlState → Option Row
+allowed_transition mode trigger state =
     find (λ row. trigger_number row.trigger == trigger_number trigger && is_state row.from state)
     (rows_of mode)
 
 -- the state after a trigger
 unfoldable pub after : ControlMode → Trigger → ControlState → ControlState
-after mode trigger state = unwrap_or (option_map (λ row. row.to) (allowed mode trigger state)) state
+after mode trigger state = unwrap_or (option_map (λ row. row.to) (allowed_transition mode trigger state)) state
 
 -- modes whose remote reconnection waits for the button
 abbrev pub waits_for_button : ControlMode → Bool
@@ -141,5 +141,5 @@ is_target _ LocalReconnect state = is_state state Connected
 -- left to do
 unfoldable pub result_of : ControlMode → Trigger → ControlState → ResultCode
 result_of mode trigger state =
-    if is_some (allowed mode trigger state) || is_target mode trigger state then Success
+    if is_some (allowed_transition mode trigger state) || is_target mode trigger state then Success
     else TemporaryFailure

@@ -1,8 +1,8 @@
 ghost use Rattle.std.specs.Prelude.{◌≡◌, ◌≢◌, ◌↔◌, option_map, IsTrue, IsNone, IfSome};
 ghost use Rattle.disconnect_control.specs.declared.state.ControlState.TheVariants.{Connected};
 ghost use Rattle.disconnect_control.specs.declared.state.ControlMode.TheVariants.{Mode0};
-ghost use Rattle.disconnect_control.specs.Transitions.{allowed, is_target, is_state, result_of, state_number, mode_number, mode_of};
-ghost use Rattle.disconnect_control.specs.Control.{Control, triggered, is_mode_fit, with_mode, mode_result};
+ghost use Rattle.disconnect_control.specs.Transitions.{allowed_transition, is_target, is_state, result_of, state_number, mode_number, mode_of};
+ghost use Rattle.disconnect_control.specs.Control.{Control, control_after, is_mode_fit, with_mode, mode_result};
 
 use crate::state::{ControlMode, ControlState, Trigger};
 use cosem_names::ResultCode;
@@ -62,9 +62,9 @@ impl ControlMode {
 
 // Returns the state to which the mode's transition leads, or `None` if the mode has no transition
 // on this trigger in this state.
-#[tactic(auto, unfolding(crate::specs::Transitions::allowed))]
+#[tactic(auto, unfolding(crate::specs::Transitions::allowed_transition))]
 fn next(mode: ControlMode, trigger: Trigger, state: ControlState) -> Option<ControlState>
-    ensures { result ≡ option_map (λ row. row.to) (allowed mode trigger state) }
+    ensures { result ≡ option_map (λ row. row.to) (allowed_transition mode trigger state) }
 {
     use ControlMode::{Mode0, Mode1, Mode2, Mode3, Mode4, Mode5, Mode6};
     use ControlState::{Connected, Disconnected, ReadyForReconnection};
@@ -155,9 +155,9 @@ impl DisconnectControl {
     ///
     /// Returns `Success` if there is a transition or the state is already what the trigger asks
     /// for, else `TemporaryFailure`. Without a transition nothing changes.
-    #[tactic(auto, unfolding(crate::specs::Transitions::allowed, crate::specs::Transitions::after, crate::specs::Transitions::result_of))]
+    #[tactic(auto, unfolding(crate::specs::Transitions::allowed_transition, crate::specs::Transitions::after, crate::specs::Transitions::result_of))]
     pub fn apply(&mut self, trigger: Trigger) -> ResultCode
-        ensures control { self.new ≡ triggered trigger self.old }
+        ensures control { self.new ≡ control_after trigger self.old }
         ensures code { result ≡ result_of self.old.mode trigger self.old.state }
     {
         match next(self.mode, trigger, self.state) {

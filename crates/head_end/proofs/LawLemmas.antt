@@ -12,7 +12,7 @@ use Rattle.head_end.specs.Connections.{Told}
 use Rattle.head_end.specs.Jobs.{job_lines, job_of, joined_jobs, jobs_at, jobs_in}
 use Rattle.head_end.specs.Reports.{line_text, report_text}
 use Rattle.head_end.specs.Rows.{IsRow, AreLines}
-use Rattle.head_end.specs.Laws.{line_by, line_told, AreTold, HaveMemory, ReportsJoin, LinesJoin, IsTheReport, JobsJoin}
+use Rattle.head_end.specs.Laws.{line_by, line_for, AreTold, HaveMemory, ReportsJoin, LinesJoin, IsTheReport, JobsJoin}
 use Rattle.head_end.proofs.ReadingLemmas.{jobs_in-cons, jobs_in-nil}
 
 pub reports_join : ReportsJoin
@@ -40,13 +40,13 @@ same_line : (id other : List ℕ) (row came : Row) → id ≡ other → row ≡ 
 same_line id other row came ids rows = cc
 
 lines_told : (tells : List ℕ → Option Told) (jobs : List Job) (lines : List ReportLine) → AreLines tells jobs lines → AreTold tells jobs → HaveMemory lines
-    → lines ≡ map (line_told tells) jobs
+    → lines ≡ map (line_for tells) jobs
 lines_told tells [] [] are told memory = refl
 lines_told tells [] (line ∷ lines) are told memory = absurd are
 lines_told tells (job ∷ jobs) [] are told memory = absurd are
 lines_told tells (job ∷ jobs) (line ∷ lines) are told memory =
-    let here : line ≡ line_told tells job =
-    same_line line.id (line_told tells job).id line.row (line_told tells job).row (are.0.id_is ∙ sym (id_told job (tells job.address)))
+    let here : line ≡ line_for tells job =
+    same_line line.id (line_for tells job).id line.row (line_for tells job).row (are.0.id_is ∙ sym (id_told job (tells job.address)))
     (row_told job (tells job.address) tells line.row refl told.0 are.0.row_is memory.0) in
     let others = lines_told tells jobs lines are.1 told.1 memory.1 in
     cc

@@ -8,7 +8,7 @@ use Rattle.client_core.specs.declared.client.Client.{Client}
 use Rattle.client_core.specs.declared.job.Verb.{Verb}
 use Rattle.client_core.specs.declared.job.Outcome.{Outcome}
 use Rattle.client_core.specs.declared.progress.Progress.{Progress}
-use Rattle.client_core.specs.Outcomes.{progress_of, decided, outcome_of, due, is_served}
+use Rattle.client_core.specs.Outcomes.{progress_of, outcome_after, outcome_of, due, is_served}
 use Rattle.client_core.specs.Texts.{text_at}
 use Rattle.client_core.specs.Standing.{Stands, Gives, Feeds, Tells}
 use Rattle.client_core.proofs.Accepting.{accepted_stays}
@@ -495,9 +495,9 @@ settled_by E verb password reads client now None tells s = record {
 }
 settled_by E verb password reads client now (Some outcome) tells s =
     let t = s.talks in
-    let settled : decided verb (heard_in t.log) ≡ Some outcome = sym (tells.told verb password
+    let settled : outcome_after verb (heard_in t.log) ≡ Some outcome = sym (tells.told verb password
     (heard_in t.log) t.given false t.stands) in
-    let some : IsSome (decided verb (heard_in t.log)) = rw settled refl in
+    let some : IsSome (outcome_after verb (heard_in t.log)) = rw settled refl in
     let all = t.more true [] (s.all_is, inl some) in
     record {
       log = t.log;
@@ -539,8 +539,8 @@ talks_new verb password client now stands is = record {
 }
 
 unsettled_new : (verb : Verb) (log : List Happening) → reads_in log ≡ 0
-    → decided verb (heard_in log) ≡ None
-unsettled_new verb log none = ap (decided verb) (heard_none log none)
+    → outcome_after verb (heard_in log) ≡ None
+unsettled_new verb log none = ap (outcome_after verb) (heard_none log none)
     ∙ ap (λ (p : Progress). p.outcome) (nothing_said verb)
 
 -- `reads` reads have not settled the outcome

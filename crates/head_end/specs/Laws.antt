@@ -25,8 +25,8 @@ abbrev pub line_by : Job → Option Told → ReportLine
 line_by job (Some told) = record { id = job.id; row = Came (outcome_of job.verb told.bytes) }
 line_by job None = record { id = job.id; row = Came Unknown }
 
-abbrev pub line_told : (List ℕ → Option Told) → Job → ReportLine
-line_told tells job = line_by job (tells job.address)
+abbrev pub line_for : (List ℕ → Option Told) → Job → ReportLine
+line_for tells job = line_by job (tells job.address)
 
 -- the reads of the connections to all the jobs' meters are predicted
 abbrev pub AreTold : (List ℕ → Option Told) → List Job → Type 0
@@ -40,7 +40,7 @@ HaveMemory (line ∷ lines) = (line.row ≢ Memory) × HaveMemory lines
 
 -- the report of jobs
 abbrev pub campaign_text : (List ℕ → Option Told) → List Job → List ℕ
-campaign_text tells jobs = report_text (map (line_told tells) jobs)
+campaign_text tells jobs = report_text (map (line_for tells) jobs)
 
 -- the concatenated reports of parts are the report of the whole
 abbrev pub ReportsJoin : Type 0

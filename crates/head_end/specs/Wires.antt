@@ -10,7 +10,7 @@ use Rattle.std.specs.List.{concat}
 use Rattle.client_core.specs.declared.job.Outcome.{Outcome}
 use Rattle.client_core.specs.declared.job.Verb.{Verb}
 use Rattle.client_core.specs.Texts.{aarq_frame, request_frame, release_frame}
-use Rattle.client_core.specs.Outcomes.{progress_of, decided, outcome_of, due}
+use Rattle.client_core.specs.Outcomes.{progress_of, outcome_after, outcome_of, due}
 use Rattle.head_end.specs.Logs.{Happening, heard, heard_nothing, sent, cut_off, heard_in, sent_in, reads_in, IsFront}
 
 -- the messages that may be sent after the bytes received, concatenated: the AARQ, then the request,
@@ -21,7 +21,7 @@ due_text verb password bytes = concat (due verb password (progress_of verb bytes
 -- exactly the messages that may be sent were sent, and the outcome is not settled
 pub record Listens (verb : Verb) (password : List ℕ) (log : List Happening) : Type 0 where
   pub sent_is : sent_in log ≡ due_text verb password (heard_in log)
-  pub unsettled : decided verb (heard_in log) ≡ None
+  pub unsettled : outcome_after verb (heard_in log) ≡ None
 
 -- with these bytes, at most the messages that may be sent are sent
 abbrev pub IsDueNext : Verb → List ℕ → List Happening → List ℕ → Type 0
@@ -30,7 +30,7 @@ IsDueNext verb password log bytes =
 
 -- why no read follows: the outcome is settled, or 65,536 reads have not settled it
 abbrev pub IsOver : Verb → List Happening → Type 0
-IsOver verb log = IsSome (decided verb (heard_in log)) ⊎ (reads_in log ≡ 65536)
+IsOver verb log = IsSome (outcome_after verb (heard_in log)) ⊎ (reads_in log ≡ 65536)
 
 -- the end of a conversation: exactly the messages that may be sent were sent. If out of memory, it
 -- may end anywhere

@@ -3,7 +3,7 @@ use Rattle.std.proofs.Common.{◌≡◌, ◌+◌, ◌<◌, ◌≤◌, ℕ, add-o
 use Rattle.relay_core.specs.declared.relay.RelayCore.{RelayCore}
 use Rattle.relay_core.specs.Stands.{StandsFor}
 use Rattle.relay_core.specs.World.{World, new_world}
-use Rattle.session_serving.specs.Answering.{answered}
+use Rattle.session_serving.specs.Answering.{answer_to_payload}
 use Rattle.session_serving.specs.Hexadecimal.{hex_line}
 use Rattle.hex_commands.specs.Apdu.{AddsAnswer, AnswersOn, answer_lines, new_answers}
 use Rattle.hex_commands.specs.Requests.{pieces_of, total}
@@ -21,10 +21,10 @@ one_answered requests later request first core core' before lines lines' on adds
       let here = on.on w stands in
       let at : World = here.0 in
       let text = adds.text at here.1 in (
-        (answered request at).world,
+        (answer_to_payload request at).world,
         adds.world at here.1,
-        here.2 ∙ sym (append_assoc lines (hex_line (answered request at).text) (answer_lines (answered request at).world later))
-            ∙ ap (λ (front : List ℕ). front ++ answer_lines (answered request at).world later) (sym text),
+        here.2 ∙ sym (append_assoc lines (hex_line (answer_to_payload request at).text) (answer_lines (answer_to_payload request at).world later))
+            ∙ ap (λ (front : List ℕ). front ++ answer_lines (answer_to_payload request at).world later) (sym text),
       );
 }
 

@@ -5,7 +5,7 @@ use Rattle.relay_events.specs.declared.event.Event.{Event}
 use Rattle.relay_events.specs.declared.reply.Reply.{Reply}
 use Rattle.relay_core.specs.declared.opening.Opening.{Opening}
 use Rattle.relay_core.specs.Machine.{is_sure}
-use Rattle.relay_core.specs.Opening.{opened}
+use Rattle.relay_core.specs.Opening.{world_of_opening}
 use Rattle.relay_recorder.specs.Histories.{Told, StandsForHistory, events_of, replies_of, replies_from}
 use Rattle.kept_meter.specs.KeptRecorder.{KeptRecorder}
 
@@ -14,17 +14,17 @@ abbrev pub Calls : Type 0
 Calls = List (Entry Event Reply)
 
 -- the events of the calls with their replies, without the port that made each
-abbrev pub told : Calls → List Told
-told calls = map (λ (call : Entry Event Reply). (call.event, call.reply)) calls
+abbrev pub events_and_replies : Calls → List Told
+events_and_replies calls = map (λ (call : Entry Event Reply). (call.event, call.reply)) calls
 
 -- the replies are those of the run over the events, from the world of the opening
 abbrev pub IsLegal : Opening → Calls → Type 0
 IsLegal origin calls =
-    replies_of (told calls) ≡ replies_from (opened origin) (events_of (told calls))
+    replies_of (events_and_replies calls) ≡ replies_from (world_of_opening origin) (events_of (events_and_replies calls))
 
 -- the recorder results from these calls, starting from the world of its origin
 abbrev pub Stands : KeptRecorder → Calls → Type 0
-Stands kept calls = StandsForHistory kept.recorder (told calls) (opened kept.origin)
+Stands kept calls = StandsForHistory kept.recorder (events_and_replies calls) (world_of_opening kept.origin)
 
 -- There are calls that the recorder results from.
 pub record HasCalls (kept : KeptRecorder) : Type 0 where

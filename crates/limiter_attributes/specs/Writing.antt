@@ -4,7 +4,7 @@ use Rattle.cosem_axdr.specs.declared.value.Data.{Data}
 use Rattle.cosem_axdr.specs.declared.value.Data.TheVariants.{OctetString, Boolean, DoubleLongUnsigned, LongUnsigned, Integer}
 use Rattle.cosem_datetime.specs.Fields.{date_time_bytes}
 use Rattle.cosem_names.specs.Forms.{array_with, structure_with}
-use Rattle.cosem_names.specs.Scripts.{named, script_data}
+use Rattle.cosem_names.specs.Scripts.{script_at, script_data}
 use Rattle.cosem_names.specs.Table.{obis}
 use Rattle.cosem_names.specs.declared.name.Obis.{Obis}
 use Rattle.cosem_names.specs.declared.objects.Which.{Which}
@@ -37,7 +37,7 @@ groups_data ids = array_with (map LongUnsigned ids)
 
 unfoldable pub actions_data : Actions → Data
 actions_data actions =
-    structure_with (script_data (named actions.over) ∷ script_data (named actions.under) ∷ [])
+    structure_with (script_data (script_at actions.over) ∷ script_data (script_at actions.under) ∷ [])
 
 -- the value of an attribute of a limiter with these settings at a moment of the clock
 unfoldable pub data_at : Which → LimiterAttribute → Settings → Option ℕ → Data

@@ -4,7 +4,7 @@ use Rattle.std.proofs.lemmas.Bool.Decides.{nat_tests}
 use Rattle.limiter_core.specs.declared.count.Count.{Count}
 use Rattle.limiter_core.specs.declared.kinds.Fire.TheVariants.{Quiet, Over, Under}
 use Rattle.limiter_core.specs.Rows.{Row, Entry, Side, OverThreshold, UnderThreshold, is_past, need, run, reaches, any_below, has_fired, fires, fire_of}
-use Rattle.limiter_core.specs.Counting.{cap, count_of, no_run, taken, fires_at}
+use Rattle.limiter_core.specs.Counting.{cap, count_of, no_run, count_after, fires_at}
 
 -- counts with equal runs and flags are equal
 pub same_count : (a b : Count) → a.run ≡ b.run → a.fired ≡ b.fired → a ≡ b
@@ -59,10 +59,10 @@ or_swap false false = refl
 reaches_capped : (side : Side) (row : Row) (rows : List Row) → is_past side row ≡ true → need side row ≤ cap → reaches side (row ∷ rows) ≡ nat_le (need side row) (min (min (run side rows) cap + 1) cap)
 reaches_capped side row rows e h = reaches_past side row rows e ∙ need_capped (need side row) (run side rows) h
 
-pub counted_by : (b : Bool) (side : Side) (row : Row) (rows : List Row) → is_past side row ≡ b → (is_past side row ≡ true → need side row ≤ cap) → count_of side (row ∷ rows) ≡ taken b (need side row) (count_of side rows)
+pub counted_by : (b : Bool) (side : Side) (row : Row) (rows : List Row) → is_past side row ≡ b → (is_past side row ≡ true → need side row ≤ cap) → count_of side (row ∷ rows) ≡ count_after b (need side row) (count_of side rows)
 unfolding count_of
 counted_by true side row rows e h =
-    same_count (count_of side (row ∷ rows)) (taken true (need side row) (count_of side rows))
+    same_count (count_of side (row ∷ rows)) (count_after true (need side row) (count_of side rows))
     (ap (λ r. min r cap) (run_past side row rows e) ∙ more_capped (run side rows))
     (has_fired_past side row rows e
     ∙ ap (λ b. b || has_fired side rows) (reaches_capped side row rows e (h e))
@@ -73,7 +73,7 @@ counted_by false side row rows e h =
     (has_fired_other side row rows e)
 
 -- one more row is one more count
-pub counted : (side : Side) (row : Row) (rows : List Row) → (is_past side row ≡ true → need side row ≤ cap) → count_of side (row ∷ rows) ≡ taken (is_past side row) (need side row) (count_of side rows)
+pub counted : (side : Side) (row : Row) (rows : List Row) → (is_past side row ≡ true → need side row ≤ cap) → count_of side (row ∷ rows) ≡ count_after (is_past side row) (need side row) (count_of side rows)
 counted side row rows h = counted_by (is_past side row) side row rows refl h
 
 fires_by : (b : Bool) (side : Side) (row : Row) (rows : List Row) → is_past side row ≡ b → (is_past side row ≡ true → need side row ≤ cap) → fires side (row ∷ rows) ≡ fires_at b (need side row) (count_of side rows)

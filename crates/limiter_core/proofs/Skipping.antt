@@ -8,8 +8,8 @@ use Rattle.limiter_core.specs.declared.kinds.Kind.TheVariants.{Over, Under, Equa
 use Rattle.limiter_core.specs.declared.settings.Settings.{Settings}
 use Rattle.limiter_core.specs.Rows.{Row, Side, OverThreshold, UnderThreshold, is_past, need, fire_of, fire_past}
 use Rattle.limiter_core.specs.Settings.{Limits, is_active, active_threshold, need_of, row_of, kind_of}
-use Rattle.limiter_core.specs.Counting.{cap, count_of, no_run, taken, fires_at, before, skipped}
-use Rattle.limiter_core.specs.State.{State, limits_of, Keeps, IsLimiter, IsFitCount, jumped, rows_after, IsQuiet, AreOfKind, fire_on, quiet_count}
+use Rattle.limiter_core.specs.Counting.{cap, count_of, no_run, count_after, fires_at, before, count_after_run}
+use Rattle.limiter_core.specs.State.{State, limits_of, Keeps, IsLimiter, IsFitCount, state_after_run, rows_after, IsQuiet, AreOfKind, fire_on, quiet_count}
 use Rattle.limiter_core.proofs.Firing.{same_count, counted, fire_counted}
 
 -- whether samples of the kind are past the threshold on that side
@@ -62,11 +62,11 @@ or_none a b e f = ap (λ v. v || b) e ∙ (f ∙ sym e)
 late : (n need run : ℕ) → suc n ≤ need - 1 - run → nat_le need (min (run + 1) cap) ≡ false
 late n need run h = grind (arith, nat_tests)
 
-taken_quiet : (n need : ℕ) (count : Count) → Room (suc n) need count → taken true need count ≡ skipped 1 count
+taken_quiet : (n need : ℕ) (count : Count) → Room (suc n) need count → count_after true need count ≡ count_after_run 1 count
 taken_quiet n need count (inl e) =
-    same_count (taken true need count) (skipped 1 count) refl (or_left count.fired (nat_le need (min (count.run + 1) cap)) e)
+    same_count (count_after true need count) (count_after_run 1 count) refl (or_left count.fired (nat_le need (min (count.run + 1) cap)) e)
 taken_quiet n need count (inr h) =
-    same_count (taken true need count) (skipped 1 count) refl (or_none count.fired (nat_le need (min (count.run + 1) cap)) h.0 (late n need count.run h.1))
+    same_count (count_after true need count) (count_after_run 1 count) refl (or_none count.fired (nat_le need (min (count.run + 1) cap)) h.0 (late n need count.run h.1))
 
 and_none : (a b : Bool) → a ≡ false → (a && b) ≡ false
 and_none a b e = ap (λ v. v && b) e
@@ -82,7 +82,7 @@ still n need count (inr h) = and_none (nat_le need (min (count.run + 1) cap)) (n
 less_room : (n need run : ℕ) → suc n ≤ need - 1 - run → n ≤ need - 1 - min (run + 1) cap
 less_room n need run h = omega arith
 
-room_after : (n need : ℕ) (count : Count) → Room (suc n) need count → Room n need (skipped 1 count)
+room_after : (n need : ℕ) (count : Count) → Room (suc n) need count → Room n need (count_after_run 1 count)
 room_after n need count (inl e) = inl e
 room_after n need count (inr h) = inr (h.0, less_room n need count.run h.1)
 
@@ -98,13 +98,13 @@ module _ (kind : Kind) (limits : Limits) (counted_needs : AreCounted kind limits
   need_counted OverThreshold value k e = counted_needs OverThreshold (sym (past_is kind OverThreshold limits value k) ∙ e)
   need_counted UnderThreshold value k e = counted_needs UnderThreshold (sym (past_is kind UnderThreshold limits value k) ∙ e)
 
-  pub one_counted : (side : Side) (value : ℕ) (rows : List Row) → kind_of limits.threshold value ≡ kind → count_of side (row_of limits value ∷ rows) ≡ taken (past kind side) (needed side limits) (count_of side rows)
+  pub one_counted : (side : Side) (value : ℕ) (rows : List Row) → kind_of limits.threshold value ≡ kind → count_of side (row_of limits value ∷ rows) ≡ count_after (past kind side) (needed side limits) (count_of side rows)
   one_counted OverThreshold value rows k =
       counted OverThreshold (row_of limits value) rows (need_counted OverThreshold value k)
-      ∙ ap (λ b. taken b (needed OverThreshold limits) (count_of OverThreshold rows)) (past_is kind OverThreshold limits value k)
+      ∙ ap (λ b. count_after b (needed OverThreshold limits) (count_of OverThreshold rows)) (past_is kind OverThreshold limits value k)
   one_counted UnderThreshold value rows k =
       counted UnderThreshold (row_of limits value) rows (need_counted UnderThreshold value k)
-      ∙ ap (λ b. taken b (needed UnderThreshold limits) (count_of UnderThreshold rows)) (past_is kind UnderThreshold limits value k)
+      ∙ ap (λ b. count_after b (needed UnderThreshold limits) (count_of UnderThreshold rows)) (past_is kind UnderThreshold limits value k)
 
   -- what one more sample fires
   pub one_fire : (value : ℕ) (rows : List Row) → kind_of limits.threshold value ≡ kind →
@@ -130,10 +130,10 @@ module _ (kind : Kind) (limits : Limits) (counted_needs : AreCounted kind limits
       ∙ neither (fires_at (past kind OverThreshold) (needed OverThreshold limits) (count_of OverThreshold rows)) (fires_at (past kind UnderThreshold) (needed UnderThreshold limits) (count_of UnderThreshold rows))
       (still_at (past kind OverThreshold) n OverThreshold rows refl room) (still_at (past kind UnderThreshold) n UnderThreshold rows refl room)
 
-  one_skipped : (n : ℕ) (side : Side) (value : ℕ) (rows : List Row) → kind_of limits.threshold value ≡ kind → past kind side ≡ true → HasRoom kind limits (suc n) rows → count_of side (row_of limits value ∷ rows) ≡ skipped 1 (count_of side rows)
+  one_skipped : (n : ℕ) (side : Side) (value : ℕ) (rows : List Row) → kind_of limits.threshold value ≡ kind → past kind side ≡ true → HasRoom kind limits (suc n) rows → count_of side (row_of limits value ∷ rows) ≡ count_after_run 1 (count_of side rows)
   one_skipped n side value rows k e room =
       one_counted side value rows k
-      ∙ (ap (λ b. taken b (needed side limits) (count_of side rows)) e ∙ taken_quiet n (needed side limits) (count_of side rows) (room side e))
+      ∙ (ap (λ b. count_after b (needed side limits) (count_of side rows)) e ∙ taken_quiet n (needed side limits) (count_of side rows) (room side e))
 
   room_next : (n value : ℕ) (rows : List Row) → kind_of limits.threshold value ≡ kind → HasRoom kind limits (suc n) rows → HasRoom kind limits n (row_of limits value ∷ rows)
   room_next n value rows k room side e =
@@ -146,31 +146,31 @@ module _ (kind : Kind) (limits : Limits) (counted_needs : AreCounted kind limits
   are_quiet (value ∷ values) rows k room =
       (one_quiet (length values) value rows k.0 room, are_quiet values (row_of limits value ∷ rows) k.1 (room_next (length values) value rows k.0 room))
 
-  none_skipped : (side : Side) (rows : List Row) → count_of side rows ≡ skipped 0 (count_of side rows)
+  none_skipped : (side : Side) (rows : List Row) → count_of side rows ≡ count_after_run 0 (count_of side rows)
   unfolding count_of
-  none_skipped side rows = same_count (count_of side rows) (skipped 0 (count_of side rows)) (omega arith) refl
+  none_skipped side rows = same_count (count_of side rows) (count_after_run 0 (count_of side rows)) (omega arith) refl
 
-  more_skipped : (n : ℕ) (count : Count) → skipped n (skipped 1 count) ≡ skipped (suc n) count
-  more_skipped n count = same_count (skipped n (skipped 1 count)) (skipped (suc n) count) (skipped_more n count.run) refl
+  more_skipped : (n : ℕ) (count : Count) → count_after_run n (count_after_run 1 count) ≡ count_after_run (suc n) count
+  more_skipped n count = same_count (count_after_run n (count_after_run 1 count)) (count_after_run (suc n) count) (skipped_more n count.run) refl
 
   -- a run continues
   pub run_after : (values : List ℕ) (rows : List Row) (side : Side) → past kind side ≡ true → AreOfKind kind limits.threshold values → HasRoom kind limits (length values) rows →
-      count_of side (rows_after limits values rows) ≡ skipped (length values) (count_of side rows)
+      count_of side (rows_after limits values rows) ≡ count_after_run (length values) (count_of side rows)
   run_after [] rows side e k room = none_skipped side rows
   run_after (value ∷ values) rows side e k room =
       run_after values (row_of limits value ∷ rows) side e k.1 (room_next (length values) value rows k.0 room)
-      ∙ (ap (skipped (length values)) (one_skipped (length values) side value rows k.0 e room) ∙ more_skipped (length values) (count_of side rows))
+      ∙ (ap (count_after_run (length values)) (one_skipped (length values) side value rows k.0 e room) ∙ more_skipped (length values) (count_of side rows))
 
   ended : (values : List ℕ) (rows : List Row) (side : Side) → past kind side ≡ false → AreOfKind kind limits.threshold values → count_of side rows ≡ no_run → count_of side (rows_after limits values rows) ≡ no_run
   ended [] rows side e k none = none
   ended (value ∷ values) rows side e k none =
-      ended values (row_of limits value ∷ rows) side e k.1 (one_counted side value rows k.0 ∙ ap (λ b. taken b (needed side limits) (count_of side rows)) e)
+      ended values (row_of limits value ∷ rows) side e k.1 (one_counted side value rows k.0 ∙ ap (λ b. count_after b (needed side limits) (count_of side rows)) e)
 
   -- a run of the other side ends at the first sample
   pub none_after : (values : List ℕ) (rows : List Row) (side : Side) → past kind side ≡ false → AreOfKind kind limits.threshold values → 0 < length values → count_of side (rows_after limits values rows) ≡ no_run
   none_after [] rows side e k some = absurd (omega arith)
   none_after (value ∷ values) rows side e k some =
-      ended values (row_of limits value ∷ rows) side e k.1 (one_counted side value rows k.0 ∙ ap (λ b. taken b (needed side limits) (count_of side rows)) e)
+      ended values (row_of limits value ∷ rows) side e k.1 (one_counted side value rows k.0 ∙ ap (λ b. count_after b (needed side limits) (count_of side rows)) e)
 
 are_counted : (kind : Kind) (state : State) → IsLimiter state → AreCounted kind (limits_of state)
 are_counted kind state fit OverThreshold e = let small = fit.over_duration in omega (arith, small)
@@ -233,9 +233,9 @@ and_both : (a b : Bool) → a ≡ true → b ≡ false → (a && not b) ≡ true
 and_both a b e f = ap (λ v. v && not b) e ∙ ap not f
 
 -- the first sample after those that do not fire
-fires_then : (n need : ℕ) (count other : Count) → count ≡ other → need ≤ cap → n ≡ before need count → n < 2 ^ 64 - 1 → fires_at true need (skipped n other) ≡ true
+fires_then : (n need : ℕ) (count other : Count) → count ≡ other → need ≤ cap → n ≡ before need count → n < 2 ^ 64 - 1 → fires_at true need (count_after_run n other) ≡ true
 fires_then n need count other same small is few =
-    let P : Count → Type 0 = λ c. fires_at true need (skipped n c) ≡ true in
+    let P : Count → Type 0 = λ c. fires_at true need (count_after_run n c) ≡ true in
     let found : (count.fired ≡ false) × (n ≡ need - 1 - count.run) = unfired_if count.fired n need count refl is few in
     subst P same (and_both (nat_le need (min (min (count.run + n) cap + 1) cap)) count.fired (at_last n need count.run small found.1) found.0)
 
@@ -247,7 +247,7 @@ fires_next Over state rows values value fit keeps k last all few =
     let limits : Limits = limits_of state in
     let small : AreCounted Over limits = are_counted Over state fit in
     let room : HasRoom Over limits (length values) rows = room_of Over state rows (length values) keeps (omega (arith, all)) in
-    let count : count_of OverThreshold (rows_after limits values rows) ≡ skipped (length values) (count_of OverThreshold rows) = run_after Over limits small values rows OverThreshold refl k room in
+    let count : count_of OverThreshold (rows_after limits values rows) ≡ count_after_run (length values) (count_of OverThreshold rows) = run_after Over limits small values rows OverThreshold refl k room in
     let fires : fires_at true (needed OverThreshold limits) (count_of OverThreshold (rows_after limits values rows)) ≡ true =
     ap (fires_at true (needed OverThreshold limits)) count
     ∙ fires_then (length values) (needed OverThreshold limits) state.over (count_of OverThreshold rows) keeps.over (small OverThreshold refl) all few in
@@ -256,7 +256,7 @@ fires_next Under state rows values value fit keeps k last all few =
     let limits : Limits = limits_of state in
     let small : AreCounted Under limits = are_counted Under state fit in
     let room : HasRoom Under limits (length values) rows = room_of Under state rows (length values) keeps (omega (arith, all)) in
-    let count : count_of UnderThreshold (rows_after limits values rows) ≡ skipped (length values) (count_of UnderThreshold rows) = run_after Under limits small values rows UnderThreshold refl k room in
+    let count : count_of UnderThreshold (rows_after limits values rows) ≡ count_after_run (length values) (count_of UnderThreshold rows) = run_after Under limits small values rows UnderThreshold refl k room in
     let fires : fires_at true (needed UnderThreshold limits) (count_of UnderThreshold (rows_after limits values rows)) ≡ true =
     ap (fires_at true (needed UnderThreshold limits)) count
     ∙ fires_then (length values) (needed UnderThreshold limits) state.under (count_of UnderThreshold rows) keeps.under (small UnderThreshold refl) all few in
@@ -264,7 +264,7 @@ fires_next Under state rows values value fit keeps k last all few =
 fires_next Equal state rows values value fit keeps k last all few = absurd (omega (arith, all))
 
 over_after : (kind : Kind) (state : State) (rows : List Row) (values : List ℕ) (side : Side) → past kind side ≡ true → IsLimiter state → Keeps state rows → AreOfKind kind (limits_of state).threshold values →
-    length values ≤ quiet_count kind state → count_of side (rows_after (limits_of state) values rows) ≡ skipped (length values) (count_of side rows)
+    length values ≤ quiet_count kind state → count_of side (rows_after (limits_of state) values rows) ≡ count_after_run (length values) (count_of side rows)
 over_after kind state rows values side e fit keeps k few =
     run_after kind (limits_of state) (are_counted kind state fit) values rows side e k (room_of kind state rows (length values) keeps few)
 
@@ -273,14 +273,14 @@ other_after : (kind : Kind) (state : State) (rows : List Row) (values : List ℕ
 other_after kind state rows values side e fit k some = sym (none_after kind (limits_of state) (are_counted kind state fit) values rows side e k some)
 
 jumped_keeps : (kind : Kind) (state : State) (rows : List Row) (values : List ℕ) (last : ℕ) → IsLimiter state → Keeps state rows → AreOfKind kind (limits_of state).threshold values →
-    0 < length values → length values ≤ quiet_count kind state → Keeps (jumped kind (length values) last state) (rows_after (limits_of state) values rows)
+    0 < length values → length values ≤ quiet_count kind state → Keeps (state_after_run kind (length values) last state) (rows_after (limits_of state) values rows)
 jumped_keeps Over state rows values last fit keeps k some few = record {
-  over = ap (skipped (length values)) keeps.over ∙ sym (over_after Over state rows values OverThreshold refl fit keeps k few);
+  over = ap (count_after_run (length values)) keeps.over ∙ sym (over_after Over state rows values OverThreshold refl fit keeps k few);
   under = other_after Over state rows values UnderThreshold refl fit k some;
 }
 jumped_keeps Under state rows values last fit keeps k some few = record {
   over = other_after Under state rows values OverThreshold refl fit k some;
-  under = ap (skipped (length values)) keeps.under ∙ sym (over_after Under state rows values UnderThreshold refl fit keeps k few);
+  under = ap (count_after_run (length values)) keeps.under ∙ sym (over_after Under state rows values UnderThreshold refl fit keeps k few);
 }
 jumped_keeps Equal state rows values last fit keeps k some few = record {
   over = other_after Equal state rows values OverThreshold refl fit k some;
@@ -289,12 +289,12 @@ jumped_keeps Equal state rows values last fit keeps k some few = record {
 
 -- the counts after a run that does not fire are those of its samples
 pub keeps_after : (kind : Kind) (state new : State) (rows : List Row) (values : List ℕ) (n last : ℕ) → IsLimiter state → Keeps state rows → AreOfKind kind (limits_of state).threshold values →
-    length values ≡ n → 0 < n → n ≤ quiet_count kind state → new ≡ jumped kind n last state → Keeps new (rows_after (limits_of state) values rows)
+    length values ≡ n → 0 < n → n ≤ quiet_count kind state → new ≡ state_after_run kind n last state → Keeps new (rows_after (limits_of state) values rows)
 keeps_after kind state new rows values n last fit keeps k e some few is =
     let P : State → Type 0 = λ v. Keeps v (rows_after (limits_of state) values rows) in
-    subst P (ap (λ m. jumped kind m last state) e ∙ sym is) (jumped_keeps kind state rows values last fit keeps k (omega arith) (omega arith))
+    subst P (ap (λ m. state_after_run kind m last state) e ∙ sym is) (jumped_keeps kind state rows values last fit keeps k (omega arith) (omega arith))
 
-fits_if : (b : Bool) (n need : ℕ) (count : Count) → count.fired ≡ b → 0 < n → need ≤ cap → n ≤ (if b then 2 ^ 64 - 1 else need - 1 - count.run) → IsFitCount count → IsFitCount (skipped n count)
+fits_if : (b : Bool) (n need : ℕ) (count : Count) → count.fired ≡ b → 0 < n → need ≤ cap → n ≤ (if b then 2 ^ 64 - 1 else need - 1 - count.run) → IsFitCount count → IsFitCount (count_after_run n count)
 fits_if true n need count e some small few fit = record {
   within = omega arith;
   none = λ zero. absurd (omega (arith, zero));
@@ -307,7 +307,7 @@ fits_if false n need count e some small few fit = record {
 }
 
 -- a fit count stays fit after samples that do not fire
-pub skip_fits : (n need : ℕ) (count : Count) → 0 < n → need ≤ cap → n ≤ before need count → IsFitCount count → IsFitCount (skipped n count)
+pub skip_fits : (n need : ℕ) (count : Count) → 0 < n → need ≤ cap → n ≤ before need count → IsFitCount count → IsFitCount (count_after_run n count)
 skip_fits n need count some small few fit = fits_if count.fired n need count refl some small few fit
 
 one_small : (b : Bool) (x y : ℕ) → x < 2 ^ 32 → y < 2 ^ 32 → (if b then x else y) < 2 ^ 32
@@ -322,7 +322,7 @@ below_threshold : (t v : ℕ) → t < 2 ^ 32 → nat_lt v t ≡ true → v < 429
 below_threshold t v small e = grind (arith, nat_tests)
 
 -- a limiter stays a limiter after samples under the threshold that do not fire
-pub jumped_under : (state : State) (n last : ℕ) → 0 < n → n ≤ quiet_count Under state → kind_of (limits_of state).threshold last ≡ Under → IsLimiter state → IsLimiter (jumped Under n last state)
+pub jumped_under : (state : State) (n last : ℕ) → 0 < n → n ≤ quiet_count Under state → kind_of (limits_of state).threshold last ≡ Under → IsLimiter state → IsLimiter (state_after_run Under n last state)
 jumped_under state n last some few k fit =
     let limits : Limits = limits_of state in
     let small : limits.threshold < 2 ^ 32 = threshold_small state.settings state.moment fit.normal_threshold fit.emergency_threshold in
@@ -342,11 +342,11 @@ jumped_under state n last some few k fit =
     }
 
 -- a limiter stays one, given its fields and its new counts separately
-pub jump_under : (inside state : State) (over under : Count) (n last : ℕ) → inside ≡ state → over ≡ no_run → under ≡ skipped n inside.under → 0 < n → n ≤ quiet_count Under state →
+pub jump_under : (inside state : State) (over under : Count) (n last : ℕ) → inside ≡ state → over ≡ no_run → under ≡ count_after_run n inside.under → 0 < n → n ≤ quiet_count Under state →
     kind_of (limits_of state).threshold last ≡ Under → IsLimiter inside → IsLimiter (record { settings = inside.settings; moment = inside.moment; last = last; over = over; under = under })
 jump_under inside state over under n last is none skip some few k fit =
     let Few : State → Type 0 = λ v. n ≤ quiet_count Under v in
     let IsUnder : State → Type 0 = λ v. kind_of (limits_of v).threshold last ≡ Under in
     let make : Count → Count → State = λ a b. record { settings = inside.settings; moment = inside.moment; last = last; over = a; under = b } in
-    subst IsLimiter (ap (λ a. make a (skipped n inside.under)) (sym none) ∙ ap (make over) (sym skip))
+    subst IsLimiter (ap (λ a. make a (count_after_run n inside.under)) (sym none) ∙ ap (make over) (sym skip))
     (jumped_under inside n last some (subst Few (sym is) few) (subst IsUnder (sym is) k) fit)

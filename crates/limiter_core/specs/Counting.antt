@@ -15,8 +15,8 @@ abbrev pub no_run : Count
 no_run = record { run = 0; fired = false }
 
 -- the count after one more sample
-abbrev pub taken : Bool → ℕ → Count → Count
-taken past need count =
+abbrev pub count_after : Bool → ℕ → Count → Count
+count_after past need count =
     if past
     then record {
       run = min (count.run + 1) cap;
@@ -34,5 +34,5 @@ abbrev pub before : ℕ → Count → ℕ
 before need count = if count.fired then 2 ^ 64 - 1 else need - 1 - count.run
 
 -- the count after n samples that are past the threshold and do not fire
-abbrev pub skipped : ℕ → Count → Count
-skipped n count = record { run = min (count.run + n) cap; fired = count.fired }
+abbrev pub count_after_run : ℕ → Count → Count
+count_after_run n count = record { run = min (count.run + n) cap; fired = count.fired }

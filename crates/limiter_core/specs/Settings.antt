@@ -3,7 +3,7 @@
 -- samples, are rules of this meter.
 use Rattle.std.specs.Prelude.{ℕ, ◌+◌, ◌*◌, max, Bool, false, ◌&&◌, nat_lt, nat_le, ◌==◌, if◌then◌else◌, Option, Some, List, []}
 use Rattle.std.specs.List.{list_any}
-use Rattle.cosem_datetime.specs.Fields.{unspecified}
+use Rattle.cosem_datetime.specs.Fields.{unspecified_date_time}
 use Rattle.cosem_datetime.specs.Moment.{moment_of}
 use Rattle.limiter_core.specs.declared.kinds.Kind.{Kind}
 use Rattle.limiter_core.specs.declared.kinds.Kind.TheVariants.{Over, Under, Equal}
@@ -64,7 +64,7 @@ new_settings = record {
   emergency_threshold = 4294967295;
   min_over_duration = 0;
   min_under_duration = 0;
-  profile = record { id = 0; start = unspecified; duration = 0 };
+  profile = record { id = 0; start = unspecified_date_time; duration = 0 };
   groups = [];
   actions = record { over = 0; under = 0 };
 }

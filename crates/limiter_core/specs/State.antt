@@ -6,7 +6,7 @@ use Rattle.limiter_core.specs.declared.kinds.Kind.{Kind}
 use Rattle.limiter_core.specs.declared.kinds.Kind.TheVariants.{Over, Under, Equal}
 use Rattle.limiter_core.specs.declared.count.Count.{Count}
 use Rattle.limiter_core.specs.declared.settings.Settings.{Settings}
-use Rattle.limiter_core.specs.Counting.{cap, count_of, no_run, before, skipped}
+use Rattle.limiter_core.specs.Counting.{cap, count_of, no_run, before, count_after_run}
 use Rattle.limiter_core.specs.Rows.{Row, OverThreshold, UnderThreshold, fire_of, fire_past}
 use Rattle.limiter_core.specs.Settings.{Limits, limits_at, row_of, need_of, kind_of}
 
@@ -94,8 +94,8 @@ fire_on Under = fire_past UnderThreshold
 fire_on Equal = Quiet
 
 -- the limiter after n samples of a kind that do not fire
-abbrev pub jumped : Kind → ℕ → ℕ → State → State
-jumped Over n last state = record state { last = last; over = skipped n state.over; under = no_run }
-jumped Under n last state =
-    record state { last = last; over = no_run; under = skipped n state.under }
-jumped Equal n last state = record state { last = last; over = no_run; under = no_run }
+abbrev pub state_after_run : Kind → ℕ → ℕ → State → State
+state_after_run Over n last state = record state { last = last; over = count_after_run n state.over; under = no_run }
+state_after_run Under n last state =
+    record state { last = last; over = no_run; under = count_after_run n state.under }
+state_after_run Equal n last state = record state { last = last; over = no_run; under = no_run }

@@ -1,5 +1,5 @@
 ghost use Rattle.std.specs.Prelude.{◌≡◌, ◌↔◌, IsTrue};
-ghost use Rattle.limiter_core.specs.Counting.{no_run, taken, fires_at, before, skipped};
+ghost use Rattle.limiter_core.specs.Counting.{no_run, count_after, fires_at, before, count_after_run};
 ghost use Rattle.limiter_core.specs.State.{IsFit, IsFitCount, is_fit_count, are_fit};
 
 /// The longest run that is counted: 42,949,672,950 samples, the need of a duration of 4,294,967,295
@@ -29,7 +29,7 @@ impl Count {
     // Counts a sample and returns whether it fires. `past` says whether it is past the threshold,
     // `need` how many samples the run needs to fire.
     pub(crate) fn take(&mut self, past: bool, need: u64) -> bool
-        ensures count { self.new ≡ taken past need self.old }
+        ensures count { self.new ≡ count_after past need self.old }
         ensures fires { result ≡ fires_at past need self.old }
     {
         if !past {
@@ -56,7 +56,7 @@ impl Count {
 
     // Counts `samples` samples past the threshold that do not fire.
     pub(crate) fn skip(&mut self, samples: u64)
-        ensures { self.new ≡ skipped samples self.old }
+        ensures { self.new ≡ count_after_run samples self.old }
     {
         self.run = self.run.saturating_add(samples).min(RUN_LIMIT);
     }

@@ -4,7 +4,7 @@ ghost use Rattle.limiter_core.specs.Counting.{no_run};
 ghost use Rattle.limiter_core.specs.Opening.{opened_rows};
 ghost use Rattle.limiter_core.specs.Rows.{Row, Entry, fire_of};
 ghost use Rattle.limiter_core.specs.Settings.{is_active, active_threshold, row_of, kind_of, new_settings};
-ghost use Rattle.limiter_core.specs.State.{limits_of, Keeps, rows_after, IsQuiet, AreOfKind, fire_on, quiet_count, jumped, IsLimiter, IsFit};
+ghost use Rattle.limiter_core.specs.State.{limits_of, Keeps, rows_after, IsQuiet, AreOfKind, fire_on, quiet_count, state_after_run, IsLimiter, IsFit};
 
 use crate::count::{Count, are_fit};
 use crate::kinds::{Fire, Kind};
@@ -171,7 +171,7 @@ impl Limiter {
         requires some { 0 < n }
         requires quiet { n ≤ quiet_count kind self.old }
         requires last { kind_of (limits_of self.old).threshold last ≡ kind }
-        ensures state { self.new ≡ jumped kind n last self.old }
+        ensures state { self.new ≡ state_after_run kind n last self.old }
         ensures limiter { IsLimiter self.old }
     {
         self.last = last;

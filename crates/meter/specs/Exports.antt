@@ -8,7 +8,7 @@ use Rattle.cosem_names.specs.declared.result_code.ResultCode.{ResultCode}
 use Rattle.disconnect_control.specs.declared.state.ControlState.TheVariants.{Connected}
 use Rattle.disconnect_control.specs.Transitions.{is_state, state_number, mode_number}
 use Rattle.lane_sampler.specs.Samples.{Samples}
-use Rattle.meter.specs.Outcomes.{code_of, of_fault, of_done, of_given, length_of, of_tick, ran_of}
+use Rattle.meter.specs.Outcomes.{code_of, of_fault, outcome_of_call, outcome_of_session, length_of, of_tick, ran_of}
 use Rattle.meter.specs.declared.events.Firings.{Firings}
 use Rattle.meter.specs.declared.outcome.CallResult.{CallResult}
 use Rattle.meter.specs.declared.outcome.CallResult.TheVariants as outcome
@@ -90,7 +90,7 @@ pub record ResumedTo (text password : List ℕ) (kept : ℕ) (old : Option Meter
 pub record DoneTo (does : Result Unit MeterFault → Type 0) (code : ℕ) : Type 0 where
   pub result : Result Unit MeterFault
   pub done : does result
-  pub told : code ≡ code_of (of_done result)
+  pub told : code ≡ code_of (outcome_of_call result)
 
 abbrev pub OpenedAt : ℕ → Metering → ℕ → Metering → Type 0
 OpenedAt session m code m' = DoneTo (λ (r : Result Unit MeterFault). OpensBy m session r m') code
@@ -108,7 +108,7 @@ ClosedAt session m code m' = DoneTo (λ (r : Result Unit MeterFault). ClosesBy m
 
 -- the outcome of `next`
 abbrev pub tells_next : Result Given MeterFault → CallResult
-tells_next (Ok g) = of_given g
+tells_next (Ok g) = outcome_of_session g
 tells_next (Err f) = of_fault f
 
 abbrev pub next_length : Result Given MeterFault → ℕ

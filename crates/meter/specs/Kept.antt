@@ -9,9 +9,9 @@ use Rattle.std.specs.Global.{Global}
 use Rattle.std_heap.specs.contracts.GlobalAllocator.TheImpl.{ghosts}
 use Rattle.supply_meter.specs.contracts.supply_meter.SupplyMeter.{the_row}
 
-abbrev pub kept : Global → Ptr → Option the_row.Denot → Fml
-kept alloc at None = ftrue
-kept alloc at (Some meter) = box_owns (ghosts.dealloc_token alloc) the_row at meter
+abbrev pub ownership_of : Global → Ptr → Option the_row.Denot → Fml
+ownership_of alloc at None = ftrue
+ownership_of alloc at (Some meter) = box_owns (ghosts.dealloc_token alloc) the_row at meter
 
-abbrev pub kept_coded : Coded (Option the_row.Denot)
-kept_coded = coded_option the_row.coded
+abbrev pub ownership_coded : Coded (Option the_row.Denot)
+ownership_coded = coded_option the_row.coded

@@ -40,9 +40,9 @@ of_fault fault.Uneven = outcome.WrongArgument
 of_fault fault.Memory = outcome.NoMemory
 
 -- the outcome of a call without a value
-abbrev pub of_done : Result Unit MeterFault → CallResult
-of_done (Ok done) = outcome.Done
-of_done (Err f) = of_fault f
+abbrev pub outcome_of_call : Result Unit MeterFault → CallResult
+outcome_of_call (Ok done) = outcome.Done
+outcome_of_call (Err f) = of_fault f
 
 -- the outcome of the end of a session
 abbrev pub of_end : SessionEnd → CallResult
@@ -52,11 +52,11 @@ of_end ending.BadVersion = outcome.BadVersion
 of_end ending.TooLong = outcome.TooLong
 
 -- the outcome of what a session gave
-abbrev pub of_given : Given → CallResult
-of_given (given.Frame count) = outcome.Done
-of_given (given.NoRoom count) = outcome.NoRoom
-of_given given.Wait = outcome.Wait
-of_given (given.End end) = of_end end
+abbrev pub outcome_of_session : Given → CallResult
+outcome_of_session (given.Frame count) = outcome.Done
+outcome_of_session (given.NoRoom count) = outcome.NoRoom
+outcome_of_session given.Wait = outcome.Wait
+outcome_of_session (given.End end) = of_end end
 
 abbrev pub length_of : Given → ℕ
 length_of (given.Frame count) = count

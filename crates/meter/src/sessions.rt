@@ -1,7 +1,7 @@
 //! The sessions of a meter.
 ghost use Rattle.std.specs.Prelude.{◌≡◌, ℕ};
 ghost use Rattle.meter.specs.Exports.{OnOpen, OpenedAt, FedAt, FinishedAt, GivenAt, ClosedAt, tells_next, next_length};
-ghost use Rattle.meter.specs.Outcomes.{code_of, of_done, of_end};
+ghost use Rattle.meter.specs.Outcomes.{code_of, outcome_of_call, of_end};
 ghost use Rattle.supply_meter.specs.Meterings.{Metering};
 
 use crate::handle::MeterHandle;
@@ -88,7 +88,7 @@ pub extern "C" fn meter_close_session(alloc: Global, meter: &mut MeterHandle, se
 
 // Returns the number of the outcome of a call without a value.
 fn done_code(done: Result<(), MeterFault>) -> u32
-    ensures { result ≡ code_of (of_done done) }
+    ensures { result ≡ code_of (outcome_of_call done) }
 {
     match done {
         Ok(()) => CallResult::Done.code(),

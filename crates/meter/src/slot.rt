@@ -1,6 +1,6 @@
 ghost use Rattle.std.specs.Prelude.{◌≡◌, Option, Some, None};
 ghost use Rattle.supply_meter.specs.Meterings.{Metering};
-ghost use Rattle.meter.specs.Kept.{kept, kept_coded};
+ghost use Rattle.meter.specs.Kept.{ownership_of, ownership_coded};
 
 use boxed_parts::BoxParts;
 use std::alloc::Global;
@@ -14,11 +14,11 @@ pub struct HandleSlot {
     at: *mut u8,
     alloc: Global,
     /// Ghost value: the meter, if there is one.
-    pub ghost held: { Option Metering } by { kept_coded },
+    pub ghost held: { Option Metering } by { ownership_coded },
 }
 
 impl Model for HandleSlot {
-    ghost also_owns = { λ s. kept s.alloc s.at s.held };
+    ghost also_owns = { λ s. ownership_of s.alloc s.at s.held };
 }
 
 impl HandleSlot {

@@ -1,7 +1,7 @@
 -- The effect of a session on its port, which passes the session's events on.
 use Rattle.std.proofs.Common.{◌≡◌, ℕ, List, [], ◌∷◌, ◌++◌, Option, Result, Ok, Err, IfOk, refl, sym, ap, ◌∙◌, subst, ⊎_elim}
 use Rattle.std.proofs.lemmas.List.{append-nil, append_assoc}
-use Rattle.kept_meter.specs.Calls.{IsLegal, told}
+use Rattle.kept_meter.specs.Calls.{IsLegal, events_and_replies}
 use Rattle.session_serving.specs.Meters.{Replied, Refused}
 use Rattle.meter_server.specs.Ports.{MeterPort, PortSteps, entries, Enters}
 use Rattle.session_serving.specs.Served.{Served, Did}
@@ -12,7 +12,7 @@ use Rattle.relay_events.specs.declared.reply.Reply.{Reply}
 use Rattle.relay_core.specs.declared.opening.Opening.{Opening}
 use Rattle.relay_core.specs.Machine.{at_event}
 use Rattle.relay_events.specs.Kinds.{Fits}
-use Rattle.relay_core.specs.Opening.{opened}
+use Rattle.relay_core.specs.Opening.{world_of_opening}
 use Rattle.relay_core.specs.World.{World}
 use Rattle.relay_core.proofs.Replies.{reply_fits}
 use Rattle.relay_recorder.specs.Histories.{events_of, replies_of, replies_from}
@@ -26,16 +26,16 @@ use Rattle.turn_lock.specs.declared.turned.Entry.{Entry}
 
 -- the last reply of a run has the kind of its event
 last_fits : (w : World) (calls : List (Entry Event Reply)) (by : List ℕ) (event : Event) (reply : Reply)
-    → replies_of (told (calls ++ entry by event reply ∷ [])) ≡ replies_from w (events_of (told (calls ++ entry by event reply ∷ []))) → Fits event reply
+    → replies_of (events_and_replies (calls ++ entry by event reply ∷ [])) ≡ replies_from w (events_of (events_and_replies (calls ++ entry by event reply ∷ []))) → Fits event reply
 last_fits w [] by event reply legal = let same : reply ≡ (at_event event w).reply = cc in subst (Fits event) (sym same) (reply_fits event w)
 last_fits w (call ∷ calls) by event reply legal = let after : World = (at_event call.event w).world in
-    let rest : replies_of (told (calls ++ entry by event reply ∷ [])) ≡ replies_from after (events_of (told (calls ++ entry by event reply ∷ []))) = cc in
+    let rest : replies_of (events_and_replies (calls ++ entry by event reply ∷ [])) ≡ replies_from after (events_of (events_and_replies (calls ++ entry by event reply ∷ []))) = cc in
     last_fits after calls by event reply rest
 
 called_fits : (k : Known Event Reply Opening) (event : Event) (reply : Reply) (l : Known Event Reply Opening) → Called IsLegal k event reply l → Fits event reply
 called_fits k event reply l called =
     let legal : IsLegal called.lawful.0 ((k.seen ++ called.seen.0) ++ entry k.number event reply ∷ []) = subst (IsLegal called.lawful.0) called.seen.1 called.lawful.2 in
-    last_fits (opened called.lawful.0) (k.seen ++ called.seen.0) k.number event reply legal
+    last_fits (world_of_opening called.lawful.0) (k.seen ++ called.seen.0) k.number event reply legal
 
 -- a reply that a port returned has the kind of its event
 pub port_fits : (k : Known Event Reply Opening) (event : Event) (result : Result Reply CallFault) (l : Known Event Reply Opening)

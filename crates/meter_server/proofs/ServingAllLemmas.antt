@@ -15,7 +15,7 @@ use Rattle.session_threads.specs.Ports.{GoesOn, AreJoined, SplitsOff, TakesIn, c
 use Rattle.session_threads.specs.Workers.{Ended, ComesBack}
 use Rattle.session_threads.proofs.Going.{goes_trans}
 use Rattle.meter_workers.specs.Blocks.{AreOfBlocks, ReadsBetween}
-use Rattle.meter_workers.specs.Handed.{MeterPort, handed, unread, HandsBlocks, HandsMoments, HandsPresses}
+use Rattle.meter_workers.specs.Handed.{MeterPort, own_events, unread, HandsBlocks, HandsMoments, HandsPresses}
 use Rattle.meter_workers.specs.Handed.{StopsFor as WorkerStops}
 use Rattle.session_serving.specs.Settling.{fault_of}
 use Rattle.session_serving.specs.declared.fault.ServeFault.{ServeFault}
@@ -25,10 +25,10 @@ use Rattle.meter_server.specs.Sessions.{AreSessions}
 use Rattle.meter_server.proofs.SessionLemmas.{sessions_on}
 use Rattle.meter_server.specs.ServingAll.{events_by, AllBlocks, AllMoments, AllPresses, Acted, EndsWith, IsServed, IsSpent, StopsFor, OnEnded, worker_fault, first_of}
 
-fresh_handed : (own : MeterPort) → calls_by own.known.number own.known.seen ≡ [] → handed own ≡ []
+fresh_handed : (own : MeterPort) → calls_by own.known.number own.known.seen ≡ [] → own_events own ≡ []
 fresh_handed own fresh = ap (map (λ (call : Entry Event Reply). call.event)) fresh
 
-pub whole_blocks : (told : Option (List Samples)) (own back : MeterPort) (events : List Event) → events ≡ handed back → handed own ≡ []
+pub whole_blocks : (told : Option (List Samples)) (own back : MeterPort) (events : List Event) → events ≡ own_events back → own_events own ≡ []
     → HandsBlocks told own back × ReadsBetween told own back → AllBlocks told events
 whole_blocks None own back events e fresh hands = tt
 whole_blocks (Some blocks) own back events e fresh hands =
@@ -38,11 +38,11 @@ whole_blocks (Some blocks) own back events e fresh hands =
       subst P those hands.1.are,
     )
 
-pub whole_moments : (told : Option (List ℕ)) (own back : MeterPort) (events : List Event) → events ≡ handed back → handed own ≡ [] → HandsMoments told own back → AllMoments told events
+pub whole_moments : (told : Option (List ℕ)) (own back : MeterPort) (events : List Event) → events ≡ own_events back → own_events own ≡ [] → HandsMoments told own back → AllMoments told events
 whole_moments None own back events e fresh hands = tt
 whole_moments (Some moments) own back events e fresh hands = e ∙ hands ∙ ap (λ xs. xs ++ map event.Moment moments) fresh
 
-pub whole_presses : (told : Option ℕ) (own back : MeterPort) (events : List Event) → events ≡ handed back → handed own ≡ [] → HandsPresses told own back → AllPresses told events
+pub whole_presses : (told : Option ℕ) (own back : MeterPort) (events : List Event) → events ≡ own_events back → own_events own ≡ [] → HandsPresses told own back → AllPresses told events
 whole_presses None own back events e fresh hands = tt
 whole_presses (Some count) own back events e fresh hands = e ∙ hands ∙ ap (λ xs. xs ++ replicate count event.Button) fresh
 
@@ -62,13 +62,13 @@ acted_as own back q Whole same joined whole =
     record { joined = subst J same.number joined; whole = whole }
 
 -- the calls of the port that was returned, by the number of the one that was lent
-their_events : (own back before q : MeterPort) → IsSame own back → TakesIn before back q → events_by own.known.number q ≡ handed back
+their_events : (own back before q : MeterPort) → IsSame own back → TakesIn before back q → events_by own.known.number q ≡ own_events back
 their_events own back before q same taken =
     ap (map (λ (call : Entry Event Reply). call.event)) (ap (λ n. calls_by n q.known.seen) (sym same.number) ∙ taken.theirs)
 
 -- the worker whose port was returned did all its work, if it came to its end
 acted_own : {W : Type 0} (hands : W → MeterPort → MeterPort → Type 0) (worker : W) (own before q : MeterPort) (end : Option (Result (Unit {0}) CallFault)) (Whole : List Event → Type 0)
-    → ((begun back : MeterPort) (events : List Event) → events ≡ handed back → handed begun ≡ [] → hands worker begun back → Whole events)
+    → ((begun back : MeterPort) (events : List Event) → events ≡ own_events back → own_events begun ≡ [] → hands worker begun back → Whole events)
     → ComesBack (Did hands worker) own end before q → calls_by own.known.number own.known.seen ≡ [] → end ≡ Some (Ok tt) → Acted q own.known.number Whole
 acted_own hands worker own before q end Whole whole back fresh is =
     acted_as own back.back q Whole back.same back.taken.joined
@@ -264,7 +264,7 @@ module _ {W : Type 0} (hands : W → MeterPort → MeterPort → Type 0) (worker
     (off : SplitsOff p own lent) (goes : GoesOn lent mid) (ends : EndsWith (Did hands worker) own served result mid last) where
   -- the work of the worker, for an equal worker
   pub acted_itself : (All : W → List Event → Type 0) (given : W) → worker ≡ given
-      → ((begun back : MeterPort) (events : List Event) → events ≡ handed back → handed begun ≡ [] → hands worker begun back → All worker events)
+      → ((begun back : MeterPort) (events : List Event) → events ≡ own_events back → own_events begun ≡ [] → hands worker begun back → All worker events)
       → OnEnded result (Acted last (child p.known.number p.known.splits) (All given))
   acted_itself All given same whole =
       let P : W → Type 0 = λ w. Acted last (child p.known.number p.known.splits) (All w) in

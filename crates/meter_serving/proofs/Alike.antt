@@ -4,7 +4,7 @@ use Rattle.std.proofs.lemmas.List.{take-append-drop}
 use Rattle.circular_buffer.specs.Buffer.{keep_last}
 use Rattle.relay_core.specs.Agreeing.{Agree, IsWorld}
 use Rattle.relay_core.specs.Machine.{at_event}
-use Rattle.relay_core.specs.Opening.{IsFitOpening, opened, opening_of}
+use Rattle.relay_core.specs.Opening.{IsFitOpening, world_of_opening, opening_of}
 use Rattle.relay_core.specs.Runs.{world_after}
 use Rattle.relay_core.specs.World.{World}
 use Rattle.relay_events.specs.declared.event.Event.{Event}
@@ -48,7 +48,7 @@ split_world n events w =
 
 -- the world after a trace's run agrees with the one after every history that its recorder
 -- represents
-trace_agrees : (r : Recording) (trace : Trace) (history : List Told) (origin : World) → IsFitOpening trace.opening → IsWorld (opened trace.opening)
+trace_agrees : (r : Recording) (trace : Trace) (history : List Told) (origin : World) → IsFitOpening trace.opening → IsWorld (world_of_opening trace.opening)
     → IsTraceOf r trace → StandsForHistory r history origin
     → AgreeInRange (world_of trace) (world_after (events_of history) origin)
 trace_agrees r trace history origin fit range traced stands =
@@ -56,14 +56,14 @@ trace_agrees r trace history origin fit range traced stands =
     let before = world_after (all_but_last n (events_of history)) origin in
     let fit_here : IsFitOpening (opening_of r.opening) = subst IsFitOpening traced.opening fit in
     let agree = opening_agrees r.opening before fit_here.import.runs fit_here.export.runs stands.opening in
-    let first : AgreeInRange (opened trace.opening) before =
-    record { range = range; agree = subst (λ (o : Opening). Agree (opened o) before) (sym traced.opening) agree } in
-    let after = worlds_after trace.events (opened trace.opening) before first in
+    let first : AgreeInRange (world_of_opening trace.opening) before =
+    record { range = range; agree = subst (λ (o : Opening). Agree (world_of_opening o) before) (sym traced.opening) agree } in
+    let after = worlds_after trace.events (world_of_opening trace.opening) before first in
     let same : world_after trace.events before ≡ world_after (events_of history) origin =
     ap (λ (es : List Event). world_after es before) (traced.events ∙ stands.kept) ∙ split_world n (events_of history) origin in
     subst (λ (w : World). AgreeInRange (world_of trace) w) same after
 
-pub goes_on : (trace : Trace) → IsFitOpening trace.opening → IsWorld (opened trace.opening) → GoesOn trace (world_of trace)
+pub goes_on : (trace : Trace) → IsFitOpening trace.opening → IsWorld (world_of_opening trace.opening) → GoesOn trace (world_of trace)
 goes_on trace fit range = λ r traced history origin stands further.
     let alike = trace_agrees r trace history origin fit range traced stands in
     replies_alike further (world_of trace) (world_after (events_of history) origin) alike.range alike.agree

@@ -11,10 +11,10 @@ use Rattle.std.proofs.lemmas.List.{append-nil, take_all, length-drop}
 use Rattle.std.proofs.lemmas.Str.Parse.{IsNumeralModel, numerals_by_value}
 use Rattle.byte_reading.specs.Outcome.{◌>>=◌, ◌>>◌, guard, Fails}
 use Rattle.byte_reading.proofs.OutcomeLemmas.{bind_ok, ok_is, guard_ok, chosen, failed}
-use Rattle.trace_words.specs.Labels.{behind, labelled}
+use Rattle.trace_words.specs.Labels.{behind, labelled_value}
 use Rattle.trace_openings.specs.OpeningFields.{version_in, version_from}
 use Rattle.trace_words.specs.Reading.{number_in, last_as}
-use Rattle.trace_words.specs.Rows.{Word, Row, wanted}
+use Rattle.trace_words.specs.Rows.{Word, Row, or_wrong}
 use Rattle.trace_words.specs.declared.fault.RowFault.TheVariants.{Wrong}
 use Rattle.trace_words.specs.declared.version.Version.{Version}
 use Rattle.trace_words.specs.declared.version.Version.TheVariants.{One, Two}
@@ -62,7 +62,7 @@ last_found (word ∷ []) version e = (word, refl, e)
 last_found (word ∷ other ∷ words) version e = absurd cc
 
 -- a line of the version has two words
-two_words : (label : Word) (row : Row) (version : Version) → labelled label version_in row ≡ Ok version → (word : Word) × (row ≡ label ∷ word ∷ []) × (version_in word ≡ Ok version)
+two_words : (label : Word) (row : Row) (version : Version) → labelled_value label version_in row ≡ Ok version → (word : Word) × (row ≡ label ∷ word ∷ []) × (version_in word ≡ Ok version)
 two_words label row version e =
     let first = bind_ok (behind label row) _ version e in
     let last = last_found first.0.1 version first.2 in
@@ -96,7 +96,7 @@ number_word limit n word small e =
     let parts = decimal_parts word both.0 in
     sym (decimal-digits_value digits_model word parts.digits parts.some parts.lead (below (digits_value 10 word) limit both.1 small)) ∙ ap decimal found.1
 
-wanted_found : (o : Option ℕ) (n : ℕ) → wanted o ≡ Ok n → o ≡ Some n
+wanted_found : (o : Option ℕ) (n : ℕ) → or_wrong o ≡ Ok n → o ≡ Some n
 wanted_found (Some m) n e = ap (λ (k : ℕ). Some k) (ok_is m n e)
 wanted_found None n e = absurd cc
 

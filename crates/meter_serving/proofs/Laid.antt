@@ -8,7 +8,7 @@ use Rattle.relay_recorder.specs.declared.trace.Trace.{Trace}
 use Rattle.trace_openings.specs.OpeningFields.{version_from}
 use Rattle.trace_lines.specs.Events.{events_from}
 use Rattle.trace_openings.specs.OpeningReading.{opening_in, opening_from}
-use Rattle.trace_words.specs.Places.{Place, ReadLines, place_of, line_as, nothing_left, ended_at}
+use Rattle.trace_words.specs.Places.{Place, ReadLines, place_of, line_as, value_at_end, ended_at}
 use Rattle.trace_words.specs.Rows.{Row}
 use Rattle.trace_words.specs.declared.version.Version.{Version}
 use Rattle.trace_words.specs.declared.version.Version.TheVariants.{One, Two}
@@ -62,7 +62,7 @@ events_takes version (suc count) place = counted (takes_then 1 count _ _ _ (take
     counted_none takes x q e = let t = takes x q e in record { rows = t.rows; long = omega (arith, t.long); took = t.took }
 
 -- nothing is left after the last line
-nothing_is_left : {X : Type 0} (number : ℕ) (rows : List Row) (unended : List ℕ) (x y : X) → nothing_left number rows unended x ≡ Ok y → (rows ≡ []) × (unended ≡ [])
+nothing_is_left : {X : Type 0} (number : ℕ) (rows : List Row) (unended : List ℕ) (x y : X) → value_at_end number rows unended x ≡ Ok y → (rows ≡ []) × (unended ≡ [])
 nothing_is_left number [] [] x y e = (refl, refl)
 nothing_is_left number [] (byte ∷ bytes) x y e = absurd cc
 nothing_is_left number (row ∷ rows) unended x y e = absurd cc

@@ -1,7 +1,7 @@
 -- The text of a recorder's trace represents its run.
 use Rattle.std.proofs.Common.{◌≡◌, ◌≤◌, List, ℕ, All, length, Result, Ok, Err, IfOk, ap, sym, subst, arith}
 use Rattle.meter_serving.specs.Ending.{TellsRun}
-use Rattle.relay_core.specs.Opening.{IsFitOpening, opened, opening_of}
+use Rattle.relay_core.specs.Opening.{IsFitOpening, world_of_opening, opening_of}
 use Rattle.relay_events.specs.declared.event.Event.{Event}
 use Rattle.relay_recorder.specs.Recording.{Recording}
 use Rattle.relay_recorder.specs.Replaying.{Replays}
@@ -17,7 +17,7 @@ pub record IsExport (r : Recording) (trace : Trace) : Type 0 where
   pub events : trace.events ≡ r.events
   pub fit : IsFitOpening trace.opening
   pub few : length trace.events ≤ 1024
-  pub replays : Replays r (opened trace.opening)
+  pub replays : Replays r (world_of_opening trace.opening)
 
 fits_text : (r : Recording) (trace : Trace) → IsExport r trace → All FitsLine r.events → FitsText trace
 fits_text r trace is fit = record {
@@ -38,7 +38,7 @@ tells r trace text is prints written again short = record {
 }
 
 pub tells_run : {E : Type 0} (r exported : Recording) (trace : Trace) (result : Result (List ℕ) E) → exported ≡ r → IsExport exported trace
-    → ((s : Recording) (t : Trace) → t.events ≡ s.events → Replays s (opened t.opening) → PrintsTheEnd s t)
+    → ((s : Recording) (t : Trace) → t.events ≡ s.events → Replays s (world_of_opening t.opening) → PrintsTheEnd s t)
     → IfOk result (λ text. text ≡ trace_text trace) → IfOk result (λ text. FitsText trace → length text ≤ most_bytes → trace_of text ≡ Ok trace)
     → IfOk result (λ text. FitsText trace → length trace.events ≤ 1024 → length text ≤ most_bytes) → IfOk result (TellsRun r)
 tells_run r exported trace (Ok text) same is prints written again short =

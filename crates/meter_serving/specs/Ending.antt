@@ -2,7 +2,7 @@
 use Rattle.std.specs.Prelude.{◌≡◌, ◌<◌, ◌≤◌, ℕ, List, length, Ok}
 use Rattle.std.specs.List.{All}
 use Rattle.meter_serving.specs.Resuming.{IsTraceOf}
-use Rattle.relay_core.specs.Opening.{opened}
+use Rattle.relay_core.specs.Opening.{world_of_opening}
 use Rattle.relay_recorder.specs.Recording.{Recording}
 use Rattle.relay_recorder.specs.Replaying.{Replays}
 use Rattle.relay_recorder.specs.declared.trace.Trace.{Trace}
@@ -24,6 +24,6 @@ pub record TellsRun (r : Recording) (text : List ℕ) : Type 0 where
   pub trace : Trace
   pub written : text ≡ trace_text trace
   pub traced : IsTraceOf r trace
-  pub replays : Replays r (opened trace.opening)
+  pub replays : Replays r (world_of_opening trace.opening)
   pub prints : PrintsTheEnd r trace
   pub again : All FitsLine r.events → trace_of text ≡ Ok trace

@@ -1,6 +1,6 @@
 -- A meter that resumes from the trace of an earlier run.
 use Rattle.std.specs.Prelude.{◌≡◌, List}
-use Rattle.relay_core.specs.Opening.{opened, opening_of}
+use Rattle.relay_core.specs.Opening.{world_of_opening, opening_of}
 use Rattle.relay_core.specs.Runs.{world_after}
 use Rattle.relay_core.specs.World.{World}
 use Rattle.relay_events.specs.declared.event.Event.{Event}
@@ -10,7 +10,7 @@ use Rattle.relay_recorder.specs.declared.trace.Trace.{Trace}
 
 -- the world after the run of a trace
 abbrev pub world_of : Trace → World
-world_of trace = world_after trace.events (opened trace.opening)
+world_of trace = world_after trace.events (world_of_opening trace.opening)
 
 -- the trace is the one that this recorder exports
 pub record IsTraceOf (r : Recording) (trace : Trace) : Type 0 where

@@ -2,7 +2,7 @@
 ghost use Rattle.std.specs.Prelude.{◌≡◌, ◌≤◌, [], IfOk, OnOk};
 ghost use Rattle.meter_serving.specs.Resuming.{GoesOn, world_of};
 ghost use Rattle.relay_core.specs.Agreeing.{AreInRange, IsWorld};
-ghost use Rattle.relay_core.specs.Opening.{IsFitOpening, opened};
+ghost use Rattle.relay_core.specs.Opening.{IsFitOpening, world_of_opening};
 ghost use Rattle.relay_core.specs.Runs.{world_after};
 ghost use Rattle.relay_core.specs.Stands.{StandsFor};
 ghost use Rattle.relay_core.specs.World.{World};
@@ -60,7 +60,7 @@ fn limiter_has_range(opening: &LimiterOpening)
 // The durations of a core's saved state are numbers of 32 bits, those in its scripts' steps too.
 #[tactic(auto, using(crate::proofs::Ranges::scripts_in_range))]
 fn has_range(opening: &Opening)
-    ensures { IsWorld (opened opening.now) }
+    ensures { IsWorld (world_of_opening opening.now) }
 {
     limiter_has_range(&opening.import);
     limiter_has_range(&opening.export);

@@ -4,7 +4,7 @@ use Rattle.std.specs.Prelude.{◌≡◌, ◌⊎◌, ℕ, ◌+◌, ◌%◌, List,
 use Rattle.lane_sampler.specs.Samples.{Samples}
 use Rattle.relay_events.specs.declared.event.Event.{Event}
 use Rattle.relay_events.specs.declared.event.Event.TheVariants as event
-use Rattle.meter_workers.specs.Handed.{MeterPort, handed}
+use Rattle.meter_workers.specs.Handed.{MeterPort, own_events}
 use Rattle.meter_workers.specs.Thresholds.{threshold_read}
 
 -- the events before the block with this index (from 0): at most one read of the thresholds, and
@@ -28,7 +28,7 @@ pub record Hands (blocks : List Samples) (before after : List Event) : Type 0 wh
 -- reads of the thresholds were passed on only before blocks that may have one, if the source
 -- declares its blocks
 abbrev pub ReadsBetween : Option (List Samples) → MeterPort → MeterPort → Type 0
-ReadsBetween told p q = IfSome told (λ blocks. Hands blocks (handed p) (handed q))
+ReadsBetween told p q = IfSome told (λ blocks. Hands blocks (own_events p) (own_events q))
 
 -- The events that may precede the block with this index were passed on.
 pub record GoesAhead (place : ℕ) (before after : List Event) : Type 0 where

@@ -16,8 +16,8 @@ abbrev pub MeterPort : Type 0
 MeterPort = ShownPort Event Reply Opening
 
 -- the events of the port's own calls, in order
-abbrev pub handed : MeterPort → List Event
-handed port = map (λ (call : Entry Event Reply). call.event)
+abbrev pub own_events : MeterPort → List Event
+own_events port = map (λ (call : Entry Event Reply). call.event)
     (calls_by port.known.number port.known.seen)
 
 abbrev pub is_read : Event → Bool
@@ -32,15 +32,15 @@ unread events = filter (λ (e : Event). not (is_read e)) events
 -- between them
 abbrev pub HandsBlocks : Option (List Samples) → MeterPort → MeterPort → Type 0
 HandsBlocks told p q =
-    IfSome told (λ blocks. unread (handed q) ≡ unread (handed p) ++ map event.Samples blocks)
+    IfSome told (λ blocks. unread (own_events q) ≡ unread (own_events p) ++ map event.Samples blocks)
 
 -- all moments that the source declared were passed on since, in order, each once
 abbrev pub HandsMoments : Option (List ℕ) → MeterPort → MeterPort → Type 0
-HandsMoments told p q = IfSome told (λ moments. handed q ≡ handed p ++ map event.Moment moments)
+HandsMoments told p q = IfSome told (λ moments. own_events q ≡ own_events p ++ map event.Moment moments)
 
 -- all presses that the source declared were passed on since
 abbrev pub HandsPresses : Option ℕ → MeterPort → MeterPort → Type 0
-HandsPresses told p q = IfSome told (λ count. handed q ≡ handed p ++ replicate count event.Button)
+HandsPresses told p q = IfSome told (λ count. own_events q ≡ own_events p ++ replicate count event.Button)
 
 -- why a worker stops before its source ends: never because out of memory, only because its port has
 -- read that all turns of the lock's bound were drawn

@@ -2,7 +2,7 @@
 ghost use Rattle.std.specs.Prelude.{◌≡◌, ◌<◌, ◌+◌, ◌%◌, IfErr, OnOk};
 ghost use Rattle.turn_lock.specs.Shown.{IsSame};
 ghost use Rattle.meter_workers.specs.Blocks.{BringsBlock, GoesAhead, ReadsBetween};
-ghost use Rattle.meter_workers.specs.Handed.{HandsBlocks, StopsFor, handed};
+ghost use Rattle.meter_workers.specs.Handed.{HandsBlocks, StopsFor, own_events};
 
 use crate::handing::hand_in;
 use crate::sources::BlockSource;
@@ -48,7 +48,7 @@ impl Scanner {
         port: &mut Port<Kept>,
     ) -> Result<(), CallFault>
         ensures same { IsSame port.old port.new }
-        ensures ahead { GoesAhead self.old.since_read (handed port.old) (handed port.new) }
+        ensures ahead { GoesAhead self.old.since_read (own_events port.old) (own_events port.new) }
         ensures since_read { self.new.since_read ≡ self.old.since_read }
         ensures err { IfErr result (StopsFor port.new) }
     {
@@ -81,7 +81,7 @@ fn hand_block<W: Wait>(
 ) -> Result<(), CallFault>
     ensures same { IsSame port.old port.new }
     ensures ok { OnOk result
-        (BringsBlock scanner.old.since_read block (handed port.old) (handed port.new)) }
+        (BringsBlock scanner.old.since_read block (own_events port.old) (own_events port.new)) }
     ensures since_read { OnOk result (scanner.new.since_read ≡ (scanner.old.since_read + 1) % 64) }
     ensures err { IfErr result (StopsFor port.new) }
 {

@@ -3,7 +3,7 @@ ghost use Rattle.std.specs.Prelude.{◌≡◌, [], ◌∷◌, ◌++◌, IfErr, O
 ghost use Rattle.kept_meter.specs.Calls.{IsSure};
 ghost use Rattle.turn_lock.specs.Calls.{IsCause};
 ghost use Rattle.turn_lock.specs.Shown.{IsSame};
-ghost use Rattle.meter_workers.specs.Handed.{StopsFor, handed};
+ghost use Rattle.meter_workers.specs.Handed.{StopsFor, own_events};
 
 use call_fault::CallFault;
 use kept_meter::Kept;
@@ -22,8 +22,8 @@ pub(crate) fn ask<W: Wait>(
     event: Event,
 ) -> Result<Reply, CallFault>
     ensures same { IsSame port.old port.new }
-    ensures ok { OnOk result (handed port.new ≡ handed port.old ++ event ∷ []) }
-    ensures err { OnErr result (handed port.new ≡ handed port.old) }
+    ensures ok { OnOk result (own_events port.new ≡ own_events port.old ++ event ∷ []) }
+    ensures err { OnErr result (own_events port.new ≡ own_events port.old) }
     ensures cause { IfErr result
         (λ fault. IsCause IsSure event port.new.bound port.new.known fault) }
 {
@@ -39,7 +39,7 @@ pub(crate) fn hand_in<W: Wait>(
 ) -> Result<(), CallFault>
     requires { IsSure event }
     ensures same { IsSame port.old port.new }
-    ensures ok { OnOk result (handed port.new ≡ handed port.old ++ event ∷ []) }
+    ensures ok { OnOk result (own_events port.new ≡ own_events port.old ++ event ∷ []) }
     ensures err { IfErr result (StopsFor port.new) }
 {
     ask(rt, alloc, port, event)?;

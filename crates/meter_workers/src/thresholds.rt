@@ -2,7 +2,7 @@
 ghost use Rattle.std.specs.Prelude.{◌≡◌, IfOk, IfErr};
 ghost use Rattle.turn_lock.specs.Shown.{IsSame};
 ghost use Rattle.meter_workers.specs.Blocks.{GoesAhead};
-ghost use Rattle.meter_workers.specs.Handed.{StopsFor, handed};
+ghost use Rattle.meter_workers.specs.Handed.{StopsFor, own_events};
 ghost use Rattle.meter_workers.specs.Thresholds.{threshold_read};
 
 use crate::handing::ask;
@@ -80,7 +80,7 @@ pub(crate) fn read_thresholds<W: Wait>(
     port: &mut Port<Kept>,
 ) -> Result<Option<Thresholds>, CallFault>
     ensures same { IsSame port.old port.new }
-    ensures ahead { GoesAhead 0 (handed port.old) (handed port.new) }
+    ensures ahead { GoesAhead 0 (own_events port.old) (own_events port.new) }
     ensures err { IfErr result (StopsFor port.new) }
 {
     let Ok(event) = make_read(alloc) else {

@@ -1,7 +1,7 @@
 use Rattle.std.proofs.Common.{◌≡◌, ℕ, ◌<◌, ◌≤◌, Bool, true, false, ◌==◌, if◌then◌else◌, List, [], ◌∷◌, Option, Some, None, IfSome, unwrap_or, option_map, arith, refl, ap, sym, ◌∙◌, subst}
 use Rattle.cosem_names.specs.declared.objects.Which.{Which}
 use Rattle.cosem_names.specs.declared.objects.Which.TheVariants.{Import, Export}
-use Rattle.disconnect_control.specs.Control.{Control, triggered}
+use Rattle.disconnect_control.specs.Control.{Control, control_after}
 use Rattle.disconnect_control.specs.declared.state.ControlMode.{ControlMode}
 use Rattle.disconnect_control.specs.declared.state.Trigger.{Trigger}
 use Rattle.limiter_attributes.specs.declared.setting.Setting.{Setting}
@@ -12,17 +12,17 @@ use Rattle.limiter_core.specs.declared.kinds.Fire.{Fire}
 use Rattle.limiter_core.specs.declared.kinds.Fire.TheVariants.{Quiet, Over, Under}
 use Rattle.limiter_core.specs.declared.settings.Actions.{Actions}
 use Rattle.limiter_core.specs.declared.settings.Settings.{Settings}
-use Rattle.limiter_core.specs.Counting.{cap, count_of, taken, fires_at}
+use Rattle.limiter_core.specs.Counting.{cap, count_of, count_after, fires_at}
 use Rattle.limiter_core.specs.Rows.{Row, Entry, OverThreshold, UnderThreshold, is_past, need, fire_of}
 use Rattle.limiter_core.specs.Settings.{limits_at, row_of, need_of}
-use Rattle.limiter_core.proofs.Firing.{counted as row_counted, fire_counted, count_of_entry}
+use Rattle.limiter_core.proofs.Firing.{with_firing as row_counted, fire_counted, count_of_entry}
 use Rattle.relay_core.specs.declared.scripts.Origin.{Origin}
 use Rattle.relay_core.specs.declared.scripts.Origin.TheVariants.{Local}
 use Rattle.relay_core.specs.Agreeing.{AreCountedAlike, with_rows, Agree, AreInRange, IsSettingInRange, IsWorld}
 use Rattle.script_steps.specs.Ranges.{IsStepInRange, AreStepsInRange, AreScriptsInRange}
-use Rattle.relay_core.specs.Sampling.{Measurement, Metering, with_sample, fire_at, after_fire, after_sample, counted, measured, after_samples}
+use Rattle.relay_core.specs.Sampling.{Measurement, Metering, with_sample, fire_at, after_fire, after_sample, with_firing, metering_after, after_samples}
 use Rattle.relay_core.specs.Scripts.{at_step, at_script, is_success}
-use Rattle.relay_core.specs.Switch.{with_entry, enters, noted_since, at_trigger}
+use Rattle.relay_core.specs.Switch.{with_entry, enters, with_entries_since, at_trigger}
 use Rattle.relay_core.specs.World.{World, Outcome}
 use Rattle.relay_core.specs.Writing.{at_mode, at_setting}
 use Rattle.script_steps.specs.declared.step.Script.{Script}
@@ -54,8 +54,8 @@ entries_alike xs ys = record {
 }
 
 noted_alike : (before : Control) (v : World) (rows others : List Row) → AreCountedAlike v.import.rows rows
-    → AreCountedAlike v.export.rows others → Agree (noted_since before v) (noted_since before (with_rows rows others v))
-unfolding noted_since
+    → AreCountedAlike v.export.rows others → Agree (with_entries_since before v) (with_entries_since before (with_rows rows others v))
+unfolding with_entries_since
 noted_alike before v rows others i e =
     let noted : Bool → World → World = λ b w. if b then record w { import = with_entry w.import; export = with_entry w.export } else w in
     let cases : (b : Bool) → Agree (noted b v) (noted b (with_rows rows others v)) =
@@ -65,8 +65,8 @@ noted_alike before v rows others i e =
     ] in
     cases (enters before v.control)
 
-noted_in_range : (before : Control) (v : World) → IsWorld v → IsWorld (noted_since before v)
-unfolding noted_since
+noted_in_range : (before : Control) (v : World) → IsWorld v → IsWorld (with_entries_since before v)
+unfolding with_entries_since
 noted_in_range before v range =
     let noted : Bool → World = λ b. if b then record v { import = with_entry v.import; export = with_entry v.export } else v in
     let cases : (b : Bool) → IsWorld (noted b) =
@@ -80,7 +80,7 @@ pub trigger_alike : (trigger : Trigger) (v w : World) → IsWorld v → Agree v 
 unfolding at_trigger
 trigger_alike trigger v w range agree = of_rows (λ w. Alike (at_trigger trigger v) (at_trigger trigger w)) v w agree
     (λ rows others i e.
-    let pulled : World = record v { control = triggered trigger v.control } in
+    let pulled : World = record v { control = control_after trigger v.control } in
     let pulled_range : IsWorld pulled = record { import = range.import; export = range.export; scripts = range.scripts } in
     record {
       code = refl;
@@ -193,10 +193,10 @@ rows_alike settings now value xs ys range alike =
     let row = row_of (limits_at settings now) value in
     record {
       over = row_counted OverThreshold row xs (λ _. need_counted settings.min_over_duration range.over)
-          ∙ ap (taken (is_past OverThreshold row) (need OverThreshold row)) alike.over
+          ∙ ap (count_after (is_past OverThreshold row) (need OverThreshold row)) alike.over
           ∙ sym (row_counted OverThreshold row ys (λ _. need_counted settings.min_over_duration range.over));
       under = row_counted UnderThreshold row xs (λ _. need_counted settings.min_under_duration range.under)
-          ∙ ap (taken (is_past UnderThreshold row) (need UnderThreshold row)) alike.under
+          ∙ ap (count_after (is_past UnderThreshold row) (need UnderThreshold row)) alike.under
           ∙ sym (row_counted UnderThreshold row ys (λ _. need_counted settings.min_under_duration range.under));
     }
 
@@ -277,12 +277,12 @@ pub record AreMetersAlike (a b : Metering) : Type 0 where
   pub worlds : AreAlike a.world b.world
 
 pub samples_alike : (xs : List Measurement) (a b : Metering) → AreMetersAlike a b → AreMetersAlike (after_samples xs a) (after_samples xs b)
-unfolding after_samples measured
+unfolding after_samples metering_after
 samples_alike [] a b alike = alike
 samples_alike (x ∷ xs) a b alike =
     let P : World → Type 0 = λ w. AreMeasuredAlike x a.world w in
     let one = of_rows P a.world b.world alike.worlds.world (λ rows others i e. sample_of_alike x.which x.value a.world rows others alike.worlds.range i e) in
-    samples_alike xs (measured x a) (measured x b) (record {
-      firings = ap (λ (fire : Fire). counted x.which fire a.firings) one.fire ∙ ap (counted x.which (fire_at x b.world)) alike.firings;
+    samples_alike xs (metering_after x a) (metering_after x b) (record {
+      firings = ap (λ (fire : Fire). with_firing x.which fire a.firings) one.fire ∙ ap (with_firing x.which (fire_at x b.world)) alike.firings;
       worlds = one.after;
     })

@@ -39,21 +39,21 @@ use Rattle.relay_events.specs.declared.event.Event.TheVariants as event
 use Rattle.relay_events.specs.declared.reply.Reply.TheVariants as reply
 use Rattle.relay_core.specs.declared.scripts.Origin.TheVariants.{Remote}
 use Rattle.relay_core.specs.Access.{target_of}
-use Rattle.relay_core.specs.Acting.{switch_trigger, at_pulled, at_found, at_selected, at_execution, at_method, execute_at, at_execute, at_button}
+use Rattle.relay_core.specs.Acting.{switch_trigger, at_optional_trigger, at_optional_script, at_optional_selector, at_execution, at_method, execute_at, at_execute, at_button}
 use Rattle.relay_core.specs.Agreeing.{with_rows, Agree, IsSettingInRange, IsWorld, GoAlike}
 use Rattle.script_steps.specs.Ranges.{AreStepsInRange, AreScriptsInRange}
-use Rattle.relay_core.specs.Clock.{with_moment, after_schedule, after_schedules, ran, moment_after, at_moment}
+use Rattle.relay_core.specs.Clock.{with_moment, after_schedule, after_schedules, clock_step, moment_after, at_moment}
 use Rattle.relay_core.specs.declared.parts.WrittenList.{WrittenList}
 use Rattle.relay_core.specs.declared.parts.WrittenList.TheVariants as written
 use Rattle.relay_core.specs.Moving.{list_numbered, scripts_part, entries_part, groups_part, list_read}
-use Rattle.relay_core.specs.Machine.{reply_of, stepped, at_event}
+use Rattle.relay_core.specs.Machine.{reply_of, step_of, at_event}
 use Rattle.relay_core.specs.Reading.{own_value_in, value_in, read_at, get_result, get_results}
-use Rattle.relay_core.specs.Sampling.{measurements, no_firings, sampled, at_samples}
+use Rattle.relay_core.specs.Sampling.{measurements, no_firings, reply_of_firings, at_samples}
 use Rattle.relay_core.specs.Schedules.{all_schedules}
 use Rattle.relay_core.specs.Scripts.{at_script}
 use Rattle.relay_core.specs.Switch.{at_trigger}
 use Rattle.relay_core.specs.World.{World, Outcome}
-use Rattle.relay_core.specs.Writing.{refused, at_mode_form, at_control, at_setting_form, at_limiter, at_schedule, at_list, at_plain, at_attribute, at_write, write_at, at_set}
+use Rattle.relay_core.specs.Writing.{outcome_of_refusal, at_mode_form, at_control, at_setting_form, at_limiter, at_schedule, at_list, at_plain, at_attribute, at_write, write_at, at_set}
 use Rattle.relay_core.proofs.InRange.{value_in_range}
 use Rattle.relay_core.proofs.Agreeing.{Alike, AreAlike, of_rows, trigger_alike, mode_alike, setting_alike, script_alike, steps_in_range, running_in_range, samples_alike, either_alike}
 use Rattle.script_steps.specs.declared.step.Script.{Script}
@@ -62,7 +62,7 @@ use Rattle.script_steps.specs.Reading.{table_of}
 use Rattle.script_steps.specs.Table.{steps_at, running_steps}
 
 -- a call that changes nothing, in agreeing worlds
-refused_alike : (code : ResultCode) (v w : World) → IsWorld v → Agree v w → Alike (refused code v) (refused code w)
+refused_alike : (code : ResultCode) (v w : World) → IsWorld v → Agree v w → Alike (outcome_of_refusal code v) (outcome_of_refusal code w)
 refused_alike code v w range agree = record { code = refl; world = agree; range = range }
 
 -- reads of agreeing worlds give equal results
@@ -205,18 +205,18 @@ write_at_alike (Err refusal) number value v w range agree = refused_alike _ v w 
 write_at_alike (Ok instance) number value v w range agree = write_alike instance number value v w range agree
 
 -- methods executed in agreeing worlds
-pulled_alike : (found : Option Trigger) (v w : World) → IsWorld v → Agree v w → Alike (at_pulled found v) (at_pulled found w)
+pulled_alike : (found : Option Trigger) (v w : World) → IsWorld v → Agree v w → Alike (at_optional_trigger found v) (at_optional_trigger found w)
 pulled_alike None v w range agree = refused_alike _ v w range agree
 pulled_alike (Some trigger) v w range agree = trigger_alike trigger v w range agree
 
-found_alike : (found : Option (List Step)) (v w : World) → IfSome found AreStepsInRange → IsWorld v → Agree v w → Alike (at_found found v) (at_found found w)
+found_alike : (found : Option (List Step)) (v w : World) → IfSome found AreStepsInRange → IsWorld v → Agree v w → Alike (at_optional_script found v) (at_optional_script found w)
 found_alike None v w small range agree = refused_alike _ v w range agree
 found_alike (Some steps) v w small range agree = script_alike Remote steps v w small range agree
 
-selected_alike : (selector : Option ℕ) (v w : World) → IsWorld v → Agree v w → Alike (at_selected selector v) (at_selected selector w)
+selected_alike : (selector : Option ℕ) (v w : World) → IsWorld v → Agree v w → Alike (at_optional_selector selector v) (at_optional_selector selector w)
 selected_alike None v w range agree = refused_alike _ v w range agree
 selected_alike (Some selector) v w range agree =
-    let P : List Script → Type 0 = λ scripts. Alike (at_found (steps_at selector v.scripts) v) (at_found (steps_at selector scripts) w) in
+    let P : List Script → Type 0 = λ scripts. Alike (at_optional_script (steps_at selector v.scripts) v) (at_optional_script (steps_at selector scripts) w) in
     let scripts : w.scripts ≡ v.scripts = ap (λ (u : World). u.scripts) agree.same in
     subst P (sym scripts) (found_alike (steps_at selector v.scripts) v w (steps_in_range selector v.scripts range.scripts) range agree)
 
@@ -279,8 +279,8 @@ clock_alike now v w range agree = record {
   range = record { import = range.import; export = range.export; scripts = range.scripts };
 }
 
-ran_alike : (last now : ℕ) (v w : World) → IsWorld v → Agree v w → GoAlike (ran last now v) (ran last now w)
-ran_alike last now v w range agree = of_rows (λ w. GoAlike (ran last now v) (ran last now w)) v w agree
+ran_alike : (last now : ℕ) (v w : World) → IsWorld v → Agree v w → GoAlike (clock_step last now v) (clock_step last now w)
+ran_alike last now v w range agree = of_rows (λ w. GoAlike (clock_step last now v) (clock_step last now w)) v w agree
     (λ rows others i e.
     let after = schedules_alike last now (all_schedules v.schedules) v (with_rows rows others v) range (record { same = refl; import = i; export = e }) in
     record { reply = refl; world = after.world; range = after.range })
@@ -292,8 +292,8 @@ moment_alike None now v w range agree =
 moment_alike (Some last) now v w range agree =
     let clock = clock_alike now v w range agree in
     let P : Bool → Bool → Type 0 = λ early same. GoAlike
-    (if early then record { world = v; reply = reply.Stale last } else if same then record { world = v; reply = reply.Ran 0 } else ran last now (with_moment now v))
-    (if early then record { world = w; reply = reply.Stale last } else if same then record { world = w; reply = reply.Ran 0 } else ran last now (with_moment now w)) in
+    (if early then record { world = v; reply = reply.Stale last } else if same then record { world = v; reply = reply.Ran 0 } else clock_step last now (with_moment now v))
+    (if early then record { world = w; reply = reply.Stale last } else if same then record { world = w; reply = reply.Ran 0 } else clock_step last now (with_moment now w)) in
     let cases : (early same : Bool) → P early same =
     λ early same. elim early as (λ early. P early same) [
       | true ↦ record { reply = refl; world = agree; range = range }
@@ -305,7 +305,7 @@ moment_alike (Some last) now v w range agree =
     cases (nat_lt now last) (now == last)
 
 -- calls that are alike are steps that are alike
-outcome_alike : (a b : Outcome) → Alike a b → GoAlike (stepped a) (stepped b)
+outcome_alike : (a b : Outcome) → Alike a b → GoAlike (step_of a) (step_of b)
 outcome_alike a b alike = record { reply = ap reply.Code alike.code; world = alike.world; range = alike.range }
 
 -- every event, in agreeing worlds
@@ -323,7 +323,7 @@ event_alike event.Button v w range agree = outcome_alike _ _ (button_alike v w r
 event_alike (event.Samples block) v w range agree =
     let after = samples_alike (measurements block) (record { world = v; firings = no_firings }) (record { world = w; firings = no_firings })
     (record { firings = refl; worlds = record { world = agree; range = range } }) in
-    record { reply = ap (sampled block.export) after.firings; world = after.worlds.world; range = after.worlds.range }
+    record { reply = ap (reply_of_firings block.export) after.firings; world = after.worlds.world; range = after.worlds.range }
 event_alike (event.Moment now) v w range agree =
     let P : Option ℕ → Type 0 = λ before. GoAlike (moment_after v.moment now v) (moment_after before now w) in
     let moment : w.moment ≡ v.moment = ap (λ (u : World). u.moment) agree.same in

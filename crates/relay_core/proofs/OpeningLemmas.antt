@@ -4,12 +4,12 @@ use Rattle.disconnect_control.specs.Control.{Control}
 use Rattle.limiter_core.specs.declared.settings.Settings.{Settings}
 use Rattle.limiter_core.specs.Opening.{opened_rows}
 use Rattle.limiter_core.specs.State.{State, IsFit}
-use Rattle.limiter_core.proofs.Opening.{opened as rows_opened}
+use Rattle.limiter_core.proofs.Opening.{world_of_opening as rows_opened}
 use Rattle.relay_core.specs.declared.relay.RelayCore.{RelayCore}
 use Rattle.relay_core.specs.declared.schedules.Schedules.{Schedules}
 use Rattle.relay_core.specs.Agreeing.{AreCountedAlike, Agree}
 use Rattle.script_steps.specs.Ranges.{IsStepInRange, AreStepsInRange, AreScriptsInRange}
-use Rattle.relay_core.specs.Opening.{limiter_opening_of, opening_of, opened_limiter, opened}
+use Rattle.relay_core.specs.Opening.{limiter_opening_of, opening_of, opened_limiter, world_of_opening}
 use Rattle.relay_core.specs.Stands.{StandsFor, MeteredStands}
 use Rattle.relay_core.specs.World.{World, Metered}
 use Rattle.script_steps.specs.declared.step.Script.{Script}
@@ -38,7 +38,7 @@ back_stands limiter now fit clock = record { settings = refl; moment = clock; la
 
 -- a core represents the world that its opening gives
 pub opening_stands : (core : RelayCore) → IsFit core.import.last core.import.over core.import.under
-    → IsFit core.export.last core.export.over core.export.under → StandsFor core (opened (opening_of core))
+    → IsFit core.export.last core.export.over core.export.under → StandsFor core (world_of_opening (opening_of core))
 opening_stands core import_fit export_fit = record {
   device = refl;
   control = refl;
@@ -50,7 +50,7 @@ opening_stands core import_fit export_fit = record {
 
 -- the world that a core's opening gives agrees with every world that the core represents
 pub opening_agrees : (core : RelayCore) (w : World) → IsFit core.import.last core.import.over core.import.under
-    → IsFit core.export.last core.export.over core.export.under → StandsFor core w → Agree (opened (opening_of core)) w
+    → IsFit core.export.last core.export.over core.export.under → StandsFor core w → Agree (world_of_opening (opening_of core)) w
 opening_agrees core w import_fit export_fit stands =
     let make : List ℕ → Control → Option ℕ → Metered → Metered → List Script → Schedules → World = λ device control moment import export scripts schedules.
     record { device = device; control = control; moment = moment; import = import; export = export; scripts = scripts; schedules = schedules } in

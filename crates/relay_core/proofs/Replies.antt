@@ -9,14 +9,14 @@ use Rattle.relay_core.specs.Clock.{moment_after, at_moment}
 use Rattle.relay_core.specs.Machine.{reply_of, at_event}
 use Rattle.relay_events.specs.Kinds.{IsValueOrCode, IsOfSamples, IsOfClock, Fits}
 use Rattle.relay_core.specs.Reading.{get_result}
-use Rattle.relay_core.specs.Sampling.{measurements, no_firings, after_samples, sampled, at_samples}
+use Rattle.relay_core.specs.Sampling.{measurements, no_firings, after_samples, reply_of_firings, at_samples}
 use Rattle.relay_core.specs.World.{World, Stepped}
 
 value_fits : (r : GetResult) → IsValueOrCode (reply_of r)
 value_fits (result.Value value) = tt
 value_fits (result.Code code) = tt
 
-sampled_fits : (others : Option (List ℕ)) (firings : FiringCounts) → IsOfSamples (sampled others firings)
+sampled_fits : (others : Option (List ℕ)) (firings : FiringCounts) → IsOfSamples (reply_of_firings others firings)
 sampled_fits None firings = tt
 sampled_fits (Some others) firings = tt
 

@@ -15,9 +15,9 @@ use Rattle.limiter_core.specs.State.{State, limits_of, AreOfKind, IsQuiet, Keeps
 use Rattle.relay_core.specs.declared.relay.RelayCore.{RelayCore}
 use Rattle.relay_core.specs.declared.sampling.FiringCounts.{FiringCounts}
 use Rattle.relay_core.specs.Limiters.{metered_of, with_metered}
-use Rattle.relay_core.specs.Sampling.{Measurement, Metering, imports, pairs, with_sample, fire_at, after_fire, after_sample, counted, measured, after_samples}
+use Rattle.relay_core.specs.Sampling.{Measurement, Metering, imports, pairs, with_sample, fire_at, after_fire, after_sample, with_firing, metering_after, after_samples}
 use Rattle.relay_core.specs.Stands.{StandsFor, MeteredStands}
-use Rattle.relay_core.specs.Taking.{Takes, AreAtMost, amid}
+use Rattle.relay_core.specs.Taking.{Takes, AreAtMost, metering_in}
 use Rattle.relay_core.specs.World.{World, Metered, IsDeviceName}
 
 -- the next element of a list after the first i
@@ -135,7 +135,7 @@ metered_stands old new now m values stands settings moment some last keeps = rec
 pub after_samples-append : (xs ys : List Measurement) (m : Metering) → after_samples (xs ++ ys) m ≡ after_samples ys (after_samples xs m)
 unfolding after_samples
 after_samples-append [] ys m = refl
-after_samples-append (x ∷ xs) ys m = after_samples-append xs ys (measured x m)
+after_samples-append (x ∷ xs) ys m = after_samples-append xs ys (metering_after x m)
 
 pub imports-append : (vs ws : List ℕ) → imports (vs ++ ws) ≡ imports vs ++ imports ws
 imports-append [] ws = refl
@@ -158,13 +158,13 @@ takes_none core firings = record { world = λ w stands. stands; firings = λ w s
 pub takes_on : (old now next : RelayCore) (f g h : FiringCounts) (xs ys : List Measurement) → Takes old now f g xs → Takes now next g h ys
     → Takes old next f h (xs ++ ys)
 takes_on old now next f g h xs ys first later =
-    let both : (w : World) → StandsFor old w → after_samples (xs ++ ys) (amid w f) ≡ after_samples ys (amid (after_samples xs (amid w f)).world g) =
-    λ w stands. after_samples-append xs ys (amid w f)
-    ∙ ap (λ (i : FiringCounts). after_samples ys (amid (after_samples xs (amid w f)).world i)) (sym (first.firings w stands)) in
+    let both : (w : World) → StandsFor old w → after_samples (xs ++ ys) (metering_in w f) ≡ after_samples ys (metering_in (after_samples xs (metering_in w f)).world g) =
+    λ w stands. after_samples-append xs ys (metering_in w f)
+    ∙ ap (λ (i : FiringCounts). after_samples ys (metering_in (after_samples xs (metering_in w f)).world i)) (sym (first.firings w stands)) in
     record {
       world = λ w stands. subst (λ (m : Metering). StandsFor next m.world) (sym (both w stands))
-          (later.world (after_samples xs (amid w f)).world (first.world w stands));
-      firings = λ w stands. later.firings (after_samples xs (amid w f)).world (first.world w stands) ∙ ap (λ (m : Metering). m.firings) (sym (both w stands));
+          (later.world (after_samples xs (metering_in w f)).world (first.world w stands));
+      firings = λ w stands. later.firings (after_samples xs (metering_in w f)).world (first.world w stands) ∙ ap (λ (m : Metering). m.firings) (sym (both w stands));
     }
 
 -- the samples of further values, and of further pairs
@@ -198,11 +198,11 @@ takes_pairs_on old now next f g h values others at n even first later =
 pub takes_one : (old next : RelayCore) (f g : FiringCounts) (x : Measurement) (fire : Fire)
     → ((w : World) → StandsFor old w → StandsFor next (after_sample x w))
     → ((w : World) → StandsFor old w → fire ≡ fire_at x w)
-    → g ≡ counted x.which fire f → Takes old next f g (x ∷ [])
-unfolding after_samples measured
+    → g ≡ with_firing x.which fire f → Takes old next f g (x ∷ [])
+unfolding after_samples metering_after
 takes_one old next f g x fire goes fires is = record {
   world = goes;
-  firings = λ w stands. is ∙ ap (λ (one : Fire). counted x.which one f) (fires w stands);
+  firings = λ w stands. is ∙ ap (λ (one : Fire). with_firing x.which one f) (fires w stands);
 }
 
 -- a bound on the firings also holds with a larger bound
@@ -216,18 +216,18 @@ at_most_more n m firings more most = record {
 
 -- a sample that fires nothing
 pub measured-quiet : (x : Measurement) (w : World) (firings : FiringCounts) → fire_at x w ≡ Quiet
-    → measured x (amid w firings) ≡ amid (with_metered x.which (with_sample w.moment x.value (metered_of x.which w)) w) firings
-unfolding measured after_sample after_fire counted
+    → metering_after x (metering_in w firings) ≡ metering_in (with_metered x.which (with_sample w.moment x.value (metered_of x.which w)) w) firings
+unfolding metering_after after_sample after_fire with_firing
 measured-quiet x w firings quiet =
     let go : Fire → Metering = λ fire. record {
       world = after_fire fire (metered_of x.which w).settings.actions (with_metered x.which (with_sample w.moment x.value (metered_of x.which w)) w);
-      firings = counted x.which fire firings;
+      firings = with_firing x.which fire firings;
     } in
     ap go quiet
 
 -- import values that fire nothing
 pub quiet_values : (values : List ℕ) (w : World) (firings : FiringCounts) → IsQuiet (limits_at w.import.settings w.moment) values w.import.rows
-    → after_samples (imports values) (amid w firings) ≡ amid (record w { import = metered_after w.moment values w.import }) firings
+    → after_samples (imports values) (metering_in w firings) ≡ metering_in (record w { import = metered_after w.moment values w.import }) firings
 unfolding after_samples fire_at
 quiet_values [] w firings quiet = refl
 quiet_values (value ∷ values) w firings quiet =
@@ -237,15 +237,15 @@ quiet_values (value ∷ values) w firings quiet =
 -- pairs that fire nothing
 pub quiet_pairs : (values others : List ℕ) (w : World) (firings : FiringCounts) → length values ≡ length others
     → IsQuiet (limits_at w.import.settings w.moment) values w.import.rows → IsQuiet (limits_at w.export.settings w.moment) others w.export.rows
-    → after_samples (pairs values others) (amid w firings)
-    ≡ amid (record w { import = metered_after w.moment values w.import; export = metered_after w.moment others w.export }) firings
+    → after_samples (pairs values others) (metering_in w firings)
+    ≡ metering_in (record w { import = metered_after w.moment values w.import; export = metered_after w.moment others w.export }) firings
 unfolding after_samples fire_at
 quiet_pairs [] [] w firings even quiet other_quiet = refl
 quiet_pairs [] (other ∷ others) w firings even quiet other_quiet = absurd (omega (arith, even))
 quiet_pairs (value ∷ values) [] w firings even quiet other_quiet = absurd (omega (arith, even))
 quiet_pairs (value ∷ values) (other ∷ others) w firings even quiet other_quiet =
     let between : World = record w { import = with_sample w.moment value w.import } in
-    ap (λ (m : Metering). after_samples (pairs values others) (measured (record { which = Export; value = other }) m))
+    ap (λ (m : Metering). after_samples (pairs values others) (metering_after (record { which = Export; value = other }) m))
     (measured-quiet (record { which = Import; value = value }) w firings quiet.0)
     ∙ ap (after_samples (pairs values others)) (measured-quiet (record { which = Export; value = other }) between firings other_quiet.0)
     ∙ quiet_pairs values others (record between { export = with_sample w.moment other w.export }) firings (omega (arith, even)) quiet.1 other_quiet.1
@@ -260,7 +260,7 @@ pub skipped_values : (old : RelayCore) (limiter : State) (values : List ℕ) (na
 skipped_values old limiter values named clock some settings moment last keeps quiet firings =
     let new : RelayCore = record old { import = limiter; named = named; one_clock = clock } in
     let after : (w : World) → StandsFor old w
-    → after_samples (imports values) (amid w firings) ≡ amid (record w { import = metered_after w.moment values w.import }) firings =
+    → after_samples (imports values) (metering_in w firings) ≡ metering_in (record w { import = metered_after w.moment values w.import }) firings =
     λ w stands.
     let P : Limits → Type 0 = λ limits. IsQuiet limits values w.import.rows in
     quiet_values values w firings (subst P (same_limits old.import w.moment w.import stands.import) (quiet w.import.rows stands.import.rows)) in
@@ -292,8 +292,8 @@ pub skipped_pairs : (old : RelayCore) (import export : State) (values others : L
 skipped_pairs old import export values others named clock some even settings moment last other_settings other_moment other_last keeps other_keeps quiet other_quiet firings =
     let new : RelayCore = record old { import = import; export = export; named = named; one_clock = clock } in
     let after : (w : World) → StandsFor old w
-    → after_samples (pairs values others) (amid w firings)
-    ≡ amid (record w { import = metered_after w.moment values w.import; export = metered_after w.moment others w.export }) firings =
+    → after_samples (pairs values others) (metering_in w firings)
+    ≡ metering_in (record w { import = metered_after w.moment values w.import; export = metered_after w.moment others w.export }) firings =
     λ w stands.
     let P : Limits → Type 0 = λ limits. IsQuiet limits values w.import.rows in
     let Q : Limits → Type 0 = λ limits. IsQuiet limits others w.export.rows in

@@ -27,24 +27,24 @@ switch_trigger number = if number == 1 then Some RemoteDisconnect else if number
     then Some RemoteReconnect else None
 
 -- the effect of a trigger, or ReadWriteDenied without one
-abbrev pub at_pulled : Option Trigger → World → Outcome
-at_pulled None w = record { world = w; code = ReadWriteDenied }
-at_pulled (Some trigger) w = at_trigger trigger w
+abbrev pub at_optional_trigger : Option Trigger → World → Outcome
+at_optional_trigger None w = record { world = w; code = ReadWriteDenied }
+at_optional_trigger (Some trigger) w = at_trigger trigger w
 
 -- the effect of the script that a client selects, or OtherReason if no script has the selector
-abbrev pub at_found : Option (List Step) → World → Outcome
-at_found None w = record { world = w; code = OtherReason }
-at_found (Some steps) w = at_script Remote steps w
+abbrev pub at_optional_script : Option (List Step) → World → Outcome
+at_optional_script None w = record { world = w; code = OtherReason }
+at_optional_script (Some steps) w = at_script Remote steps w
 
 -- the effect of executing a selector, or TypeUnmatched if the parameter had another type
-abbrev pub at_selected : Option ℕ → World → Outcome
-at_selected None w = record { world = w; code = TypeUnmatched }
-at_selected (Some selector) w = at_found (steps_at selector w.scripts) w
+abbrev pub at_optional_selector : Option ℕ → World → Outcome
+at_optional_selector None w = record { world = w; code = TypeUnmatched }
+at_optional_selector (Some selector) w = at_optional_script (steps_at selector w.scripts) w
 
 -- the effect of the script table's execute; its parameter is a long-unsigned, the selector (IEC
 -- 62056-6-2, class 9, execute)
 unfoldable pub at_execution : Option Data → World → Outcome
-at_execution parameter w = at_selected (option_and_then long_unsigned_of parameter) w
+at_execution parameter w = at_optional_selector (option_and_then long_unsigned_of parameter) w
 
 -- the effect of an object's method; the switch's methods ignore their parameter
 unfoldable pub at_method : Instance → ℕ → Option Data → World → Outcome
@@ -54,7 +54,7 @@ at_method (Register which) number parameter w = record { world = w; code = ReadW
 at_method ScriptTable number parameter w = if number == 1 then at_execution parameter w
     else record { world = w; code = ReadWriteDenied }
 at_method (Schedule which) number parameter w = record { world = w; code = ReadWriteDenied }
-at_method DisconnectControl number parameter w = at_pulled (switch_trigger number) w
+at_method DisconnectControl number parameter w = at_optional_trigger (switch_trigger number) w
 at_method (Limiter which) number parameter w = record { world = w; code = ReadWriteDenied }
 
 -- the effect of a method, or the refusal if the object was not reached

@@ -29,8 +29,8 @@ after_schedules last now (schedule ∷ schedules) w =
     after_schedules last now schedules (after_schedule last now schedule w)
 
 -- the step that runs the schedules due after `last` and at or before `now`; the reply counts them
-abbrev pub ran : ℕ → ℕ → World → Stepped
-ran last now w = record {
+abbrev pub clock_step : ℕ → ℕ → World → Stepped
+clock_step last now w = record {
   world = after_schedules last now (all_schedules w.schedules) w;
   reply = Ran (count_by (λ schedule. is_due schedule last now) (all_schedules w.schedules));
 }
@@ -42,7 +42,7 @@ moment_after None now w = record { world = with_moment now w; reply = Ran 0 }
 moment_after (Some last) now w =
     if nat_lt now last then record { world = w; reply = Stale last }
     else if now == last then record { world = w; reply = Ran 0 }
-    else ran last now (with_moment now w)
+    else clock_step last now (with_moment now w)
 
 -- the effect of a moment of the clock
 unfoldable pub at_moment : ℕ → World → Stepped

@@ -19,17 +19,17 @@ reply_of (result.Value value) = Value value
 reply_of (result.Code code) = Code code
 
 -- the step of a call's outcome: its reply is the result code
-abbrev pub stepped : Outcome → Stepped
-stepped outcome = record { world = outcome.world; reply = Code outcome.code }
+abbrev pub step_of : Outcome → Stepped
+step_of outcome = record { world = outcome.world; reply = Code outcome.code }
 
 -- the effect of an event
 unfoldable pub at_event : Event → World → Stepped
 at_event (Get level attr selected) w =
     record { world = w; reply = reply_of (get_result level attr selected w) }
 at_event (GetList level items) w = record { world = w; reply = Values (get_results level items w) }
-at_event (Set level attr selected value) w = stepped (at_set level attr selected value w)
-at_event (Execute level method parameter) w = stepped (at_execute level method parameter w)
-at_event Button w = stepped (at_button w)
+at_event (Set level attr selected value) w = step_of (at_set level attr selected value w)
+at_event (Execute level method parameter) w = step_of (at_execute level method parameter w)
+at_event Button w = step_of (at_button w)
 at_event (Samples block) w = at_samples block w
 at_event (Moment now) w = at_moment now w
 

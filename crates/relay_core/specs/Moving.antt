@@ -56,18 +56,18 @@ list_read (written.Entries which) value = entries_part (entries_of value)
 list_read (written.Groups which) value = groups_part (groups_of value)
 
 -- the world with a list replaced by the decoded one
-abbrev pub moved : WrittenList → Parts → World → World
-moved written.Scripts (part.Scripts scripts) w = record w { scripts = scripts }
-moved (written.Entries which) (part.Entries schedule) w =
+abbrev pub with_list : WrittenList → Parts → World → World
+with_list written.Scripts (part.Scripts scripts) w = record w { scripts = scripts }
+with_list (written.Entries which) (part.Entries schedule) w =
     record w {
       schedules = with_schedule which
           (record (schedule_of which w.schedules) { entries = schedule.entries }) w.schedules;
     }
-moved (written.Groups which) (part.Groups limiter) w =
+with_list (written.Groups which) (part.Groups limiter) w =
     with_metered which (with_settings
     (record (metered_of which w).settings { groups = limiter.settings.groups })
     (metered_of which w)) w
-moved _ _ w = w
+with_list _ _ w = w
 
 -- the decoded list, or none if it was refused
 abbrev pub or_plain : Result Parts ResultCode → Parts

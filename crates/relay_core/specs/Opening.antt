@@ -42,8 +42,8 @@ opened_limiter o = record {
 }
 
 -- the world that an opening gives
-abbrev pub opened : Opening → World
-opened o = record {
+abbrev pub world_of_opening : Opening → World
+world_of_opening o = record {
   device = o.device;
   control = record { state = o.state; mode = o.mode };
   moment = o.moment;

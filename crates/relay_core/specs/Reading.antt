@@ -25,9 +25,9 @@ use Rattle.relay_core.specs.World.{World}
 use Rattle.script_steps.specs.Writing.{data_of}
 
 -- the result of reading an attribute that the object may have; any other number is ReadWriteDenied
-abbrev pub shown : {A : Type 0} → (A → Data) → Option A → GetResult
-shown as_data None = Code ReadWriteDenied
-shown as_data (Some attribute) = Value (as_data attribute)
+abbrev pub result_of_attribute : {A : Type 0} → (A → Data) → Option A → GetResult
+result_of_attribute as_data None = Code ReadWriteDenied
+result_of_attribute as_data (Some attribute) = Value (as_data attribute)
 
 -- the result of reading an object whose only attribute besides the logical name is the second
 abbrev pub sole : ℕ → Data → GetResult
@@ -39,16 +39,16 @@ abbrev pub own_value_in : Level → Instance → ℕ → World → GetResult
 own_value_in level Association number w = sole number (object_list_of level)
 own_value_in level DeviceName number w = sole number (OctetString w.device)
 own_value_in level (Register which) number w =
-    shown (λ attribute. register_data attribute (metered_of which w).last)
+    result_of_attribute (λ attribute. register_data attribute (metered_of which w).last)
     (register_attribute number)
 own_value_in level ScriptTable number w = sole number (data_of w.scripts)
 own_value_in level (Schedule which) number w =
-    shown (λ attribute. schedule_data attribute (schedule_of which w.schedules))
+    result_of_attribute (λ attribute. schedule_data attribute (schedule_of which w.schedules))
     (schedule_attribute number)
 own_value_in level DisconnectControl number w =
-    shown (λ attribute. control_data attribute w.control) (control_attribute number)
+    result_of_attribute (λ attribute. control_data attribute w.control) (control_attribute number)
 own_value_in level (Limiter which) number w =
-    shown (λ attribute. limiter_data which attribute (metered_of which w).settings w.moment)
+    result_of_attribute (λ attribute. limiter_data which attribute (metered_of which w).settings w.moment)
     (limiter_attribute number)
 
 -- the result of reading an attribute of an object; attribute 1 is the logical name in every class

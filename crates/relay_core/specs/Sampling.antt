@@ -69,12 +69,12 @@ abbrev pub no_firings : FiringCounts
 no_firings = record { import_over = 0; import_under = 0; export_over = 0; export_under = 0 }
 
 -- the counts with one more firing
-unfoldable pub counted : Which → Fire → FiringCounts → FiringCounts
-counted which Quiet firings = firings
-counted Import Over firings = record firings { import_over = firings.import_over + 1 }
-counted Import Under firings = record firings { import_under = firings.import_under + 1 }
-counted Export Over firings = record firings { export_over = firings.export_over + 1 }
-counted Export Under firings = record firings { export_under = firings.export_under + 1 }
+unfoldable pub with_firing : Which → Fire → FiringCounts → FiringCounts
+with_firing which Quiet firings = firings
+with_firing Import Over firings = record firings { import_over = firings.import_over + 1 }
+with_firing Import Under firings = record firings { import_under = firings.import_under + 1 }
+with_firing Export Over firings = record firings { export_over = firings.export_over + 1 }
+with_firing Export Under firings = record firings { export_under = firings.export_under + 1 }
 
 -- The world during a block of samples, and how often each side has fired in that block.
 pub record Metering : Type 0 where
@@ -82,24 +82,24 @@ pub record Metering : Type 0 where
   pub firings : FiringCounts
 
 -- the metering after one more sample, and below, after several
-unfoldable pub measured : Measurement → Metering → Metering
-measured x m = record {
+unfoldable pub metering_after : Measurement → Metering → Metering
+metering_after x m = record {
   world = after_sample x m.world;
-  firings = counted x.which (fire_at x m.world) m.firings;
+  firings = with_firing x.which (fire_at x m.world) m.firings;
 }
 
 unfoldable pub after_samples : List Measurement → Metering → Metering
 after_samples [] m = m
-after_samples (x ∷ xs) m = after_samples xs (measured x m)
+after_samples (x ∷ xs) m = after_samples xs (metering_after x m)
 
 -- the reply to a block: how often each side fired, for one limiter or for both
-abbrev pub sampled : Option (List ℕ) → FiringCounts → Reply
-sampled None firings = Sampled firings.import_over firings.import_under
-sampled (Some others) firings =
+abbrev pub reply_of_firings : Option (List ℕ) → FiringCounts → Reply
+reply_of_firings None firings = Sampled firings.import_over firings.import_under
+reply_of_firings (Some others) firings =
     SampledBoth firings.import_over firings.import_under firings.export_over firings.export_under
 
 -- the effect of a block of samples
 unfoldable pub at_samples : Samples → World → Stepped
 at_samples samples w =
     let m = after_samples (measurements samples) (record { world = w; firings = no_firings }) in
-    record { world = m.world; reply = sampled samples.export m.firings }
+    record { world = m.world; reply = reply_of_firings samples.export m.firings }

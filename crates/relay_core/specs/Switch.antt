@@ -3,7 +3,7 @@
 use Rattle.std.specs.Prelude.{Bool, not, ◌∷◌, ◌&&◌, if◌then◌else◌}
 use Rattle.disconnect_control.specs.declared.state.ControlState.TheVariants.{Connected}
 use Rattle.disconnect_control.specs.declared.state.Trigger.{Trigger}
-use Rattle.disconnect_control.specs.Control.{Control, triggered}
+use Rattle.disconnect_control.specs.Control.{Control, control_after}
 use Rattle.disconnect_control.specs.Transitions.{is_state, result_of}
 use Rattle.limiter_core.specs.Rows.{Entry}
 use Rattle.relay_core.specs.World.{World, Metered, Outcome}
@@ -18,17 +18,17 @@ enters before after = not (is_state before.state Connected) && is_state after.st
 
 -- the world after a change of the switch that was `before`: if it entered Connected, both limiters
 -- have the entry as their newest row
-unfoldable pub noted_since : Control → World → World
-noted_since before w =
+unfoldable pub with_entries_since : Control → World → World
+with_entries_since before w =
     if enters before w.control
     then record w { import = with_entry w.import; export = with_entry w.export } else w
 
 -- the world with its switch changed
 abbrev pub with_control : Control → World → World
-with_control control w = noted_since w.control (record w { control = control })
+with_control control w = with_entries_since w.control (record w { control = control })
 
 unfoldable pub at_trigger : Trigger → World → Outcome
 at_trigger trigger w = record {
-  world = with_control (triggered trigger w.control) w;
+  world = with_control (control_after trigger w.control) w;
   code = result_of w.control.mode trigger w.control.state;
 }

@@ -28,13 +28,13 @@ use Rattle.relay_core.specs.Access.{target_of}
 use Rattle.relay_core.specs.Limiters.{metered_of, with_metered, with_settings}
 use Rattle.relay_core.specs.declared.parts.Parts.{Parts}
 use Rattle.relay_core.specs.declared.parts.WrittenList.{WrittenList}
-use Rattle.relay_core.specs.Moving.{list_numbered, list_read, moved}
-use Rattle.relay_core.specs.Schedules.{schedule_of, with_schedule, schedule_written, schedule_code}
+use Rattle.relay_core.specs.Moving.{list_numbered, list_read, with_list}
+use Rattle.relay_core.specs.Schedules.{schedule_of, with_schedule, schedule_after_write, schedule_code}
 use Rattle.relay_core.specs.World.{World, Outcome}
 
 -- the outcome of a refused write, which changes nothing
-abbrev pub refused : ResultCode → World → Outcome
-refused code w = record { world = w; code = code }
+abbrev pub outcome_of_refusal : ResultCode → World → Outcome
+outcome_of_refusal code w = record { world = w; code = code }
 
 -- the effect of a write of the mode, which is refused in some states of the switch
 unfoldable pub at_mode : ControlMode → World → Outcome
@@ -44,13 +44,13 @@ at_mode mode w = record {
 }
 
 abbrev pub at_mode_form : Result ControlMode WriteFault → World → Outcome
-at_mode_form (Err fault) w = refused (fault_code fault) w
+at_mode_form (Err fault) w = outcome_of_refusal (fault_code fault) w
 at_mode_form (Ok mode) w = at_mode mode w
 
 -- the effect of a write to the switch; only its mode can be written
 abbrev pub at_control : Option ControlAttribute → Data → World → Outcome
 at_control (Some attribute.ControlMode) value w = at_mode_form (mode_form value) w
-at_control _ value w = refused ReadWriteDenied w
+at_control _ value w = outcome_of_refusal ReadWriteDenied w
 
 -- the effect of a setting of a limiter
 unfoldable pub at_setting : Which → Setting → World → Outcome
@@ -61,13 +61,13 @@ at_setting which setting w = record {
 }
 
 abbrev pub at_setting_form : Which → Result (Option Setting) WriteFault → World → Outcome
-at_setting_form which (Err fault) w = refused (fault_code fault) w
-at_setting_form which (Ok None) w = refused ReadWriteDenied w
+at_setting_form which (Err fault) w = outcome_of_refusal (fault_code fault) w
+at_setting_form which (Ok None) w = outcome_of_refusal ReadWriteDenied w
 at_setting_form which (Ok (Some setting)) w = at_setting which setting w
 
 -- the effect of a write to a limiter, of an attribute other than its list of group ids
 abbrev pub at_limiter : Which → Option LimiterAttribute → Data → World → Outcome
-at_limiter which None value w = refused ReadWriteDenied w
+at_limiter which None value w = outcome_of_refusal ReadWriteDenied w
 at_limiter which (Some attribute) value w = at_setting_form which (setting_of attribute value) w
 
 -- the effect of a write to a schedule, of an attribute other than its list of entries
@@ -75,22 +75,22 @@ unfoldable pub at_schedule : ScheduleNumber → Option ScheduleAttribute → Dat
 at_schedule which attribute value w = record {
   world = record w {
     schedules = with_schedule which
-        (schedule_written attribute value (schedule_of which w.schedules)) w.schedules;
+        (schedule_after_write attribute value (schedule_of which w.schedules)) w.schedules;
   };
   code = schedule_code attribute value;
 }
 
 -- the effect of a write of a list: the decoded list replaces it, or the write is refused
 abbrev pub at_list : WrittenList → Result Parts ResultCode → World → Outcome
-at_list list (Err code) w = refused code w
-at_list list (Ok parts) w = record { world = moved list parts w; code = Success }
+at_list list (Err code) w = outcome_of_refusal code w
+at_list list (Ok parts) w = record { world = with_list list parts w; code = Success }
 
 -- the effect of a write to an object, of an attribute that is not a list
 abbrev pub at_plain : Instance → ℕ → Data → World → Outcome
-at_plain Association number value w = refused ReadWriteDenied w
-at_plain DeviceName number value w = refused ReadWriteDenied w
-at_plain (Register which) number value w = refused ReadWriteDenied w
-at_plain ScriptTable number value w = refused ReadWriteDenied w
+at_plain Association number value w = outcome_of_refusal ReadWriteDenied w
+at_plain DeviceName number value w = outcome_of_refusal ReadWriteDenied w
+at_plain (Register which) number value w = outcome_of_refusal ReadWriteDenied w
+at_plain ScriptTable number value w = outcome_of_refusal ReadWriteDenied w
 at_plain (Schedule which) number value w = at_schedule which (schedule_attribute number) value w
 at_plain DisconnectControl number value w = at_control (control_attribute number) value w
 at_plain (Limiter which) number value w = at_limiter which (attribute_numbered number) value w
@@ -106,7 +106,7 @@ at_write instance number value w =
 
 -- the effect of a write, or the refusal if the object was not reached
 abbrev pub write_at : Result Instance ResultCode → ℕ → Data → World → Outcome
-write_at (Err refusal) number value w = refused refusal w
+write_at (Err refusal) number value w = outcome_of_refusal refusal w
 write_at (Ok instance) number value w = at_write instance number value w
 
 -- the effect of a client's SET

@@ -5,7 +5,7 @@ ghost use Rattle.relay_core.specs.Acting.{switch_trigger, at_execution, at_metho
 ghost use Rattle.disconnect_control.specs.declared.state.ControlState.TheVariants.{Connected};
 ghost use Rattle.disconnect_control.specs.Control.{Control};
 ghost use Rattle.disconnect_control.specs.Transitions.{is_state};
-ghost use Rattle.relay_core.specs.Switch.{noted_since, at_trigger};
+ghost use Rattle.relay_core.specs.Switch.{with_entries_since, at_trigger};
 
 use crate::access::target;
 use crate::relay::RelayCore;
@@ -29,11 +29,11 @@ fn switch_trigger(number: u8) -> Option<Trigger>
 impl RelayCore {
     // Ends the runs of both limiters if the switch has entered Connected. `was_on` says whether
     // the supply was on before.
-    #[tactic(auto, unfolding(crate::specs::Switch::noted_since))]
+    #[tactic(auto, unfolding(crate::specs::Switch::with_entries_since))]
     fn note_entry(&mut self, was_on: bool)
         ensures world { (w : World) (before : Control) → StandsFor self.old w
             → was_on ≡ is_state before.state Connected
-            → StandsFor self.new (noted_since before w) }
+            → StandsFor self.new (with_entries_since before w) }
         ensures scripts { self.new.scripts ≡ self.old.scripts }
         ensures schedules { self.new.schedules ≡ self.old.schedules }
     {

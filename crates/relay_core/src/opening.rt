@@ -2,7 +2,7 @@ ghost use Rattle.std.specs.Prelude.{◌≡◌, ◌↔◌, IfOk, IsErrOf, IfSome,
 ghost use Rattle.relay_core.specs.Numbers.{fault_number};
 ghost use Rattle.limiter_core.specs.State.{IsFit};
 ghost use Rattle.relay_core.specs.Agreeing.{Agree, AreInRange, IsWorld};
-ghost use Rattle.relay_core.specs.Opening.{limiter_opening_of, opening_of, opened_limiter, opened, IsFitLimiterOpening, IsFitOpening};
+ghost use Rattle.relay_core.specs.Opening.{limiter_opening_of, opening_of, opened_limiter, world_of_opening, IsFitLimiterOpening, IsFitOpening};
 ghost use Rattle.relay_core.specs.Stands.{StandsFor, MeteredStands};
 ghost use Rattle.relay_core.specs.World.{World};
 
@@ -140,7 +140,7 @@ impl RelayCore {
         ensures export { IfOk result
             (λ _. IsFit self.now.export.last self.now.export.over self.now.export.under) }
         ensures fit { IfOk result IsFitOpening }
-        ensures range { IfOk result (λ opening. IsWorld (opened opening)) }
+        ensures range { IfOk result (λ opening. IsWorld (world_of_opening opening)) }
     {
         let import = LimiterOpening::of(alloc, &self.import)?;
         let (import, export) = beside(import, LimiterOpening::of(alloc, &self.export))?;
@@ -165,8 +165,8 @@ impl RelayCore {
         ensures opening { IfOk result (λ opening. opening ≡ opening_of self.now) }
         ensures fit { IfOk result IsFitOpening }
         ensures agrees { IfOk result (λ opening. (w : World) → StandsFor self.now w
-            → Agree (opened opening) w) }
-        ensures range { IfOk result (λ opening. IsWorld (opened opening)) }
+            → Agree (world_of_opening opening) w) }
+        ensures range { IfOk result (λ opening. IsWorld (world_of_opening opening)) }
     {
         let opening = self.written_down(alloc)?;
         Ok(opening)
@@ -174,7 +174,7 @@ impl RelayCore {
 
     /// Proves that the core represents the world that its opening gives. Does nothing at run time.
     pub fn stands_for_its_opening(&self)
-        ensures { StandsFor self.now (opened (opening_of self.now)) }
+        ensures { StandsFor self.now (world_of_opening (opening_of self.now)) }
     {
         let _import = self.import.over_run();
         let _export = self.export.over_run();
@@ -185,7 +185,7 @@ impl RelayCore {
     pub fn from_opening(alloc: Global, opening: &Opening) -> Result<RelayCore, OpeningFault>
         ensures unfit { IsErrOf result OpeningFault.Unfit ↔ (¬ IsFitOpening opening.now) }
         ensures fit { IfOk result (λ _. IsFitOpening opening.now) }
-        ensures stands { IfOk result (λ core. StandsFor core (opened opening.now)) }
+        ensures stands { IfOk result (λ core. StandsFor core (world_of_opening opening.now)) }
         ensures same { IfOk result (λ core. opening_of core ≡ opening.now) }
     {
         let Some(control) = opening.fit_control() else {
@@ -207,7 +207,7 @@ impl RelayCore {
     /// Restores a core from an opening that the caller knows to be fit.
     pub fn of_fit_opening(alloc: Global, opening: &Opening) -> Result<RelayCore, AllocError>
         requires { IsFitOpening opening.now }
-        ensures { IfOk result (λ core. StandsFor core (opened opening.now)) }
+        ensures { IfOk result (λ core. StandsFor core (world_of_opening opening.now)) }
     {
         match RelayCore::from_opening(alloc, opening) {
             Ok(core) => Ok(core),

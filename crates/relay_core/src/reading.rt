@@ -6,7 +6,7 @@ ghost use Rattle.limiter_attributes.specs.Attributes.{attribute_numbered as limi
 ghost use Rattle.limiter_attributes.specs.Writing.{data_at as limiter_data};
 ghost use Rattle.relay_core.specs.Limiters.{metered_of};
 ghost use Rattle.relay_core.specs.Memory.{is_plain_where, is_plain, reads_plainly};
-ghost use Rattle.relay_core.specs.Reading.{shown, own_value_in, value_in, get_result, get_results};
+ghost use Rattle.relay_core.specs.Reading.{result_of_attribute, own_value_in, value_in, get_result, get_results};
 ghost use Rattle.relay_core.specs.Registers.{attribute_numbered as register_attribute, data_at as register_data, is_plain as is_plain_register};
 
 use crate::access::target;
@@ -26,7 +26,7 @@ impl RelayCore {
     // Reads an attribute of the switch other than the logical name.
     fn control_value(&self, number: u8) -> GetResult
         ensures { (w : World) → StandsFor self.now w
-            → result ≡ shown (λ attribute. control_data attribute w.control)
+            → result ≡ result_of_attribute (λ attribute. control_data attribute w.control)
             (control_attribute number) }
     {
         match ControlAttribute::of_number(number) {
@@ -43,7 +43,7 @@ impl RelayCore {
         number: u8,
     ) -> Result<GetResult, AllocError>
         ensures value { IfOk result (λ r. (w : World) → StandsFor self.now w
-            → r ≡ shown (λ attribute. register_data attribute (metered_of which w).last)
+            → r ≡ result_of_attribute (λ attribute. register_data attribute (metered_of which w).last)
             (register_attribute number)) }
         ensures plain { IsTrue (is_plain_where is_plain_register (register_attribute number))
             → IsOk result }
@@ -63,7 +63,7 @@ impl RelayCore {
         number: u8,
     ) -> Result<GetResult, AllocError>
         ensures value { IfOk result (λ r. (w : World) → StandsFor self.now w
-            → r ≡ shown (λ attribute.
+            → r ≡ result_of_attribute (λ attribute.
             limiter_data which attribute (metered_of which w).settings w.moment)
             (limiter_attribute number)) }
         ensures plain { IsTrue (is_plain_where is_plain_limiter (limiter_attribute number))

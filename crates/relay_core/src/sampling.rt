@@ -1,7 +1,7 @@
 ghost use Rattle.std.specs.Prelude.{◌≡◌, ℕ, ◌+◌, ◌≤◌, length, IfSome};
 ghost use Rattle.lane_sampler.specs.Scans.{IsRightScan};
 ghost use Rattle.relay_events.specs.Kinds.{IsOfSamples};
-ghost use Rattle.relay_core.specs.Sampling.{no_firings, counted, fire_at, after_fire, after_sample, imports, pairs, at_samples};
+ghost use Rattle.relay_core.specs.Sampling.{no_firings, with_firing, fire_at, after_fire, after_sample, imports, pairs, at_samples};
 ghost use Rattle.relay_core.specs.Stands.{StandsFor};
 ghost use Rattle.relay_core.specs.Taking.{Takes, AreAtMost};
 ghost use Rattle.relay_core.specs.World.{World};
@@ -38,10 +38,10 @@ impl FiringCounts {
     }
 
     // Counts the firing of one more sample, if it fired.
-    #[tactic(auto, unfolding(crate::specs::Sampling::counted))]
+    #[tactic(auto, unfolding(crate::specs::Sampling::with_firing))]
     pub(crate) fn count(&mut self, which: Which, fire: Fire)
         requires { AreAtMost 512 self.old }
-        ensures firings { self.new ≡ counted which fire self.old }
+        ensures firings { self.new ≡ with_firing which fire self.old }
         ensures most { (n : ℕ) → AreAtMost n self.old → AreAtMost (n + 1) self.new }
     {
         match (which, fire) {

@@ -4,12 +4,12 @@ ghost use Rattle.action_schedule.specs.Reading.{selector_of, kind_of};
 ghost use Rattle.action_schedule.specs.Schedule.{with_selector, with_kind};
 ghost use Rattle.action_schedule.specs.Writing.{data_at};
 ghost use Rattle.relay_core.specs.Memory.{is_plain_where};
-ghost use Rattle.relay_core.specs.Reading.{shown};
-ghost use Rattle.relay_core.specs.Schedules.{schedule_of, schedule_written, schedule_code, write_code};
+ghost use Rattle.relay_core.specs.Reading.{result_of_attribute};
+ghost use Rattle.relay_core.specs.Schedules.{schedule_of, schedule_after_write, schedule_code, write_code};
 ghost use Rattle.relay_core.specs.Stands.{StandsFor};
 ghost use Rattle.relay_core.specs.World.{World, new_schedules};
 ghost use Rattle.relay_core.specs.Writing.{at_schedule};
-ghost use Rattle.relay_core.specs.Moving.{moved};
+ghost use Rattle.relay_core.specs.Moving.{with_list};
 ghost use Rattle.relay_core.specs.declared.parts.Parts.TheVariants as part;
 ghost use Rattle.relay_core.specs.declared.parts.WrittenList.TheVariants as written;
 
@@ -91,7 +91,7 @@ pub(crate) fn read_schedule(
     number: u8,
 ) -> Result<GetResult, AllocError>
     ensures value { IfOk result (λ r. r
-        ≡ shown (λ attribute. data_at attribute schedule.now) (attribute_numbered number)) }
+        ≡ result_of_attribute (λ attribute. data_at attribute schedule.now) (attribute_numbered number)) }
     ensures plain { IsTrue (is_plain_where is_plain (attribute_numbered number)) → IsOk result }
 {
     let Some(attribute) = ScheduleAttribute::of_number(number) else {
@@ -129,10 +129,10 @@ fn write_kind(schedule: &mut ActionSchedule, value: &Data) -> ResultCode
 }
 
 // Writes an attribute of a schedule other than its list of entries.
-#[tactic(auto, unfolding(crate::specs::Schedules::schedule_written, crate::specs::Schedules::schedule_code))]
+#[tactic(auto, unfolding(crate::specs::Schedules::schedule_after_write, crate::specs::Schedules::schedule_code))]
 fn write_attribute(schedule: &mut ActionSchedule, number: u8, value: &Data) -> ResultCode
     ensures schedule { schedule.new
-        ≡ schedule_written (attribute_numbered number) value.now schedule.old }
+        ≡ schedule_after_write (attribute_numbered number) value.now schedule.old }
     ensures code { result ≡ schedule_code (attribute_numbered number) value.now }
 {
     match ScheduleAttribute::of_number(number) {
@@ -167,7 +167,7 @@ impl RelayCore {
     // Swaps the entries of one of these schedules with those of `other`.
     pub(crate) fn trade_entries(&mut self, which: ScheduleNumber, other: &mut ActionSchedule)
         ensures { (w : World) → StandsFor self.old w
-            → StandsFor self.new (moved (written.Entries which) (part.Entries other.old) w) }
+            → StandsFor self.new (with_list (written.Entries which) (part.Entries other.old) w) }
     {
         match which {
             ScheduleNumber::First => self.schedules.first.swap_entries(other),

@@ -2,7 +2,7 @@ ghost use Rattle.std.specs.Prelude.{◌≡◌, IfOk, IsOk, IsTrue, OnOk, OnErr};
 ghost use Rattle.disconnect_control.specs.Attributes.{attribute_numbered as control_attribute};
 ghost use Rattle.limiter_attributes.specs.Attributes.{attribute_numbered};
 ghost use Rattle.relay_core.specs.Memory.{writes_plainly_in, writes_plainly};
-ghost use Rattle.relay_core.specs.Moving.{list_numbered, moved, parts_read, set_parts};
+ghost use Rattle.relay_core.specs.Moving.{list_numbered, with_list, parts_read, set_parts};
 ghost use Rattle.relay_core.specs.Stands.{StandsFor};
 ghost use Rattle.relay_core.specs.World.{World};
 ghost use Rattle.relay_core.specs.Writing.{at_mode, at_setting, at_limiter, at_control, at_plain, at_write, at_set};
@@ -66,7 +66,7 @@ impl RelayCore {
     // Replaces the script table with the decoded one.
     fn move_scripts(&mut self, parts: Parts)
         ensures { (w : World) → StandsFor self.old w
-            → StandsFor self.new (moved WrittenList.Scripts parts w) }
+            → StandsFor self.new (with_list WrittenList.Scripts parts w) }
     {
         if let Parts::Scripts(scripts) = parts {
             self.scripts = scripts;
@@ -76,7 +76,7 @@ impl RelayCore {
     // Replaces the group ids of a limiter with the decoded ones.
     fn move_groups(&mut self, which: Which, parts: Parts)
         ensures { (w : World) → StandsFor self.old w
-            → StandsFor self.new (moved (WrittenList.Groups which) parts w) }
+            → StandsFor self.new (with_list (WrittenList.Groups which) parts w) }
     {
         let Parts::Groups(mut groups) = parts else {
             return;
@@ -90,7 +90,7 @@ impl RelayCore {
     // Replaces the entries of a schedule with the decoded ones.
     fn move_entries(&mut self, which: ScheduleNumber, parts: Parts)
         ensures { (w : World) → StandsFor self.old w
-            → StandsFor self.new (moved (WrittenList.Entries which) parts w) }
+            → StandsFor self.new (with_list (WrittenList.Entries which) parts w) }
     {
         if let Parts::Entries(mut entries) = parts {
             self.trade_entries(which, &mut entries);
@@ -99,7 +99,7 @@ impl RelayCore {
 
     // Replaces a list with the decoded one. Does nothing if the list was refused.
     fn move_in(&mut self, list: WrittenList, parts: Parts)
-        ensures { (w : World) → StandsFor self.old w → StandsFor self.new (moved list parts w) }
+        ensures { (w : World) → StandsFor self.old w → StandsFor self.new (with_list list parts w) }
     {
         match list {
             WrittenList::Scripts => self.move_scripts(parts),

@@ -3,7 +3,7 @@ ghost use Rattle.circular_buffer.specs.Buffer.{keep_last};
 ghost use Rattle.relay_core.specs.Machine.{is_sure};
 ghost use Rattle.relay_events.specs.Kinds.{Fits};
 ghost use Rattle.relay_core.specs.Agreeing.{Agree};
-ghost use Rattle.relay_core.specs.Opening.{opened, opening_of, IsFitOpening};
+ghost use Rattle.relay_core.specs.Opening.{world_of_opening, opening_of, IsFitOpening};
 ghost use Rattle.relay_core.specs.Stands.{StandsFor};
 ghost use Rattle.relay_core.specs.World.{World, IsDeviceName, new_world};
 ghost use Rattle.relay_recorder.specs.Histories.{StandsForHistory, HasHistory, Continues};
@@ -170,10 +170,10 @@ impl Recorder {
         ensures opening { IfOk result (λ trace. trace.opening ≡ opening_of self.now.opening) }
         ensures fit { IfOk result (λ trace. IsFitOpening trace.opening) }
         ensures agrees { IfOk result (λ trace. (w : World) → StandsFor self.now.opening w
-            → Agree (opened trace.opening) w) }
+            → Agree (world_of_opening trace.opening) w) }
         ensures few { IfOk result (λ trace. length trace.events ≤ 1024) }
         ensures events { IfOk result (λ trace. trace.events ≡ self.now.events) }
-        ensures replays { IfOk result (λ trace. Replays self.now (opened trace.opening)) }
+        ensures replays { IfOk result (λ trace. Replays self.now (world_of_opening trace.opening)) }
     {
         let events = self.copied_events(alloc)?;
         Ok(Trace {

@@ -12,7 +12,7 @@ use Rattle.disconnect_control.specs.Attributes.{mode_form}
 use Rattle.limiter_attributes.proofs.Again.{number_again, profile_again}
 use Rattle.script_steps.specs.Addresses.{action_at, address_of, action_of}
 use Rattle.script_steps.specs.Forms.{step_parts_of, script_parts_of, identifier_of}
-use Rattle.cosem_names.specs.WriteFault.{told, values}
+use Rattle.cosem_names.specs.WriteFault.{fault_of_items, values}
 use Rattle.script_steps.specs.Reading.{max_scripts, max_steps, step_with, step_of, script_of, judged_script, judged_scripts, are_distinct, table_of}
 use Rattle.script_steps.specs.Table.{IsStep, IsScript, IsTable}
 use Rattle.script_steps.specs.Writing.{parameter_of, step_data, script_data, data_of}
@@ -73,7 +73,7 @@ script_parts_again s = ap (λ items. Some (s.identifier, items)) (list_of_trees 
 
 -- a script's parts, judged
 abbrev judged_with : ℕ × List Data → Result (ℕ × List Data) WriteFault
-judged_with parts = told step_of parts.1 >> (guard (not (parts.0 == 0) && nat_le (length parts.1) max_steps) Value >> Ok parts)
+judged_with parts = fault_of_items step_of parts.1 >> (guard (not (parts.0 == 0) && nat_le (length parts.1) max_steps) Value >> Ok parts)
 
 -- the limits of a script hold of its parts
 within : (s : Script) → IsScript s → not (s.identifier == 0) && nat_le (length (map step_data s.steps)) max_steps ≡ true

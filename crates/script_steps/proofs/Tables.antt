@@ -8,7 +8,7 @@ use Rattle.byte_reading.proofs.OutcomeLemmas.{bind_ok, guard_ok, done, ok_is}
 use Rattle.cosem_axdr.specs.declared.value.Data.{Data}
 use Rattle.cosem_names.proofs.SeveralRead.{told_ok}
 use Rattle.script_steps.specs.Forms.{script_parts_of, identifier_of}
-use Rattle.cosem_names.specs.WriteFault.{told, values}
+use Rattle.cosem_names.specs.WriteFault.{fault_of_items, values}
 use Rattle.script_steps.specs.Reading.{max_scripts, max_steps, step_of, script_of, judged_script, judged_scripts, are_distinct}
 use Rattle.script_steps.specs.Table.{IsScript, IsTable}
 use Rattle.cosem_names.specs.declared.write_fault.WriteFault.{WriteFault}
@@ -28,8 +28,8 @@ found_fits P p (x ∷ xs) all = found_or_rest P (p x) x (find p xs) (All-head P 
 pub judged_parts : (value : Data) (parts : ℕ × List Data) → judged_script value ≡ Ok parts → script_parts_of value ≡ Some parts
 unfolding judged_script
 judged_parts value parts e =
-    let b = bind_ok (ok_or (script_parts_of value) Unmatched) (λ p. told step_of p.1 >> (guard (not (p.0 == 0) && nat_le (length p.1) max_steps) Value >> Ok p)) parts e in
-    let t = bind_ok (told step_of b.0.1) (λ _. guard (not (b.0.0 == 0) && nat_le (length b.0.1) max_steps) Value >> Ok b.0) parts b.2 in
+    let b = bind_ok (ok_or (script_parts_of value) Unmatched) (λ p. fault_of_items step_of p.1 >> (guard (not (p.0 == 0) && nat_le (length p.1) max_steps) Value >> Ok p)) parts e in
+    let t = bind_ok (fault_of_items step_of b.0.1) (λ _. guard (not (b.0.0 == 0) && nat_le (length b.0.1) max_steps) Value >> Ok b.0) parts b.2 in
     let g = guard_ok (not (b.0.0 == 0) && nat_le (length b.0.1) max_steps) Value (done WriteFault b.0) parts t.2 in
     there (script_parts_of value) b.0 b.1 ∙ ap (λ p. Some p) (ok_is {F = WriteFault} b.0 parts g.1)
   where
@@ -98,7 +98,7 @@ both false b e = absurd cc
 pub table_fits : (items : List Data) (u : Unit {0}) (scripts : List Script) → judged_scripts items ≡ Ok u → scripts ≡ values script_of items → All IsScript scripts → IsTable scripts
 unfolding judged_scripts
 table_fits items u scripts e is fit =
-    let t = bind_ok (told script_of items) (λ _. guard (nat_le (length items) max_scripts && are_distinct identifier_of items) Value) u e in
+    let t = bind_ok (fault_of_items script_of items) (λ _. guard (nat_le (length items) max_scripts && are_distinct identifier_of items) Value) u e in
     let g = here (nat_le (length items) max_scripts && are_distinct identifier_of items) u t.2 in
     let halves = both (nat_le (length items) max_scripts) (are_distinct identifier_of items) g in
     let few : length items ≤ max_scripts = search (rules, tests) in

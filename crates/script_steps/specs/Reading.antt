@@ -13,7 +13,7 @@ use Rattle.script_steps.specs.Addresses.{action_at}
 use Rattle.script_steps.specs.Forms.{step_parts_of, script_parts_of, identifier_of}
 use Rattle.script_steps.specs.declared.action.Action.{Action}
 use Rattle.script_steps.specs.declared.action.Action.TheVariants as action
-use Rattle.cosem_names.specs.WriteFault.{told, values}
+use Rattle.cosem_names.specs.WriteFault.{fault_of_items, values}
 use Rattle.cosem_names.specs.declared.write_fault.WriteFault.{WriteFault}
 use Rattle.cosem_names.specs.declared.write_fault.WriteFault.TheVariants.{Unmatched, Value}
 use Rattle.script_steps.specs.declared.step.Script.{Script}
@@ -60,7 +60,7 @@ step_of value = do
 unfoldable pub judged_script : Data → Result (ℕ × List Data) WriteFault
 judged_script value = do
   parts ← ok_or (script_parts_of value) Unmatched
-  told step_of parts.1
+  fault_of_items step_of parts.1
   guard (not (parts.0 == 0) && nat_le (length parts.1) max_steps) Value
   Ok parts
 
@@ -79,7 +79,7 @@ are_distinct number (x ∷ xs) =
 -- the fault of a table's scripts: there are at most sixteen, with different identifiers
 unfoldable pub judged_scripts : List Data → Result (Unit {0}) WriteFault
 judged_scripts items = do
-  told script_of items
+  fault_of_items script_of items
   guard (nat_le (length items) max_scripts && are_distinct identifier_of items) Value
 
 -- a script table

@@ -24,13 +24,13 @@ parameter_of Disconnect = Integer (pos 0)
 parameter_of Reconnect = Integer (pos 0)
 
 -- a step with this address and parameter
-abbrev pub addressed : Address → Data → Data
-addressed address parameter =
+abbrev pub addressed_step : Address → Data → Data
+addressed_step address parameter =
     structure_with (Enum address.service ∷ LongUnsigned address.class.0 ∷ OctetString address.name.0
     ∷ Integer address.index ∷ parameter ∷ [])
 
 unfoldable pub step_data : Step → Data
-step_data step = addressed (address_of (action_of step)) (parameter_of step)
+step_data step = addressed_step (address_of (action_of step)) (parameter_of step)
 
 unfoldable pub script_data : Script → Data
 script_data script =

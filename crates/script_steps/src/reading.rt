@@ -2,7 +2,7 @@ ghost use Rattle.std.specs.Prelude.{◌≡◌, ◌==◌, ◌<◌, ◌≤◌, len
 ghost use Rattle.std.specs.Result.{result_map_both, result_ok};
 ghost use Rattle.std.specs.List.{All, list_any};
 ghost use Rattle.script_steps.specs.Forms.{identifier_of};
-ghost use Rattle.cosem_names.specs.WriteFault.{told, values};
+ghost use Rattle.cosem_names.specs.WriteFault.{fault_of_items, values};
 ghost use Rattle.script_steps.specs.Reading.{max_steps, method_parameter_of, step_with, step_of, judged_script, script_of, are_distinct, judged_scripts};
 ghost use Rattle.script_steps.specs.Table.{IsStep, IsScript};
 
@@ -111,7 +111,7 @@ fn are_distinct(items: &[Data]) -> bool
 // Judges each script individually: `Unmatched` if any has a wrong type, then `Value` if any has a
 // wrong value.
 fn judge_each_script(items: &[Data]) -> Result<(), WriteFault>
-    ensures exact { result ≡ told script_of items.now }
+    ensures exact { result ≡ fault_of_items script_of items.now }
     ensures no_memory { ¬ IsErrOf result WriteFault.Memory }
 {
     judge_each(items, |item| script_fault(item))

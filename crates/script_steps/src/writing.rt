@@ -1,6 +1,6 @@
 ghost use Rattle.std.specs.Prelude.{◌≡◌, map, IfOk};
 ghost use Rattle.cosem_names.specs.Forms.{array_with};
-ghost use Rattle.script_steps.specs.Writing.{parameter_of, addressed, step_data, script_data, data_of};
+ghost use Rattle.script_steps.specs.Writing.{parameter_of, addressed_step, step_data, script_data, data_of};
 
 use crate::action::Address;
 use crate::step::{Script, Step};
@@ -25,7 +25,7 @@ fn parameter(alloc: Global, step: &Step) -> Result<Data, AllocError>
 
 // Writes a step with this address and parameter.
 fn write_address(alloc: Global, address: Address, parameter: Data) -> Result<Data, AllocError>
-    ensures { IfOk result (λ value. value ≡ addressed address parameter) }
+    ensures { IfOk result (λ value. value ≡ addressed_step address parameter) }
 {
     let name = Octets::from_slice(alloc, &address.name.0)?;
     Ok(Data::Structure(Items::from_vec(vec![in alloc;

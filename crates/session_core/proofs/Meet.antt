@@ -10,13 +10,13 @@ use Rattle.session_core.specs.Answers.{answer_text, due_text}
 use Rattle.session_core.specs.Association.{opened_by}
 use Rattle.session_core.specs.Backwards.{since, unreleased, link_of, heard, is_no_later_form, goes_on, in_order, joined_so_far, blocks_so_far, First, first_of, incoming_by, incoming_among, incoming_of, Past, Heard, frames_past, heard_past, is_no_next, names_in_order, begun_by_role, outgoing_after_nexts, outgoing_among, outgoing_of, Asks, Answers, to_server}
 use Rattle.session_core.specs.Incoming.{no_blocks, after_by_fault, block_after, transfer_of, later_after}
-use Rattle.xdlms_blocks.specs.Joining.{after_added}
+use Rattle.xdlms_blocks.specs.Joining.{joining_after_block}
 use Rattle.xdlms_blocks.specs.Limits.{max_joined}
 use Rattle.xdlms_blocks.specs.declared.fault.BlockFault.TheVariants.{WrongNumber, TooLong}
 use Rattle.session_core.specs.Outcome.{Outcome, asks, says, turn_event}
-use Rattle.session_core.specs.Outgoing.{sent, sending_by_fault, continued}
+use Rattle.session_core.specs.Outgoing.{transfer_after, sending_by_fault, transfer_after_next}
 use Rattle.session_core.specs.Roles.{Role, starts, follows, gets, gets_next, stops, role_of_request, role_of}
-use Rattle.session_core.specs.Rules.{opens, is_heard, is_release, is_closing, call_in, role_in, turn_of, link_in, link_after, incoming_by_role, incoming_in, incoming_after, outgoing_by_role, outgoing_in, outgoing_after, resolved, outcome_at, state_after, reply_text}
+use Rattle.session_core.specs.Rules.{opens, is_heard, is_release, is_closing, call_in, role_in, turn_of, link_in, link_after, incoming_by_role, incoming_in, incoming_after, outgoing_by_role, outgoing_in, outgoing_after, outcome_of_turn, outcome_at, state_after, reply_text}
 use Rattle.session_core.specs.Running.{Known, event_at, known_after, known_in, new_state, asks_on, answers_on}
 use Rattle.session_core.specs.Walks.{asks_along, answers_from, answers_along}
 use Rattle.session_core.specs.declared.call.Call.{Call}
@@ -86,10 +86,10 @@ last_by false incoming = refl
 -- the transfer after a block, by whether its number is right and whether it is too long
 added_by : (p : Purpose) (block : DataBlock) (j : Joining) (right long : Bool)
     → after_by_fault p block j (if not right then Some WrongNumber else if long then Some TooLong else None)
-    ≡ (if right && not block.last && not long then Some (record { purpose = p; blocks = after_added false block.raw j }) else None)
+    ≡ (if right && not block.last && not long then Some (record { purpose = p; blocks = joining_after_block false block.raw j }) else None)
 added_by p block j false long = refl
-added_by p block j true true = sym (never (not block.last) (Some (record { purpose = p; blocks = after_added false block.raw j })))
-added_by p block j true false = last_by block.last (Some (record { purpose = p; blocks = after_added false block.raw j }))
+added_by p block j true true = sym (never (not block.last) (Some (record { purpose = p; blocks = joining_after_block false block.raw j })))
+added_by p block j true false = last_by block.last (Some (record { purpose = p; blocks = joining_after_block false block.raw j }))
 
 -- whether the joined bytes are too many
 abbrev too_long : List ℕ → Bool
@@ -232,13 +232,13 @@ none_by true = refl
 none_by false = refl
 
 next_by : (right : Bool) (number : ℕ) (s : Sending)
-    → (if right then sent (number + 1) s else None) ≡ sending_by_fault (record { text = s.text; number = number; size = s.size; is_open = true }) (if right then None else Some WrongNumber)
+    → (if right then transfer_after (number + 1) s else None) ≡ sending_by_fault (record { text = s.text; number = number; size = s.size; is_open = true }) (if right then None else Some WrongNumber)
 next_by true number s = refl
 next_by false number s = refl
 
 next_sent : (named number : ℕ) (s : Sending) (all : Bool) → nat_le (length s.text) (number * s.size) ≡ all
-    → (if named == number then sent (number + 1) s else None) ≡ continued named (if all then None else Some (record { text = s.text; number = number; size = s.size; is_open = true }))
-unfolding continued
+    → (if named == number then transfer_after (number + 1) s else None) ≡ transfer_after_next named (if all then None else Some (record { text = s.text; number = number; size = s.size; is_open = true }))
+unfolding transfer_after_next
 next_sent named number s true e =
     ap (λ (b : Bool). if named == number then (if b then None else Some (record { text = s.text; number = number + 1; size = s.size; is_open = true })) else None) (all_sent number s e)
     ∙ none_by (named == number)
@@ -246,15 +246,15 @@ next_sent named number s false e = next_by (named == number) number s
 
 -- the transfer after one more GET-next
 next_named : (named number : ℕ) (s : Sending) (others : Bool)
-    → (if others && named == number then sent (number + 1) s else None) ≡ continued named (if others then sent number s else None)
-unfolding continued
+    → (if others && named == number then transfer_after (number + 1) s else None) ≡ transfer_after_next named (if others then transfer_after number s else None)
+unfolding transfer_after_next
 next_named named number s false = refl
 next_named named number s true = next_sent named number s (nat_le (length s.text) (number * s.size)) refl
 
 next_more : (named : ℕ) (reply : Option Reply) (later : List Heard) (first : Option Sending)
     → option_and_then (outgoing_after_nexts (record { role = gets_next named; reply = reply } ∷ later)) first
-    ≡ continued named (option_and_then (outgoing_after_nexts later) first)
-unfolding continued
+    ≡ transfer_after_next named (option_and_then (outgoing_after_nexts later) first)
+unfolding transfer_after_next
 next_more named reply later None = refl
 next_more named reply later (Some s) = next_named named (blocks_so_far later) s (names_in_order later)
 
@@ -385,6 +385,6 @@ same_events password input =
 pub same_texts : (password input : List ℕ) (replies : List Reply) → Answers password input replies ≡ answers_on password new_state (to_server (frames_of input)) replies
 unfolding Answers
 same_texts password input replies =
-    same_answers (state_of password) (λ past f. resolved (outgoing_of password past) (turn_of password (link_of password (frames_past past)) (incoming_of password (frames_past past)) f))
+    same_answers (state_of password) (λ past f. outcome_of_turn (outgoing_of password past) (turn_of password (link_of password (frames_past past)) (incoming_of password (frames_past past)) f))
     (λ past f reply. record { frame = f; reply = reply } ∷ past) (outcome_at password) (state_after password) (λ past f. refl) (state_more password) [] (to_server (frames_of input)) replies
     ∙ ap (λ (s : State). answers_on password s (to_server (frames_of input)) replies) (state_none password)

@@ -12,7 +12,7 @@ use Rattle.session_core.specs.Backwards.{to_server, end_by, end_of}
 use Rattle.session_core.specs.Ends.{EndsWithInput}
 use Rattle.session_core.specs.Incoming.{fault_of, outcome_by_fault, block_outcome_of, whole_by_data, whole_data, whole_outcome, event_by, form_by, later_outcome, transfer_of, no_blocks}
 use Rattle.session_core.specs.Outcome.{Outcome, asks, says, Turn, settled, continues, event_of, turn_event}
-use Rattle.session_core.specs.Outgoing.{answer_cut, value_answer, values_answer, outgoing_by, begun_by}
+use Rattle.session_core.specs.Outgoing.{answer_with_header, value_answer, values_answer, outgoing_by, begun_by}
 use Rattle.session_core.specs.Standard.{management_device}
 use Rattle.cosem_axdr.specs.declared.value.Data.{Data}
 use Rattle.cosem_names.specs.declared.service.GetResult.{GetResult}
@@ -20,9 +20,9 @@ use Rattle.cosem_names.specs.declared.service.GetResult.TheVariants as result
 use Rattle.xdlms_apdu.specs.Text.{response_text}
 use Rattle.xdlms_apdu.specs.declared.response.Response.TheVariants as response
 use Rattle.session_core.specs.Progress.{asked_by, Owes, Feeds, Finishes, Steps, Takes, IsQuiet, IsAwaiting, IsOver, WorksBy, task_by, next_by}
-use Rattle.session_core.specs.Remaining.{asks_of, texts_of, texts_from, texts_after, ends_of, after_outcome, end_in, awaits, still_asks, still_sends, still_ends, is_asking, ended, is_finished, load, task_load}
+use Rattle.session_core.specs.Remaining.{asks_of, texts_of, texts_from, texts_after, ends_of, after_outcome, end_in, awaits, still_asks, still_sends, still_ends, is_asking, reported_end, is_finished, load, task_load}
 use Rattle.session_core.specs.Roles.{role_of_request, role_of}
-use Rattle.session_core.specs.Rules.{heard_frame, exception_answer, opens, call_in, role_in, call_turn, request_turn, turn_in, turn_of, outgoing_by_role, outgoing_in, outgoing_after, resolved, outcome_at, state_after, step_outcome, is_settled, opening_answer, reply_text}
+use Rattle.session_core.specs.Rules.{heard_frame, exception_answer, opens, call_in, role_in, call_turn, request_turn, turn_in, turn_of, outgoing_by_role, outgoing_in, outgoing_after, outcome_of_turn, outcome_at, state_after, step_outcome, is_settled, opening_answer, reply_text}
 use Rattle.session_core.specs.Calls.{is_call}
 use Rattle.session_core.specs.Running.{known_in, asks_on, answers_on, new_state}
 use Rattle.session_core.specs.declared.asked.Asked.{Asked}
@@ -103,7 +103,7 @@ later_by link s id block None reply = refl
 later_by link s id block (Some incoming) reply = block_by link id incoming.purpose block incoming.blocks reply
 
 request_by : (link : Link) (incoming : Option Incoming) (outgoing : Option Sending) (reply : Option Reply) (r : Request)
-    → outgoing_by_role link (role_of_request r) reply outgoing ≡ sending_with (resolved outgoing (request_turn link incoming r)) reply (outgoing_by_role link (role_of_request r) None outgoing)
+    → outgoing_by_role link (role_of_request r) reply outgoing ≡ sending_with (outcome_of_turn outgoing (request_turn link incoming r)) reply (outgoing_by_role link (role_of_request r) None outgoing)
 unfolding begun_by
 request_by link incoming outgoing None (request.Get id target) = refl
 request_by link incoming outgoing (Some reply) (request.Get id target) = refl
@@ -120,7 +120,7 @@ request_by link incoming outgoing reply (request.ActionFirst id method block) = 
 request_by link incoming outgoing reply (request.ActionNext id block) = later_by link service.Action id block (transfer_of service.Action incoming) reply
 
 call_by : (link : Link) (incoming : Option Incoming) (outgoing : Option Sending) (reply : Option Reply) (c : Call)
-    → outgoing_by_role link (role_of c) reply outgoing ≡ sending_with (resolved outgoing (call_turn link incoming c)) reply (outgoing_by_role link (role_of c) None outgoing)
+    → outgoing_by_role link (role_of c) reply outgoing ≡ sending_with (outcome_of_turn outgoing (call_turn link incoming c)) reply (outgoing_by_role link (role_of c) None outgoing)
 call_by link incoming outgoing reply call.Release = refl
 call_by link incoming outgoing reply (call.Service r) = request_by link incoming outgoing reply r
 call_by link incoming outgoing reply (call.Refused exception) = refl
@@ -128,27 +128,27 @@ call_by link incoming outgoing reply (call.Refused exception) = refl
 -- the long GET after a service, by whether the frame is from the client of the association
 client_by : (link : Link) (incoming : Option Incoming) (outgoing : Option Sending) (reply : Option Reply) (f : Frame) (here : Bool)
     → (if true && here then outgoing_by_role link (role_in link f) reply outgoing else outgoing)
-    ≡ sending_with (resolved outgoing (if here then call_turn link incoming (call_in link f) else settled (says f.src (exception_answer NotAllowed)))) reply (if true && here then outgoing_by_role link (role_in link f) None outgoing else outgoing)
+    ≡ sending_with (outcome_of_turn outgoing (if here then call_turn link incoming (call_in link f) else settled (says f.src (exception_answer NotAllowed)))) reply (if true && here then outgoing_by_role link (role_in link f) None outgoing else outgoing)
 client_by link incoming outgoing reply f true = call_by link incoming outgoing reply (call_in link f)
 client_by link incoming outgoing reply f false = refl
 
 -- the long GET after a frame, by whether it is a request
 called_by : (link : Option Link) (incoming : Option Incoming) (outgoing : Option Sending) (reply : Option Reply) (f : Frame) (calls : Bool) → is_call f.payload ≡ calls
     → outgoing_in link f reply outgoing
-    ≡ sending_with (resolved outgoing (if calls then turn_in link incoming f else settled (says f.src (exception_answer Unknown)))) reply (outgoing_in link f None outgoing)
+    ≡ sending_with (outcome_of_turn outgoing (if calls then turn_in link incoming f else settled (says f.src (exception_answer Unknown)))) reply (outgoing_in link f None outgoing)
 called_by None incoming outgoing reply f true e = refl
 called_by None incoming outgoing reply f false e = refl
 called_by (Some link) incoming outgoing reply f true e =
     ap (λ (b : Bool). if b && link.source == f.src then outgoing_by_role link (role_in link f) reply outgoing else outgoing) e
     ∙ client_by link incoming outgoing reply f (link.source == f.src)
-    ∙ ap (λ (b : Bool). sending_with (resolved outgoing (turn_in (Some link) incoming f)) reply (if b && link.source == f.src then outgoing_by_role link (role_in link f) None outgoing else outgoing)) (sym e)
+    ∙ ap (λ (b : Bool). sending_with (outcome_of_turn outgoing (turn_in (Some link) incoming f)) reply (if b && link.source == f.src then outgoing_by_role link (role_in link f) None outgoing else outgoing)) (sym e)
 called_by (Some link) incoming outgoing reply f false e =
     ap (λ (b : Bool). if b && link.source == f.src then outgoing_by_role link (role_in link f) reply outgoing else outgoing) e
     ∙ ap (λ (b : Bool). if b && link.source == f.src then outgoing_by_role link (role_in link f) None outgoing else outgoing) (sym e)
 
 opened_or : (password : List ℕ) (s : State) (f : Frame) (reply : Option Reply) (o : Bool)
     → (if o then None else outgoing_in s.link f reply s.outgoing)
-    ≡ sending_with (resolved s.outgoing (if o then settled (says f.src (opening_answer password f.src (aarq_of f.payload))) else if is_call f.payload then turn_in s.link s.incoming f else settled (says f.src (exception_answer Unknown)))) reply
+    ≡ sending_with (outcome_of_turn s.outgoing (if o then settled (says f.src (opening_answer password f.src (aarq_of f.payload))) else if is_call f.payload then turn_in s.link s.incoming f else settled (says f.src (exception_answer Unknown)))) reply
     (if o then None else outgoing_in s.link f None s.outgoing)
 opened_or password s f reply true = refl
 opened_or password s f reply false = called_by s.link s.incoming s.outgoing reply f (is_call f.payload) refl
@@ -190,7 +190,7 @@ step_texts password s (step.Say due) fs replies = refl
 step_texts password s (step.Join joined) fs replies = refl
 
 -- the event of a frame is the event of its outcome
-turn_asks : (outgoing : Option Sending) (t : Turn) → turn_event t ≡ event_of (resolved outgoing t)
+turn_asks : (outgoing : Option Sending) (t : Turn) → turn_event t ≡ event_of (outcome_of_turn outgoing t)
 turn_asks outgoing (settled outcome) = refl
 turn_asks outgoing (continues to id number) = refl
 
@@ -436,7 +436,7 @@ ends_steps password pending finished s end none = record {
 }
 
 is_over_now : (password pending : List ℕ) (finished : Bool) (s : State) (end : SessionEnd) → IsOver end (session password pending finished s (Over end))
-unfolding still_asks still_sends still_ends ended
+unfolding still_asks still_sends still_ends reported_end
 is_over_now password pending finished s end = record { asks = λ more. refl; sends = λ more replies. refl; ends = λ more. refl; over = refl }
 
 pub comes_to_end : (E : Type 0) (password pending : List ℕ) (finished : Bool) (s : State) (end : SessionEnd) → NoFrame finished pending end
@@ -517,7 +517,7 @@ feeds_over password pending finished s end bytes = record {
 }
 
 pub feeds : (password pending : List ℕ) (s : State) (task : SessionTask) (bytes : List ℕ) → Feeds (session password pending false s task) bytes (session password (pending ++ bytes) false s task)
-unfolding still_asks still_sends still_ends is_asking ended is_finished
+unfolding still_asks still_sends still_ends is_asking reported_end is_finished
 feeds password pending s task bytes = record {
   asks = λ more. ap (λ (all : List ℕ). asks_of password s task (to_server (frames_of all))) (append_assoc pending bytes more);
   sends = λ more replies. ap (λ (all : List ℕ). texts_of password s task (to_server (frames_of all)) replies) (append_assoc pending bytes more);
@@ -546,7 +546,7 @@ tail_none false = refl
 
 -- the input has ended
 pub finishes : (password pending : List ℕ) (finished : Bool) (s : State) (task : SessionTask) → Finishes (session password pending finished s task) (session password pending true s task)
-unfolding still_asks still_sends still_ends is_asking ended is_finished
+unfolding still_asks still_sends still_ends is_asking reported_end is_finished
 finishes password pending finished s task = record {
   asks = λ more. ap (λ (rest : List ℕ). asks_of password s task (to_server (frames_of (pending ++ rest)))) (sym (tail_none finished));
   sends = λ more replies. ap (λ (rest : List ℕ). texts_of password s task (to_server (frames_of (pending ++ rest))) replies) (sym (tail_none finished));
@@ -573,11 +573,11 @@ takes_reply password pending finished s asked reply text outgoing t o = record {
 -- ---- values in answers
 
 -- the bytes of a long answer that are sent in blocks
-pub value_cut : (id : InvokeId) (value : Data) → answer_cut id (response.Get id (result.Value value)) 4 ≡ value_answer id value
+pub value_cut : (id : InvokeId) (value : Data) → answer_with_header id (response.Get id (result.Value value)) 4 ≡ value_answer id value
 unfolding response_text
 value_cut id value = refl
 
-pub values_cut : (id : InvokeId) (results : List GetResult) → answer_cut id (response.GetList id results) 3 ≡ values_answer id results
+pub values_cut : (id : InvokeId) (results : List GetResult) → answer_with_header id (response.GetList id results) 3 ≡ values_answer id results
 unfolding response_text
 values_cut id results = refl
 
@@ -656,8 +656,8 @@ pub too_long : (bytes : List ℕ) (f : WrapperFault) → f ≡ fault.TooLong →
 too_long bytes f is stops = subst (λ (g : WrapperFault). StopsBy g bytes) is stops
 
 -- a session that has reported its end is over
-pub ends_again : (s : Session) (end : SessionEnd) → ended s ≡ Some end → s.task ≡ Over end
-unfolding ended
+pub ends_again : (s : Session) (end : SessionEnd) → reported_end s ≡ Some end → s.task ≡ Over end
+unfolding reported_end
 ends_again s end = over_by s.task end
   where
     over_by : (task : SessionTask) (end : SessionEnd) → end_in task ≡ Some end → task ≡ Over end
@@ -674,7 +674,7 @@ pub feeds_after_end : (s : Session) (bytes : List ℕ) → s.is_finished ≡ tru
 feeds_after_end s bytes finished =
     by_parts (λ (u : Session). Feeds u bytes u) s true s.task finished refl (feeds_finished s.password s.deframer s.state s.task bytes)
 
-pub feeds_after_over : (s : Session) (bytes : List ℕ) (end : SessionEnd) → ended s ≡ Some end → Feeds s bytes s
+pub feeds_after_over : (s : Session) (bytes : List ℕ) (end : SessionEnd) → reported_end s ≡ Some end → Feeds s bytes s
 feeds_after_over s bytes end over =
     by_parts (λ (u : Session). Feeds u bytes u) s s.is_finished (Over end) refl (ends_again s end over)
     (feeds_over s.password s.deframer s.is_finished s.state end bytes)
@@ -757,10 +757,10 @@ waits_again s = awaiting_by s.password s.deframer s.is_finished s.state s.task
     awaiting_by password pending finished state (Send text) e = absurd cc
     awaiting_by password pending finished state (Over end) e = absurd cc
 
-pub over_again : (s : Session) (end : SessionEnd) → ended s ≡ Some end → IsOver end s
+pub over_again : (s : Session) (end : SessionEnd) → reported_end s ≡ Some end → IsOver end s
 over_again s end e = by_parts (λ (u : Session). IsOver end u) s s.is_finished (Over end) refl (ends_again s end e) (is_over_now s.password s.deframer s.is_finished s.state end)
 
 -- a session that awaits a reply is not over
-pub asks_or_ends : (s : Session) (end : SessionEnd) → is_asking s ≡ true → ended s ≡ Some end → ⊥
+pub asks_or_ends : (s : Session) (end : SessionEnd) → is_asking s ≡ true → reported_end s ≡ Some end → ⊥
 unfolding is_asking
 asks_or_ends s end asking e = let over : awaits (Over end) ≡ true = subst (λ (t : SessionTask). awaits t ≡ true) (ends_again s end e) asking in absurd cc

@@ -9,7 +9,7 @@ use Rattle.acse_ber.specs.declared.aare.Info.TheVariants.{Absent, Response}
 use Rattle.acse_ber.specs.declared.aare.Info.TheVariants as info
 use Rattle.acse_ber.specs.declared.verdict.Verdict.{Verdict}
 use Rattle.acse_ber.specs.declared.verdict.Verdict.TheVariants.{Accepted, Rejected, InitiateError}
-use Rattle.session_core.specs.Standard.{least_pdu, greatest_pdu, accepted, rejected, null_diagnostic, no_reason_given}
+use Rattle.session_core.specs.Standard.{least_pdu, greatest_pdu, result_accepted, result_rejected, null_diagnostic, no_reason_given}
 use Rattle.session_core.specs.declared.link.Link.{Link}
 use Rattle.wrapper_frame.specs.declared.parts.Frame.{Frame}
 
@@ -34,10 +34,10 @@ link_by source (InitiateError error) = None
 -- the answer to an AARQ, by its verdict; the server receives PDUs of up to 1,024 bytes
 abbrev pub aare_by : Verdict → Aare
 aare_by (Accepted level bits limit) =
-    record { result = accepted; diagnostic = null_diagnostic; info = Response bits greatest_pdu }
-aare_by (Rejected diagnostic) = record { result = rejected; diagnostic = diagnostic; info = Absent }
+    record { result = result_accepted; diagnostic = null_diagnostic; info = Response bits greatest_pdu }
+aare_by (Rejected diagnostic) = record { result = result_rejected; diagnostic = diagnostic; info = Absent }
 aare_by (InitiateError error) =
-    record { result = rejected; diagnostic = no_reason_given; info = info.InitiateError error }
+    record { result = result_rejected; diagnostic = no_reason_given; info = info.InitiateError error }
 
 -- the association that an AARQ from a port opens, if it was readable and is accepted
 abbrev pub link_from : List ℕ → ℕ → Result Aarq AcseFault → Option Link

@@ -12,9 +12,9 @@ use Rattle.relay_events.specs.declared.event.Event.{Event}
 use Rattle.relay_events.specs.declared.reply.Reply.{Reply}
 use Rattle.session_core.specs.Association.{opened_by}
 use Rattle.session_core.specs.Outcome.{turn_event}
-use Rattle.session_core.specs.Outgoing.{sent, begun_by}
+use Rattle.session_core.specs.Outgoing.{transfer_after, begun_by}
 use Rattle.session_core.specs.Roles.{Role, starts, follows, gets, gets_next}
-use Rattle.session_core.specs.Rules.{opens, is_heard, is_closing, role_in, turn_of, resolved}
+use Rattle.session_core.specs.Rules.{opens, is_heard, is_closing, role_in, turn_of, outcome_of_turn}
 use Rattle.session_core.specs.Standard.{management_device}
 use Rattle.session_core.specs.Walks.{asks_along, answers_along}
 use Rattle.session_core.specs.declared.incoming.Incoming.{Incoming}
@@ -179,7 +179,7 @@ begun_by_role link _ reply = None
 
 -- the transfer of a text after these GET-nexts, if they were in order and blocks are left
 abbrev pub outgoing_after_nexts : List Heard → Sending → Option Sending
-outgoing_after_nexts later s = if names_in_order later then sent (blocks_so_far later) s else None
+outgoing_after_nexts later s = if names_in_order later then transfer_after (blocks_so_far later) s else None
 
 -- the transfer before a request: the last request that was not a GET-next began it
 abbrev pub outgoing_among : Link → List Heard → Option Sending
@@ -209,7 +209,7 @@ asks_after password = asks_along
 -- the answers to frames that follow these, in order
 abbrev pub answers_after : List ℕ → List Past → List Frame → List Reply → List (List ℕ)
 answers_after password = answers_along
-    (λ past f. resolved (outgoing_of password past)
+    (λ past f. outcome_of_turn (outgoing_of password past)
     (turn_of password (link_of password (frames_past past))
     (incoming_of password (frames_past past)) f))
     (λ past f reply. record { frame = f; reply = reply } ∷ past)

@@ -29,7 +29,7 @@ use Rattle.xdlms_apdu.specs.declared.block.DataBlock.{DataBlock}
 use Rattle.xdlms_apdu.specs.declared.invoke_id.InvokeId.{InvokeId}
 use Rattle.xdlms_apdu.specs.declared.response.Response.{Response}
 use Rattle.xdlms_apdu.specs.declared.response.Response.TheVariants as response
-use Rattle.xdlms_blocks.specs.Joining.{after_added}
+use Rattle.xdlms_blocks.specs.Joining.{joining_after_block}
 use Rattle.xdlms_blocks.specs.Limits.{max_joined}
 use Rattle.xdlms_blocks.specs.Transfer.{Joining}
 use Rattle.xdlms_blocks.specs.declared.fault.BlockFault.{BlockFault}
@@ -38,14 +38,14 @@ use Rattle.xdlms_blocks.specs.declared.fault.BlockFault.TheVariants.{NoTransfer,
 -- ---- answers
 
 -- the answer to a block that is not the last
-abbrev pub received : LongService → InvokeId → ℕ → Response
-received service.Set id number = response.SetBlock id number
-received service.Action id number = response.ActionBlock id number
+abbrev pub block_response : LongService → InvokeId → ℕ → Response
+block_response service.Set id number = response.SetBlock id number
+block_response service.Action id number = response.ActionBlock id number
 
 -- the answer that ends a transfer with this result
-abbrev pub refused : LongService → InvokeId → ℕ → ResultCode → Response
-refused service.Set id number code = response.SetLastBlock id code number
-refused service.Action id number code = response.Action id code
+abbrev pub refusal_response : LongService → InvokeId → ℕ → ResultCode → Response
+refusal_response service.Set id number code = response.SetLastBlock id code number
+refusal_response service.Action id number code = response.Action id code
 
 -- the result code of a fault
 abbrev pub block_code : LongService → BlockFault → ResultCode
@@ -85,7 +85,7 @@ whole_by_data j (Some value) =
     asks (event_by j.link.level j.purpose value)
     (record { link = j.link; form = form_by j.purpose j.id j.number })
 whole_by_data j None =
-    says j.link.source (Service (refused (service_of j.purpose) j.id j.number OtherReason))
+    says j.link.source (Service (refusal_response (service_of j.purpose) j.id j.number OtherReason))
 
 unfoldable pub whole_outcome : Joined → Outcome
 whole_outcome j = whole_by_data j (whole_data j.bytes)
@@ -120,10 +120,10 @@ abbrev pub outcome_by_fault : Link → InvokeId → Purpose → DataBlock → Jo
     → Outcome
 outcome_by_fault link id purpose block j (Some fault) =
     says link.source (Service
-    (refused (service_of purpose) id block.number (block_code (service_of purpose) fault)))
+    (refusal_response (service_of purpose) id block.number (block_code (service_of purpose) fault)))
 outcome_by_fault link id purpose block j None =
     if block.last then whole_outcome (joined_by link id purpose block j)
-    else says link.source (Service (received (service_of purpose) id block.number))
+    else says link.source (Service (block_response (service_of purpose) id block.number))
 
 -- the outcome of a block
 unfoldable pub block_outcome_of : Link → InvokeId → Purpose → DataBlock → Joining → Outcome
@@ -133,7 +133,7 @@ block_outcome_of link id purpose block j =
 abbrev pub after_by_fault : Purpose → DataBlock → Joining → Option BlockFault → Option Incoming
 after_by_fault purpose block j (Some fault) = None
 after_by_fault purpose block j None = if block.last then None
-    else Some (record { purpose = purpose; blocks = after_added false block.raw j })
+    else Some (record { purpose = purpose; blocks = joining_after_block false block.raw j })
 
 -- the transfer after a block: a refusal and the last block end it
 unfoldable pub block_after : Purpose → DataBlock → Joining → Option Incoming
@@ -155,7 +155,7 @@ transfer_of service (Some incoming) = if is_of service incoming.purpose then Som
 -- the outcome of a later block of a transfer
 abbrev pub later_outcome : Link → LongService → InvokeId → DataBlock → Option Incoming → Outcome
 later_outcome link service id block None =
-    says link.source (Service (refused service id block.number (block_code service NoTransfer)))
+    says link.source (Service (refusal_response service id block.number (block_code service NoTransfer)))
 later_outcome link service id block (Some incoming) =
     block_outcome_of link id incoming.purpose block incoming.blocks
 

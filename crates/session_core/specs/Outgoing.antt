@@ -21,7 +21,7 @@ use Rattle.xdlms_apdu.specs.Text.{data_text, list_text, result_text, response_te
 use Rattle.xdlms_apdu.specs.declared.invoke_id.InvokeId.{InvokeId}
 use Rattle.xdlms_apdu.specs.declared.response.Response.{Response}
 use Rattle.xdlms_apdu.specs.declared.response.Response.TheVariants as response
-use Rattle.xdlms_blocks.specs.Blocks.{unsent}
+use Rattle.xdlms_blocks.specs.Blocks.{new_sending}
 use Rattle.xdlms_blocks.specs.Limits.{max_blocks}
 use Rattle.xdlms_blocks.specs.Sending.{next_piece}
 use Rattle.xdlms_blocks.specs.Transfer.{Sending}
@@ -31,9 +31,9 @@ use Rattle.xdlms_blocks.specs.declared.fault.BlockFault.TheVariants.{NoTransfer,
 
 -- ---- a GET-next
 
--- a transfer after `number` blocks were sent, or none if that is the whole text
-abbrev pub sent : ℕ → Sending → Option Sending
-sent number s = if nat_le (length s.text) (number * s.size) then None
+-- a transfer after `number` blocks were transfer_after, or none if that is the whole text
+abbrev pub transfer_after : ℕ → Sending → Option Sending
+transfer_after number s = if nat_le (length s.text) (number * s.size) then None
     else Some (record { text = s.text; number = number; size = s.size; is_open = true })
 
 -- the result code of a fault
@@ -64,18 +64,18 @@ continued_response id number (Some s) = response_by_fault id number s (next_faul
 
 abbrev pub sending_by_fault : Sending → Option BlockFault → Option Sending
 sending_by_fault s (Some fault) = None
-sending_by_fault s None = sent (s.number + 1) s
+sending_by_fault s None = transfer_after (s.number + 1) s
 
 -- the transfer after a GET-next: a refusal and the last block end it
-unfoldable pub continued : ℕ → Option Sending → Option Sending
-continued number None = None
-continued number (Some s) = sending_by_fault s (next_fault number s)
+unfoldable pub transfer_after_next : ℕ → Option Sending → Option Sending
+transfer_after_next number None = None
+transfer_after_next number (Some s) = sending_by_fault s (next_fault number s)
 
 -- ---- the reply to an event
 
 -- the transfer of a text before its first block, to a client with this limit
 abbrev pub unsent_by : ℕ → List ℕ → Sending
-unsent_by limit raw = unsent raw (limit - block_header)
+unsent_by limit raw = new_sending raw (limit - block_header)
 
 -- A normal answer that may be too long, and those of its bytes that would be sent in blocks.
 pub record LongAnswer : Type 0 where
@@ -168,7 +168,7 @@ begun_by asked reply = option_and_then (long_text asked.link) (long_answer asked
 
 -- the long GET in progress after the answer, which has the first block
 abbrev pub outgoing_by : Asked → Reply → Option Sending
-outgoing_by asked reply = option_and_then (sent 1) (begun_by asked reply)
+outgoing_by asked reply = option_and_then (transfer_after 1) (begun_by asked reply)
 
 -- ---- what the code's values mean
 
@@ -184,9 +184,9 @@ abbrev pub text_in_blocks : Link → List ℕ → Option Sending
 text_in_blocks link raw = if can_go_in_blocks link raw then Some (unsent_by link.limit raw)
     else None
 
--- an answer whose first `header` bytes are not sent in blocks
-abbrev pub answer_cut : InvokeId → Response → ℕ → LongAnswer
-answer_cut id normal header =
+-- an answer whose first `header` bytes are not transfer_after in blocks
+abbrev pub answer_with_header : InvokeId → Response → ℕ → LongAnswer
+answer_with_header id normal header =
     record { id = id; normal = normal; raw = drop header (response_text normal) }
 
 -- the reply whose values a response has

@@ -15,7 +15,7 @@ use Rattle.relay_events.specs.declared.event.Event.TheVariants.{Get}
 use Rattle.relay_events.specs.declared.reply.Reply.{Reply}
 use Rattle.session_core.specs.Backwards.{Asks, Answers, end_of}
 use Rattle.session_core.specs.Ends.{EndsWithInput}
-use Rattle.session_core.specs.Remaining.{still_asks, still_sends, still_ends, is_asking, is_asking_value, ended, is_finished, load}
+use Rattle.session_core.specs.Remaining.{still_asks, still_sends, still_ends, is_asking, is_asking_value, reported_end, is_finished, load}
 use Rattle.session_core.specs.declared.end.SessionEnd.{SessionEnd}
 use Rattle.session_core.specs.declared.next.Next.{Next}
 use Rattle.session_core.specs.declared.next.Next.TheVariants.{Ask, Send, Wait, End}
@@ -41,7 +41,7 @@ pub record Feeds (old : Session) (bytes : List ℕ) (new : Session) : Type 0 whe
       → still_sends new more replies ≡ still_sends old (bytes ++ more) replies
   pub ends : (more : List ℕ) → still_ends new more ≡ still_ends old (bytes ++ more)
   pub asking : is_asking new ≡ is_asking old
-  pub over : ended new ≡ ended old
+  pub over : reported_end new ≡ reported_end old
   pub finished : is_finished new ≡ is_finished old
 
 -- The input has ended.
@@ -51,7 +51,7 @@ pub record Finishes (old new : Session) : Type 0 where
       → still_sends new more replies ≡ still_sends old [] replies
   pub ends : (more : List ℕ) → still_ends new more ≡ still_ends old []
   pub asking : is_asking new ≡ is_asking old
-  pub over : ended new ≡ ended old
+  pub over : reported_end new ≡ reported_end old
   pub finished : is_finished new ≡ true
 
 -- These events were asked and these texts sent.
@@ -122,7 +122,7 @@ pub record IsOver (end : SessionEnd) (s : Session) : Type 0 where
   pub asks : (more : List ℕ) → still_asks s more ≡ []
   pub sends : (more : List ℕ) (replies : List Reply) → still_sends s more replies ≡ []
   pub ends : (more : List ℕ) → still_ends s more ≡ end
-  pub over : ended s ≡ Some end
+  pub over : reported_end s ≡ Some end
 
 -- What holds after each `Next`. Asking and sending reduce the session's load, so that finitely many
 -- calls return an event or a frame between two inputs.

@@ -54,15 +54,15 @@ still_asks s more = asks_of s.password s.state s.task (frames_ahead s more)
 -- ---- the answers
 
 -- the state after the reply to an event: with the long GET that the answer begins
-abbrev pub replied : Asked → Reply → State → State
-replied asked reply state =
+abbrev pub state_after_reply : Asked → Reply → State → State
+state_after_reply asked reply state =
     record { link = state.link; incoming = state.incoming; outgoing = outgoing_by asked reply }
 
 -- the state after an outcome, and after the reply to its event
 abbrev pub after_outcome : Outcome → Option Reply → State → State
 after_outcome (says to answer) reply state = state
 after_outcome (asks event asked) None state = state
-after_outcome (asks event asked) (Some reply) state = replied asked reply state
+after_outcome (asks event asked) (Some reply) state = state_after_reply asked reply state
 
 -- the texts from an outcome on
 abbrev pub texts_from : List ℕ → State → Outcome → List Frame → List Reply → List (List ℕ)
@@ -74,7 +74,7 @@ texts_from password state outcome fs replies =
 abbrev pub texts_after : List ℕ → State → Asked → List Frame → List Reply → List (List ℕ)
 texts_after password state asked fs [] = []
 texts_after password state asked fs (reply ∷ replies) =
-    reply_text asked reply ∷ answers_on password (replied asked reply state) fs replies
+    reply_text asked reply ∷ answers_on password (state_after_reply asked reply state) fs replies
 
 -- the texts of a task and of the frames after it
 abbrev pub texts_of : List ℕ → State → SessionTask → List Frame → List Reply → List (List ℕ)
@@ -125,8 +125,8 @@ end_in (Over end) = Some end
 end_in _ = None
 
 -- the end that the session has reported, if it is over
-unfoldable pub ended : Session → Option SessionEnd
-ended s = end_in s.task
+unfoldable pub reported_end : Session → Option SessionEnd
+reported_end s = end_in s.task
 
 -- whether the input has ended
 unfoldable pub is_finished : Session → Bool

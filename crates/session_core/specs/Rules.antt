@@ -21,7 +21,7 @@ use Rattle.session_core.specs.Association.{aare_by, opened_by}
 use Rattle.session_core.specs.Calls.{is_opening, is_call, call_of}
 use Rattle.session_core.specs.Incoming.{no_blocks, block_outcome_of, block_after, transfer_of, later_outcome, later_after, whole_outcome}
 use Rattle.session_core.specs.Outcome.{Outcome, Turn, asks, says, settled, continues}
-use Rattle.session_core.specs.Outgoing.{continued, continued_response, outgoing_by, reply_response}
+use Rattle.session_core.specs.Outgoing.{transfer_after_next, continued_response, outgoing_by, reply_response}
 use Rattle.session_core.specs.Roles.{Role, starts, follows, gets, gets_next, role_of}
 use Rattle.session_core.specs.Standard.{management_device}
 use Rattle.session_core.specs.declared.answer.Answer.{Answer}
@@ -165,13 +165,13 @@ incoming_after link f incoming = if opens f then None else incoming_in link f in
 -- ---- the long GET after a frame and the reply to its event: any request except a GET-next ends it
 
 -- the transfer that a reply begins, if there was a reply
-abbrev pub begun : Link → ReplyForm → Option Reply → Option Sending
-begun link form None = None
-begun link form (Some reply) = outgoing_by (record { link = link; form = form }) reply
+abbrev pub transfer_of_reply : Link → ReplyForm → Option Reply → Option Sending
+transfer_of_reply link form None = None
+transfer_of_reply link form (Some reply) = outgoing_by (record { link = link; form = form }) reply
 
 abbrev pub outgoing_by_role : Link → Role → Option Reply → Option Sending → Option Sending
-outgoing_by_role link (gets form) reply outgoing = begun link form reply
-outgoing_by_role link (gets_next number) reply outgoing = continued number outgoing
+outgoing_by_role link (gets form) reply outgoing = transfer_of_reply link form reply
+outgoing_by_role link (gets_next number) reply outgoing = transfer_after_next number outgoing
 outgoing_by_role link _ reply outgoing = None
 
 abbrev pub outgoing_in : Option Link → Frame → Option Reply → Option Sending → Option Sending
@@ -185,14 +185,14 @@ outgoing_after link f reply outgoing = if opens f then None else outgoing_in lin
 -- ---- all that a session keeps
 
 -- the outcome of a turn, once the long GET is known
-abbrev pub resolved : Option Sending → Turn → Outcome
-resolved outgoing (settled outcome) = outcome
-resolved outgoing (continues to id number) =
+abbrev pub outcome_of_turn : Option Sending → Turn → Outcome
+outcome_of_turn outgoing (settled outcome) = outcome
+outcome_of_turn outgoing (continues to id number) =
     says to (Service (continued_response id number outgoing))
 
 -- the outcome of a frame
 abbrev pub outcome_at : List ℕ → State → Frame → Outcome
-outcome_at password s f = resolved s.outgoing (turn_of password s.link s.incoming f)
+outcome_at password s f = outcome_of_turn s.outgoing (turn_of password s.link s.incoming f)
 
 -- the state after a frame, and after the reply to its event
 abbrev pub state_after : List ℕ → State → Frame → Option Reply → State

@@ -54,11 +54,11 @@ request_forms =
 -- ---- an AARE
 
 -- the association results accepted and rejected-permanent (IEC 62056-5-3, AARE)
-abbrev pub accepted : ℕ
-accepted = 0
+abbrev pub result_accepted : ℕ
+result_accepted = 0
 
-abbrev pub rejected : ℕ
-rejected = 1
+abbrev pub result_rejected : ℕ
+result_rejected = 1
 
 -- the diagnostics null and no-reason-given of acse-service-user
 abbrev pub null_diagnostic : ℕ

@@ -2,13 +2,13 @@
 -- this meter also accepts. Any other payload is answered by an exception (IEC 62056-5-3,
 -- ExceptionResponse).
 use Rattle.std.specs.Prelude.{ℕ, Bool, false, ◌==◌, ◌&&◌, ◌||◌, if◌then◌else◌, None, List, [], ◌∷◌}
-use Rattle.acse_ber.specs.Verdict.{offered}
+use Rattle.acse_ber.specs.Verdict.{offered_services}
 use Rattle.cosem_names.specs.declared.level.Level.TheVariants.{Management}
 use Rattle.session_core.specs.Answers.{answer_text}
 use Rattle.session_core.specs.Association.{limit_of}
 use Rattle.session_core.specs.Calls.{call_of}
 use Rattle.session_core.specs.Outcome.{Outcome, asks, says}
-use Rattle.session_core.specs.Rules.{exception_answer, call_turn, resolved}
+use Rattle.session_core.specs.Rules.{exception_answer, call_turn, outcome_of_turn}
 use Rattle.session_core.specs.Standard.{get_tag, set_tag, action_tag, greatest_pdu, management_client}
 use Rattle.session_core.specs.declared.link.Link.{Link}
 use Rattle.session_core.specs.declared.unframed.Unframed.{Unframed}
@@ -21,7 +21,7 @@ abbrev pub unframed_link : Link
 unframed_link = record {
   source = management_client;
   level = Management;
-  conformance = record { 0 = offered };
+  conformance = record { 0 = offered_services };
   limit = limit_of greatest_pdu;
 }
 
@@ -37,7 +37,7 @@ is_unframed (tag ∷ form ∷ rest) =
 unfoldable pub unframed_outcome : List ℕ → Outcome
 unframed_outcome payload =
     if is_unframed payload
-    then resolved None (call_turn unframed_link None (call_of offered payload))
+    then outcome_of_turn None (call_turn unframed_link None (call_of offered_services payload))
     else says management_client (exception_answer Unknown)
 
 -- the value of the code that means this outcome

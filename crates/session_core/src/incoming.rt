@@ -1,5 +1,5 @@
 ghost use Rattle.std.specs.Prelude.{◌≡◌, IfOk, OnOk, OnErr};
-ghost use Rattle.session_core.specs.Incoming.{received, refused, block_code, service_of, block_outcome_of, block_after, outcome_of_added, after_adding, is_over, is_of, transfer_of, later_outcome, later_after};
+ghost use Rattle.session_core.specs.Incoming.{block_response, refusal_response, block_code, service_of, block_outcome_of, block_after, outcome_of_added, after_adding, is_over, is_of, transfer_of, later_outcome, later_after};
 ghost use Rattle.session_core.specs.Answers.{IsSmall};
 ghost use Rattle.session_core.specs.declared.answer.Answer.TheVariants.{Service};
 
@@ -20,8 +20,8 @@ pub(crate) enum LongService {
 
 impl LongService {
     // Returns the answer to a block that is not the last.
-    pub(crate) fn received(self, id: InvokeId, number: u32) -> Response
-        ensures response { result ≡ received self id number }
+    pub(crate) fn block_response(self, id: InvokeId, number: u32) -> Response
+        ensures response { result ≡ block_response self id number }
         ensures small { IsSmall result }
     {
         match self {
@@ -31,8 +31,8 @@ impl LongService {
     }
 
     // Returns the answer that ends a transfer with this result.
-    pub(crate) fn refused(self, id: InvokeId, number: u32, code: ResultCode) -> Response
-        ensures response { result ≡ refused self id number code }
+    pub(crate) fn refusal_response(self, id: InvokeId, number: u32, code: ResultCode) -> Response
+        ensures response { result ≡ refusal_response self id number code }
         ensures small { IsSmall result }
     {
         match self {
@@ -44,7 +44,7 @@ impl LongService {
     // Returns the answer to a block that is not added.
     pub(crate) fn fault(self, to: u16, id: InvokeId, number: u32, fault: BlockFault) -> Due
         ensures to { result.to ≡ to }
-        ensures answer { result.answer ≡ Service (refused self id number (block_code self fault)) }
+        ensures answer { result.answer ≡ Service (refusal_response self id number (block_code self fault)) }
     {
         Due::response(to, self.refused(id, number, self.code(fault)))
     }

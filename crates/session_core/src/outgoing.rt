@@ -1,5 +1,5 @@
 ghost use Rattle.std.specs.Prelude.{◌≡◌, ◌≢◌, ◌*◌, ◌-◌, ◌<◌, ◌≤◌, ◌↔◌, length, true, false, IsErrOf, IfOk, IfErr, OnOk, OnErr, Err};
-ghost use Rattle.session_core.specs.Outgoing.{unsent_by, get_code, block_response, continued_response, continued};
+ghost use Rattle.session_core.specs.Outgoing.{unsent_by, get_code, block_response, continued_response, transfer_after_next};
 ghost use Rattle.session_core.specs.Standard.{block_header, greatest_raw};
 ghost use Rattle.session_core.specs.declared.answer.Answer.TheVariants.{Service};
 ghost use Rattle.xdlms_blocks.specs.Limits.{max_blocks};
@@ -73,7 +73,7 @@ fn code(fault: BlockFault) -> ResultCode
 
 // Returns the answer to a GET-next, which names the block last received. If out of memory, nothing
 // has changed.
-#[tactic(auto, unfolding(crate::specs::Outgoing::continued_response, crate::specs::Outgoing::continued))]
+#[tactic(auto, unfolding(crate::specs::Outgoing::continued_response, crate::specs::Outgoing::transfer_after_next))]
 pub(crate) fn continue_by(
     transfer: &mut Option<Outgoing>,
     alloc: Global,
@@ -84,7 +84,7 @@ pub(crate) fn continue_by(
     ensures to { IfOk result (λ due. due.to ≡ to) }
     ensures answer { IfOk result (λ due. due.answer
         ≡ Service (continued_response id number transfer.old)) }
-    ensures after { OnOk result (transfer.new ≡ continued number transfer.old) }
+    ensures after { OnOk result (transfer.new ≡ transfer_after_next number transfer.old) }
     ensures err { OnErr result (transfer.new ≡ transfer.old) }
 {
     let Some(outgoing) = transfer else {

@@ -1,6 +1,6 @@
 ghost use Rattle.std.specs.Prelude.{◌≡◌, ◌≤◌, ◌<◌, ◌*◌, ◌-◌, None, length, option_and_then, true, IfOk, IfErr, OnOk, OnErr};
 ghost use Rattle.session_core.specs.Answers.{answer_text, due_text, way_text, IsSmall};
-ghost use Rattle.session_core.specs.Outgoing.{sent, unsent_by, can_go_in_blocks, long_response, long_text, response_in_blocks, text_in_blocks, block_response, code_response, reply_code, reply_response, answer_cut, reply_in, outgoing_by};
+ghost use Rattle.session_core.specs.Outgoing.{transfer_after, unsent_by, can_go_in_blocks, long_response, long_text, response_in_blocks, text_in_blocks, block_response, code_response, reply_code, reply_response, answer_with_header, reply_in, outgoing_by};
 ghost use Rattle.session_core.specs.Rules.{asks_value, reply_text};
 ghost use Rattle.session_core.specs.Standard.{block_header};
 ghost use Rattle.session_core.specs.declared.answer.Answer.TheVariants.{Service};
@@ -117,10 +117,10 @@ fn answer_value(
     ensures text { IfOk result (λ text. text
         ≡ due_text link.source
         (answer_text (Service
-        (long_response link (answer_cut id (Response.Get id (GetResult.Value value.now)) 4))))) }
+        (long_response link (answer_with_header id (Response.Get id (GetResult.Value value.now)) 4))))) }
     ensures outgoing { OnOk result (outgoing.new
-        ≡ option_and_then (sent 1)
-        (long_text link (answer_cut id (Response.Get id (GetResult.Value value.now)) 4))) }
+        ≡ option_and_then (transfer_after 1)
+        (long_text link (answer_with_header id (Response.Get id (GetResult.Value value.now)) 4))) }
     ensures err { OnErr result (outgoing.new ≡ outgoing.old) }
 {
     let text = Way::Framed.write_value(alloc, id, value)?;
@@ -148,9 +148,9 @@ fn answer_values(
     requires { header ≤ 4 }
     ensures text { IfOk result (λ answered. answered.text
         ≡ way_text way link.source
-        (answer_text (Service (long_response link (answer_cut id normal header))))) }
+        (answer_text (Service (long_response link (answer_with_header id normal header))))) }
     ensures outgoing { IfOk result (λ answered. answered.outgoing
-        ≡ option_and_then (sent 1) (long_text link (answer_cut id normal header))) }
+        ≡ option_and_then (transfer_after 1) (long_text link (answer_with_header id normal header))) }
     ensures err { IfErr result (λ failed. failed.1 ≡ reply_in normal) }
 {
     match answer_long(alloc, link, way, id, &normal, header) {
@@ -263,9 +263,9 @@ fn answer_long(
     requires { header ≤ 4 }
     ensures text { IfOk result (λ answered. answered.text
         ≡ way_text way link.source
-        (answer_text (Service (long_response link (answer_cut id normal.now header))))) }
+        (answer_text (Service (long_response link (answer_with_header id normal.now header))))) }
     ensures outgoing { IfOk result (λ answered. answered.outgoing
-        ≡ option_and_then (sent 1) (long_text link (answer_cut id normal.now header))) }
+        ≡ option_and_then (transfer_after 1) (long_text link (answer_with_header id normal.now header))) }
 {
     let text = way.write(alloc, normal)?;
     if way.payload(&text).len() <= usize::from(link.limit.bytes()) {
@@ -293,7 +293,7 @@ fn answer_in_blocks(
     ensures text { IfOk result (λ answered. answered.text
         ≡ way_text way link.source (answer_text (Service (response_in_blocks link id raw.now)))) }
     ensures outgoing { IfOk result (λ answered. answered.outgoing
-        ≡ option_and_then (sent 1) (text_in_blocks link raw.now)) }
+        ≡ option_and_then (transfer_after 1) (text_in_blocks link raw.now)) }
 {
     if can_go_in_blocks(link, raw) {
         return begin(alloc, link, way, id, Octets::from_slice(alloc, raw)?);
@@ -329,7 +329,7 @@ fn begin(
         ≡ way_text way link.source
         (answer_text (Service (block_response id (next_piece (unsent_by link.limit raw)))))) }
     ensures outgoing { IfOk result (λ answered. answered.outgoing
-        ≡ sent 1 (unsent_by link.limit raw)) }
+        ≡ transfer_after 1 (unsent_by link.limit raw)) }
 {
     let mut outgoing = Outgoing::new(raw, link.limit);
     match give_first(alloc, link, way, id, &mut outgoing) {

@@ -42,7 +42,7 @@ impl Debug for Session {
 }
 
 impl Session {
-    ghost use Rattle.session_core.specs.Remaining.{is_asking, is_asking_value, ended, is_finished, is_idle, load};
+    ghost use Rattle.session_core.specs.Remaining.{is_asking, is_asking_value, reported_end, is_finished, is_idle, load};
     ghost use Rattle.session_core.specs.Progress.{Owes, IsQuiet, Feeds, Finishes, StepsBy, Leaves, Takes, AnswersBy, AsksFor, WorksBy, task_by, next_by};
 
     /// Makes a session before its first byte. `password` is the management client's, 1 to 32 bytes.
@@ -68,7 +68,7 @@ impl Session {
         ensures ok { OnOk result (Feeds self.old bytes.now self.new) }
         ensures err { OnErr result (self.new ≡ self.old) }
         ensures finished { is_finished self.old ≡ true → IsOk result × (self.new ≡ self.old) }
-        ensures over { IfSome (ended self.old) (λ end. IsOk result × (self.new ≡ self.old)) }
+        ensures over { IfSome (reported_end self.old) (λ end. IsOk result × (self.new ≡ self.old)) }
     {
         if self.is_finished {
             return Ok(());
@@ -112,7 +112,7 @@ impl Session {
         // While a reply is awaited, and once the session is over, `next` returns the same again.
         ensures waits { is_asking self.old ≡ true → (result ≡ Ok Next.Wait)
             × (self.new ≡ self.old) }
-        ensures again { (end : SessionEnd) → ended self.old ≡ Some end
+        ensures again { (end : SessionEnd) → reported_end self.old ≡ Some end
             → (result ≡ Ok (Next.End end)) × (self.new ≡ self.old) }
         // If out of memory, no reply is awaited, and the load is no greater than before.
         ensures silent { OnErr result (is_asking self.new ≡ false) }
@@ -194,9 +194,9 @@ impl Session {
     }
 
     // Returns the end that was reported, if the session is over.
-    #[tactic(auto, unfolding(crate::specs::Remaining::ended))]
-    fn ended(&self) -> Option<SessionEnd>
-        ensures { result ≡ ended self.now }
+    #[tactic(auto, unfolding(crate::specs::Remaining::reported_end))]
+    fn reported_end(&self) -> Option<SessionEnd>
+        ensures { result ≡ reported_end self.now }
     {
         match &self.task {
             SessionTask::Over(end) => Some(*end),

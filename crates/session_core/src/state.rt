@@ -34,9 +34,9 @@ pub(crate) struct State {
 }
 
 impl State {
-    ghost use Rattle.session_core.specs.Rules.{heard_frame, outcome_at, state_after, state_by_call, step_outcome, resolved, call_turn, request_turn, HearsGet};
+    ghost use Rattle.session_core.specs.Rules.{heard_frame, outcome_at, state_after, state_by_call, step_outcome, outcome_of_turn, call_turn, request_turn, HearsGet};
     ghost use Rattle.session_core.specs.Outcome.{asks, says};
-    ghost use Rattle.session_core.specs.Outgoing.{continued, continued_response};
+    ghost use Rattle.session_core.specs.Outgoing.{transfer_after_next, continued_response};
 
     // Returns the state of a new session: no association and no transfer.
     pub(crate) fn new() -> State
@@ -134,7 +134,7 @@ impl State {
         payload: &[u8],
     ) -> Result<TurnStep, AllocError>
         ensures outcome { IfOk result (λ step. step_outcome step
-            ≡ resolved self.old.outgoing
+            ≡ outcome_of_turn self.old.outgoing
             (call_turn link self.old.incoming (call_of link.conformance.0 payload.now))) }
         ensures after { OnOk result (self.new
             ≡ state_by_call link (call_of link.conformance.0 payload.now) self.old) }
@@ -157,7 +157,7 @@ impl State {
     // Handles a request for a service.
     fn serve(&mut self, alloc: Global, link: Link, request: Request) -> Result<TurnStep, AllocError>
         ensures outcome { IfOk result (λ step. step_outcome step
-            ≡ resolved self.old.outgoing (request_turn link self.old.incoming request)) }
+            ≡ outcome_of_turn self.old.outgoing (request_turn link self.old.incoming request)) }
         ensures after { OnOk result (self.new
             ≡ state_by_call link (Call.Service request) self.old) }
         ensures err { OnErr result (self.new ≡ self.old) }
@@ -226,7 +226,7 @@ impl State {
             ≡ record {
               link = self.old.link;
               incoming = None;
-              outgoing = continued number self.old.outgoing;
+              outgoing = transfer_after_next number self.old.outgoing;
             }) }
         ensures err { OnErr result (self.new ≡ self.old) }
     {

@@ -4,7 +4,7 @@ ghost use Rattle.session_core.specs.Answers.{answer_text};
 ghost use Rattle.session_core.specs.Calls.{call_of};
 ghost use Rattle.session_core.specs.Incoming.{whole_outcome};
 ghost use Rattle.session_core.specs.Outgoing.{reply_response};
-ghost use Rattle.session_core.specs.Rules.{call_turn, is_settled, resolved, step_outcome};
+ghost use Rattle.session_core.specs.Rules.{call_turn, is_settled, outcome_of_turn, step_outcome};
 ghost use Rattle.session_core.specs.Unframed.{unframed_of, unframed_outcome, is_unframed};
 ghost use Rattle.session_core.specs.declared.answer.Answer.TheVariants.{Service};
 
@@ -64,7 +64,7 @@ pub fn ask_unframed(alloc: Global, payload: &[u8]) -> Result<Unframed, AllocErro
 // Handles a request that no other precedes.
 fn call_alone(alloc: Global, link: Link, payload: &[u8]) -> Result<TurnStep, AllocError>
     ensures { IfOk result (λ step. step_outcome step
-        ≡ resolved None (call_turn link None (call_of link.conformance.0 payload.now))) }
+        ≡ outcome_of_turn None (call_turn link None (call_of link.conformance.0 payload.now))) }
 {
     let mut state = State::new();
     let step = state.call(alloc, link, payload);

@@ -14,7 +14,7 @@ use Rattle.relay_events.specs.declared.event.Event.{Event}
 use Rattle.relay_events.specs.declared.reply.Reply.{Reply}
 use Rattle.session_core.specs.Backwards.{Asks, Answers, end_of}
 use Rattle.session_core.specs.Progress.{Owes, Feeds, Finishes, Steps, Takes, AnswersBy, IsQuiet, IsAwaiting, IsOver}
-use Rattle.session_core.specs.Remaining.{still_asks, still_sends, still_ends, is_asking, ended, is_finished, end_in, awaits}
+use Rattle.session_core.specs.Remaining.{still_asks, still_sends, still_ends, is_asking, reported_end, is_finished, end_in, awaits}
 use Rattle.session_core.specs.declared.end.SessionEnd.{SessionEnd}
 use Rattle.session_core.specs.declared.session.Session.{Session}
 use Rattle.session_core.specs.declared.task.SessionTask.{SessionTask}
@@ -421,7 +421,7 @@ by_task (task.Over ending) end over = refl
 
 -- a session that is over awaits no reply
 silent_over : (s : Session) (end : SessionEnd) → IsOver end s → is_asking s ≡ false
-unfolding is_asking ended
+unfolding is_asking reported_end
 silent_over s end over = by_task s.task end over.over
 
 module _ {M : Type 0} (steps : M → Event → Result Reply CallFault → M → Type 0) (written_as : List ℕ → List ℕ) where

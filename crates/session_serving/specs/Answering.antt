@@ -16,8 +16,8 @@ pub record Answered : Type 0 where
   pub text : List ℕ
 
 -- the answer to the reply to an event
-abbrev pub replied : Asked → Stepped → Answered
-replied asked stepped =
+abbrev pub answer_to_reply : Asked → Stepped → Answered
+answer_to_reply asked stepped =
     record {
       world = stepped.world;
       text = answer_text (Service (reply_response asked stepped.reply));
@@ -25,9 +25,9 @@ replied asked stepped =
 
 -- the answer to a request, by its outcome
 abbrev pub answer_by : Outcome → World → Answered
-answer_by (asks event asked) w = replied asked (at_event event w)
+answer_by (asks event asked) w = answer_to_reply asked (at_event event w)
 answer_by (says to answer) w = record { world = w; text = answer_text answer }
 
 -- the answer to a payload
-unfoldable pub answered : List ℕ → World → Answered
-answered payload w = answer_by (unframed_outcome payload) w
+unfoldable pub answer_to_payload : List ℕ → World → Answered
+answer_to_payload payload w = answer_by (unframed_outcome payload) w

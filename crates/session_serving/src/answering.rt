@@ -3,7 +3,7 @@ ghost use Rattle.relay_core.specs.Machine.{at_event};
 ghost use Rattle.relay_events.specs.Kinds.{is_read};
 ghost use Rattle.relay_core.specs.World.{World};
 ghost use Rattle.relay_core.specs.Stands.{StandsFor};
-ghost use Rattle.session_serving.specs.Answering.{answered, replied};
+ghost use Rattle.session_serving.specs.Answering.{answer_to_payload, answer_to_reply};
 
 use cosem_axdr::Octets;
 use relay_core::RelayCore;
@@ -19,16 +19,16 @@ use std::alloc::{AllocError, Global};
 /// can't be read (IEC 62056-5-3).
 ///
 /// Where memory runs out the core is as it was, as though the request had not come.
-#[tactic(auto, unfolding(crate::specs::Answering::answered))]
+#[tactic(auto, unfolding(crate::specs::Answering::answer_to_payload))]
 pub fn answer_apdu(
     alloc: Global,
     core: &mut RelayCore,
     payload: &[u8],
 ) -> Result<Octets, AllocError>
     ensures world { OnOk result ((w : World) → StandsFor core.old w
-        → StandsFor core.new (answered payload.now w).world) }
+        → StandsFor core.new (answer_to_payload payload.now w).world) }
     ensures text { IfOk result (λ text. (w : World) → StandsFor core.old w
-        → text ≡ (answered payload.now w).text) }
+        → text ≡ (answer_to_payload payload.now w).text) }
     ensures err { OnErr result (core.new ≡ core.old) }
 {
     match ask_unframed(alloc, payload)? {
@@ -53,7 +53,7 @@ fn answer(
     ensures world { OnOk result ((w : World) → StandsFor core.old w
         → StandsFor core.new (at_event event.now w).world) }
     ensures text { IfOk result (λ text. (w : World) → StandsFor core.old w
-        → text ≡ (replied asked (at_event event.now w)).text) }
+        → text ≡ (answer_to_reply asked (at_event event.now w)).text) }
     ensures read { IsTrue (is_read event.now) → core.new ≡ core.old }
 {
     let reply = core.step(alloc, event)?;
@@ -73,7 +73,7 @@ fn answer_or_stay(
     ensures world { OnOk result ((w : World) → StandsFor core.old w
         → StandsFor core.new (at_event event.now w).world) }
     ensures text { IfOk result (λ text. (w : World) → StandsFor core.old w
-        → text ≡ (replied asked (at_event event.now w)).text) }
+        → text ≡ (answer_to_reply asked (at_event event.now w)).text) }
     ensures err { OnErr result (core.new ≡ core.old) }
 {
     let prepared = PreparedAnswer::new(alloc, asked)?;

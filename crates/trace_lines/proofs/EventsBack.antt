@@ -21,7 +21,7 @@ use Rattle.trace_words.proofs.WordsBack.{IsWrittenBack, AreWrittenBack, number_b
 use Rattle.trace_lines.specs.Events.{get_from, get_list_from, set_from, execute_from, samples_from, pairs_from, moment_from, event_from, event_of, max_events, events_from}
 use Rattle.trace_words.specs.Reading.{number_in, flag_in, data_in, value_in, next_as, last_as, bytes_in}
 use Rattle.trace_lines.specs.Reading.{level_in, name_in, parameter_in, attribute_from, method_at, selection_from, selection_at, value_from, pair_from}
-use Rattle.trace_words.specs.Rows.{Word, Row, ended, all_at}
+use Rattle.trace_words.specs.Rows.{Word, Row, if_last, all_at}
 use Rattle.trace_lines.specs.Verbs.{verb_word, is_word_of, verb_in}
 use Rattle.trace_lines.specs.Writing.{level_number, attribute_words, method_words, selection_words, parameter_word, pairs_words, event_words, event_row}
 use Rattle.trace_words.specs.Writing.{flag_number, all_words, data_word, value_words}
@@ -210,7 +210,7 @@ execute_back words event e =
     ∙ ap (method_words method.0.0) (last_back (Option Data) parameter_in parameter_word parameter_back method.0.1 parameter.0 parameter.1)))
     ∙ ap event_row (ok_is (Execute level.0.0 method.0.0 parameter.0) event parameter.2)
 
-button_back : IsLineBack OfButton (λ words. ended words Button)
+button_back : IsLineBack OfButton (λ words. if_last words Button)
 unfolding event_words
 button_back words event e =
     let end = ended_back Event words Button event e in

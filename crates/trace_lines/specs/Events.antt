@@ -9,7 +9,7 @@ use Rattle.relay_events.specs.declared.event.Event.{Event}
 use Rattle.relay_events.specs.declared.event.Event.TheVariants.{Get, GetList, Set, Execute, Button, Samples, Moment}
 use Rattle.trace_words.specs.Reading.{number_in, data_in, next_as, last_as}
 use Rattle.trace_lines.specs.Reading.{level_in, parameter_in, method_at, selection_from, selection_at, value_from, pair_from}
-use Rattle.trace_words.specs.Rows.{Row, ended, word_at, all_at}
+use Rattle.trace_words.specs.Rows.{Row, if_last, word_at, all_at}
 use Rattle.trace_lines.specs.Verbs.{verb_in}
 use Rattle.trace_words.specs.declared.fault.RowFault.{RowFault}
 use Rattle.trace_words.specs.declared.fault.RowFault.TheVariants.{Wrong}
@@ -17,7 +17,7 @@ use Rattle.trace_lines.specs.declared.verb.EventWord.{EventWord}
 use Rattle.trace_lines.specs.declared.verb.EventWord.TheVariants.{OfGet, OfGetList, OfSet, OfExecute, OfButton, OfSamples, OfPairs, OfMoment}
 use Rattle.trace_words.specs.declared.version.Version.{Version}
 use Rattle.trace_words.specs.declared.version.Version.TheVariants.{One, Two}
-use Rattle.trace_words.specs.Labels.{labelled}
+use Rattle.trace_words.specs.Labels.{labelled_value}
 
 -- the maximum number of events of a trace
 abbrev pub max_events : ℕ
@@ -25,14 +25,14 @@ max_events = 65536
 
 -- the number of events
 abbrev pub events_from : Row → Result ℕ RowFault
-events_from row = labelled (codes "events") (number_in max_events) row
+events_from row = labelled_value (codes "events") (number_in max_events) row
 
 -- level, class, name, number, selected
 unfoldable pub get_from : Row → Result Event RowFault
 get_from words = do
   level ← next_as level_in words
   item ← selection_at level.1
-  ended item.1 (Get level.0 item.0.attr item.0.selected)
+  if_last item.1 (Get level.0 item.0.attr item.0.selected)
 
 -- level, the number of attributes (up to 102), and for each of them class, name, number, selected
 unfoldable pub get_list_from : Row → Result Event RowFault
@@ -83,7 +83,7 @@ event_from version OfGet words = get_from words
 event_from version OfGetList words = get_list_from words
 event_from version OfSet words = set_from words
 event_from version OfExecute words = execute_from words
-event_from version OfButton words = ended words Button
+event_from version OfButton words = if_last words Button
 event_from version OfSamples words = samples_from words
 event_from One OfPairs words = Err Wrong
 event_from Two OfPairs words = pairs_from words

@@ -8,7 +8,7 @@ use Rattle.relay_events.specs.declared.reply.Line.{Line}
 use Rattle.relay_events.specs.declared.reply.Reply.{Reply}
 use Rattle.relay_events.specs.declared.reply.Reply.TheVariants.{Value, Values, Code, Sampled, SampledBoth, Ran, Stale}
 use Rattle.trace_words.specs.Rows.{Row}
-use Rattle.trace_words.specs.Writing.{data_word, blanked, all_words}
+use Rattle.trace_words.specs.Writing.{data_word, words_after_blanks, all_words}
 
 -- the result of reading one attribute of a list, before other words
 abbrev pub result_words : GetResult → Row → Row
@@ -34,5 +34,5 @@ supply_text false = codes "off"
 -- the number of an event, the reply to it, and the switch after it
 unfoldable pub line_text : ℕ → Line → List ℕ
 line_text number line =
-    decimal number ++ codes ":" ++ blanked (reply_row line.reply) ++ codes "; state "
+    decimal number ++ codes ":" ++ words_after_blanks (reply_row line.reply) ++ codes "; state "
     ++ decimal (state_number line.state) ++ codes "; supply " ++ supply_text line.output

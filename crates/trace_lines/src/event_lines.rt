@@ -1,6 +1,6 @@
 ghost use Rattle.std.specs.Prelude.{◌≡◌, ◌++◌, ◌∷◌, [], OnOk, OnErr, decimal};
 ghost use Rattle.trace_text.specs.Words.{line_of};
-ghost use Rattle.trace_words.specs.Writing.{blanked, flag_number};
+ghost use Rattle.trace_words.specs.Writing.{words_after_blanks, flag_number};
 ghost use Rattle.trace_lines.specs.Writing.{attribute_words, level_number, kind_of, event_words, event_row, samples_kind, samples_words};
 
 use crate::verb::EventWord;
@@ -42,7 +42,7 @@ fn kind_of(event: &Event) -> EventWord
 // Appends the samples of a block.
 fn add_block(out: &mut Vec<u8>, block: &Block) -> Result<(), AllocError>
     ensures { OnOk result (out.new.items ≡ out.old.items
-        ++ blanked (samples_words block.now.import block.now.export)) }
+        ++ words_after_blanks (samples_words block.now.import block.now.export)) }
 {
     match block.export() {
         Some(exports) => add_pairs(out, block.values(), exports),
@@ -60,7 +60,7 @@ fn add_asked(
     selected: bool,
 ) -> Result<(), AllocError>
     ensures { OnOk result (out.new.items ≡ out.old.items
-        ++ blanked (decimal (level_number level)
+        ++ words_after_blanks (decimal (level_number level)
         ∷ attribute_words attr.now (decimal (flag_number selected) ∷ []))) }
 {
     add_level(out, level)?;
@@ -71,7 +71,7 @@ fn add_asked(
 // Appends the words after the first one.
 #[tactic(auto, unfolding(crate::specs::Writing::event_words))]
 fn add_words(alloc: Global, out: &mut Vec<u8>, event: &Event) -> Result<(), AllocError>
-    ensures { OnOk result (out.new.items ≡ out.old.items ++ blanked (event_words event.now)) }
+    ensures { OnOk result (out.new.items ≡ out.old.items ++ words_after_blanks (event_words event.now)) }
 {
     match event {
         Event::Get {

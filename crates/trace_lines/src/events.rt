@@ -4,7 +4,7 @@ ghost use Rattle.trace_text.specs.Words.{words_of};
 ghost use Rattle.trace_lines.specs.Events.{get_from, get_list_from, set_from, execute_from, samples_from, pairs_from, moment_from, event_from, event_of};
 ghost use Rattle.trace_lines.specs.Reading.{level_in, parameter_in};
 ghost use Rattle.trace_words.specs.Reading.{next_as, number_in};
-ghost use Rattle.trace_words.specs.Rows.{Reads, ended};
+ghost use Rattle.trace_words.specs.Rows.{Reads, if_last};
 ghost use Rattle.trace_words.specs.declared.fault.RowFault.TheVariants.{Memory};
 
 use crate::items::{next_method, next_selection, selections};
@@ -18,7 +18,7 @@ use listed::Listed;
 use relay_events::Event;
 use std::alloc::{AllocError, Global};
 use trace_text::Words;
-use trace_words::{RowFault, Version, data_in, ended, last_word, next_word, number_in};
+use trace_words::{RowFault, Version, data_in, if_last, last_word, next_word, number_in};
 
 // Reads the next word as the port of a client.
 fn next_level(words: &mut Words) -> Result<Level, RowFault>
@@ -33,7 +33,7 @@ fn get(alloc: Global, words: &mut Words) -> Result<Event, RowFault>
 {
     let level = next_level(words)?;
     let item = next_selection(alloc, words)?;
-    ended(words)?;
+    if_last(words)?;
     Ok(Event::Get {
         level,
         attr: item.attr,
@@ -157,7 +157,7 @@ fn event_from(
         EventWord::OfSet => set(alloc, words),
         EventWord::OfExecute => execute(alloc, words),
         EventWord::OfButton => {
-            ended(words)?;
+            if_last(words)?;
             Ok(Event::Button)
         }
         EventWord::OfSamples => samples(alloc, words),

@@ -2,7 +2,7 @@ ghost use Rattle.std.specs.Prelude.{◌≡◌, ◌++◌, ◌∷◌, [], codes, d
 ghost use Rattle.cosem_names.specs.ResultCode.{code_of};
 ghost use Rattle.disconnect_control.specs.Transitions.{state_number};
 ghost use Rattle.trace_lines.specs.Replies.{result_words, reply_row, line_text};
-ghost use Rattle.trace_words.specs.Writing.{data_word, blanked, all_words};
+ghost use Rattle.trace_words.specs.Writing.{data_word, words_after_blanks, all_words};
 
 use cosem_axdr::Data;
 use cosem_names::{GetResult, ResultCode};
@@ -15,7 +15,7 @@ use trace_words::add_data;
 // Appends a word and a number.
 fn add_named(out: &mut Vec<u8>, name: &[u8], number: u64) -> Result<(), AllocError>
     ensures { OnOk result (out.new.items ≡ out.old.items
-        ++ blanked (name.now ∷ decimal number ∷ [])) }
+        ++ words_after_blanks (name.now ∷ decimal number ∷ [])) }
 {
     add_word(out, name)?;
     add_number(out, number)
@@ -24,7 +24,7 @@ fn add_named(out: &mut Vec<u8>, name: &[u8], number: u64) -> Result<(), AllocErr
 // Appends the code of a result.
 fn add_code(out: &mut Vec<u8>, code: ResultCode) -> Result<(), AllocError>
     ensures { OnOk result (out.new.items ≡ out.old.items
-        ++ blanked (codes "code" ∷ decimal (code_of code) ∷ [])) }
+        ++ words_after_blanks (codes "code" ∷ decimal (code_of code) ∷ [])) }
 {
     add_named(out, b"code", u64::from(code.code()))
 }
@@ -32,7 +32,7 @@ fn add_code(out: &mut Vec<u8>, code: ResultCode) -> Result<(), AllocError>
 // Appends the encoding of a value.
 fn add_value(alloc: Global, out: &mut Vec<u8>, value: &Data) -> Result<(), AllocError>
     ensures { OnOk result (out.new.items ≡ out.old.items
-        ++ blanked (codes "value" ∷ data_word value.now ∷ [])) }
+        ++ words_after_blanks (codes "value" ∷ data_word value.now ∷ [])) }
 {
     add_word(out, b"value")?;
     add_data(alloc, out, value)
@@ -40,7 +40,7 @@ fn add_value(alloc: Global, out: &mut Vec<u8>, value: &Data) -> Result<(), Alloc
 
 // Appends the result of reading one attribute of a list.
 fn add_result(alloc: Global, out: &mut Vec<u8>, item: &GetResult) -> Result<(), AllocError>
-    ensures { OnOk result (out.new.items ≡ out.old.items ++ blanked (result_words item.now [])) }
+    ensures { OnOk result (out.new.items ≡ out.old.items ++ words_after_blanks (result_words item.now [])) }
 {
     match item {
         GetResult::Value(value) => add_value(alloc, out, value),
@@ -51,7 +51,7 @@ fn add_result(alloc: Global, out: &mut Vec<u8>, item: &GetResult) -> Result<(), 
 // Appends the results of reading the attributes of a list.
 fn add_results(alloc: Global, out: &mut Vec<u8>, items: &[GetResult]) -> Result<(), AllocError>
     ensures { OnOk result (out.new.items ≡ out.old.items
-        ++ blanked (all_words result_words items.now)) }
+        ++ words_after_blanks (all_words result_words items.now)) }
 {
     for item in items {
         add_result(alloc, out, item)?;
@@ -62,7 +62,7 @@ fn add_results(alloc: Global, out: &mut Vec<u8>, items: &[GetResult]) -> Result<
 // Appends how many times each side of the import limiter has fired.
 fn add_sampled(out: &mut Vec<u8>, over: u64, under: u64) -> Result<(), AllocError>
     ensures { OnOk result (out.new.items ≡ out.old.items
-        ++ blanked (codes "sampled" ∷ decimal over ∷ decimal under ∷ [])) }
+        ++ words_after_blanks (codes "sampled" ∷ decimal over ∷ decimal under ∷ [])) }
 {
     add_named(out, b"sampled", over)?;
     add_number(out, under)
@@ -78,7 +78,7 @@ fn add_sampled_both(
     export_under: u64,
 ) -> Result<(), AllocError>
     ensures { OnOk result (out.new.items ≡ out.old.items
-        ++ blanked (codes "sampled" ∷ decimal over ∷ decimal under ∷ decimal export_over
+        ++ words_after_blanks (codes "sampled" ∷ decimal over ∷ decimal under ∷ decimal export_over
         ∷ decimal export_under ∷ [])) }
 {
     add_sampled(out, over, under)?;
@@ -89,7 +89,7 @@ fn add_sampled_both(
 // Appends a reply.
 #[tactic(auto, unfolding(crate::specs::Replies::reply_row))]
 fn add_reply(alloc: Global, out: &mut Vec<u8>, reply: &Reply) -> Result<(), AllocError>
-    ensures { OnOk result (out.new.items ≡ out.old.items ++ blanked (reply_row reply.now)) }
+    ensures { OnOk result (out.new.items ≡ out.old.items ++ words_after_blanks (reply_row reply.now)) }
 {
     match reply {
         Reply::Value(value) => add_value(alloc, out, value),

@@ -1,5 +1,5 @@
 ghost use Rattle.std.specs.Prelude.{◌≡◌, ◌++◌, ◌∷◌, [], OnOk, decimal, length};
-ghost use Rattle.trace_words.specs.Writing.{blanked, all_words, value_words};
+ghost use Rattle.trace_words.specs.Writing.{words_after_blanks, all_words, value_words};
 ghost use Rattle.trace_lines.specs.Writing.{attribute_words, method_words, selection_words, pairs_words, level_number, parameter_word};
 
 use cosem_axdr::Data;
@@ -11,7 +11,7 @@ use trace_words::{add_data, add_flag};
 // Appends the port of a client.
 pub(crate) fn add_level(out: &mut Vec<u8>, level: Level) -> Result<(), AllocError>
     ensures { OnOk result (out.new.items ≡ out.old.items
-        ++ blanked (decimal (level_number level) ∷ [])) }
+        ++ words_after_blanks (decimal (level_number level) ∷ [])) }
 {
     add_number(
         out,
@@ -28,7 +28,7 @@ pub(crate) fn add_attribute(
     out: &mut Vec<u8>,
     attr: &AttrRef,
 ) -> Result<(), AllocError>
-    ensures { OnOk result (out.new.items ≡ out.old.items ++ blanked (attribute_words attr.now [])) }
+    ensures { OnOk result (out.new.items ≡ out.old.items ++ words_after_blanks (attribute_words attr.now [])) }
 {
     add_number(out, u64::from(attr.class.0))?;
     add_hex(alloc, out, attr.name.0.as_slice())?;
@@ -41,7 +41,7 @@ pub(crate) fn add_method(
     out: &mut Vec<u8>,
     method: &MethodRef,
 ) -> Result<(), AllocError>
-    ensures { OnOk result (out.new.items ≡ out.old.items ++ blanked (method_words method.now [])) }
+    ensures { OnOk result (out.new.items ≡ out.old.items ++ words_after_blanks (method_words method.now [])) }
 {
     add_number(out, u64::from(method.class.0))?;
     add_hex(alloc, out, method.name.0.as_slice())?;
@@ -54,7 +54,7 @@ fn add_selection(
     out: &mut Vec<u8>,
     item: &AttributeSelection,
 ) -> Result<(), AllocError>
-    ensures { OnOk result (out.new.items ≡ out.old.items ++ blanked (selection_words item.now [])) }
+    ensures { OnOk result (out.new.items ≡ out.old.items ++ words_after_blanks (selection_words item.now [])) }
 {
     add_attribute(alloc, out, &item.attr)?;
     add_flag(out, item.selected)
@@ -67,7 +67,7 @@ pub(crate) fn add_selections(
     items: &[AttributeSelection],
 ) -> Result<(), AllocError>
     ensures { OnOk result (out.new.items ≡ out.old.items
-        ++ blanked (all_words selection_words items.now)) }
+        ++ words_after_blanks (all_words selection_words items.now)) }
 {
     for item in items {
         add_selection(alloc, out, item)?;
@@ -82,7 +82,7 @@ pub(crate) fn add_parameter(
     parameter: &Option<Data>,
 ) -> Result<(), AllocError>
     ensures { OnOk result (out.new.items ≡ out.old.items
-        ++ blanked (parameter_word parameter.now ∷ [])) }
+        ++ words_after_blanks (parameter_word parameter.now ∷ [])) }
 {
     match parameter {
         Some(value) => add_data(alloc, out, value),
@@ -93,7 +93,7 @@ pub(crate) fn add_parameter(
 // Appends samples.
 pub(crate) fn add_values(out: &mut Vec<u8>, values: &[u32]) -> Result<(), AllocError>
     ensures { OnOk result (out.new.items ≡ out.old.items
-        ++ blanked (all_words value_words values.now)) }
+        ++ words_after_blanks (all_words value_words values.now)) }
 {
     for value in values {
         add_number(out, u64::from(*value))?;
@@ -109,7 +109,7 @@ pub(crate) fn add_pairs(
 ) -> Result<(), AllocError>
     requires { length imports.now ≡ length exports.now }
     ensures { OnOk result (out.new.items ≡ out.old.items
-        ++ blanked (pairs_words imports.now exports.now)) }
+        ++ words_after_blanks (pairs_words imports.now exports.now)) }
 {
     for i in 0..imports.len() {
         add_number(out, u64::from(imports[i]))?;

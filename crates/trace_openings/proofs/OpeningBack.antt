@@ -18,7 +18,7 @@ use Rattle.trace_words.proofs.LabelsBack.{labelled_read}
 use Rattle.trace_openings.proofs.OpeningFieldsBack.{version_back, device_line_back, state_line_back, mode_line_back, moment_line_back, schedule_read, value_back}
 use Rattle.trace_openings.proofs.OpeningWordsBack.{version_number, table_read}
 use Rattle.trace_openings.specs.OpeningFields.{label, version_from, device_in, state_in, mode_in, moment_in, table_in, schedule_from}
-use Rattle.trace_words.specs.Labels.{labelled, number_row}
+use Rattle.trace_words.specs.Labels.{labelled_value, number_row}
 use Rattle.trace_openings.specs.OpeningForms.{Forms, AreFormsOf, written_forms, entries_row, rows_with}
 use Rattle.trace_openings.specs.OpeningReading.{value_line, limiter_from, export_from, schedules_from, opening_with, opening_in, opening_from}
 use Rattle.trace_openings.specs.OpeningRows.{moment_word, value_row, limiter_rows, opening_rows}
@@ -38,9 +38,9 @@ record TableRead (scripts : List Script) (place behind : Place) : Type 0 where
   pub says : table_of form ≡ Ok scripts
   pub took : Took ((codes "scripts" ∷ data_word form ∷ []) ∷ []) place behind
 
-table_back : (place : Place) (scripts : List Script) (behind : Place) → line_as (labelled (codes "scripts") table_in) place ≡ Ok (scripts, behind) → TableRead scripts place behind
+table_back : (place : Place) (scripts : List Script) (behind : Place) → line_as (labelled_value (codes "scripts") table_in) place ≡ Ok (scripts, behind) → TableRead scripts place behind
 table_back place scripts behind e =
-    let line = line_read (List Script) (labelled (codes "scripts") table_in) place scripts behind e in
+    let line = line_read (List Script) (labelled_value (codes "scripts") table_in) place scripts behind e in
     let word = labelled_read (List Script) (codes "scripts") table_in line.row scripts line.read in
     let form = table_read word.0 scripts word.2 in
     record {
@@ -128,10 +128,10 @@ rest_back : (device : List ℕ) (state : ControlState) (mode : ControlMode) (pla
 unfolding opening_with
 rest_back device state mode place o behind e =
     let last = bind_ok (value_line Import place) _ (o, behind) e in
-    let moment = bind_ok (line_as (labelled (codes "now") moment_in) last.0.1) _ (o, behind) last.2 in
+    let moment = bind_ok (line_as (labelled_value (codes "now") moment_in) last.0.1) _ (o, behind) last.2 in
     let import = bind_ok (limiter_from Import last.0.0 moment.0.1) _ (o, behind) moment.2 in
     let export = bind_ok (export_from Two import.0.1) _ (o, behind) import.2 in
-    let scripts = bind_ok (line_as (labelled (codes "scripts") table_in) export.0.1) _ (o, behind) export.2 in
+    let scripts = bind_ok (line_as (labelled_value (codes "scripts") table_in) export.0.1) _ (o, behind) export.2 in
     let schedules = bind_ok (schedules_from scripts.0.1) _ (o, behind) scripts.2 in
     let limiter = limiter_back Import last.0.0 moment.0.1 import.0.0 import.0.1 import.1 in
     let table = table_back export.0.1 scripts.0.0 scripts.0.1 scripts.1 in
@@ -146,7 +146,7 @@ rest_back device state mode place o behind e =
       took =
           then _ _ place last.0.1 schedules.0.1
           (subst (λ (n : ℕ). Took (number_row (label Import (codes "value")) n ∷ []) place last.0.1) limiter.1 (value_back Import (codes "value") place last.0.0 last.0.1 last.1)) (
-          then _ _ last.0.1 moment.0.1 schedules.0.1 (line_back _ (labelled (codes "now") moment_in) (λ m. codes "now" ∷ moment_word m ∷ []) moment_line_back last.0.1 moment.0.0 moment.0.1 moment.1) (
+          then _ _ last.0.1 moment.0.1 schedules.0.1 (line_back _ (labelled_value (codes "now") moment_in) (λ m. codes "now" ∷ moment_word m ∷ []) moment_line_back last.0.1 moment.0.0 moment.0.1 moment.1) (
           then _ _ moment.0.1 import.0.1 schedules.0.1 limiter.0 (
           then _ _ import.0.1 export.0.1 schedules.0.1 (export_back import.0.1 export.0.0 export.0.1 export.1) (
           then _ _ export.0.1 scripts.0.1 schedules.0.1 table.took entries.took))));
@@ -165,14 +165,14 @@ record OpeningRead (o : Opening) (place behind : Place) : Type 0 where
 inner_back : (place : Place) (o : Opening) (behind : Place) → opening_in Two place ≡ Ok (o, behind) → OpeningRead o place behind
 unfolding opening_in
 inner_back place o behind e =
-    let device = bind_ok (line_as (labelled (codes "device") device_in) place) _ (o, behind) e in
-    let state = bind_ok (line_as (labelled (codes "state") state_in) device.0.1) _ (o, behind) device.2 in
-    let mode = bind_ok (line_as (labelled (codes "mode") (mode_in state.0.0)) state.0.1) _ (o, behind) state.2 in
+    let device = bind_ok (line_as (labelled_value (codes "device") device_in) place) _ (o, behind) e in
+    let state = bind_ok (line_as (labelled_value (codes "state") state_in) device.0.1) _ (o, behind) device.2 in
+    let mode = bind_ok (line_as (labelled_value (codes "mode") (mode_in state.0.0)) state.0.1) _ (o, behind) state.2 in
     let rest = rest_back device.0.0 state.0.0 mode.0.0 mode.0.1 o behind mode.2 in
     let switch =
-    then _ _ place device.0.1 mode.0.1 (line_back _ (labelled (codes "device") device_in) (λ d. codes "device" ∷ encode_upper d ∷ []) device_line_back place device.0.0 device.0.1 device.1) (
-    then _ _ device.0.1 state.0.1 mode.0.1 (line_back _ (labelled (codes "state") state_in) (λ s. number_row (codes "state") (state_number s)) state_line_back device.0.1 state.0.0 state.0.1 state.1)
-    (line_back _ (labelled (codes "mode") (mode_in state.0.0)) (λ m. number_row (codes "mode") (mode_number m)) (mode_line_back state.0.0) state.0.1 mode.0.0 mode.0.1 mode.1)) in
+    then _ _ place device.0.1 mode.0.1 (line_back _ (labelled_value (codes "device") device_in) (λ d. codes "device" ∷ encode_upper d ∷ []) device_line_back place device.0.0 device.0.1 device.1) (
+    then _ _ device.0.1 state.0.1 mode.0.1 (line_back _ (labelled_value (codes "state") state_in) (λ s. number_row (codes "state") (state_number s)) state_line_back device.0.1 state.0.0 state.0.1 state.1)
+    (line_back _ (labelled_value (codes "mode") (mode_in state.0.0)) (λ m. number_row (codes "mode") (mode_number m)) (mode_line_back state.0.0) state.0.1 mode.0.0 mode.0.1 mode.1)) in
     let same = same_rows device.0.0 o.device state.0.0 o.state mode.0.0 o.mode rest.device_is rest.state_is rest.mode_is in
     record {
       forms = rest.forms;

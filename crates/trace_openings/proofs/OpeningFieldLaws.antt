@@ -37,7 +37,7 @@ use Rattle.trace_text.specs.Numbers.{is_decimal}
 use Rattle.trace_words.proofs.WordLaws.{number_word_again, flag_again, bytes_word_again, data_word_again, behind_again, labelled_again}
 use Rattle.trace_openings.proofs.OpeningDates.{date_time_is_bytes, date_time_has_bytes}
 use Rattle.trace_openings.proofs.OpeningTables.{mode_small, entries_are_held, scripts_are_held}
-use Rattle.trace_words.specs.Labels.{labelled, number_row}
+use Rattle.trace_words.specs.Labels.{labelled_value, number_row}
 use Rattle.trace_openings.specs.OpeningFields.{label, version_from, device_in, state_in, mode_in, moment_in, start_in, table_in, entries_in, type_in, id_from, profile_from, groups_from, actions_from, count_from, over_from, under_from, schedule_from}
 use Rattle.trace_openings.specs.OpeningRows.{moment_word, count_row, profile_row, groups_row, schedule_row}
 use Rattle.trace_openings.specs.OpeningTraced.{AreIds, IsTracedSchedule, IsTracedScript}
@@ -143,24 +143,24 @@ version_again =
     let read = number_word_again 2 2 (omega arith) (omega arith) in
     rw (first, read) refl
 
-pub device_line_again : (device : List ℕ) → 1 ≤ length device → length device ≤ 16 → IsBytes device → labelled (codes "device") device_in (codes "device" ∷ encode_upper device ∷ []) ≡ Ok device
+pub device_line_again : (device : List ℕ) → 1 ≤ length device → length device ≤ 16 → IsBytes device → labelled_value (codes "device") device_in (codes "device" ∷ encode_upper device ∷ []) ≡ Ok device
 device_line_again device some few are = labelled_again (codes "device") device_in (encode_upper device) device (device_again device some few are)
 
-pub state_line_again : (state : ControlState) → labelled (codes "state") state_in (number_row (codes "state") (state_number state)) ≡ Ok state
+pub state_line_again : (state : ControlState) → labelled_value (codes "state") state_in (number_row (codes "state") (state_number state)) ≡ Ok state
 state_line_again state = labelled_again (codes "state") state_in (decimal (state_number state)) state (state_again state)
 
 pub mode_line_again : (mode : ControlMode) (state : ControlState) → (mode ≡ Mode0 → state ≡ Connected)
-    → labelled (codes "mode") (mode_in state) (number_row (codes "mode") (mode_number mode)) ≡ Ok mode
+    → labelled_value (codes "mode") (mode_in state) (number_row (codes "mode") (mode_number mode)) ≡ Ok mode
 mode_line_again mode state fit = labelled_again (codes "mode") (mode_in state) (decimal (mode_number mode)) mode (mode_again mode state fit)
 
-pub moment_line_again : (moment : Option ℕ) → IfSome moment (λ m. m ≤ 4294967295) → labelled (codes "now") moment_in (codes "now" ∷ moment_word moment ∷ []) ≡ Ok moment
+pub moment_line_again : (moment : Option ℕ) → IfSome moment (λ m. m ≤ 4294967295) → labelled_value (codes "now") moment_in (codes "now" ∷ moment_word moment ∷ []) ≡ Ok moment
 moment_line_again moment le = labelled_again (codes "now") moment_in (moment_word moment) moment (moment_again moment le)
 
-pub value_line_again : (name : Word) (value : ℕ) → value ≤ 4294967295 → labelled name value_in (number_row name value) ≡ Ok value
+pub value_line_again : (name : Word) (value : ℕ) → value ≤ 4294967295 → labelled_value name value_in (number_row name value) ≡ Ok value
 value_line_again name value le = labelled_again name value_in (decimal value) value (number_word_again 4294967295 value le (omega arith))
 
 pub table_line_again : (scripts : List Script) → IsTable scripts → All IsTracedScript scripts
-    → labelled (codes "scripts") table_in (codes "scripts" ∷ data_word (data_of scripts) ∷ []) ≡ Ok scripts
+    → labelled_value (codes "scripts") table_in (codes "scripts" ∷ data_word (data_of scripts) ∷ []) ≡ Ok scripts
 table_line_again scripts fits traced = labelled_again (codes "scripts") table_in (data_word (data_of scripts)) scripts (table_word_again scripts fits traced)
 
 pub profile_again : (which : Which) (profile : Profile) → profile.id ≤ 65535 → IsDateTimeFields profile.start → profile.duration ≤ 4294967295

@@ -20,7 +20,7 @@ use Rattle.limiter_core.specs.declared.count.Count.{Count}
 use Rattle.limiter_core.specs.declared.settings.Actions.{Actions}
 use Rattle.limiter_core.specs.declared.settings.Profile.{Profile}
 use Rattle.trace_words.proofs.WordsBack.{number_back, flag_back, next_back, next_number_back, last_read, last_back, last_number_back, all_back}
-use Rattle.trace_words.specs.Labels.{behind, labelled, number_row}
+use Rattle.trace_words.specs.Labels.{behind, labelled_value, number_row}
 use Rattle.trace_openings.specs.OpeningFields.{label, version_in, device_in, state_in, mode_in, moment_in, start_in, entries_in, type_in, id_from, version_from, profile_from, groups_from, actions_from, count_from, over_from, under_from, schedule_from}
 use Rattle.trace_openings.specs.OpeningForms.{entries_row}
 use Rattle.trace_openings.specs.OpeningRows.{moment_word, count_row, profile_row, groups_row}
@@ -37,19 +37,19 @@ use Rattle.trace_words.proofs.LabelsBack.{behind_back, IsRowBack, labelled_back}
 pub version_back : IsRowBack Version version_from (λ version. number_row (codes "RELAYTRACE") (version_number version))
 version_back row version e = labelled_back Version (codes "RELAYTRACE") version_in (λ v. decimal (version_number v)) version_word_back row version e
 
-pub device_line_back : IsRowBack (List ℕ) (labelled (codes "device") device_in) (λ device. codes "device" ∷ encode_upper device ∷ [])
+pub device_line_back : IsRowBack (List ℕ) (labelled_value (codes "device") device_in) (λ device. codes "device" ∷ encode_upper device ∷ [])
 device_line_back row device e = labelled_back (List ℕ) (codes "device") device_in encode_upper device_back row device e
 
-pub state_line_back : IsRowBack ControlState (labelled (codes "state") state_in) (λ state. number_row (codes "state") (state_number state))
+pub state_line_back : IsRowBack ControlState (labelled_value (codes "state") state_in) (λ state. number_row (codes "state") (state_number state))
 state_line_back row state e = labelled_back ControlState (codes "state") state_in (λ s. decimal (state_number s)) state_back row state e
 
-pub mode_line_back : (state : ControlState) → IsRowBack ControlMode (labelled (codes "mode") (mode_in state)) (λ mode. number_row (codes "mode") (mode_number mode))
+pub mode_line_back : (state : ControlState) → IsRowBack ControlMode (labelled_value (codes "mode") (mode_in state)) (λ mode. number_row (codes "mode") (mode_number mode))
 mode_line_back state row mode e = labelled_back ControlMode (codes "mode") (mode_in state) (λ m. decimal (mode_number m)) (mode_back state) row mode e
 
-pub moment_line_back : IsRowBack (Option ℕ) (labelled (codes "now") moment_in) (λ moment. codes "now" ∷ moment_word moment ∷ [])
+pub moment_line_back : IsRowBack (Option ℕ) (labelled_value (codes "now") moment_in) (λ moment. codes "now" ∷ moment_word moment ∷ [])
 moment_line_back row moment e = labelled_back (Option ℕ) (codes "now") moment_in moment_word moment_back row moment e
 
-pub value_line_back : (name : Word) → IsRowBack ℕ (labelled name value_in) (number_row name)
+pub value_line_back : (name : Word) → IsRowBack ℕ (labelled_value name value_in) (number_row name)
 value_line_back name row value e = labelled_back ℕ name value_in decimal (number_back 4294967295 (omega arith)) row value e
 
 pub profile_back : (which : Which) → IsRowBack Profile (profile_from which) (profile_row which)
@@ -156,6 +156,6 @@ schedule_read number row schedule e =
 
 -- ---- at a place
 
-pub value_back : (which : Which) (name : Word) (place : Place) (x : ℕ) (behind : Place) → line_as (labelled (label which name) value_in) place ≡ Ok (x, behind)
+pub value_back : (which : Which) (name : Word) (place : Place) (x : ℕ) (behind : Place) → line_as (labelled_value (label which name) value_in) place ≡ Ok (x, behind)
     → Took (number_row (label which name) x ∷ []) place behind
-value_back which name place x behind e = line_back ℕ (labelled (label which name) value_in) (number_row (label which name)) (value_line_back (label which name)) place x behind e
+value_back which name place x behind e = line_back ℕ (labelled_value (label which name) value_in) (number_row (label which name)) (value_line_back (label which name)) place x behind e

@@ -11,7 +11,7 @@ use Rattle.relay_core.specs.declared.schedules.Schedules.{Schedules}
 use Rattle.script_steps.specs.Writing.{data_of}
 use Rattle.trace_openings.proofs.OpeningFieldLaws.{version_again, device_line_again, state_line_again, mode_line_again, moment_line_again, value_line_again, table_line_again, profile_again, groups_again, actions_again, FitRunsMean, over_again, under_again, schedule_again}
 use Rattle.trace_openings.specs.OpeningFields.{label, version_from, device_in, state_in, mode_in, moment_in, table_in, profile_from, groups_from, actions_from, over_from, under_from, schedule_from}
-use Rattle.trace_words.specs.Labels.{labelled, number_row}
+use Rattle.trace_words.specs.Labels.{labelled_value, number_row}
 use Rattle.trace_openings.specs.OpeningReading.{settings_from, limiter_from, export_from, schedules_from, opening_with, opening_in, opening_from}
 use Rattle.trace_openings.specs.OpeningRows.{moment_word, count_row, profile_row, groups_row, value_row, limiter_rows, schedule_row, schedule_rows, opening_rows}
 use Rattle.trace_openings.specs.OpeningTraced.{IsTracedLimiter, IsTracedSchedule, IsWritable}
@@ -36,9 +36,9 @@ four_on number = suc (three_on number)
 -- ---- a limiter
 
 number_line_again : (which : Which) (name : Word) (value number : ℕ) (rows : List Row) (unended : List ℕ) → value ≤ 4294967295
-    → line_as (labelled (label which name) value_in) (place number (number_row (label which name) value ∷ rows) unended) ≡ Ok (value, place (suc number) rows unended)
+    → line_as (labelled_value (label which name) value_in) (place number (number_row (label which name) value ∷ rows) unended) ≡ Ok (value, place (suc number) rows unended)
 number_line_again which name value number rows unended le =
-    line_again (labelled (label which name) value_in) (number_row (label which name) value) value number rows unended (value_line_again (label which name) value le)
+    line_again (labelled_value (label which name) value_in) (number_row (label which name) value) value number rows unended (value_line_again (label which name) value le)
 
 abbrev nine_on : ℕ → ℕ
 nine_on number = two_on (three_on (four_on number))
@@ -108,15 +108,15 @@ inner_again mean o rows unended writable =
     let last_row = value_row Import o.import in
     let mode_row = number_row (codes "mode") (mode_number o.mode) in
     let state_row = number_row (codes "state") (state_number o.state) in
-    let device = line_again (labelled (codes "device") device_in) (codes "device" ∷ encode_upper o.device ∷ []) o.device 2 (state_row ∷ mode_row ∷ last_row ∷ moment_row ∷ import_rows) unended
+    let device = line_again (labelled_value (codes "device") device_in) (codes "device" ∷ encode_upper o.device ∷ []) o.device 2 (state_row ∷ mode_row ∷ last_row ∷ moment_row ∷ import_rows) unended
     (device_line_again o.device writable.fit.device_some writable.fit.device_few writable.device) in
-    let state = line_again (labelled (codes "state") state_in) state_row o.state 3 (mode_row ∷ last_row ∷ moment_row ∷ import_rows) unended (state_line_again o.state) in
-    let mode = line_again (labelled (codes "mode") (mode_in o.state)) mode_row o.mode 4 (last_row ∷ moment_row ∷ import_rows) unended (mode_line_again o.mode o.state writable.fit.control) in
+    let state = line_again (labelled_value (codes "state") state_in) state_row o.state 3 (mode_row ∷ last_row ∷ moment_row ∷ import_rows) unended (state_line_again o.state) in
+    let mode = line_again (labelled_value (codes "mode") (mode_in o.state)) mode_row o.mode 4 (last_row ∷ moment_row ∷ import_rows) unended (mode_line_again o.mode o.state writable.fit.control) in
     let last = number_line_again Import (codes "value") o.import.value 5 (moment_row ∷ import_rows) unended writable.import.value in
-    let moment = line_again (labelled (codes "now") moment_in) moment_row o.moment 6 import_rows unended (moment_line_again o.moment writable.moment) in
+    let moment = line_again (labelled_value (codes "now") moment_in) moment_row o.moment 6 import_rows unended (moment_line_again o.moment writable.moment) in
     let import = limiter_again mean Import o.import 7 export_rows unended writable.fit.import writable.import in
     let export = export_again mean o.export 16 table_rows unended writable.fit.export writable.export in
-    let scripts = line_again (labelled (codes "scripts") table_in) (codes "scripts" ∷ data_word (data_of o.scripts) ∷ []) o.scripts 26 last_rows unended (table_line_again o.scripts writable.scripts writable.script_numbers) in
+    let scripts = line_again (labelled_value (codes "scripts") table_in) (codes "scripts" ∷ data_word (data_of o.scripts) ∷ []) o.scripts 26 last_rows unended (table_line_again o.scripts writable.scripts writable.script_numbers) in
     let schedules = schedules_again o.schedules 27 rows unended writable.first writable.second writable.third writable.fourth in
     rw (device, state, mode, last, moment, import, export, scripts, schedules) refl
 

@@ -4,21 +4,21 @@ use Rattle.std.specs.Result.{OnOk}
 use Rattle.trace_text.proofs.LinesLemmas.{rows_text-append, rows_text-one}
 use Rattle.trace_text.specs.Lines.{rows_text}
 use Rattle.trace_words.specs.Rows.{Word, Row}
-use Rattle.trace_words.specs.Writing.{blanked}
+use Rattle.trace_words.specs.Writing.{words_after_blanks}
 use Rattle.trace_words.proofs.Blanks.{line_of_first}
 
 -- a line is its first word, each other word after a blank, and the byte 0A
-row_text : (word : Word) (words : Row) → rows_text ((word ∷ words) ∷ []) ≡ (word ++ blanked words) ++ 10 ∷ []
+row_text : (word : Word) (words : Row) → rows_text ((word ∷ words) ∷ []) ≡ (word ++ words_after_blanks words) ++ 10 ∷ []
 row_text word words = rows_text-one (word ∷ words) ∙ ap (λ (line : List ℕ). line ++ 10 ∷ []) (line_of_first word words)
 
 -- the first word of a line is written, then the others, and then the line is ended, unless out of
 -- memory
-pub ended_line : (word : Word) (words : Row) (before first middle after : List ℕ) {T E : Type 0} (result : Result T E) → first ≡ before ++ word → middle ≡ first ++ blanked words
+pub ended_line : (word : Word) (words : Row) (before first middle after : List ℕ) {T E : Type 0} (result : Result T E) → first ≡ before ++ word → middle ≡ first ++ words_after_blanks words
     → OnOk result (after ≡ middle ++ 10 ∷ []) → OnOk result (after ≡ before ++ rows_text ((word ∷ words) ∷ []))
 ended_line word words before first middle after (Ok x) labelled written ended =
     ended
-    ∙ ap (λ (bs : List ℕ). bs ++ 10 ∷ []) (written ∙ ap (λ (bs : List ℕ). bs ++ blanked words) labelled ∙ append_assoc before word (blanked words))
-    ∙ append_assoc before (word ++ blanked words) (10 ∷ [])
+    ∙ ap (λ (bs : List ℕ). bs ++ 10 ∷ []) (written ∙ ap (λ (bs : List ℕ). bs ++ words_after_blanks words) labelled ∙ append_assoc before word (words_after_blanks words))
+    ∙ append_assoc before (word ++ words_after_blanks words) (10 ∷ [])
     ∙ ap (λ (bs : List ℕ). before ++ bs) (sym (row_text word words))
 ended_line word words before first middle after (Err error) labelled written ended = ended
 

@@ -29,7 +29,7 @@ use Rattle.trace_words.proofs.WordsBack.{wanted_is, IsWrittenBack, AreWrittenBac
 use Rattle.trace_openings.specs.OpeningFields.{version_in, device_in, state_in, mode_in, moment_in, start_in, table_in, entries_in, type_in, id_from}
 use Rattle.trace_openings.specs.OpeningRows.{moment_word}
 use Rattle.trace_words.specs.Reading.{number_in, bytes_in, data_in, value_in}
-use Rattle.trace_words.specs.Rows.{Word, Row, wanted}
+use Rattle.trace_words.specs.Rows.{Word, Row, or_wrong}
 use Rattle.trace_words.specs.Writing.{value_words, data_word}
 use Rattle.trace_words.specs.declared.fault.RowFault.{RowFault}
 use Rattle.trace_words.specs.declared.fault.RowFault.TheVariants.{Wrong}
@@ -114,7 +114,7 @@ pub mode_back : (state : ControlState) → IsWrittenBack ControlMode (mode_in st
 unfolding mode_in
 mode_back state word mode e =
     let read = bind_ok (number_in 6 word) _ mode e in
-    let found = bind_ok (wanted (mode_of read.0)) _ mode read.2 in
+    let found = bind_ok (or_wrong (mode_of read.0)) _ mode read.2 in
     let fits = guard_ok (is_mode_fit found.0 state) Wrong _ mode found.2 in
     number_back 6 (omega arith) word read.0 read.1
     ∙ ap decimal (mode_is read.0 found.0 (wanted_is (mode_of read.0) found.0 found.1))

@@ -29,12 +29,12 @@ use Rattle.limiter_core.specs.declared.settings.Profile.{Profile}
 use Rattle.script_steps.specs.Reading.{table_of}
 use Rattle.script_steps.specs.declared.step.Script.{Script}
 use Rattle.trace_words.specs.Reading.{number_in, flag_in, bytes_in, data_in, value_in, next_as, last_as}
-use Rattle.trace_words.specs.Rows.{Word, Row, Read, wanted, all_at}
+use Rattle.trace_words.specs.Rows.{Word, Row, Read, or_wrong, all_at}
 use Rattle.trace_words.specs.declared.fault.RowFault.{RowFault}
 use Rattle.trace_words.specs.declared.fault.RowFault.TheVariants.{Wrong}
 use Rattle.trace_words.specs.declared.version.Version.{Version}
 use Rattle.trace_words.specs.declared.version.Version.TheVariants.{One, Two}
-use Rattle.trace_words.specs.Labels.{labelled, behind}
+use Rattle.trace_words.specs.Labels.{labelled_value, behind}
 
 -- ---- words
 
@@ -65,7 +65,7 @@ state_in word = do
 unfoldable pub mode_in : ControlState → Word → Result ControlMode RowFault
 mode_in state word = do
   number ← number_in 6 word
-  mode ← wanted (mode_of number)
+  mode ← or_wrong (mode_of number)
   guard (is_mode_fit mode state) Wrong
   Ok mode
 
@@ -79,25 +79,25 @@ moment_in word = if pointwise nat_eq word (codes "-") then Ok None else do
 unfoldable pub start_in : Word → Result DateTimeFields RowFault
 start_in word = do
   bytes ← bytes_in word
-  wanted (result_ok (date_time_of bytes))
+  or_wrong (result_ok (date_time_of bytes))
 
 -- a script table, a Data in hexadecimal
 unfoldable pub table_in : Word → Result (List Script) RowFault
 table_in word = do
   value ← data_in word
-  wanted (result_ok (table_of value))
+  or_wrong (result_ok (table_of value))
 
 -- the entries of a schedule, a Data in hexadecimal
 unfoldable pub entries_in : Word → Result (List EntryPattern) RowFault
 entries_in word = do
   value ← data_in word
-  wanted (result_ok (entries_of value))
+  or_wrong (result_ok (entries_of value))
 
 -- the type of a schedule
 abbrev pub type_in : Word → Result ScheduleType RowFault
 type_in word = do
   number ← number_in 5 word
-  wanted (type_of_number number)
+  or_wrong (type_of_number number)
 
 -- one id in a list
 abbrev pub id_from : Word → Row → Read ℕ
@@ -109,7 +109,7 @@ id_from word words = do
 
 -- `RELAYTRACE` and the version
 abbrev pub version_from : Row → Result Version RowFault
-version_from row = labelled (codes "RELAYTRACE") version_in row
+version_from row = labelled_value (codes "RELAYTRACE") version_in row
 
 -- id, start and duration of an emergency profile
 unfoldable pub profile_from : Which → Row → Result Profile RowFault

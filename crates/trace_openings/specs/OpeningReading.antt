@@ -16,7 +16,7 @@ use Rattle.relay_core.specs.declared.opening.LimiterOpening.{LimiterOpening}
 use Rattle.relay_core.specs.declared.opening.Opening.{Opening}
 use Rattle.relay_core.specs.declared.schedules.Schedules.{Schedules}
 use Rattle.trace_openings.specs.OpeningFields.{label, version_from, device_in, state_in, mode_in, moment_in, profile_from, groups_from, actions_from, over_from, under_from, table_in, schedule_from}
-use Rattle.trace_words.specs.Labels.{labelled}
+use Rattle.trace_words.specs.Labels.{labelled_value}
 use Rattle.trace_words.specs.Places.{Place, ReadLines, line_as}
 use Rattle.trace_words.specs.Reading.{value_in}
 use Rattle.trace_words.specs.declared.version.Version.{Version}
@@ -26,15 +26,15 @@ use Rattle.trace_words.specs.declared.version.Version.TheVariants.{One, Two}
 
 -- the line of a value of a limiter
 abbrev pub value_line : Which → Place → ReadLines ℕ
-value_line which place = line_as (labelled (label which (codes "value")) value_in) place
+value_line which place = line_as (labelled_value (label which (codes "value")) value_in) place
 
 -- the lines of a limiter's settings
 unfoldable pub settings_from : Which → Place → ReadLines Settings
 settings_from which place = do
-  normal ← line_as (labelled (label which (codes "normal")) value_in) place
-  emergency ← line_as (labelled (label which (codes "emergency")) value_in) normal.1
-  min_over ← line_as (labelled (label which (codes "minover")) value_in) emergency.1
-  min_under ← line_as (labelled (label which (codes "minunder")) value_in) min_over.1
+  normal ← line_as (labelled_value (label which (codes "normal")) value_in) place
+  emergency ← line_as (labelled_value (label which (codes "emergency")) value_in) normal.1
+  min_over ← line_as (labelled_value (label which (codes "minover")) value_in) emergency.1
+  min_under ← line_as (labelled_value (label which (codes "minunder")) value_in) min_over.1
   profile ← line_as (profile_from which) min_under.1
   groups ← line_as (groups_from which) profile.1
   actions ← line_as (actions_from which) groups.1
@@ -92,7 +92,7 @@ unfoldable pub opening_behind_import : Version → List ℕ → ControlState →
     → LimiterOpening → Place → ReadLines Opening
 opening_behind_import version device state mode moment import place = do
   export ← export_from version place
-  scripts ← line_as (labelled (codes "scripts") table_in) export.1
+  scripts ← line_as (labelled_value (codes "scripts") table_in) export.1
   schedules ← schedules_from scripts.1
   Ok (
     record {
@@ -113,10 +113,10 @@ unfoldable pub opening_with : Version → List ℕ → ControlState → ControlM
     → ReadLines Opening
 opening_with version device state mode place = do
   last ← value_line Import place
-  moment ← line_as (labelled (codes "now") moment_in) last.1
+  moment ← line_as (labelled_value (codes "now") moment_in) last.1
   import ← limiter_from Import last.0 moment.1
   export ← export_from version import.1
-  scripts ← line_as (labelled (codes "scripts") table_in) export.1
+  scripts ← line_as (labelled_value (codes "scripts") table_in) export.1
   schedules ← schedules_from scripts.1
   Ok (
     record {
@@ -135,9 +135,9 @@ opening_with version device state mode place = do
 -- the opening, from the lines after that of the version
 unfoldable pub opening_in : Version → Place → ReadLines Opening
 opening_in version place = do
-  device ← line_as (labelled (codes "device") device_in) place
-  state ← line_as (labelled (codes "state") state_in) device.1
-  mode ← line_as (labelled (codes "mode") (mode_in state.0)) state.1
+  device ← line_as (labelled_value (codes "device") device_in) place
+  state ← line_as (labelled_value (codes "state") state_in) device.1
+  mode ← line_as (labelled_value (codes "mode") (mode_in state.0)) state.1
   opening_with version device.0 state.0 mode.0 mode.1
 
 -- the version and the opening of a trace

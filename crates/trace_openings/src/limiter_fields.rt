@@ -4,7 +4,7 @@ ghost use Rattle.byte_reading.specs.Outcome.{Gives};
 ghost use Rattle.limiter_core.specs.Counting.{cap};
 ghost use Rattle.limiter_core.specs.State.{IsFit};
 ghost use Rattle.limiter_core.specs.declared.settings.TheConstants.{MAX_GROUPS};
-ghost use Rattle.trace_words.specs.Labels.{behind, labelled};
+ghost use Rattle.trace_words.specs.Labels.{behind, labelled_value};
 ghost use Rattle.trace_openings.specs.OpeningFields.{label, start_in, id_from, profile_from, groups_from, actions_from, count_from, over_from, under_from};
 ghost use Rattle.trace_words.specs.Reading.{number_in, value_in};
 ghost use Rattle.trace_words.specs.Rows.{Reads, all_at};
@@ -49,7 +49,7 @@ fn behind_label(which: Which, name: &[u8], words: &mut Words) -> Result<(), RowF
 // Reads a line of one value, in watts or seconds.
 pub(crate) fn value(which: Which, name: &[u8], words: &mut Words) -> Result<u32, RowFault>
     ensures { Gives Memory (λ value. value) result
-        (labelled (label which name.now) value_in words.old) }
+        (labelled_value (label which name.now) value_in words.old) }
 {
     behind_label(which, name, words)?;
     number_in(last_word(words)?, u32::MAX)

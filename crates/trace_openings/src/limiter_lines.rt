@@ -2,7 +2,7 @@ ghost use Rattle.std.specs.Prelude.{◌≡◌, ◌≤◌, length, IfOk};
 ghost use Rattle.relay_core.specs.Opening.{IsFitLimiterOpening};
 ghost use Rattle.trace_openings.specs.OpeningReading.{value_line, settings_from, limiter_from, new_limiter, export_from};
 ghost use Rattle.trace_openings.specs.OpeningFields.{label};
-ghost use Rattle.trace_words.specs.Labels.{labelled};
+ghost use Rattle.trace_words.specs.Labels.{labelled_value};
 ghost use Rattle.trace_words.specs.Places.{ReadsLines, line_as};
 ghost use Rattle.trace_words.specs.Reading.{value_in};
 
@@ -17,7 +17,7 @@ use trace_words::{TraceFault, TraceLines, Version};
 // Reads the line of one value of a limiter, with the label `word`.
 fn read_value(which: Which, word: &[u8], lines: &mut TraceLines) -> Result<u32, TraceFault>
     ensures { ReadsLines (λ value. value) result lines.new
-        (line_as (labelled (label which word.now) value_in) lines.old) }
+        (line_as (labelled_value (label which word.now) value_in) lines.old) }
 {
     lines.read(|words| value(which, word, words))
 }

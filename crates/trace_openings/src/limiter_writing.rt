@@ -5,7 +5,7 @@ ghost use Rattle.trace_text.specs.Lines.{rows_text};
 ghost use Rattle.trace_openings.specs.OpeningFields.{label};
 ghost use Rattle.trace_words.specs.Labels.{number_row};
 ghost use Rattle.trace_openings.specs.OpeningRows.{count_row, profile_row, groups_row, value_row, settings_rows, limiter_rows};
-ghost use Rattle.trace_words.specs.Writing.{blanked, all_words, value_words};
+ghost use Rattle.trace_words.specs.Writing.{words_after_blanks, all_words, value_words};
 
 use cosem_names::Which;
 use limiter_core::{Actions, Count, Profile, Settings};
@@ -55,7 +55,7 @@ fn write_profile(
 // Appends ids, each as a word.
 fn add_ids(out: &mut Vec<u8>, ids: &[u16]) -> Result<(), AllocError>
     ensures { OnOk result (out.new.items ≡ out.old.items
-        ++ blanked (all_words value_words ids.now)) }
+        ++ words_after_blanks (all_words value_words ids.now)) }
 {
     for id in ids {
         add_number(out, u64::from(*id))?;

@@ -2,7 +2,7 @@ ghost use Rattle.std.specs.Prelude.{◌≡◌, ◌≤◌, IfOk, codes, length};
 ghost use Rattle.byte_reading.specs.Outcome.{Gives};
 ghost use Rattle.disconnect_control.specs.declared.state.ControlMode.TheVariants.{Mode0};
 ghost use Rattle.disconnect_control.specs.declared.state.ControlState.TheVariants.{Connected};
-ghost use Rattle.trace_words.specs.Labels.{labelled};
+ghost use Rattle.trace_words.specs.Labels.{labelled_value};
 ghost use Rattle.trace_openings.specs.OpeningFields.{version_in, device_in, state_in, mode_in, moment_in, table_in, entries_in, type_in, version_from, schedule_from};
 ghost use Rattle.trace_words.specs.declared.fault.RowFault.TheVariants.{Memory};
 
@@ -14,7 +14,7 @@ use script_steps::{ScriptFault, ScriptTable};
 use std::alloc::Global;
 use trace_text::Words;
 use trace_words::{
-    RowFault, Version, behind, bytes_in, data_in, labelled, last_word, next_long, next_word,
+    RowFault, Version, behind, bytes_in, data_in, labelled_value, last_word, next_long, next_word,
     number_in,
 };
 
@@ -33,7 +33,7 @@ fn version_in(word: &[u8]) -> Result<Version, RowFault>
 pub(crate) fn version(words: &mut Words) -> Result<Version, RowFault>
     ensures { Gives Memory (λ version. version) result (version_from words.old) }
 {
-    labelled(b"RELAYTRACE", words, version_in)
+    labelled_value(b"RELAYTRACE", words, version_in)
 }
 
 // Reads a device name, 1 to 16 bytes in hexadecimal.
@@ -53,11 +53,11 @@ fn device_in(alloc: Global, word: &[u8]) -> Result<Octets, RowFault>
 // Reads the line of the device name.
 pub(crate) fn device(alloc: Global, words: &mut Words) -> Result<Octets, RowFault>
     ensures device { Gives Memory (λ device. device) result
-        (labelled (codes "device") device_in words.old) }
+        (labelled_value (codes "device") device_in words.old) }
     ensures some { IfOk result (λ device. 1 ≤ length device) }
     ensures few { IfOk result (λ device. length device ≤ 16) }
 {
-    labelled(b"device", words, |word| device_in(alloc, word))
+    labelled_value(b"device", words, |word| device_in(alloc, word))
 }
 
 // Reads a control state (class 70, attribute 3) as a number, 0 to 2.
@@ -73,9 +73,9 @@ fn state_in(word: &[u8]) -> Result<ControlState, RowFault>
 
 // Reads the line of the control state.
 pub(crate) fn state(words: &mut Words) -> Result<ControlState, RowFault>
-    ensures { Gives Memory (λ state. state) result (labelled (codes "state") state_in words.old) }
+    ensures { Gives Memory (λ state. state) result (labelled_value (codes "state") state_in words.old) }
 {
-    labelled(b"state", words, state_in)
+    labelled_value(b"state", words, state_in)
 }
 
 // Reads a control mode (class 70, attribute 4) as a number, 0 to 6. Errors: `Wrong` also if the
@@ -98,10 +98,10 @@ fn mode_in(state: ControlState, word: &[u8]) -> Result<ControlMode, RowFault>
 // Reads the line of the control mode of a switch in `state`.
 pub(crate) fn mode(state: ControlState, words: &mut Words) -> Result<ControlMode, RowFault>
     ensures mode { Gives Memory (λ mode. mode) result
-        (labelled (codes "mode") (mode_in state) words.old) }
+        (labelled_value (codes "mode") (mode_in state) words.old) }
     ensures fit { IfOk result (λ mode. mode ≡ Mode0 → state ≡ Connected) }
 {
-    labelled(b"mode", words, |word| mode_in(state, word))
+    labelled_value(b"mode", words, |word| mode_in(state, word))
 }
 
 // Reads a moment, in seconds, or `-` for `None`.
@@ -116,9 +116,9 @@ fn moment_in(word: &[u8]) -> Result<Option<u32>, RowFault>
 
 // Reads the line of the clock's last moment.
 pub(crate) fn moment(words: &mut Words) -> Result<Option<u32>, RowFault>
-    ensures { Gives Memory (λ moment. moment) result (labelled (codes "now") moment_in words.old) }
+    ensures { Gives Memory (λ moment. moment) result (labelled_value (codes "now") moment_in words.old) }
 {
-    labelled(b"now", words, moment_in)
+    labelled_value(b"now", words, moment_in)
 }
 
 // Reads a script table, a Data in hexadecimal.
@@ -139,9 +139,9 @@ fn table_in(alloc: Global, word: &[u8]) -> Result<ScriptTable, RowFault>
 
 // Reads the line of the script table.
 pub(crate) fn table(alloc: Global, words: &mut Words) -> Result<ScriptTable, RowFault>
-    ensures { Gives Memory (λ table. table) result (labelled (codes "scripts") table_in words.old) }
+    ensures { Gives Memory (λ table. table) result (labelled_value (codes "scripts") table_in words.old) }
 {
-    labelled(b"scripts", words, |word| table_in(alloc, word))
+    labelled_value(b"scripts", words, |word| table_in(alloc, word))
 }
 
 // Reads the type of a schedule.

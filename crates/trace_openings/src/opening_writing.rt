@@ -8,7 +8,7 @@ ghost use Rattle.script_steps.specs.Writing.{data_of};
 ghost use Rattle.trace_text.specs.Lines.{rows_text};
 ghost use Rattle.trace_words.specs.Labels.{number_row};
 ghost use Rattle.trace_openings.specs.OpeningRows.{moment_word, head_rows, schedule_row, schedule_rows, opening_rows};
-ghost use Rattle.trace_words.specs.Writing.{blanked, data_word};
+ghost use Rattle.trace_words.specs.Writing.{words_after_blanks, data_word};
 
 use crate::limiter_writing::{write_last, write_limiter};
 use action_schedule::{ActionSchedule, ScheduleAttribute};
@@ -63,7 +63,7 @@ fn write_head(alloc: Global, out: &mut Vec<u8>, opening: &Opening) -> Result<(),
 
 // Appends the clock's last moment, or `-` before the first.
 fn add_moment(out: &mut Vec<u8>, moment: Option<u32>) -> Result<(), AllocError>
-    ensures { OnOk result (out.new.items ≡ out.old.items ++ blanked (moment_word moment ∷ [])) }
+    ensures { OnOk result (out.new.items ≡ out.old.items ++ words_after_blanks (moment_word moment ∷ [])) }
 {
     match moment {
         Some(moment) => add_number(out, u64::from(moment)),
@@ -84,7 +84,7 @@ fn write_moment(out: &mut Vec<u8>, moment: Option<u32>) -> Result<(), AllocError
 // Appends a script table as a word.
 fn add_table(alloc: Global, out: &mut Vec<u8>, scripts: &ScriptTable) -> Result<(), AllocError>
     ensures { OnOk result (out.new.items ≡ out.old.items
-        ++ blanked (data_word (data_of scripts.now) ∷ [])) }
+        ++ words_after_blanks (data_word (data_of scripts.now) ∷ [])) }
 {
     let value = scripts.to_data(alloc)?;
     let added = add_data(alloc, out, &value);
@@ -109,7 +109,7 @@ fn add_entries(
     schedule: &ActionSchedule,
 ) -> Result<(), AllocError>
     ensures { OnOk result (out.new.items ≡ out.old.items
-        ++ blanked (data_word (entries_data schedule.now.entries) ∷ [])) }
+        ++ words_after_blanks (data_word (entries_data schedule.now.entries) ∷ [])) }
 {
     let entries = schedule.to_data(alloc, ScheduleAttribute::ExecutionTime)?;
     let added = add_data(alloc, out, &entries);

@@ -1,17 +1,17 @@
 -- Nothing is left after a value.
 use Rattle.std.proofs.Common.{◌≡◌, ℕ, List, [], ◌∷◌, Ok, Err, refl}
-use Rattle.trace_words.specs.Places.{Place, nothing_left, ended_at}
+use Rattle.trace_words.specs.Places.{Place, value_at_end, ended_at}
 use Rattle.trace_words.specs.Rows.{Row}
 use Rattle.trace_words.specs.declared.fault.TraceFault.{TraceFault}
 
 -- the end is the same for each value
-nothing_left_as : {X : Type 0} (number : ℕ) (rows : List Row) (unended : List ℕ) (x : X) → nothing_left {X = Unit {0}} number rows unended tt ≡ Ok tt → nothing_left number rows unended x ≡ Ok x
+nothing_left_as : {X : Type 0} (number : ℕ) (rows : List Row) (unended : List ℕ) (x : X) → value_at_end {X = Unit {0}} number rows unended tt ≡ Ok tt → value_at_end number rows unended x ≡ Ok x
 nothing_left_as number [] [] x e = refl
 nothing_left_as number [] (byte ∷ bytes) x e = absurd cc
 nothing_left_as number (row ∷ rows) unended x e = absurd cc
 
-something_left_as : {X : Type 0} (number : ℕ) (rows : List Row) (unended : List ℕ) (x : X) (fault : TraceFault) → nothing_left {X = Unit {0}} number rows unended tt ≡ Err fault
-    → nothing_left number rows unended x ≡ Err fault
+something_left_as : {X : Type 0} (number : ℕ) (rows : List Row) (unended : List ℕ) (x : X) (fault : TraceFault) → value_at_end {X = Unit {0}} number rows unended tt ≡ Err fault
+    → value_at_end number rows unended x ≡ Err fault
 something_left_as number [] [] x fault e = absurd cc
 something_left_as number [] (byte ∷ bytes) x fault e = cc
 something_left_as number (row ∷ rows) unended x fault e = cc

@@ -5,7 +5,7 @@ use Rattle.byte_reading.specs.Outcome.{◌>>=◌}
 use Rattle.cosem_names.specs.declared.objects.Which.{Which}
 use Rattle.cosem_names.specs.declared.objects.Which.TheVariants.{Import, Export}
 use Rattle.trace_openings.specs.OpeningReading.{settings_from, limiter_from, export_from, schedules_from, opening_with, opening_in, opening_from}
-use Rattle.trace_words.specs.Places.{Place, place_of, line_as, passed, first_as, nothing_left, ended_at}
+use Rattle.trace_words.specs.Places.{Place, place_of, line_as, line_result, first_as, value_at_end, ended_at}
 use Rattle.trace_words.specs.Rows.{Row}
 use Rattle.trace_words.specs.declared.fault.RowFault.{RowFault}
 use Rattle.trace_words.specs.declared.fault.TraceFault.{TraceFault}
@@ -36,7 +36,7 @@ value_other : {X : Type 0} (x : X) → IsOther (Ok x)
 value_other x e = absurd cc
 
 -- the result of a line
-passed_other : {X : Type 0} (r : Result X RowFault) (number : ℕ) (rows : List Row) (unended : List ℕ) → IsOther (passed r number rows unended)
+passed_other : {X : Type 0} (r : Result X RowFault) (number : ℕ) (rows : List Row) (unended : List ℕ) → IsOther (line_result r number rows unended)
 passed_other (Ok x) number rows unended e = absurd cc
 passed_other (Err fault) number rows unended e = absurd cc
 
@@ -49,7 +49,7 @@ unfolding line_as
 line_other value_in place e = first_other value_in place.number place.rows place.unended e
 
 -- the result of the end
-left_other : {X : Type 0} (number : ℕ) (rows : List Row) (unended : List ℕ) (x : X) → IsOther (nothing_left number rows unended x)
+left_other : {X : Type 0} (number : ℕ) (rows : List Row) (unended : List ℕ) (x : X) → IsOther (value_at_end number rows unended x)
 left_other number [] [] x e = absurd cc
 left_other number [] (byte ∷ bytes) x e = absurd cc
 left_other number (row ∷ rows) unended x e = absurd cc

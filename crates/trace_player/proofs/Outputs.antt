@@ -1,6 +1,6 @@
 -- The output of a trace whose events were played as they were read.
 use Rattle.std.proofs.Common.{◌≡◌, ℕ, List, Ok, Err}
-use Rattle.relay_core.specs.Opening.{opened}
+use Rattle.relay_core.specs.Opening.{world_of_opening}
 use Rattle.relay_core.specs.Stands.{StandsFor}
 use Rattle.relay_core.specs.declared.opening.Opening.{Opening}
 use Rattle.relay_core.specs.declared.relay.RelayCore.{RelayCore}
@@ -18,12 +18,12 @@ trace_with opening played = record { opening = opening; events = played.events }
 
 -- nothing is left after the events
 pub played_behind : (version : Version) (count : ℕ) (opening : Opening) (place after : Place) (core : RelayCore) (out : List ℕ) → PlaysEvents version count place after core out
-    → StandsFor core (opened opening) → ended_at {X = Unit {0}} after tt ≡ Ok tt → PlaysTrace (trace_behind version count opening place) out count
+    → StandsFor core (world_of_opening opening) → ended_at {X = Unit {0}} after tt ≡ Ok tt → PlaysTrace (trace_behind version count opening place) out count
 played_behind version count opening place after core out played stands ended =
     record {
       trace = trace_with opening played;
       read = rw played.read (ended_as after (trace_with opening played) ended);
-      wrote = played.wrote (opened opening) stands;
+      wrote = played.wrote (world_of_opening opening) stands;
       counted = played.counted;
     }
 

@@ -14,7 +14,7 @@ use Rattle.trace_openings.specs.OpeningFields.{version_from}
 use Rattle.trace_openings.specs.OpeningForms.{Forms, AreFormsOf, written_forms, rows_with}
 use Rattle.trace_openings.specs.OpeningReading.{opening_in, opening_from}
 use Rattle.trace_words.specs.Labels.{number_row}
-use Rattle.trace_words.specs.Places.{Place, nothing_left, line_as, ended_at, place_of}
+use Rattle.trace_words.specs.Places.{Place, value_at_end, line_as, ended_at, place_of}
 use Rattle.trace_words.specs.Rows.{Row}
 use Rattle.trace_lines.specs.Writing.{event_row}
 use Rattle.trace_words.specs.declared.fault.TraceFault.TheVariants.{TooLong}
@@ -48,7 +48,7 @@ all_events_back version (suc count) place events behind e =
 
 -- ---- the end
 
-none_left : (number : ℕ) (rows : List Row) (unended : List ℕ) (x y : Trace) → nothing_left number rows unended x ≡ Ok y → (rows ≡ []) × (unended ≡ []) × (x ≡ y)
+none_left : (number : ℕ) (rows : List Row) (unended : List ℕ) (x y : Trace) → value_at_end number rows unended x ≡ Ok y → (rows ≡ []) × (unended ≡ []) × (x ≡ y)
 none_left number [] [] x y e = (refl, refl, ok_is x y e)
 none_left number [] (byte ∷ bytes) x y e = absurd cc
 none_left number (row ∷ rows) unended x y e = absurd cc

@@ -5,7 +5,7 @@ use Rattle.relay_core.specs.World.{World}
 use Rattle.relay_recorder.specs.Histories.{Told, StandsForHistory, events_of}
 use Rattle.relay_recorder.specs.Recording.{Recording}
 use Rattle.relay_recorder.specs.declared.trace.Trace.{Trace}
-use Rattle.trace_player.specs.Playing.{lines_text, played}
+use Rattle.trace_player.specs.Playing.{lines_text, output_of_trace}
 
 -- the lines of a history's run for its last events, those that a recorder keeps
 abbrev pub kept_lines : Recording → List Told → World → List ℕ
@@ -15,4 +15,4 @@ kept_lines r history origin =
 -- a trace prints the end of every history that a recorder represents
 abbrev pub PrintsTheEnd : Recording → Trace → Type 0
 PrintsTheEnd r trace = (history : List Told) (origin : World) → StandsForHistory r history origin
-    → played trace ≡ kept_lines r history origin
+    → output_of_trace trace ≡ kept_lines r history origin

@@ -6,7 +6,7 @@
 --     PlaysTrace       a trace was read and played
 use Rattle.std.specs.Prelude.{◌≡◌, ℕ, suc, List, [], ◌∷◌, ◌++◌, length, Result, Ok}
 use Rattle.relay_core.specs.Machine.{at_event}
-use Rattle.relay_core.specs.Opening.{opened}
+use Rattle.relay_core.specs.Opening.{world_of_opening}
 use Rattle.relay_core.specs.Runs.{line_at, lines_of}
 use Rattle.relay_core.specs.Stands.{StandsFor}
 use Rattle.relay_core.specs.World.{World}
@@ -27,8 +27,8 @@ lines_text number [] = []
 lines_text number (line ∷ lines) = line_text number line ++ 10 ∷ lines_text (suc number) lines
 
 -- the output of a trace: the lines of the run over its events, from the world of its opening
-abbrev pub played : Trace → List ℕ
-played trace = lines_text 1 (lines_of trace.events (opened trace.opening))
+abbrev pub output_of_trace : Trace → List ℕ
+output_of_trace trace = lines_text 1 (lines_of trace.events (world_of_opening trace.opening))
 
 -- the event of the next line was read and applied to a meter, and its line was written after the
 -- others
@@ -52,5 +52,5 @@ pub record PlaysEvents (version : Version) (count : ℕ) (place place' : Place) 
 pub record PlaysTrace (given : Result Trace TraceFault) (out : List ℕ) (count : ℕ) : Type 0 where
   pub trace : Trace
   pub read : given ≡ Ok trace
-  pub wrote : out ≡ played trace
+  pub wrote : out ≡ output_of_trace trace
   pub counted : count ≡ length trace.events

@@ -7,7 +7,7 @@ use Rattle.std.specs.Prelude.{◌≡◌, ◌<◌, ◌≤◌, ℕ, Option, List, 
 use Rattle.std.specs.Io.KnownBytes.{Appends, Consumes, IsAtEnd}
 use Rattle.relay_recorder.specs.declared.trace.Trace.{Trace}
 use Rattle.trace_words.specs.declared.fault.TraceFault.TheVariants as trace_fault
-use Rattle.trace_player.specs.Playing.{PlaysTrace, played}
+use Rattle.trace_player.specs.Playing.{PlaysTrace, output_of_trace}
 use Rattle.trace_player.specs.Traces.{most_bytes, trace_of}
 use Rattle.trace_player.specs.declared.fault.PlayFault.{PlayFault}
 use Rattle.trace_player.specs.declared.fault.PlayFault.TheVariants as fault
@@ -39,7 +39,7 @@ module _ {R W : Type 0}
   abbrev pub Played : List ℕ → R → W → Result ℕ PlayFault → R → W → Type 0
   Played bytes r w (Ok count) r' w' =
       (trace : Trace) × (trace_of bytes ≡ Ok trace) × IsAtEnd (remaining r')
-      × Appends (contents w) (contents w') (played trace) × (count ≡ length trace.events)
+      × Appends (contents w) (contents w') (output_of_trace trace) × (count ≡ length trace.events)
   Played bytes r w (Err (fault.Line number)) r' w' =
       (trace_of bytes ≡ Err (trace_fault.Line number)) × IsAtEnd (remaining r')
       × Appends (contents w) (contents w') []

@@ -1,7 +1,7 @@
 //! Laws of traces and their texts. Each function is a law: its contract states it, and a call makes
 //! it known to the prover.
 ghost use Rattle.std.specs.Prelude.{◌≡◌, ℕ, List, Ok};
-ghost use Rattle.relay_core.specs.Opening.{opened};
+ghost use Rattle.relay_core.specs.Opening.{world_of_opening};
 ghost use Rattle.relay_recorder.specs.Recording.{Recording};
 ghost use Rattle.relay_recorder.specs.Replaying.{Replays};
 ghost use Rattle.relay_recorder.specs.declared.trace.Trace.{Trace};
@@ -37,5 +37,5 @@ pub fn read_trace_is_written()
 /// replies that were given.
 pub fn exported_run_is_played()
     ensures { (r : Recording) (trace : Trace) → trace.events ≡ r.events
-        → Replays r (opened trace.opening) → PrintsTheEnd r trace }
+        → Replays r (world_of_opening trace.opening) → PrintsTheEnd r trace }
 {}

@@ -3,7 +3,7 @@ use Rattle.std.proofs.Common.{◌≡◌, nat_eq, [], ◌∷◌, Result, Ok, ap, 
 use Rattle.std.specs.Cmp.Lexicographic.{pointwise}
 use Rattle.byte_reading.proofs.OutcomeLemmas.{ok_is, bind_ok, guard_ok}
 use Rattle.trace_words.proofs.WordsBack.{IsWrittenBack, same_is, last_read}
-use Rattle.trace_words.specs.Labels.{behind, labelled}
+use Rattle.trace_words.specs.Labels.{behind, labelled_value}
 use Rattle.trace_words.specs.Rows.{Word, Row}
 use Rattle.trace_words.specs.declared.fault.RowFault.{RowFault}
 use Rattle.trace_words.specs.declared.fault.RowFault.TheVariants.{Wrong}
@@ -17,7 +17,7 @@ behind_back name (word ∷ others) u words e =
     ap (λ (w : Word). w ∷ others) (same_is word name same.0) ∙ ap (λ (p : Unit {0} × Row). name ∷ p.1) (ok_is (tt, others) (u, words) same.1)
 
 -- a line of a first word and one value
-pub labelled_read : (X : Type 0) (name : Word) (value_in : Word → Result X RowFault) (row : Row) (x : X) → labelled name value_in row ≡ Ok x
+pub labelled_read : (X : Type 0) (name : Word) (value_in : Word → Result X RowFault) (row : Row) (x : X) → labelled_value name value_in row ≡ Ok x
     → (word : Word) × (row ≡ name ∷ word ∷ []) × (value_in word ≡ Ok x)
 labelled_read X name value_in row x e =
     let words = bind_ok (behind name row) _ x e in
@@ -29,7 +29,7 @@ abbrev pub IsRowBack : (X : Type 0) → (Row → Result X RowFault) → (X → R
 IsRowBack X value_in row_of = (row : Row) (x : X) → value_in row ≡ Ok x → row ≡ row_of x
 
 pub labelled_back : (X : Type 0) (name : Word) (value_in : Word → Result X RowFault) (word_of : X → Word) → IsWrittenBack X value_in word_of
-    → IsRowBack X (labelled name value_in) (λ x. name ∷ word_of x ∷ [])
+    → IsRowBack X (labelled_value name value_in) (λ x. name ∷ word_of x ∷ [])
 labelled_back X name value_in word_of back row x e =
     let read = labelled_read X name value_in row x e in
     read.1 ∙ ap (λ (w : Word). name ∷ w ∷ []) (back read.0 x read.2)

@@ -9,7 +9,7 @@ use Rattle.trace_words.specs.declared.fault.RowFault.TheVariants.{Wrong}
 use Rattle.trace_text.specs.Lines.{rows_of, rows_text, unended_of, lines_of}
 use Rattle.trace_text.specs.Words.{line_of, words_of}
 use Rattle.trace_text.proofs.LinesLemmas.{rows_text-cons, rows_text-nil, rows_text-rows_of, rows_of-taken, rows_of-none, lines_of-nil, unended_of-nil}
-use Rattle.trace_words.specs.Places.{Place, ReadsLines, passed, first_as, line_as, at_line, nothing_left, ended_at, place_at}
+use Rattle.trace_words.specs.Places.{Place, ReadsLines, line_result, first_as, line_as, at_line, value_at_end, ended_at, place_at}
 use Rattle.trace_words.specs.Rows.{Row}
 use Rattle.trace_words.specs.declared.fault.TraceFault.{TraceFault}
 use Rattle.trace_words.specs.declared.fault.TraceFault.TheVariants.{Line, Memory}
@@ -48,16 +48,16 @@ pub nothing_is_left : (place : Place) (number : ℕ) (text : List ℕ) → place
 unfolding ended_at
 nothing_is_left place number text is e =
     ap (λ (p : Place). ended_at {X = Unit {0}} p tt) is
-    ∙ ap (λ (bytes : List ℕ). nothing_left {X = Unit {0}} number (rows_of bytes) (unended_of bytes) tt) e
-    ∙ ap (λ (rows : List Row). nothing_left {X = Unit {0}} number rows (unended_of []) tt) (rows_of-none [] lines_of-nil)
-    ∙ ap (λ (bytes : List ℕ). nothing_left {X = Unit {0}} number [] bytes tt) unended_of-nil
+    ∙ ap (λ (bytes : List ℕ). value_at_end {X = Unit {0}} number (rows_of bytes) (unended_of bytes) tt) e
+    ∙ ap (λ (rows : List Row). value_at_end {X = Unit {0}} number rows (unended_of []) tt) (rows_of-none [] lines_of-nil)
+    ∙ ap (λ (bytes : List ℕ). value_at_end {X = Unit {0}} number [] bytes tt) unended_of-nil
 
 -- something is left of a text that is not empty
 pub something_is_left : (place : Place) (number : ℕ) (text : List ℕ) → place ≡ place_at number text → (text ≡ [] → ⊥) → ended_at {X = Unit {0}} place tt ≡ Err (Line number)
 unfolding ended_at
 something_is_left place number text is some = ap (λ (p : Place). ended_at {X = Unit {0}} p tt) is ∙ by_rows (rows_of text) (unended_of text) (rows_text-rows_of text)
   where
-    by_rows : (rows : List Row) (unended : List ℕ) → rows_text rows ++ unended ≡ text → nothing_left {X = Unit {0}} number rows unended tt ≡ Err (Line number)
+    by_rows : (rows : List Row) (unended : List ℕ) → rows_text rows ++ unended ≡ text → value_at_end {X = Unit {0}} number rows unended tt ≡ Err (Line number)
     by_rows [] [] e = absurd (some (sym e ∙ ap (λ (bytes : List ℕ). bytes ++ []) rows_text-nil))
     by_rows [] (byte ∷ bytes) e = refl
     by_rows (row ∷ rows) unended e = refl
@@ -74,11 +74,11 @@ words_read_at : {X : Type 0} (given : Row → Result X RowFault) (number : ℕ) 
 words_read_at given number [] unended words behind read e reads = absurd cc
 words_read_at {X} given number (row ∷ rows) unended words behind (Ok x) e reads =
     let is = ok_is (row, record { number = suc number; rows = rows; unended = unended }) (words, behind) e in
-    ap (λ (p : Row × Place). passed (given p.0) number rows unended) is ∙ ap (λ (r : Result X RowFault). passed r number rows unended) reads ∙ ap (λ (p : Row × Place). Ok (x, p.1)) is
+    ap (λ (p : Row × Place). line_result (given p.0) number rows unended) is ∙ ap (λ (r : Result X RowFault). line_result r number rows unended) reads ∙ ap (λ (p : Row × Place). Ok (x, p.1)) is
 words_read_at {X} given number (row ∷ rows) unended words behind (Err Wrong) e (inl memory) = absurd cc
 words_read_at {X} given number (row ∷ rows) unended words behind (Err Wrong) e (inr wrong) =
     let is = ok_is (row, record { number = suc number; rows = rows; unended = unended }) (words, behind) e in
-    inr (ap (λ (p : Row × Place). passed (given p.0) number rows unended) is ∙ ap (λ (r : Result X RowFault). passed r number rows unended) wrong)
+    inr (ap (λ (p : Row × Place). line_result (given p.0) number rows unended) is ∙ ap (λ (r : Result X RowFault). line_result r number rows unended) wrong)
 words_read_at {X} given number (row ∷ rows) unended words behind (Err row_fault.Memory) e reads = inl refl
 
 pub words_read : {X : Type 0} (given : Row → Result X RowFault) (place : Place) (words : Row) (behind : Place) (read : Result X RowFault)
@@ -116,4 +116,4 @@ place number rows unended = record { number = number; rows = rows; unended = une
 pub line_again : {X : Type 0} (value_in : Row → Result X RowFault) (row : Row) (x : X) (number : ℕ) (rows : List Row) (unended : List ℕ)
     → value_in row ≡ Ok x → line_as value_in (place number (row ∷ rows) unended) ≡ Ok (x, place (suc number) rows unended)
 unfolding line_as
-line_again value_in row x number rows unended e = ap (λ r. passed r number rows unended) e
+line_again value_in row x number rows unended e = ap (λ r. line_result r number rows unended) e

@@ -2,7 +2,7 @@
 use Rattle.std.proofs.Common.{◌≡◌, ℕ, suc, ◌+◌, List, [], ◌∷◌, ◌++◌, length, Result, Ok, Err, sym, ap, subst, ◌∙◌, arith, length-append, append_assoc}
 use Rattle.byte_reading.proofs.OutcomeLemmas.{done, ok_is}
 use Rattle.trace_words.proofs.LabelsBack.{IsRowBack}
-use Rattle.trace_words.specs.Places.{Place, passed, first_as, line_as}
+use Rattle.trace_words.specs.Places.{Place, line_result, first_as, line_as}
 use Rattle.trace_words.specs.Rows.{Row}
 use Rattle.trace_words.specs.declared.fault.RowFault.{RowFault}
 use Rattle.trace_words.specs.declared.fault.TraceFault.{TraceFault}
@@ -31,7 +31,7 @@ pub record LineRead (X : Type 0) (value_in : Row → Result X RowFault) (x : X) 
   pub read : value_in row ≡ Ok x
 
 passed_is : (X : Type 0) (r : Result X RowFault) (number : ℕ) (rows : List Row) (unended : List ℕ) (x : X) (behind : Place)
-    → passed r number rows unended ≡ Ok (x, behind) → (r ≡ Ok x) × (record { number = suc number; rows = rows; unended = unended } ≡ behind)
+    → line_result r number rows unended ≡ Ok (x, behind) → (r ≡ Ok x) × (record { number = suc number; rows = rows; unended = unended } ≡ behind)
 passed_is X (Ok y) number rows unended x behind e =
     let is = ok_is (y, record { number = suc number; rows = rows; unended = unended }) (x, behind) e in
     (ap (λ (p : X × Place). Ok p.0) is, ap (λ (p : X × Place). p.1) is)

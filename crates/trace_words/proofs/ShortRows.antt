@@ -11,19 +11,19 @@ use Rattle.trace_text.specs.Words.{line_of}
 use Rattle.trace_words.proofs.Blanks.{line_of_first}
 use Rattle.trace_words.specs.Labels.{number_row}
 use Rattle.trace_words.specs.Rows.{Word, Row}
-use Rattle.trace_words.specs.Writing.{IsHeld, blanked, data_word, flag_number}
+use Rattle.trace_words.specs.Writing.{IsHeld, words_after_blanks, data_word, flag_number}
 
 -- ---- words
 
 -- words of at most this many bytes, with a blank before each
 pub record HasWords (most : ℕ) (row : Row) : Type 0 where
-  pub short : length (blanked row) ≤ most
+  pub short : length (words_after_blanks row) ≤ most
 
 pub no_words : HasWords 0 []
 no_words = record { short = omega arith }
 
 pub word_on : (long most : ℕ) (word : Word) (words : Row) → length word ≤ long → HasWords most words → HasWords (1 + long + most) (word ∷ words)
-word_on long most word words one others = record { short = omega (arith, one, others.short, length-append (32 ∷ word) (blanked words)) }
+word_on long most word words one others = record { short = omega (arith, one, others.short, length-append (32 ∷ word) (words_after_blanks words)) }
 
 pub words_in : (less most : ℕ) (row : Row) → HasWords less row → less ≤ most → HasWords most row
 words_in less most row words le = record { short = omega (arith, words.short, le) }
@@ -71,8 +71,8 @@ line_short : (row : Row) → IsShort row → length (line_of row) ≤ 20000
 unfolding line_of
 line_short [] short = omega arith
 line_short (word ∷ words) short =
-    let line : length (line_of (word ∷ words)) ≡ length (word ++ blanked words) = ap (λ (bytes : List ℕ). length bytes) (line_of_first word words) in
-    omega (arith, line, short.short, length-append word (blanked words), length-append (32 ∷ word) (blanked words))
+    let line : length (line_of (word ∷ words)) ≡ length (word ++ words_after_blanks words) = ap (λ (bytes : List ℕ). length bytes) (line_of_first word words) in
+    omega (arith, line, short.short, length-append word (words_after_blanks words), length-append (32 ∷ word) (words_after_blanks words))
 
 pub text_short : (rows : List Row) → AreShort rows → length (rows_text rows) ≤ 20001 * length rows
 unfolding rows_text text_of

@@ -11,24 +11,24 @@ use Rattle.trace_text.proofs.HexadecimalLemmas.{bytes_again, hex_is_word}
 use Rattle.trace_text.proofs.NumbersLemmas.{number_again}
 use Rattle.trace_words.proofs.TextBytes.{text_is_bytes}
 use Rattle.trace_words.specs.Reading.{number_in, flag_in, bytes_in, data_in}
-use Rattle.trace_words.specs.Rows.{Row, wanted, Word}
+use Rattle.trace_words.specs.Rows.{Row, or_wrong, Word}
 use Rattle.trace_words.specs.Writing.{IsHeld, flag_number, data_word}
 use Rattle.std.specs.List.{list_all}
 use Rattle.trace_text.specs.Lines.{is_row}
 use Rattle.trace_text.specs.Words.{is_word}
 use Rattle.trace_text.proofs.WordsLemmas.{decimal_is_word}
-use Rattle.trace_words.specs.Labels.{behind, labelled, number_row}
+use Rattle.trace_words.specs.Labels.{behind, labelled_value, number_row}
 use Rattle.trace_words.specs.declared.fault.RowFault.{RowFault}
 
 pub number_word_again : (limit n : ℕ) → n ≤ limit → limit < 2 ^ 64 → number_in limit (decimal n) ≡ Ok n
-number_word_again limit n le small = ap (λ (o : Option ℕ). wanted o) (number_again limit n le small)
+number_word_again limit n le small = ap (λ (o : Option ℕ). or_wrong o) (number_again limit n le small)
 
 pub flag_again : (flag : Bool) → flag_in (decimal (flag_number flag)) ≡ Ok flag
 flag_again true = let h = number_word_again 1 1 (omega arith) (omega arith) in rw h refl
 flag_again false = let h = number_word_again 1 0 (omega arith) (omega arith) in rw h refl
 
 pub bytes_word_again : (bytes : List ℕ) → 0 < length bytes → IsBytes bytes → bytes_in (encode_upper bytes) ≡ Ok bytes
-bytes_word_again bytes some are = ap (λ (o : Option (List ℕ)). wanted o) (bytes_again bytes some are)
+bytes_word_again bytes some are = ap (λ (o : Option (List ℕ)). or_wrong o) (bytes_again bytes some are)
 
 -- a list of bytes equals itself
 pub same_bytes : (bytes : List ℕ) → pointwise nat_eq bytes bytes ≡ true
@@ -47,7 +47,7 @@ pub behind_again : (name : Word) (words : Row) → behind name (name ∷ words) 
 unfolding behind
 behind_again name words = let same = same_bytes name in rw same refl
 
-pub labelled_again : {X : Type 0} (name : Word) (value_in : Word → Result X RowFault) (word : Word) (x : X) → value_in word ≡ Ok x → labelled name value_in (name ∷ word ∷ []) ≡ Ok x
+pub labelled_again : {X : Type 0} (name : Word) (value_in : Word → Result X RowFault) (word : Word) (x : X) → value_in word ≡ Ok x → labelled_value name value_in (name ∷ word ∷ []) ≡ Ok x
 labelled_again name value_in word x e =
     let first = behind_again name (word ∷ []) in
     rw (first, e) refl

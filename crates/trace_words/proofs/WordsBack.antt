@@ -15,12 +15,12 @@ use Rattle.trace_text.specs.Numbers.{number_of}
 use Rattle.trace_text.proofs.HexadecimalLemmas.{bytes_only}
 use Rattle.trace_text.proofs.NumbersLemmas.{number_only}
 use Rattle.trace_words.specs.Reading.{number_in, flag_in, bytes_in, data_in, next_as, last_as}
-use Rattle.trace_words.specs.Rows.{Word, Row, Read, wanted, ended, all_at}
+use Rattle.trace_words.specs.Rows.{Word, Row, Read, or_wrong, if_last, all_at}
 use Rattle.trace_words.specs.Writing.{flag_number, data_word, all_words}
 use Rattle.trace_words.specs.declared.fault.RowFault.{RowFault}
 use Rattle.trace_words.specs.declared.fault.RowFault.TheVariants.{Wrong}
 
-pub wanted_is : {X : Type 0} (found : Option X) (x : X) → wanted found ≡ Ok x → found ≡ Some x
+pub wanted_is : {X : Type 0} (found : Option X) (x : X) → or_wrong found ≡ Ok x → found ≡ Some x
 wanted_is (Some y) x e = cc
 wanted_is None x e = absurd cc
 
@@ -63,7 +63,7 @@ pub data_back : IsWrittenBack Data data_in data_word
 unfolding data_in
 data_back word value e =
     let bytes = bind_ok (bytes_in word) _ value e in
-    let read = bind_ok (wanted (result_ok (first_data bytes.0))) _ value bytes.2 in
+    let read = bind_ok (or_wrong (result_ok (first_data bytes.0))) _ value bytes.2 in
     let spelled = guard_ok (pointwise nat_eq (text (tree_of read.0.0)) bytes.0) Wrong _ value read.2 in
     bytes_back word bytes.0 bytes.1
     ∙ ap encode_upper (sym (same_is (text (tree_of read.0.0)) bytes.0 spelled.0))
@@ -82,7 +82,7 @@ pub next_number_back : (limit : ℕ) → limit < 2 ^ 64 → (words rest : Row) (
 next_number_back limit small words rest n e = next_back ℕ (number_in limit) decimal (number_back limit small) words rest n e
 
 -- a value after which no word is left
-pub ended_back : (X : Type 0) (words : Row) (x y : X) → ended words x ≡ Ok y → (words ≡ []) × (x ≡ y)
+pub ended_back : (X : Type 0) (words : Row) (x y : X) → if_last words x ≡ Ok y → (words ≡ []) × (x ≡ y)
 ended_back X [] x y e = (refl, ok_is x y e)
 ended_back X (word ∷ words) x y e = absurd cc
 

@@ -39,15 +39,15 @@ ReadsLines view (Ok x) new given = given ≡ Ok (view x, new)
 ReadsLines view (Err fault) new given = Fails Memory fault given
 
 -- a line that was read, and the place after it
-abbrev pub passed : {X : Type 0} → Result X RowFault → ℕ → List Row → List ℕ → ReadLines X
-passed (Ok x) number rows unended =
+abbrev pub line_result : {X : Type 0} → Result X RowFault → ℕ → List Row → List ℕ → ReadLines X
+line_result (Ok x) number rows unended =
     Ok (x, record { number = suc number; rows = rows; unended = unended })
-passed (Err fault) number rows unended = Err (Line number)
+line_result (Err fault) number rows unended = Err (Line number)
 
 -- the first of these lines as such a value; a line that is missing, or not ended, is a fault
 abbrev pub first_as : {X : Type 0} → (Row → Result X RowFault) → ℕ → List Row → List ℕ → ReadLines X
 first_as value_in number [] unended = Err (Line number)
-first_as value_in number (row ∷ rows) unended = passed (value_in row) number rows unended
+first_as value_in number (row ∷ rows) unended = line_result (value_in row) number rows unended
 
 -- the next line as such a value
 unfoldable pub line_as : {X : Type 0} → (Row → Result X RowFault) → Place → ReadLines X
@@ -75,14 +75,14 @@ at_line number (Err Wrong) = Err (Line number)
 at_line number (Err row_fault.Memory) = Err Memory
 
 -- a value if nothing is left; any text that is left, ended or not, is a fault
-abbrev pub nothing_left : {X : Type 0} → ℕ → List Row → List ℕ → X → Result X TraceFault
-nothing_left number [] [] x = Ok x
-nothing_left number [] (byte ∷ bytes) x = Err (Line number)
-nothing_left number (row ∷ rows) unended x = Err (Line number)
+abbrev pub value_at_end : {X : Type 0} → ℕ → List Row → List ℕ → X → Result X TraceFault
+value_at_end number [] [] x = Ok x
+value_at_end number [] (byte ∷ bytes) x = Err (Line number)
+value_at_end number (row ∷ rows) unended x = Err (Line number)
 
 -- a value after which nothing is left
 unfoldable pub ended_at : {X : Type 0} → Place → X → Result X TraceFault
-ended_at place x = nothing_left place.number place.rows place.unended x
+ended_at place x = value_at_end place.number place.rows place.unended x
 
 -- the place at the start of a text whose first line has this number
 abbrev pub place_at : ℕ → List ℕ → Place

@@ -11,13 +11,13 @@ use Rattle.cosem_axdr.specs.View.{tree_of}
 use Rattle.cosem_axdr.specs.declared.value.Data.{Data}
 use Rattle.trace_text.specs.Hexadecimal.{bytes_of}
 use Rattle.trace_text.specs.Numbers.{number_of}
-use Rattle.trace_words.specs.Rows.{Word, Row, Read, wanted, word_at, last_word}
+use Rattle.trace_words.specs.Rows.{Word, Row, Read, or_wrong, word_at, last_word}
 use Rattle.trace_words.specs.declared.fault.RowFault.{RowFault}
 use Rattle.trace_words.specs.declared.fault.RowFault.TheVariants.{Wrong}
 
 -- a decimal number up to a limit
 abbrev pub number_in : ℕ → Word → Result ℕ RowFault
-number_in limit word = wanted (number_of limit word)
+number_in limit word = or_wrong (number_of limit word)
 
 -- 0 for false, 1 for true
 abbrev pub flag_in : Word → Result Bool RowFault
@@ -27,11 +27,11 @@ flag_in word = do
 
 -- bytes in hexadecimal
 abbrev pub bytes_in : Word → Result (List ℕ) RowFault
-bytes_in word = wanted (bytes_of word)
+bytes_in word = or_wrong (bytes_of word)
 
 -- a Data that was read from bytes, if these are the encoding that is written for it
-abbrev pub spelled : List ℕ → Data → Result Data RowFault
-spelled bytes value = do
+abbrev pub canonical_data : List ℕ → Data → Result Data RowFault
+canonical_data bytes value = do
   guard (pointwise nat_eq (text (tree_of value)) bytes) Wrong
   Ok value
 
@@ -39,8 +39,8 @@ spelled bytes value = do
 unfoldable pub data_in : Word → Result Data RowFault
 data_in word = do
   bytes ← bytes_in word
-  read ← wanted (result_ok (first_data bytes))
-  spelled bytes read.0
+  read ← or_wrong (result_ok (first_data bytes))
+  canonical_data bytes read.0
 
 -- the value of the next word
 abbrev pub next_as : {X : Type 0} → (Word → Result X RowFault) → Row → Read X

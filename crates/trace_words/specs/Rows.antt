@@ -25,14 +25,14 @@ Reads view (Ok x) new given = given ≡ Ok (view x, new)
 Reads view (Err fault) new given = Fails Memory fault given
 
 -- a value that must be present
-abbrev pub wanted : {X : Type 0} → Option X → Result X RowFault
-wanted (Some x) = Ok x
-wanted None = Err Wrong
+abbrev pub or_wrong : {X : Type 0} → Option X → Result X RowFault
+or_wrong (Some x) = Ok x
+or_wrong None = Err Wrong
 
 -- a value after which no word is left
-abbrev pub ended : {X : Type 0} → Row → X → Result X RowFault
-ended [] x = Ok x
-ended (word ∷ words) x = Err Wrong
+abbrev pub if_last : {X : Type 0} → Row → X → Result X RowFault
+if_last [] x = Ok x
+if_last (word ∷ words) x = Err Wrong
 
 -- the next word
 abbrev pub word_at : Row → Read Word

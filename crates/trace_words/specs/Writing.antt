@@ -11,9 +11,9 @@ use Rattle.cosem_axdr.specs.declared.value.Data.{Data}
 use Rattle.trace_words.specs.Rows.{Word, Row}
 
 -- words, each after a blank
-abbrev pub blanked : Row → List ℕ
-blanked [] = []
-blanked (word ∷ words) = 32 ∷ word ++ blanked words
+abbrev pub words_after_blanks : Row → List ℕ
+words_after_blanks [] = []
+words_after_blanks (word ∷ words) = 32 ∷ word ++ words_after_blanks words
 
 -- 1 for true, 0 for false
 abbrev pub flag_number : Bool → ℕ

@@ -1,7 +1,7 @@
 ghost use Rattle.std.specs.Prelude.{Result, Ok, IfOk};
 ghost use Rattle.std.specs.Fn.{FnOnceReturnsAt};
 ghost use Rattle.byte_reading.specs.Outcome.{Gives};
-ghost use Rattle.trace_words.specs.Labels.{IsWordReader, behind, labelled};
+ghost use Rattle.trace_words.specs.Labels.{IsWordReader, behind, labelled_value};
 ghost use Rattle.trace_words.specs.Rows.{Word, Reads};
 ghost use Rattle.trace_words.specs.declared.fault.RowFault.{RowFault};
 ghost use Rattle.trace_words.specs.declared.fault.RowFault.TheVariants.{Memory};
@@ -24,14 +24,14 @@ pub fn behind(label: &[u8], words: &mut Words) -> Result<(), RowFault>
 
 /// Reads a line of two words: `label`, and a value that `value_in` reads. Errors: `Wrong` if the
 /// words are others, else the error of `value_in`.
-pub fn labelled<X: Drop, F: FnOnce(&[u8]) -> Result<X, RowFault>>(
+pub fn labelled_value<X: Drop, F: FnOnce(&[u8]) -> Result<X, RowFault>>(
     label: &[u8],
     words: &mut Words,
     value_in: F,
 ) -> Result<X, RowFault>
     requires { F.IsAlwaysCallable value_in }
     ensures reads { (of_word : Word → Result X RowFault) → IsWordReader F.FnOnce value_in of_word
-        → Gives Memory (λ x. x) result (labelled label.now of_word words.old) }
+        → Gives Memory (λ x. x) result (labelled_value label.now of_word words.old) }
     ensures answered { IfOk result (λ x. (word : Word)
         × FnOnceReturnsAt F.FnOnce value_in word (Ok x)) }
 {

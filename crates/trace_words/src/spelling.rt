@@ -4,7 +4,7 @@ ghost use Rattle.std.specs.Cmp.Lexicographic.{pointwise};
 ghost use Rattle.std.specs.Prelude.{nat_eq, IfOk};
 ghost use Rattle.cosem_axdr.specs.Spelling.{text};
 ghost use Rattle.cosem_axdr.specs.View.{tree_of};
-ghost use Rattle.trace_words.specs.Reading.{spelled, data_in};
+ghost use Rattle.trace_words.specs.Reading.{canonical_data, data_in};
 ghost use Rattle.trace_words.specs.declared.fault.RowFault.TheVariants.{Memory};
 
 use crate::fault::RowFault;
@@ -24,7 +24,7 @@ fn is_written(alloc: Global, value: &Data, bytes: &[u8]) -> Result<bool, AllocEr
 // Returns `value` if its written encoding is `bytes`, from which it was read. Errors: `Wrong` if
 // not; `Memory`.
 fn as_written(alloc: Global, value: Data, bytes: &[u8]) -> Result<Data, RowFault>
-    ensures { Gives Memory (λ value. value) result (spelled bytes.now value) }
+    ensures { Gives Memory (λ value. value) result (canonical_data bytes.now value) }
 {
     match is_written(alloc, &value, bytes) {
         Ok(true) => Ok(value),

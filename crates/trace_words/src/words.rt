@@ -1,6 +1,6 @@
 ghost use Rattle.std.specs.Prelude.{◌≡◌, ◌≤◌, IfOk};
 ghost use Rattle.byte_reading.specs.Outcome.{Gives};
-ghost use Rattle.trace_words.specs.Rows.{Reads, ended, word_at, last_word};
+ghost use Rattle.trace_words.specs.Rows.{Reads, if_last, word_at, last_word};
 ghost use Rattle.trace_words.specs.Reading.{number_in, flag_in, bytes_in, next_as};
 ghost use Rattle.trace_words.specs.declared.fault.RowFault.TheVariants.{Memory, Wrong};
 
@@ -17,8 +17,8 @@ pub fn next_word<'a>(words: &mut Words<'a>) -> Result<&'a [u8], RowFault>
 }
 
 /// Checks that no word is left. Errors: `Wrong` if one is.
-pub fn ended(words: &mut Words) -> Result<(), RowFault>
-    ensures { result ≡ ended words.old tt }
+pub fn if_last(words: &mut Words) -> Result<(), RowFault>
+    ensures { result ≡ if_last words.old tt }
 {
     match words.next() {
         Some(_) => Err(RowFault::Wrong),
@@ -32,7 +32,7 @@ pub fn last_word<'a>(words: &mut Words<'a>) -> Result<&'a [u8], RowFault>
     ensures { Gives Memory (λ word. word.now) result (last_word words.old) }
 {
     let word = next_word(words)?;
-    ended(words)?;
+    if_last(words)?;
     Ok(word)
 }
 

@@ -1,7 +1,7 @@
 ghost use Rattle.std.specs.Prelude.{◌≡◌, ◌++◌, ◌∷◌, [], OnOk, decimal};
 ghost use Rattle.trace_text.specs.Lines.{rows_text};
 ghost use Rattle.trace_words.specs.Labels.{number_row};
-ghost use Rattle.trace_words.specs.Writing.{blanked, data_word, flag_number};
+ghost use Rattle.trace_words.specs.Writing.{words_after_blanks, data_word, flag_number};
 
 use cosem_axdr::{Data, Octets, write};
 use std::alloc::{AllocError, Global};
@@ -10,14 +10,14 @@ use trace_text::{add_hex, add_number, end_line};
 /// Appends the word `1` for true, `0` for false.
 pub fn add_flag(out: &mut Vec<u8>, flag: bool) -> Result<(), AllocError>
     ensures { OnOk result (out.new.items ≡ out.old.items
-        ++ blanked (decimal (flag_number flag) ∷ [])) }
+        ++ words_after_blanks (decimal (flag_number flag) ∷ [])) }
 {
     add_number(out, if flag { 1 } else { 0 })
 }
 
 /// Appends a Data as a word: its A-XDR encoding in hexadecimal.
 pub fn add_data(alloc: Global, out: &mut Vec<u8>, value: &Data) -> Result<(), AllocError>
-    ensures { OnOk result (out.new.items ≡ out.old.items ++ blanked (data_word value.now ∷ [])) }
+    ensures { OnOk result (out.new.items ≡ out.old.items ++ words_after_blanks (data_word value.now ∷ [])) }
 {
     let mut text = Octets::new(alloc);
     write(alloc, value, &mut text)?;

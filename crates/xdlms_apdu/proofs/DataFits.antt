@@ -7,7 +7,7 @@ use Rattle.std.proofs.Math.Nat.{div-mul-le_self, mul-div_cancel}
 use Rattle.std.proofs.lemmas.Nat.{pow_pos}
 use Rattle.std.proofs.lemmas.Bool.{cases_lt, lt-ltb, le-ltb}
 use Rattle.std.proofs.lemmas.List.{length-append, length-set, get_or-append-add}
-use Rattle.cosem_axdr.specs.Limits.{highest_bits, cleared}
+use Rattle.cosem_axdr.specs.Limits.{highest_bits, without_unused_bits}
 use Rattle.cosem_axdr.specs.Spelling.{IsLength, IsString, IsBits, IsUnsigned, IsSigned, IsFixed, AreContents, AreSpelled, IsSpelling, length_text, string_text, contents_text, texts, text, tag_of, IsBytes, IsWithin, AreWithin, IsFine, AreFine, IsFit}
 use Rattle.cosem_axdr.specs.Tree.{Tree, Trees, count_of, null, array, structure, boolean, bit_string, double_long, double_long_unsigned, octet_string, visible_string, utf8_string, integer, long, unsigned, long_unsigned, long64, long64_unsigned, enumerated, date_time, date, time, no_trees, tree}
 
@@ -47,10 +47,10 @@ highest_again : (k n : ℕ) → highest_bits k (highest_bits k n) ≡ highest_bi
 highest_again k n = ap (λ (q : ℕ). q * 2 ^ (8 - k)) (mul-div_cancel (n / 2 ^ (8 - k)) (pow_pos (8 - k)))
 
 -- clearing bits twice is clearing them once
-cleared_again : (k : ℕ) (raw : List ℕ) → cleared k (cleared k raw) ≡ cleared k raw
+cleared_again : (k : ℕ) (raw : List ℕ) → without_unused_bits k (without_unused_bits k raw) ≡ without_unused_bits k raw
 cleared_again k raw = set_again (highest_bits (k % 8)) (highest_again (k % 8)) raw (k / 8)
 
-cleared_bytes : (k : ℕ) (raw : List ℕ) → IsBytes raw → IsBytes (cleared k raw)
+cleared_bytes : (k : ℕ) (raw : List ℕ) → IsBytes raw → IsBytes (without_unused_bits k raw)
 cleared_bytes k raw bytes = λ i.
     let given = slice_index raw (k / 8) in
     let below : highest_bits (k % 8) given < 256 = omega (arith, div-mul-le_self given (2 ^ (8 - k % 8)), bytes (k / 8)) in
@@ -137,11 +137,11 @@ bits_fit : (contents : List ℕ) (k : ℕ) (bytes : List ℕ) → IsBytes conten
 bits_fit contents k bytes are is =
     let l = length_is_short is.length_text k (front_bytes is.length_text is.raw contents is.parts are) is.is_length in
     let raw : IsBytes is.raw = back_bytes is.length_text is.raw contents is.parts are in
-    let len : length (cleared k is.raw) ≡ length is.raw = length-set is.raw (k / 8) _ in
-    let done : FitsIn contents (bit_string k (cleared k is.raw)) = (
+    let len : length (without_unused_bits k is.raw) ≡ length is.raw = length-set is.raw (k / 8) _ in
+    let done : FitsIn contents (bit_string k (without_unused_bits k is.raw)) = (
       (omega (arith, l.0), cleared_bytes k is.raw raw),
       (len ∙ is.long, cleared_again k is.raw),
-      omega (arith, l.1, len, length-append (length_text k) (cleared k is.raw), length-append is.length_text is.raw, ap (λ (s : List ℕ). length s) is.parts),
+      omega (arith, l.1, len, length-append (length_text k) (without_unused_bits k is.raw), length-append is.length_text is.raw, ap (λ (s : List ℕ). length s) is.parts),
     ) in
     subst (λ (s : List ℕ). FitsIn contents (bit_string k s)) (sym is.value) done
 

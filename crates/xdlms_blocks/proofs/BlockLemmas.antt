@@ -8,13 +8,13 @@ use Rattle.xdlms_blocks.specs.declared.blocks.Piece.{Piece}
 use Rattle.xdlms_blocks.specs.Limits.{max_joined}
 use Rattle.xdlms_blocks.specs.Transfer.{Sending}
 use Rattle.xdlms_blocks.specs.Sending.{block_after, is_last, after_next}
-use Rattle.xdlms_blocks.specs.Blocks.{AreBlocks, last_block, full_block, joined, unsent, pieces_in, pieces_of, unjoined, Joins, at_last, goes_on}
+use Rattle.xdlms_blocks.specs.Blocks.{AreBlocks, last_block, full_block, joined_bytes, new_sending, pieces_in, pieces_of, new_joining, Joins, at_last, goes_on}
 use Rattle.xdlms_blocks.proofs.SendingLemmas.{take_whole}
 
 -- these pieces are the blocks of the rest of a text
 pub record AreRest (size number : ℕ) (pieces : List Piece) (rest : List ℕ) : Type 0 where
   pub blocks : AreBlocks size number pieces
-  pub whole : joined pieces ≡ rest
+  pub whole : joined_bytes pieces ≡ rest
 
 -- the next piece and those after it, by whether the next one is the last
 rest_by : (last : Bool) (size number : ℕ) (text : List ℕ) (later : List Piece) → 0 < size → number * size < length text
@@ -56,30 +56,30 @@ rest_of_all : (text : List ℕ) (size : ℕ) → 0 < length text → 0 < size �
 unfolding pieces_of
 rest_of_all text size some fits =
     let none : 0 * size ≡ 0 = omega arith in
-    subst (λ (n : ℕ). AreRest size 0 (pieces_in (length text) (unsent text size)) (drop n text)) none
-    (rest_in (length text) (unsent text size) fits (omega arith) (omega arith))
+    subst (λ (n : ℕ). AreRest size 0 (pieces_in (length text) (new_sending text size)) (drop n text)) none
+    (rest_in (length text) (new_sending text size) fits (omega arith) (omega arith))
 
 pub is_cut : (text : List ℕ) (size : ℕ) → 0 < length text → 0 < size → AreBlocks size 0 (pieces_of text size)
 is_cut text size some fits = (rest_of_all text size some fits).blocks
 
-pub is_whole : (text : List ℕ) (size : ℕ) → 0 < length text → 0 < size → joined (pieces_of text size) ≡ text
+pub is_whole : (text : List ℕ) (size : ℕ) → 0 < length text → 0 < size → joined_bytes (pieces_of text size) ≡ text
 is_whole text size some fits = (rest_of_all text size some fits).whole
 
 -- blocks that arrive in order are joined
-joins_from : (size number : ℕ) (pieces : List Piece) → AreBlocks size number pieces → (bytes : List ℕ) → length bytes + length (joined pieces) ≤ max_joined
-    → Joins (record { number = number; bytes = bytes; is_open = true }) pieces (bytes ++ joined pieces)
+joins_from : (size number : ℕ) (pieces : List Piece) → AreBlocks size number pieces → (bytes : List ℕ) → length bytes + length (joined_bytes pieces) ≤ max_joined
+    → Joins (record { number = number; bytes = bytes; is_open = true }) pieces (bytes ++ joined_bytes pieces)
 joins_from size _ _ (last_block number raw some fits) bytes short =
     let same : raw ++ [] ≡ raw = append-nil raw in
     at_last _ _ _ (record { going = refl; next = refl; short = omega (arith, ap length same) })
     (ap (λ (xs : List ℕ). Some (bytes ++ xs)) (sym same))
 joins_from size _ _ (full_block number raw pieces full later) bytes short =
-    let total : length (raw ++ joined pieces) ≡ length raw + length (joined pieces) = length-append raw (joined pieces) in
-    let same : (bytes ++ raw) ++ joined pieces ≡ bytes ++ (raw ++ joined pieces) = append_assoc bytes raw (joined pieces) in
+    let total : length (raw ++ joined_bytes pieces) ≡ length raw + length (joined_bytes pieces) = length-append raw (joined_bytes pieces) in
+    let same : (bytes ++ raw) ++ joined_bytes pieces ≡ bytes ++ (raw ++ joined_bytes pieces) = append_assoc bytes raw (joined_bytes pieces) in
     goes_on _ _ _ _ (record { going = refl; next = refl; short = omega arith }) refl
     (subst (Joins (record { number = number + 1; bytes = bytes ++ raw; is_open = true }) pieces) same
     (joins_from size (number + 1) pieces later (bytes ++ raw) (omega (arith, length-append bytes raw))))
 
-pub is_joined : (size : ℕ) (pieces : List Piece) → AreBlocks size 0 pieces → length (joined pieces) ≤ max_joined → Joins unjoined pieces (joined pieces)
+pub is_joined : (size : ℕ) (pieces : List Piece) → AreBlocks size 0 pieces → length (joined_bytes pieces) ≤ max_joined → Joins new_joining pieces (joined_bytes pieces)
 is_joined size pieces blocks short = joins_from size 0 pieces blocks [] (omega arith)
 
 -- one piece with a given mark and part
@@ -98,13 +98,13 @@ goes_further true number raw part later pieces is e same = absurd cc
 goes_further false number raw part later pieces is e same = cc
 
 -- blocks have at least one byte
-some_joined : (size number : ℕ) (pieces : List Piece) → 0 < size → AreBlocks size number pieces → 0 < length (joined pieces)
+some_joined : (size number : ℕ) (pieces : List Piece) → 0 < size → AreBlocks size number pieces → 0 < length (joined_bytes pieces)
 some_joined size _ _ fits (last_block number raw some within) = omega (arith, length-append raw [])
-some_joined size _ _ fits (full_block number raw pieces full later) = omega (arith, length-append raw (joined pieces))
+some_joined size _ _ fits (full_block number raw pieces full later) = omega (arith, length-append raw (joined_bytes pieces))
 
 -- the blocks of the rest of a text are the pieces that a transfer returns
 only_in : (size number : ℕ) (pieces : List Piece) → 0 < size → AreBlocks size number pieces → (most : ℕ) (text : List ℕ) (going : Bool)
-    → drop (number * size) text ≡ joined pieces → length text ≤ number * size + most → pieces_in most (record { text = text; number = number; size = size; is_open = going }) ≡ pieces
+    → drop (number * size) text ≡ joined_bytes pieces → length text ≤ number * size + most → pieces_in most (record { text = text; number = number; size = size; is_open = going }) ≡ pieces
 unfolding pieces_in piece_of
 only_in size _ _ fits (last_block number raw some within) zero text going rest enough =
     absurd (omega (arith, ap length rest, length-append raw [], length-drop (number * size) text))
@@ -113,24 +113,24 @@ only_in size _ _ fits (last_block number raw some within) (suc most) text going 
     ends_here _ (number + 1) (block_after number size text) raw _ (le-leb _ _ last)
     (ap (take size) (rest ∙ append-nil raw) ∙ take_whole size raw within)
 only_in size _ _ fits (full_block number raw pieces full later) zero text going rest enough =
-    absurd (omega (arith, ap length rest, length-append raw (joined pieces), length-drop (number * size) text))
+    absurd (omega (arith, ap length rest, length-append raw (joined_bytes pieces), length-drop (number * size) text))
 only_in size _ _ fits (full_block number raw pieces full later) (suc most) text going rest enough =
     let some = some_joined size (number + 1) pieces fits later in
-    let further : (number + 1) * size < length text = omega (arith, ap length rest, length-append raw (joined pieces), length-drop (number * size) text) in
-    let part : take size (raw ++ joined pieces) ≡ raw =
-    ap (λ (n : ℕ). take n (raw ++ joined pieces)) (sym full) ∙ take-append_seam raw (joined pieces) in
-    let after : drop size (raw ++ joined pieces) ≡ joined pieces =
-    ap (λ (n : ℕ). drop n (raw ++ joined pieces)) (sym full) ∙ drop-append_seam raw (joined pieces) in
+    let further : (number + 1) * size < length text = omega (arith, ap length rest, length-append raw (joined_bytes pieces), length-drop (number * size) text) in
+    let part : take size (raw ++ joined_bytes pieces) ≡ raw =
+    ap (λ (n : ℕ). take n (raw ++ joined_bytes pieces)) (sym full) ∙ take-append_seam raw (joined_bytes pieces) in
+    let after : drop size (raw ++ joined_bytes pieces) ≡ joined_bytes pieces =
+    ap (λ (n : ℕ). drop n (raw ++ joined_bytes pieces)) (sym full) ∙ drop-append_seam raw (joined_bytes pieces) in
     let next : (number + 1) * size ≡ number * size + size = omega arith in
-    let left : drop ((number + 1) * size) text ≡ joined pieces =
+    let left : drop ((number + 1) * size) text ≡ joined_bytes pieces =
     ap (λ (n : ℕ). drop n text) next ∙ sym (drop-drop size (number * size) text) ∙ ap (drop size) rest ∙ after in
     goes_further _ (number + 1) (block_after number size text) raw _ pieces (lt-leb _ _ further) (ap (take size) rest ∙ part)
     (only_in size (number + 1) pieces fits later most text _ left (omega arith))
 
 -- no other pieces are the blocks of a text
-pub is_only : (size : ℕ) (pieces : List Piece) → 0 < size → AreBlocks size 0 pieces → pieces ≡ pieces_of (joined pieces) size
+pub is_only : (size : ℕ) (pieces : List Piece) → 0 < size → AreBlocks size 0 pieces → pieces ≡ pieces_of (joined_bytes pieces) size
 unfolding pieces_of
 is_only size pieces fits blocks =
     let none : 0 * size ≡ 0 = omega arith in
-    let all : drop (0 * size) (joined pieces) ≡ joined pieces = ap (λ (n : ℕ). drop n (joined pieces)) none in
-    sym (only_in size 0 pieces fits blocks (length (joined pieces)) (joined pieces) true all (omega arith))
+    let all : drop (0 * size) (joined_bytes pieces) ≡ joined_bytes pieces = ap (λ (n : ℕ). drop n (joined_bytes pieces)) none in
+    sym (only_in size 0 pieces fits blocks (length (joined_bytes pieces)) (joined_bytes pieces) true all (omega arith))

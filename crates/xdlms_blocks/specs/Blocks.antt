@@ -12,7 +12,7 @@ use Rattle.xdlms_blocks.specs.declared.blocks.Piece.{Piece}
 use Rattle.xdlms_blocks.specs.Limits.{max_joined}
 use Rattle.xdlms_blocks.specs.Transfer.{Sending, Joining}
 use Rattle.xdlms_blocks.specs.Sending.{is_last, next_piece, after_next}
-use Rattle.xdlms_blocks.specs.Joining.{added_text, after_added}
+use Rattle.xdlms_blocks.specs.Joining.{added_text, joining_after_block}
 
 -- pieces are the blocks of `size` bytes that follow the first `number` blocks
 pub data AreBlocks (size : ℕ) : ℕ → List Piece → Type 0 where
@@ -23,12 +23,12 @@ pub data AreBlocks (size : ℕ) : ℕ → List Piece → Type 0 where
       → AreBlocks size number (record { last = false; number = number + 1; raw = raw } ∷ pieces)
 
 -- the concatenation of the parts of a text
-abbrev pub joined : List Piece → List ℕ
-joined pieces = flat_map (λ piece. piece.raw) pieces
+abbrev pub joined_bytes : List Piece → List ℕ
+joined_bytes pieces = flat_map (λ piece. piece.raw) pieces
 
 -- a text of which no block is sent
-abbrev pub unsent : List ℕ → ℕ → Sending
-unsent text size = record { text = text; number = 0; size = size; is_open = true }
+abbrev pub new_sending : List ℕ → ℕ → Sending
+new_sending text size = record { text = text; number = 0; size = size; is_open = true }
 
 -- the next pieces, up to the last, and at most a given number of them
 unfoldable pub pieces_in : ℕ → Sending → List Piece
@@ -37,11 +37,11 @@ pieces_in (suc most) s = next_piece s ∷ (if is_last s then [] else pieces_in m
 
 -- all pieces of a text; each has at least one byte
 unfoldable pub pieces_of : List ℕ → ℕ → List Piece
-pieces_of text size = pieces_in (length text) (unsent text size)
+pieces_of text size = pieces_in (length text) (new_sending text size)
 
 -- a transfer of which no block has arrived
-abbrev pub unjoined : Joining
-unjoined = record { number = 0; bytes = []; is_open = true }
+abbrev pub new_joining : Joining
+new_joining = record { number = 0; bytes = []; is_open = true }
 
 -- a piece is accepted: no fault refuses it
 pub record IsDue (j : Joining) (piece : Piece) : Type 0 where
@@ -56,4 +56,4 @@ pub data Joins : Joining → List Piece → List ℕ → Type 0 where
       → added_text piece.last piece.raw j ≡ Some text → Joins j (piece ∷ []) text
   goes_on : (j : Joining) (piece : Piece) (pieces : List Piece) (text : List ℕ) → IsDue j piece
       → added_text piece.last piece.raw j ≡ None
-      → Joins (after_added piece.last piece.raw j) pieces text → Joins j (piece ∷ pieces) text
+      → Joins (joining_after_block piece.last piece.raw j) pieces text → Joins j (piece ∷ pieces) text

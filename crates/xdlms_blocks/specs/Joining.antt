@@ -9,8 +9,8 @@ abbrev pub added_text : Bool → List ℕ → Joining → Option (List ℕ)
 added_text last raw j = if last then Some (j.bytes ++ raw) else None
 
 -- the transfer after a block was added; after the last block it keeps no bytes
-abbrev pub after_added : Bool → List ℕ → Joining → Joining
-after_added last raw j =
+abbrev pub joining_after_block : Bool → List ℕ → Joining → Joining
+joining_after_block last raw j =
     record {
       number = j.number + 1;
       bytes = (if last then [] else j.bytes ++ raw);

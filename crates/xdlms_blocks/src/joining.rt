@@ -1,5 +1,5 @@
 ghost use Rattle.std.specs.Prelude.{◌≡◌, ◌≢◌, ◌+◌, ◌<◌, ◌≤◌, ◌↔◌, [], length, true, false, IsErrOf, IfOk, IfErr, OnOk};
-ghost use Rattle.xdlms_blocks.specs.Joining.{added_text, after_added, joining_by};
+ghost use Rattle.xdlms_blocks.specs.Joining.{added_text, joining_after_block, joining_by};
 ghost use Rattle.xdlms_blocks.specs.Limits.{max_joined};
 
 use crate::blocks::MAX_JOINED;
@@ -57,7 +57,7 @@ impl JoinBlocks {
             ↔ ((self.old.is_open ≡ true) × (number ≡ self.old.number + 1)
             × (max_joined < length self.old.bytes + length raw.now)) }
         ensures text { IfOk result (λ text. text ≡ added_text last raw.now self.old) }
-        ensures ok { OnOk result (self.new ≡ after_added last raw.now self.old) }
+        ensures ok { OnOk result (self.new ≡ joining_after_block last raw.now self.old) }
 
         // Out of memory nothing changes; every other fault ends the transfer.
         ensures err { IfErr result (λ fault. self.new ≡ joining_by fault self.old) }

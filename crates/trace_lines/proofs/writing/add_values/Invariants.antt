@@ -1,7 +1,7 @@
 use Rattle.std.proofs.Common.{◌++◌}
-use Rattle.trace_words.specs.Writing.{blanked, all_words, value_words}
+use Rattle.trace_words.specs.Writing.{words_after_blanks, all_words, value_words}
 use Rattle.trace_words.proofs.Blanks.{Left}
 use Rattle.trace_lines.proofs.writing.add_values.Given as goal
 
 abbrev pub invariant-loop-value : goal.invariant-loop-value
-invariant-loop-value l = Left _ value_words l.values l.value-index l.out.items (l.initial.out.items ++ blanked (all_words value_words l.values))
+invariant-loop-value l = Left _ value_words l.values l.value-index l.out.items (l.initial.out.items ++ words_after_blanks (all_words value_words l.values))
