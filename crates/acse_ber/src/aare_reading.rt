@@ -6,7 +6,7 @@ ghost use Rattle.acse_ber.specs.declared.aare.Aare.{Aare};
 
 use crate::aare::{Aare, Info};
 use crate::fault::AcseFault;
-use crate::field::{find_inner, find_needed, read_tagged};
+use crate::field::{find_inner, find_required, read_tagged};
 use crate::initiate::{INITIATE_ERROR_HEAD, RESPONSE_TAG, read_conformance, skip_optional_byte};
 use crate::length::{read_literal, read_size};
 use crate::tag;
@@ -48,22 +48,22 @@ fn read_whole(bytes: &[u8]) -> Result<Aare, AcseFault>
 fn read_fields(body: &[u8]) -> Result<Aare, AcseFault>
     ensures { result ≡ aare_in body.now }
 {
-    let outcome = read_result(find_needed(tag::aare::RESULT, body)?)?;
-    read_judged(outcome, body)
+    let outcome = read_result(find_required(tag::aare::RESULT, body)?)?;
+    read_after_result(outcome, body)
 }
 
 // Reads the diagnostic and the user information of an AARE with this result.
 #[tactic(auto, unfolding(crate::specs::Reading::aare_with_result))]
-fn read_judged(outcome: u8, body: &[u8]) -> Result<Aare, AcseFault>
+fn read_after_result(outcome: u8, body: &[u8]) -> Result<Aare, AcseFault>
     ensures { result ≡ aare_with_result outcome body.now }
 {
-    let diagnostic = read_diagnostic(find_needed(tag::aare::RESULT_SOURCE_DIAGNOSTIC, body)?)?;
-    read_told(outcome, diagnostic, body)
+    let diagnostic = read_diagnostic(find_required(tag::aare::RESULT_SOURCE_DIAGNOSTIC, body)?)?;
+    read_after_diagnostic(outcome, diagnostic, body)
 }
 
 // Reads the user information of an AARE with this result and diagnostic.
 #[tactic(auto, unfolding(crate::specs::Reading::aare_with_diagnostic))]
-fn read_told(outcome: u8, diagnostic: u8, body: &[u8]) -> Result<Aare, AcseFault>
+fn read_after_diagnostic(outcome: u8, diagnostic: u8, body: &[u8]) -> Result<Aare, AcseFault>
     ensures { result ≡ aare_with_diagnostic outcome diagnostic body.now }
 {
     let user = find_inner(tag::USER_INFORMATION, tag::OCTET_STRING, body)?;

@@ -91,7 +91,7 @@ pub(crate) fn find_inner(tag: u8, inner: u8, body: &[u8]) -> Result<Option<&[u8]
 }
 
 // Returns the contents of the field with a tag, which must be present.
-pub(crate) fn find_needed(tag: u8, body: &[u8]) -> Result<&[u8], AcseFault>
+pub(crate) fn find_required(tag: u8, body: &[u8]) -> Result<&[u8], AcseFault>
     ensures { Yields (λ contents. contents.now) result (needed_field tag body.now) }
 {
     find_field(tag, body)?.ok_or(AcseFault::Unreadable)

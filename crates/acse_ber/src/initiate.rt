@@ -62,13 +62,13 @@ pub(crate) fn read_proposal(bytes: &[u8]) -> Result<Proposal, AcseFault>
     read_literal(&REQUEST_HEAD, &mut reader)?;
     skip_optional_byte(&mut reader)?;
     skip_optional_byte(&mut reader)?;
-    let proposal = read_proposed(&mut reader)?;
+    let proposal = read_proposal_fields(&mut reader)?;
     reader.finish(proposal, AcseFault::Unreadable)
 }
 
 // Reads the version, the conformance and the size.
 #[tactic(auto, unfolding(crate::specs::Reading::proposed_at))]
-fn read_proposed(reader: &mut Cursor) -> Result<Proposal, AcseFault>
+fn read_proposal_fields(reader: &mut Cursor) -> Result<Proposal, AcseFault>
     ensures { Reads (λ proposal. proposal) result reader.new (proposed_at reader.old) }
 {
     let version = reader.byte(AcseFault::Unreadable)?;

@@ -1,4 +1,4 @@
-use byte_reading::{Cursor, beside};
+use byte_reading::{Cursor, and_keep};
 use std::process::Abort;
 use xdlms_apdu::ApduFault;
 
@@ -29,6 +29,6 @@ fn a_reader_answers_the_fault_that_it_is_given(rt: HostRuntime) {
 #[test]
 fn what_was_read_before_is_let_go_at_a_fault(rt: HostRuntime) {
     let fault = ApduFault::Unreadable;
-    assert!(rt; beside(0xC4u8, Cursor::new(&GOT).byte(fault)) == Ok((0xC4, 0xC4)));
-    assert!(rt; beside(0xC4u8, Cursor::new(&[]).byte(fault)) == Err(fault));
+    assert!(rt; and_keep(0xC4u8, Cursor::new(&GOT).byte(fault)) == Ok((0xC4, 0xC4)));
+    assert!(rt; and_keep(0xC4u8, Cursor::new(&[]).byte(fault)) == Err(fault));
 }

@@ -9,5 +9,5 @@
 mod owned;
 mod reader;
 
-pub use owned::beside;
+pub use owned::and_keep;
 pub use reader::Cursor;

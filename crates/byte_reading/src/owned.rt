@@ -3,7 +3,7 @@ ghost use Rattle.std.specs.Prelude.{◌≡◌, Ok, Err, IfOk, IfErr};
 /// Pairs `before` with a successful `next`; on an error drops `before` and returns the error.
 ///
 /// It replaces `?` after an owned value was read, because an implicit drop is costly to prove.
-pub fn beside<A: Drop, B: Drop, F: Drop>(before: A, next: Result<B, F>) -> Result<(A, B), F>
+pub fn and_keep<A: Drop, B: Drop, F: Drop>(before: A, next: Result<B, F>) -> Result<(A, B), F>
     ensures ok { IfOk result (λ both. (both.0 ≡ before) × (next ≡ Ok both.1)) }
     ensures err { IfErr result (λ fault. next ≡ Err fault) }
 {

@@ -1,5 +1,5 @@
 use program_fault::Fault;
-use program_start::{ended, first_fault, print_text, words};
+use program_start::{exit_code, first_fault, print_text, words};
 use std::alloc::{AllocError, Global};
 use std::process::ExitCode;
 use std::test::Fail;
@@ -39,10 +39,10 @@ fn a_fault_has_its_status(rt: HostRuntime) {
 
 #[test]
 fn a_program_ends_with_its_status(rt: HostRuntime) {
-    assert!(rt; ended(&rt, Ok(0)) == ExitCode::from(0));
-    assert!(rt; ended(&rt, Ok(2)) == ExitCode::from(2));
-    assert!(rt; ended(&rt, Err(Fault::Input)) == ExitCode::from(2));
-    assert!(rt; ended(&rt, Err(Fault::Turns)) == ExitCode::from(4));
+    assert!(rt; exit_code(&rt, Ok(0)) == ExitCode::from(0));
+    assert!(rt; exit_code(&rt, Ok(2)) == ExitCode::from(2));
+    assert!(rt; exit_code(&rt, Err(Fault::Input)) == ExitCode::from(2));
+    assert!(rt; exit_code(&rt, Err(Fault::Turns)) == ExitCode::from(4));
 }
 
 #[test]

@@ -179,7 +179,7 @@ fn year_holds(year: Option<u16>, number: u16) -> bool
 
 impl DatePattern {
     // Returns the date with no field specified.
-    pub(crate) const fn unspecified_date_time() -> DatePattern
+    pub(crate) const fn unspecified() -> DatePattern
         ensures { result ≡ unspecified_date_time.date }
     {
         DatePattern {

@@ -92,7 +92,7 @@ pub fn read_date_time(bytes: &[u8]) -> Result<DateTimeField, PatternFault>
 
 impl DateTimeField {
     /// Returns the date-time with no field specified, `FFFFFFFFFFFFFFFFFF8000FF`.
-    pub const fn unspecified_date_time() -> DateTimeField
+    pub const fn unspecified() -> DateTimeField
         ensures fields { result ≡ unspecified_date_time }
         ensures bytes { date_time_bytes result
             ≡ 0xFF ∷ 0xFF ∷ 0xFF ∷ 0xFF ∷ 0xFF ∷ 0xFF ∷ 0xFF ∷ 0xFF ∷ 0xFF ∷ 0x80 ∷ 0x00 ∷ 0xFF

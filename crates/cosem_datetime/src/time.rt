@@ -124,7 +124,7 @@ fn first_in_hour(minute: Option<u8>, second: Option<u8>, from: u32) -> Option<u3
 
 impl TimePattern {
     // Returns the time with no field specified.
-    pub(crate) const fn unspecified_date_time() -> TimePattern
+    pub(crate) const fn unspecified() -> TimePattern
         ensures { result ≡ unspecified_date_time.time }
     {
         TimePattern {

@@ -68,13 +68,13 @@ fn time_left<R: Clock>(rt: &R, opened: Instant, within: Duration) -> Duration
     ensures { as_nanos result ≤ as_nanos within }
 {
     match opened.elapsed(rt) {
-        Ok(passed) => left_of(within, passed),
+        Ok(passed) => time_left_of(within, passed),
         Err(_) => Duration::ZERO,
     }
 }
 
 // Returns the remaining time of a limit after some time has passed.
-fn left_of(within: Duration, passed: Duration) -> Duration
+fn time_left_of(within: Duration, passed: Duration) -> Duration
     ensures { as_nanos result ≡ as_nanos within - as_nanos passed }
 {
     within.saturating_sub(passed)

@@ -76,7 +76,7 @@ fn workers(matches: &ArgMatches<'_>) -> u8
 }
 
 // A password of 1 to 32 bytes.
-fn judged(alloc: Global, text: &str) -> Result<Octets, Fault>
+fn parse_password(alloc: Global, text: &str) -> Result<Octets, Fault>
     ensures { IfOk result IsPassword }
 {
     let bytes = text.as_bytes();
@@ -94,16 +94,16 @@ fn password(rt: &HostRuntime, matches: &ArgMatches<'_>) -> Result<Octets, Fault>
     ensures { IfOk result IsPassword }
 {
     if let Some(text) = matches.get_str("password") {
-        return judged(rt.alloc(), text);
+        return parse_password(rt.alloc(), text);
     }
     match env::var(rt, PASSWORD_VARIABLE) {
-        Ok(text) => judged(rt.alloc(), text.as_str()),
+        Ok(text) => parse_password(rt.alloc(), text.as_str()),
         Err(_) => Err(Fault::Input),
     }
 }
 
 // What the command line asks for, with the jobs on standard input.
-pub(crate) fn planned(rt: &HostRuntime, matches: &ArgMatches<'_>) -> Result<CampaignPlan, Fault>
+pub(crate) fn plan_campaign(rt: &HostRuntime, matches: &ArgMatches<'_>) -> Result<CampaignPlan, Fault>
     ensures limits { IfOk result (λ plan. AreLimits (found_of matches.now) plan.limits) }
     ensures workers { IfOk result (λ plan. AreWorkers (found_of matches.now) plan.workers) }
 {

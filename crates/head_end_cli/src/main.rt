@@ -19,7 +19,7 @@ use byte_streams::{Counted, read_to_end_within};
 use clap::ArgMatches;
 use head_end::{Jobs, JobsFault, TcpConnector, count_jobs, read_jobs};
 use program_fault::Fault;
-use program_start::{ended, print_text, without_work, words};
+use program_start::{exit_code, print_text, without_work, words};
 use std::env;
 use std::env::VarError;
 use std::io::Read;
@@ -45,7 +45,7 @@ fn text_of<I: Read + Drop>(rt: &HostRuntime, input: I, is_verbose: bool) -> Resu
 
 // Returns the fault of a text that is no list of jobs. If `is_verbose`, a line on standard error
 // says where and why.
-fn told_fault(rt: &HostRuntime, text: &[u8], fault: JobsFault, is_verbose: bool) -> Fault {
+fn report_list_fault(rt: &HostRuntime, text: &[u8], fault: JobsFault, is_verbose: bool) -> Fault {
     if is_verbose {
         let _ = eprintln!(rt; "{}", ListFault::from_jobs(text, fault));
     }
@@ -64,7 +64,7 @@ pub(crate) fn jobs_of<I: Read + Drop>(
             warn(rt, text.as_slice(), &jobs);
             Ok(jobs)
         }
-        Err(fault) => Err(told_fault(rt, text.as_slice(), fault, is_verbose)),
+        Err(fault) => Err(report_list_fault(rt, text.as_slice(), fault, is_verbose)),
     }
 }
 
@@ -82,7 +82,7 @@ fn check(rt: &HostRuntime, is_verbose: bool) -> Result<(), Fault> {
     warn_of_text(rt, text.as_slice());
     match count_jobs(rt.alloc(), text.as_slice()) {
         Ok(line) => print_text(&mut rt.stdout(), line.as_slice()),
-        Err(fault) => Err(told_fault(rt, text.as_slice(), fault, is_verbose)),
+        Err(fault) => Err(report_list_fault(rt, text.as_slice(), fault, is_verbose)),
     }
 }
 
@@ -96,13 +96,13 @@ enum HeadEndCommand {
 }
 
 // Does what was chosen, up to a campaign.
-fn begin_chosen(rt: &HostRuntime, matches: &ArgMatches<'_>) -> Result<HeadEndCommand, Fault> {
+fn begin_command(rt: &HostRuntime, matches: &ArgMatches<'_>) -> Result<HeadEndCommand, Fault> {
     match matches.subcommand() {
         Some(("check", matches)) => {
             check(rt, matches.get_flag("verbose"))?;
             Ok(HeadEndCommand::Ended(0))
         }
-        Some(("run", matches)) => Ok(HeadEndCommand::Campaign(campaign::planned(rt, matches)?)),
+        Some(("run", matches)) => Ok(HeadEndCommand::Campaign(campaign::plan_campaign(rt, matches)?)),
         _ => Err(Fault::Input),
     }
 }
@@ -115,7 +115,7 @@ fn begin(rt: &HostRuntime) -> Result<HeadEndCommand, Fault> {
     let has_password = !matches!(env::var(rt, PASSWORD_VARIABLE), Err(VarError::NotPresent));
     let command = command_line(alloc, has_password).map_err(|_| Fault::Memory)?;
     match command.try_get_matches_from(words.as_slice()) {
-        Ok(matches) => begin_chosen(rt, &matches),
+        Ok(matches) => begin_command(rt, &matches),
         Err(error) => Ok(HeadEndCommand::Ended(without_work(rt, &error)?)),
     }
 }
@@ -126,8 +126,8 @@ fn main(rt: HostRuntime) -> ExitCode {
         Ok(HeadEndCommand::Campaign(plan)) => {
             let connector = TcpConnector::new(rt, plan.limits);
             let done = campaign::run(&rt, &rt, &connector, &plan, &mut rt.stdout()).map(|_| 0);
-            ended(&rt, done)
+            exit_code(&rt, done)
         }
-        Err(fault) => ended(&rt, Err(fault)),
+        Err(fault) => exit_code(&rt, Err(fault)),
     }
 }

@@ -45,7 +45,7 @@ pub fn classify(values: &[u32], threshold: u32) -> Masks
         word_by_lanes(part(values, 2), threshold),
         word_by_lanes(part(values, 3), threshold),
     ];
-    joined(words, values.len() as u16)
+    join_words(words, values.len() as u16)
 }
 
 /// Returns the masks of at most 256 values against a threshold, computed value by value.
@@ -61,7 +61,7 @@ pub fn classify_plain(values: &[u32], threshold: u32) -> Masks
         word_plainly(part(values, 2), threshold),
         word_plainly(part(values, 3), threshold),
     ];
-    joined(words, values.len() as u16)
+    join_words(words, values.len() as u16)
 }
 
 // Returns the values that one word of a mask is for.
@@ -75,7 +75,7 @@ fn part(values: &[u32], word: usize) -> &[u32]
     &values[from..upto]
 }
 
-fn joined(words: [Word; 4], len: u16) -> Masks
+fn join_words(words: [Word; 4], len: u16) -> Masks
     ensures over { result.over ≡ map (λ word. word.over) words }
     ensures under { result.under ≡ map (λ word. word.under) words }
     ensures len { result.len ≡ len }

@@ -52,7 +52,7 @@ pub extern "C" fn meter_samples(
     };
     let sampled = held.samples(alloc, watts);
     meter.put(held);
-    *fired = told_firings(sampled);
+    *fired = firings_of(sampled);
     sampled_outcome(sampled).code()
 }
 
@@ -75,7 +75,7 @@ pub extern "C" fn meter_sample_pairs(
     };
     let sampled = held.sample_pairs(alloc, imported, exported);
     meter.put(held);
-    *fired = told_firings(sampled);
+    *fired = firings_of(sampled);
     sampled_outcome(sampled).code()
 }
 
@@ -108,7 +108,7 @@ fn no_firings() -> Firings
 }
 
 // Returns the firings of a block of samples as C sees them, all 0 after an error.
-fn told_firings(sampled: Result<Fired, MeterFault>) -> Firings
+fn firings_of(sampled: Result<Fired, MeterFault>) -> Firings
     ensures { result ≡ firings_of (fired_of sampled) }
 {
     match sampled {

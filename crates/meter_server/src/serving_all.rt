@@ -85,7 +85,7 @@ fn serve_clients<L: Listener, R: Threads + Wait + Copy + Send + 'static>(
 
 // Joins in the port of a worker, after the clients that were served in parallel, and returns the
 // first fault of both.
-fn join_beside<K: Worker<Port<Kept>>, R: Threads>(
+fn join_both<K: Worker<Port<Kept>>, R: Threads>(
     rt: &R,
     running: WorkerThread<Kept, K>,
     port: &mut Port<Kept>,
@@ -132,7 +132,7 @@ fn serve_with_button<
         return Err(ServeFault::Memory);
     };
     let served = serve_clients(rt, alloc, listener, port, password, limit);
-    join_beside(rt, running, port, served)
+    join_both(rt, running, port, served)
 }
 
 // Serves the clients and passes on the presses and the moments of the clock, in parallel.
@@ -172,7 +172,7 @@ fn serve_with_clock<
         return Err(ServeFault::Memory);
     };
     let served = serve_with_button(rt, alloc, listener, buttons, port, password, limit);
-    join_beside(rt, running, port, served)
+    join_both(rt, running, port, served)
 }
 
 // Serves the clients and passes on the presses, the moments and the blocks of samples, in parallel.
@@ -217,7 +217,7 @@ fn serve_with_sampler<
         return Err(ServeFault::Memory);
     };
     let served = serve_with_clock(rt, alloc, listener, moments, buttons, port, password, limit);
-    join_beside(rt, running, port, served)
+    join_both(rt, running, port, served)
 }
 
 /// Serves clients, and passes blocks of samples, moments and presses to one meter: in a thread for

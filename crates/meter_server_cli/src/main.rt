@@ -15,8 +15,8 @@ use crate::serving::Server;
 use byte_streams::Counted;
 use hex_commands::{answer_text, play_text, report_fault};
 use program_fault::Fault;
-use program_start::ended;
-use server_options::{HexOptions, Work, asked};
+use program_start::exit_code;
+use server_options::{HexOptions, Work, parse_command_line};
 use std::process::ExitCode;
 
 // The next step after the command line is read.
@@ -52,7 +52,7 @@ fn run_hex(rt: &HostRuntime, options: &HexOptions) -> Result<(), Fault> {
 
 // Reads the command line and performs its work, up to the first client of a server.
 fn begin(rt: &HostRuntime) -> Result<ServerCommand, Fault> {
-    match asked(rt)? {
+    match parse_command_line(rt)? {
         Work::Nothing(status) => Ok(ServerCommand::Ended(status)),
         Work::Apdu(is_verbose) => {
             run_apdu(rt, is_verbose)?;
@@ -62,14 +62,14 @@ fn begin(rt: &HostRuntime) -> Result<ServerCommand, Fault> {
             run_hex(rt, &options)?;
             Ok(ServerCommand::Ended(0))
         }
-        Work::Serve(options) => Ok(ServerCommand::Serve(serving::begun(rt, &options)?)),
+        Work::Serve(options) => Ok(ServerCommand::Serve(serving::begin(rt, &options)?)),
     }
 }
 
 fn main(rt: HostRuntime) -> ExitCode {
     match begin(&rt) {
         Ok(ServerCommand::Ended(status)) => ExitCode::from(status),
-        Ok(ServerCommand::Serve(server)) => ended(&rt, serving::run(&rt, &rt, server).map(|()| 0)),
-        Err(fault) => ended(&rt, Err(fault)),
+        Ok(ServerCommand::Serve(server)) => exit_code(&rt, serving::run(&rt, &rt, server).map(|()| 0)),
+        Err(fault) => exit_code(&rt, Err(fault)),
     }
 }

@@ -14,7 +14,7 @@ use meter_run::{MeterRun, Sources, run_meter};
 use meter_server::{ServeFault, Served};
 use program_fault::Fault;
 use relay_recorder::Recorder;
-use serve_plan::{ServePlan, planned};
+use serve_plan::{ServePlan, make_plan};
 use server_options::{Bounds, ServeOptions};
 use std::alloc::Global;
 use std::io::{BufReader, Stdin, Write};
@@ -91,7 +91,7 @@ fn run_and_print<R: Threads + Wait + Copy + Drop + Send + 'static, W: Write>(
 
 // Prepares the sockets, the sources of the meter's own events, and the input of the console's
 // thread.
-fn prepared<R: Wait + Copy + Drop>(
+fn prepare<R: Wait + Copy + Drop>(
     rt: &HostRuntime,
     threads: &R,
     bounds: Bounds,
@@ -129,7 +129,7 @@ fn prepared<R: Wait + Copy + Drop>(
 }
 
 // Starts the console's thread, and returns the sockets and the sources of the meter's own events.
-fn started<R: Threads + Wait + Copy + Drop + Send + 'static>(
+fn start_server<R: Threads + Wait + Copy + Drop + Send + 'static>(
     rt: &HostRuntime,
     threads: &R,
     bounds: Bounds,
@@ -144,7 +144,7 @@ fn started<R: Threads + Wait + Copy + Drop + Send + 'static>(
     ),
     Fault,
 > {
-    let (sockets, sources, reading) = prepared(rt, threads, bounds, input, listener, address)?;
+    let (sockets, sources, reading) = prepare(rt, threads, bounds, input, listener, address)?;
     match meter_console::start(threads, rt.alloc(), reading) {
         Some(console) => Ok((sockets, sources, console)),
         None => Err(Fault::Memory),
@@ -184,8 +184,8 @@ fn listening(
 
 // Prepares a server up to the first client: checks the options, reads the trace to resume from,
 // and listens.
-pub(crate) fn begun(rt: &HostRuntime, options: &ServeOptions) -> Result<Server, Fault> {
-    let plan = match planned(rt.alloc(), rt.stdin(), options) {
+pub(crate) fn begin(rt: &HostRuntime, options: &ServeOptions) -> Result<Server, Fault> {
+    let plan = match make_plan(rt.alloc(), rt.stdin(), options) {
         Ok(plan) => plan,
         Err(fault) => {
             if options.bounds.is_verbose && fault == Fault::Input {
@@ -225,7 +225,7 @@ pub(crate) fn run<R: Threads + Wait + Copy + Drop + Send + 'static>(
         recorder,
         input,
     } = plan;
-    match started(rt, threads, bounds, input, listener, address) {
+    match start_server(rt, threads, bounds, input, listener, address) {
         Ok((mut sockets, sources, console)) => {
             let meter = ClientParameters {
                 password,

@@ -63,7 +63,7 @@ fn number(read: &GetResult) -> Option<u32> {
 }
 
 // Returns both thresholds, if the reply has both.
-fn told_by(reply: &Reply) -> Option<Thresholds> {
+fn thresholds_in(reply: &Reply) -> Option<Thresholds> {
     let Reply::Values(results) = reply else {
         return None;
     };
@@ -87,7 +87,7 @@ pub(crate) fn read_thresholds<W: Wait>(
         return Ok(None);
     };
     match ask(rt, alloc, port, event) {
-        Ok(reply) => Ok(told_by(&reply)),
+        Ok(reply) => Ok(thresholds_in(&reply)),
         Err(CallFault::Memory) => Ok(None),
         Err(CallFault::Exhausted) => Err(CallFault::Exhausted),
     }

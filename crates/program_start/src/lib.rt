@@ -64,7 +64,7 @@ pub fn with_argument<'a>(
 
 // Adds a subcommand to a program's command. On an error of `made`, or if out of memory, drops the
 // command and returns the error.
-fn with_made<'a>(
+fn add_subcommand<'a>(
     program: Command<'a>,
     made: Result<Command<'a>, AllocError>,
 ) -> Result<Command<'a>, AllocError>
@@ -95,7 +95,7 @@ pub fn with_subcommand<'a>(
         (λ before. IfOk made.entry (λ subcommand. AddsSubcommand before subcommand command))) }
 {
     match program {
-        Ok(program) => with_made(program, made),
+        Ok(program) => add_subcommand(program, made),
         Err(error) => {
             drop(made);
             Err(error)
@@ -160,7 +160,7 @@ fn fault_line(fault: Fault) -> &'static str
 
 /// Returns the exit status of the program: its own, or that of its fault. Reports a fault in a line
 /// on standard error.
-pub fn ended<R: Eprint>(rt: &R, done: Result<u8, Fault>) -> ExitCode
+pub fn exit_code<R: Eprint>(rt: &R, done: Result<u8, Fault>) -> ExitCode
     ensures { exit_status result ≡ status_by done }
 {
     match done {

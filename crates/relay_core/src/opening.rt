@@ -8,7 +8,7 @@ ghost use Rattle.relay_core.specs.World.{World};
 
 use crate::relay::RelayCore;
 use crate::schedules::Schedules;
-use byte_reading::beside;
+use byte_reading::and_keep;
 use cosem_axdr::Octets;
 use disconnect_control::{ControlMode, ControlState, DisconnectControl};
 use limiter_core::{Count, Limiter, MAX_GROUPS, Settings, are_fit};
@@ -143,9 +143,9 @@ impl RelayCore {
         ensures range { IfOk result (λ opening. IsWorld (world_of_opening opening)) }
     {
         let import = LimiterOpening::of(alloc, &self.import)?;
-        let (import, export) = beside(import, LimiterOpening::of(alloc, &self.export))?;
-        let copies = copied(alloc, &self.device, &self.scripts, &self.schedules);
-        let ((import, export), (device, scripts, schedules)) = beside((import, export), copies)?;
+        let (import, export) = and_keep(import, LimiterOpening::of(alloc, &self.export))?;
+        let copies = copy_lists(alloc, &self.device, &self.scripts, &self.schedules);
+        let ((import, export), (device, scripts, schedules)) = and_keep((import, export), copies)?;
         Ok(Opening {
             device,
             state: self.control.state(),
@@ -192,8 +192,8 @@ impl RelayCore {
             return Err(OpeningFault::Unfit);
         };
         let limiters = opening.limiters(alloc)?;
-        let copies = copied(alloc, &opening.device, &opening.scripts, &opening.schedules);
-        let ((import, export), (device, scripts, schedules)) = beside(limiters, copies)?;
+        let copies = copy_lists(alloc, &opening.device, &opening.scripts, &opening.schedules);
+        let ((import, export), (device, scripts, schedules)) = and_keep(limiters, copies)?;
         Ok(RelayCore {
             device,
             control,
@@ -218,7 +218,7 @@ impl RelayCore {
 }
 
 // Returns copies of the core's lists: the device name, the scripts and the schedules.
-fn copied(
+fn copy_lists(
     alloc: Global,
     device: &Octets,
     scripts: &ScriptTable,
@@ -229,8 +229,8 @@ fn copied(
     ensures schedules { IfOk result (λ copies. copies.2 ≡ schedules.now) }
 {
     let device = device.try_clone(alloc)?;
-    let (device, scripts) = beside(device, scripts.try_clone(alloc))?;
-    let ((device, scripts), schedules) = beside((device, scripts), schedules.try_clone(alloc))?;
+    let (device, scripts) = and_keep(device, scripts.try_clone(alloc))?;
+    let ((device, scripts), schedules) = and_keep((device, scripts), schedules.try_clone(alloc))?;
     Ok((device, scripts, schedules))
 }
 
@@ -261,6 +261,6 @@ impl Opening {
             MeteredStands both.1 self.now.moment (opened_limiter self.now.export)) }
     {
         let import = self.import.limiter(alloc, self.moment)?;
-        beside(import, self.export.limiter(alloc, self.moment))
+        and_keep(import, self.export.limiter(alloc, self.moment))
     }
 }

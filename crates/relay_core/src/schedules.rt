@@ -15,7 +15,7 @@ ghost use Rattle.relay_core.specs.declared.parts.WrittenList.TheVariants as writ
 
 use crate::relay::RelayCore;
 use action_schedule::{ActionSchedule, ScheduleAttribute};
-use byte_reading::beside;
+use byte_reading::and_keep;
 use cosem_axdr::Data;
 use cosem_names::{GetResult, ResultCode, ScheduleNumber, WriteFault};
 use std::alloc::{AllocError, Global};
@@ -59,7 +59,7 @@ impl Schedules {
         ensures { IfOk result (λ copy. copy ≡ self.now) }
     {
         let halves = copied_pair(alloc, &self.first, &self.second)?;
-        let (halves, others) = beside(halves, copied_pair(alloc, &self.third, &self.fourth))?;
+        let (halves, others) = and_keep(halves, copied_pair(alloc, &self.third, &self.fourth))?;
         let (first, second) = halves;
         let (third, fourth) = others;
         Ok(Schedules {
@@ -81,7 +81,7 @@ fn copied_pair(
     ensures other { IfOk result (λ copies. copies.1 ≡ other.now) }
 {
     let copy = one.try_clone(alloc)?;
-    beside(copy, other.try_clone(alloc))
+    and_keep(copy, other.try_clone(alloc))
 }
 
 // Reads an attribute of a schedule other than the logical name.

@@ -4,4 +4,4 @@
 
 mod plan;
 
-pub use plan::{ServePlan, planned};
+pub use plan::{ServePlan, make_plan};

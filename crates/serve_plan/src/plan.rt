@@ -113,7 +113,7 @@ pub struct ServePlan<I> {
 /// not have 1 to 16, the depth is not 1 to 1,024, or the input does not begin with a trace of at
 /// most 33,554,432 bytes; `Read`. `Memory` can come at any point.
 #[tactic(auto, using(crate::proofs::Unused::uncounted))]
-pub fn planned<I: Read + Drop>(
+pub fn make_plan<I: Read + Drop>(
     alloc: Global,
     input: I,
     options: &ServeOptions,

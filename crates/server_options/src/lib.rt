@@ -7,5 +7,5 @@ mod reading;
 mod texts;
 
 pub use options::{Bounds, HexOptions, ServeOptions};
-pub use reading::{Work, asked};
+pub use reading::{Work, parse_command_line};
 pub use texts::octets_of;

@@ -58,7 +58,7 @@ pub struct ServeOptions {
 }
 
 // Copies a text.
-fn owned(alloc: Global, text: &str) -> Result<String, Fault>
+fn copy_text(alloc: Global, text: &str) -> Result<String, Fault>
     ensures text { IfOk result (λ owned. string_bytes owned ≡ text.now) }
     ensures err { IfErr result (λ fault. is_of_asking fault ≡ true) }
 {
@@ -75,7 +75,7 @@ fn text_of(alloc: Global, matches: &ArgMatches<'_>, name: &str) -> Result<String
         (λ text. IsText (found_of matches.now) name.now (string_bytes text)) }
     ensures err { IfErr result (λ fault. is_of_asking fault ≡ true) }
 {
-    owned(alloc, matches.get_str(name).unwrap_or(""))
+    copy_text(alloc, matches.get_str(name).unwrap_or(""))
 }
 
 // Reads the options of `hex`.
@@ -107,7 +107,7 @@ fn password_of<R: Env + AllocGlobal>(rt: &R, matches: &ArgMatches<'_>) -> Result
     ensures err { IfErr result (λ fault. is_of_asking fault ≡ true) }
 {
     if let Some(text) = matches.get_str("password") {
-        return owned(rt.alloc(), text);
+        return copy_text(rt.alloc(), text);
     }
     match env::var(rt, PASSWORD_VARIABLE) {
         Ok(text) => Ok(text),

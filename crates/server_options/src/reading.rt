@@ -27,7 +27,7 @@ pub enum Work {
 }
 
 // Returns the work of a command.
-fn asked_by<R: Env + AllocGlobal>(rt: &R, matches: &ArgMatches<'_>) -> Result<Work, Fault>
+fn parse_command<R: Env + AllocGlobal>(rt: &R, matches: &ArgMatches<'_>) -> Result<Work, Fault>
     ensures { IfErr result (λ fault. is_of_asking fault ≡ true) }
 {
     match matches.subcommand() {
@@ -51,7 +51,7 @@ fn asked_in<R: Env + AllocGlobal + Print + Eprint>(
         return Err(Fault::Memory);
     };
     match command.try_get_matches_from(words) {
-        Ok(matches) => asked_by(rt, &matches),
+        Ok(matches) => parse_command(rt, &matches),
         Err(error) => Ok(Work::Nothing(without_work(rt, &error)?)),
     }
 }
@@ -63,7 +63,7 @@ fn asked_in<R: Env + AllocGlobal + Print + Eprint>(
 /// help,
 /// the version or why the command line is wrong could not be printed.
 #[tactic(auto, using(crate::proofs::Faults::words_told))]
-pub fn asked<R: Env + AllocGlobal + Print + Eprint>(rt: &R) -> Result<Work, Fault>
+pub fn parse_command_line<R: Env + AllocGlobal + Print + Eprint>(rt: &R) -> Result<Work, Fault>
     ensures { IfErr result (λ fault. is_of_asking fault ≡ true) }
 {
     let words = words(rt)?;

@@ -7,7 +7,7 @@ use acse_ber::{Aare, RELEASE_RESPONSE, write_aare};
 use cosem_axdr::{Data, Octets, append};
 use cosem_names::GetResult;
 use std::alloc::{AllocError, Global};
-use wrapper_frame::{HEADER_SIZE, framed};
+use wrapper_frame::{HEADER_SIZE, into_frame};
 use xdlms_apdu::{InvokeId, Response, append_response};
 
 // The wrapper port of the server.
@@ -131,7 +131,7 @@ impl Way {
         ensures { result ≡ way_text self to (drop (way_size self) text) }
     {
         match self {
-            Way::Framed => framed(SERVER_PORT, to, text),
+            Way::Framed => into_frame(SERVER_PORT, to, text),
             Way::Bare => text,
         }
     }

@@ -46,7 +46,7 @@ impl LongService {
         ensures to { result.to ≡ to }
         ensures answer { result.answer ≡ Service (refusal_response self id number (block_code self fault)) }
     {
-        Due::response(to, self.refused(id, number, self.code(fault)))
+        Due::response(to, self.refusal_response(id, number, self.code(fault)))
     }
 
     // Returns the result code of a fault of a transfer.
@@ -148,7 +148,7 @@ impl Incoming {
             .add(block.last, block.number, block.raw.as_slice())
         {
             Ok(None) => {
-                let response = service.received(id, block.number);
+                let response = service.block_response(id, block.number);
                 Ok(Added::GoesOn(Due::response(link.source, response)))
             }
             Ok(Some(bytes)) => Ok(Added::Whole(Joined {

@@ -20,7 +20,7 @@ pub(crate) struct Link {
 }
 
 // Returns the association of a client that is accepted.
-pub(crate) fn opened(source: u16, verdict: Verdict) -> Option<Link>
+pub(crate) fn link_from(source: u16, verdict: Verdict) -> Option<Link>
     ensures { result ≡ link_by source verdict }
 {
     match verdict {

@@ -74,7 +74,7 @@ fn code(fault: BlockFault) -> ResultCode
 // Returns the answer to a GET-next, which names the block last received. If out of memory, nothing
 // has changed.
 #[tactic(auto, unfolding(crate::specs::Outgoing::continued_response, crate::specs::Outgoing::transfer_after_next))]
-pub(crate) fn continue_by(
+pub(crate) fn continue_transfer(
     transfer: &mut Option<Outgoing>,
     alloc: Global,
     to: u16,
@@ -88,25 +88,25 @@ pub(crate) fn continue_by(
     ensures err { OnErr result (transfer.new ≡ transfer.old) }
 {
     let Some(outgoing) = transfer else {
-        return Ok(block_refused(to, id, number, BlockFault::NoTransfer));
+        return Ok(refusal_answer(to, id, number, BlockFault::NoTransfer));
     };
     match outgoing.next(alloc, number) {
         Ok(piece) => {
             if piece.last {
                 *transfer = None;
             }
-            Ok(block_given(to, id, piece))
+            Ok(block_answer(to, id, piece))
         }
         Err(BlockFault::Memory) => Err(AllocError),
         Err(fault) => {
             *transfer = None;
-            Ok(block_refused(to, id, number, fault))
+            Ok(refusal_answer(to, id, number, fault))
         }
     }
 }
 
 // Returns the answer that carries a block.
-pub(crate) fn block_given(to: u16, id: InvokeId, piece: Piece) -> Due
+pub(crate) fn block_answer(to: u16, id: InvokeId, piece: Piece) -> Due
     requires { length piece.raw ≤ greatest_raw }
     ensures to { result.to ≡ to }
     ensures answer { result.answer ≡ Service (block_response id piece) }
@@ -122,7 +122,7 @@ pub(crate) fn block_given(to: u16, id: InvokeId, piece: Piece) -> Due
 }
 
 // Returns the answer to a GET-next that is refused: it repeats the requested block number.
-fn block_refused(to: u16, id: InvokeId, number: u32, fault: BlockFault) -> Due
+fn refusal_answer(to: u16, id: InvokeId, number: u32, fault: BlockFault) -> Due
     ensures to { result.to ≡ to }
     ensures answer { result.answer
         ≡ Service (Response.GetBlockRefused id true number (get_code fault)) }

@@ -11,7 +11,7 @@ use crate::answer::Way;
 use crate::asked::{Asked, ReplyForm};
 use crate::due::Due;
 use crate::link::Link;
-use crate::outgoing::{Outgoing, block_given};
+use crate::outgoing::{Outgoing, block_answer};
 use acse_ber::Conformance;
 use bitflags::Flags;
 use cosem_axdr::{Data, Octets};
@@ -363,7 +363,7 @@ fn give_first(
     match outgoing.next(alloc, 0) {
         Ok(piece) => {
             let is_last = piece.last;
-            let text = block_given(link.source, id, piece).into_text(alloc, way)?;
+            let text = block_answer(link.source, id, piece).into_text(alloc, way)?;
             Ok((text, is_last))
         }
         Err(BlockFault::Memory) => Err(AllocError),

@@ -73,7 +73,7 @@ impl Session {
         if self.is_finished {
             return Ok(());
         }
-        match self.ended() {
+        match self.reported_end() {
             Some(_) => Ok(()),
             None => match self.deframer.feed(bytes) {
                 Ok(()) => Ok(()),
@@ -121,7 +121,7 @@ impl Session {
         if self.asking() {
             return Ok(Next::Wait);
         }
-        if let Some(end) = self.ended() {
+        if let Some(end) = self.reported_end() {
             return Ok(Next::End(end));
         }
         'tasks: loop {

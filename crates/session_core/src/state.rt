@@ -11,8 +11,8 @@ use crate::asked::{Asked, ReplyForm};
 use crate::call::{AARQ, Call, has_tag, is_call, read_call};
 use crate::due::Due;
 use crate::incoming::{Incoming, LongService, Purpose, add_to};
-use crate::link::{Link, answer_to, opened};
-use crate::outgoing::{Outgoing, continue_by};
+use crate::link::{Link, answer_to, link_from};
+use crate::outgoing::{Outgoing, continue_transfer};
 use crate::password::Password;
 use crate::single_get::read_single_get;
 use crate::step::TurnStep;
@@ -230,7 +230,7 @@ impl State {
             }) }
         ensures err { OnErr result (self.new ≡ self.old) }
     {
-        let due = continue_by(&mut self.outgoing, alloc, link.source, id, number)?;
+        let due = continue_transfer(&mut self.outgoing, alloc, link.source, id, number)?;
         self.incoming = None;
         Ok(TurnStep::Say(due))
     }
@@ -345,7 +345,7 @@ fn read_opening(
         Ok(aarq) => {
             let verdict = judge(&aarq, src, password.octets());
             Ok((
-                opened(src, verdict),
+                link_from(src, verdict),
                 Due::association(src, answer_to(verdict)),
             ))
         }

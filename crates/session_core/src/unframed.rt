@@ -56,8 +56,8 @@ pub fn ask_unframed(alloc: Global, payload: &[u8]) -> Result<Unframed, AllocErro
         limit: Limit::of(MAX_PDU),
     };
     match call_alone(alloc, link, payload)? {
-        TurnStep::Join(joined) => unframed_by(alloc, read_joined(alloc, joined)?),
-        step => unframed_by(alloc, step),
+        TurnStep::Join(joined) => unframed_outcome(alloc, read_joined(alloc, joined)?),
+        step => unframed_outcome(alloc, step),
     }
 }
 
@@ -83,7 +83,7 @@ fn read_joined(alloc: Global, joined: Joined) -> Result<TurnStep, AllocError>
 }
 
 // Returns the outcome of a step.
-fn unframed_by(alloc: Global, step: TurnStep) -> Result<Unframed, AllocError>
+fn unframed_outcome(alloc: Global, step: TurnStep) -> Result<Unframed, AllocError>
     requires { IsTrue (is_settled step) }
     ensures { IfOk result (λ unframed. unframed ≡ unframed_of (step_outcome step)) }
 {

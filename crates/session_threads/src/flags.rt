@@ -18,8 +18,8 @@ pub(crate) struct Flags {
 impl Flags {
     pub(crate) fn new() -> Flags {
         Flags {
-            ended: lowered(),
-            refused: lowered(),
+            ended: new_flags(),
+            refused: new_flags(),
         }
     }
 
@@ -59,7 +59,7 @@ impl Flags {
 }
 
 // Returns a cleared flag for each place.
-fn lowered() -> [AtomicBool; SESSIONS] {
+fn new_flags() -> [AtomicBool; SESSIONS] {
     [
         AtomicBool::new(false),
         AtomicBool::new(false),

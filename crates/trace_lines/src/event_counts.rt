@@ -8,7 +8,7 @@ ghost use Rattle.trace_lines.specs.Events.{events_from};
 
 use std::alloc::AllocError;
 use trace_text::Words;
-use trace_words::{RowFault, TraceFault, TraceLines, labelled, number_in, write_number_line};
+use trace_words::{RowFault, TraceFault, TraceLines, read_labelled, number_in, write_number_line};
 
 /// The maximum number of events of a trace.
 pub const MAX_EVENTS: u32 = 65_536;
@@ -18,7 +18,7 @@ fn event_count(words: &mut Words) -> Result<u32, RowFault>
     ensures count { Gives Memory (λ count. count) result (events_from words.old) }
     ensures few { IfOk result (λ count. count ≤ 65536) }
 {
-    labelled(b"events", words, |word| number_in(word, MAX_EVENTS))
+    read_labelled(b"events", words, |word| number_in(word, MAX_EVENTS))
 }
 
 /// Reads the line of the number of events, at most `MAX_EVENTS`. Errors: `Line` with the number of

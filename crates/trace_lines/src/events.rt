@@ -18,7 +18,7 @@ use listed::Listed;
 use relay_events::Event;
 use std::alloc::{AllocError, Global};
 use trace_text::Words;
-use trace_words::{RowFault, Version, data_in, if_last, last_word, next_word, number_in};
+use trace_words::{RowFault, Version, data_in, expect_end, last_word, next_word, number_in};
 
 // Reads the next word as the port of a client.
 fn next_level(words: &mut Words) -> Result<Level, RowFault>
@@ -33,7 +33,7 @@ fn get(alloc: Global, words: &mut Words) -> Result<Event, RowFault>
 {
     let level = next_level(words)?;
     let item = next_selection(alloc, words)?;
-    if_last(words)?;
+    expect_end(words)?;
     Ok(Event::Get {
         level,
         attr: item.attr,
@@ -157,7 +157,7 @@ fn event_from(
         EventWord::OfSet => set(alloc, words),
         EventWord::OfExecute => execute(alloc, words),
         EventWord::OfButton => {
-            if_last(words)?;
+            expect_end(words)?;
             Ok(Event::Button)
         }
         EventWord::OfSamples => samples(alloc, words),

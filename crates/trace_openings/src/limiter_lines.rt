@@ -7,7 +7,7 @@ ghost use Rattle.trace_words.specs.Places.{ReadsLines, line_as};
 ghost use Rattle.trace_words.specs.Reading.{value_in};
 
 use crate::limiter_fields::{actions, groups, over, profile, under, value};
-use byte_reading::beside;
+use byte_reading::and_keep;
 use cosem_names::Which;
 use limiter_core::{Count, Settings};
 use relay_core::LimiterOpening;
@@ -46,7 +46,7 @@ fn read_settings(
     let min_under_duration = read_value(which, b"minunder", lines)?;
     let profile = lines.read(|words| profile(alloc, which, words))?;
     let groups = lines.read(|words| groups(alloc, which, words))?;
-    let (groups, actions) = beside(groups, lines.read(|words| actions(which, words)))?;
+    let (groups, actions) = and_keep(groups, lines.read(|words| actions(which, words)))?;
     Ok(Settings {
         normal_threshold,
         emergency_threshold,
@@ -71,9 +71,9 @@ pub(crate) fn read_limiter(
     ensures fit { IfOk result IsFitLimiterOpening }
 {
     let settings = read_settings(alloc, which, lines)?;
-    let (settings, over) = beside(settings, lines.read(|words| over(which, last, words)))?;
+    let (settings, over) = and_keep(settings, lines.read(|words| over(which, last, words)))?;
     let under = lines.read(|words| under(which, last, over, words));
-    let (settings, under) = beside(settings, under)?;
+    let (settings, under) = and_keep(settings, under)?;
     Ok(LimiterOpening {
         settings,
         value: last,

@@ -14,7 +14,7 @@ use script_steps::{ScriptFault, ScriptTable};
 use std::alloc::Global;
 use trace_text::Words;
 use trace_words::{
-    RowFault, Version, behind, bytes_in, data_in, labelled_value, last_word, next_long, next_word,
+    RowFault, Version, behind, bytes_in, data_in, read_labelled, last_word, next_long, next_word,
     number_in,
 };
 
@@ -33,7 +33,7 @@ fn version_in(word: &[u8]) -> Result<Version, RowFault>
 pub(crate) fn version(words: &mut Words) -> Result<Version, RowFault>
     ensures { Gives Memory (λ version. version) result (version_from words.old) }
 {
-    labelled_value(b"RELAYTRACE", words, version_in)
+    read_labelled(b"RELAYTRACE", words, version_in)
 }
 
 // Reads a device name, 1 to 16 bytes in hexadecimal.
@@ -57,7 +57,7 @@ pub(crate) fn device(alloc: Global, words: &mut Words) -> Result<Octets, RowFaul
     ensures some { IfOk result (λ device. 1 ≤ length device) }
     ensures few { IfOk result (λ device. length device ≤ 16) }
 {
-    labelled_value(b"device", words, |word| device_in(alloc, word))
+    read_labelled(b"device", words, |word| device_in(alloc, word))
 }
 
 // Reads a control state (class 70, attribute 3) as a number, 0 to 2.
@@ -75,7 +75,7 @@ fn state_in(word: &[u8]) -> Result<ControlState, RowFault>
 pub(crate) fn state(words: &mut Words) -> Result<ControlState, RowFault>
     ensures { Gives Memory (λ state. state) result (labelled_value (codes "state") state_in words.old) }
 {
-    labelled_value(b"state", words, state_in)
+    read_labelled(b"state", words, state_in)
 }
 
 // Reads a control mode (class 70, attribute 4) as a number, 0 to 6. Errors: `Wrong` also if the
@@ -101,7 +101,7 @@ pub(crate) fn mode(state: ControlState, words: &mut Words) -> Result<ControlMode
         (labelled_value (codes "mode") (mode_in state) words.old) }
     ensures fit { IfOk result (λ mode. mode ≡ Mode0 → state ≡ Connected) }
 {
-    labelled_value(b"mode", words, |word| mode_in(state, word))
+    read_labelled(b"mode", words, |word| mode_in(state, word))
 }
 
 // Reads a moment, in seconds, or `-` for `None`.
@@ -118,7 +118,7 @@ fn moment_in(word: &[u8]) -> Result<Option<u32>, RowFault>
 pub(crate) fn moment(words: &mut Words) -> Result<Option<u32>, RowFault>
     ensures { Gives Memory (λ moment. moment) result (labelled_value (codes "now") moment_in words.old) }
 {
-    labelled_value(b"now", words, moment_in)
+    read_labelled(b"now", words, moment_in)
 }
 
 // Reads a script table, a Data in hexadecimal.
@@ -141,7 +141,7 @@ fn table_in(alloc: Global, word: &[u8]) -> Result<ScriptTable, RowFault>
 pub(crate) fn table(alloc: Global, words: &mut Words) -> Result<ScriptTable, RowFault>
     ensures { Gives Memory (λ table. table) result (labelled_value (codes "scripts") table_in words.old) }
 {
-    labelled_value(b"scripts", words, |word| table_in(alloc, word))
+    read_labelled(b"scripts", words, |word| table_in(alloc, word))
 }
 
 // Reads the type of a schedule.

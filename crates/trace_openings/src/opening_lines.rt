@@ -7,7 +7,7 @@ ghost use Rattle.trace_words.specs.Places.{ReadsLines, line_as};
 use crate::limiter_lines::{read_export, read_last, read_limiter};
 use crate::opening_fields::{device, mode, moment, schedule, state, table, version};
 use action_schedule::ActionSchedule;
-use byte_reading::beside;
+use byte_reading::and_keep;
 use cosem_axdr::Octets;
 use cosem_names::Which;
 use disconnect_control::{ControlMode, ControlState};
@@ -34,9 +34,9 @@ fn read_schedules(alloc: Global, lines: &mut TraceLines) -> Result<Schedules, Tr
     ensures { ReadsLines (λ schedules. schedules) result lines.new (schedules_from lines.old) }
 {
     let first = read_schedule(alloc, 0, lines)?;
-    let (first, second) = beside(first, read_schedule(alloc, 1, lines))?;
-    let ((first, second), third) = beside((first, second), read_schedule(alloc, 2, lines))?;
-    let ((first, second, third), fourth) = beside(
+    let (first, second) = and_keep(first, read_schedule(alloc, 1, lines))?;
+    let ((first, second), third) = and_keep((first, second), read_schedule(alloc, 2, lines))?;
+    let ((first, second, third), fourth) = and_keep(
         (first, second, third),
         read_schedule(alloc, 3, lines),
     )?;
@@ -73,12 +73,12 @@ fn read_behind_import(
         lines.old) }
     ensures fit { IfOk result IsFitOpening }
 {
-    let ((start, import), export) = beside((start, import), read_export(alloc, version, lines))?;
-    let ((start, import, export), scripts) = beside(
+    let ((start, import), export) = and_keep((start, import), read_export(alloc, version, lines))?;
+    let ((start, import, export), scripts) = and_keep(
         (start, import, export),
         lines.read(|words| table(alloc, words)),
     )?;
-    let ((start, import, export, scripts), schedules) = beside(
+    let ((start, import, export, scripts), schedules) = and_keep(
         (start, import, export, scripts),
         read_schedules(alloc, lines),
     )?;
@@ -112,9 +112,9 @@ fn read_behind_mode(
         (opening_with version start.device start.state start.mode lines.old) }
     ensures fit { IfOk result IsFitOpening }
 {
-    let (start, last) = beside(start, read_last(Which::Import, lines))?;
-    let (start, moment) = beside(start, lines.read(moment))?;
-    let (start, import) = beside(start, read_limiter(alloc, Which::Import, last, lines))?;
+    let (start, last) = and_keep(start, read_last(Which::Import, lines))?;
+    let (start, moment) = and_keep(start, lines.read(moment))?;
+    let (start, import) = and_keep(start, read_limiter(alloc, Which::Import, last, lines))?;
     let opening = read_behind_import(alloc, version, start, moment, import, lines)?;
     Ok(opening)
 }
@@ -131,8 +131,8 @@ fn read_parts(
     ensures fit { IfOk result IsFitOpening }
 {
     let device = lines.read(|words| device(alloc, words))?;
-    let (device, state) = beside(device, lines.read(state))?;
-    let (device, mode) = beside(device, lines.read(|words| mode(state, words)))?;
+    let (device, state) = and_keep(device, lines.read(state))?;
+    let (device, mode) = and_keep(device, lines.read(|words| mode(state, words)))?;
     let start = Start {
         device,
         state,

@@ -33,7 +33,7 @@ fn read_events(
 
 // Returns `trace` if nothing is left of the lines.
 #[tactic(auto, using(crate::proofs::Ends::ended_as, crate::proofs::Ends::unended_as))]
-fn ended(lines: &TraceLines, trace: Trace) -> Result<Trace, TraceFault>
+fn finish(lines: &TraceLines, trace: Trace) -> Result<Trace, TraceFault>
     ensures ended { result ≡ ended_at lines.now trace }
     ensures same { IfOk result (λ whole. whole ≡ trace) }
 {
@@ -58,7 +58,7 @@ fn read_lines(alloc: Global, lines: &mut TraceLines) -> Result<Trace, TraceFault
         Err(fault) => Err(fault),
     };
     match read {
-        Ok(events) => ended(lines, Trace { opening, events }),
+        Ok(events) => finish(lines, Trace { opening, events }),
         Err(fault) => {
             drop(opening);
             Err(fault)

@@ -13,7 +13,7 @@ use crate::telling::tell;
 use byte_streams::{Counted, read_to_end_within};
 use clap::{Arg, ArgAction, Command};
 use program_fault::Fault;
-use program_start::{ended, without_work, words};
+use program_start::{exit_code, without_work, words};
 use std::alloc::{AllocError, Global};
 use std::process::ExitCode;
 use trace_player::{MAX_BYTES, PlayFault, play};
@@ -107,5 +107,5 @@ fn run(rt: &HostRuntime) -> Result<u8, Fault> {
 }
 
 fn main(rt: HostRuntime) -> ExitCode {
-    ended(&rt, run(&rt))
+    exit_code(&rt, run(&rt))
 }

@@ -24,7 +24,7 @@ pub fn behind(label: &[u8], words: &mut Words) -> Result<(), RowFault>
 
 /// Reads a line of two words: `label`, and a value that `value_in` reads. Errors: `Wrong` if the
 /// words are others, else the error of `value_in`.
-pub fn labelled_value<X: Drop, F: FnOnce(&[u8]) -> Result<X, RowFault>>(
+pub fn read_labelled<X: Drop, F: FnOnce(&[u8]) -> Result<X, RowFault>>(
     label: &[u8],
     words: &mut Words,
     value_in: F,

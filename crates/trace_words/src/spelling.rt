@@ -23,7 +23,7 @@ fn is_written(alloc: Global, value: &Data, bytes: &[u8]) -> Result<bool, AllocEr
 
 // Returns `value` if its written encoding is `bytes`, from which it was read. Errors: `Wrong` if
 // not; `Memory`.
-fn as_written(alloc: Global, value: Data, bytes: &[u8]) -> Result<Data, RowFault>
+fn check_written(alloc: Global, value: Data, bytes: &[u8]) -> Result<Data, RowFault>
     ensures { Gives Memory (λ value. value) result (canonical_data bytes.now value) }
 {
     match is_written(alloc, &value, bytes) {
@@ -47,7 +47,7 @@ pub fn data_in(alloc: Global, word: &[u8]) -> Result<Data, RowFault>
 {
     let bytes = bytes_in(alloc, word)?;
     match read(alloc, bytes.as_slice()) {
-        Ok((value, _)) => as_written(alloc, value, bytes.as_slice()),
+        Ok((value, _)) => check_written(alloc, value, bytes.as_slice()),
         Err(DataFault::Memory) => Err(RowFault::Memory),
         Err(_) => Err(RowFault::Wrong),
     }

@@ -17,7 +17,7 @@ pub fn next_word<'a>(words: &mut Words<'a>) -> Result<&'a [u8], RowFault>
 }
 
 /// Checks that no word is left. Errors: `Wrong` if one is.
-pub fn if_last(words: &mut Words) -> Result<(), RowFault>
+pub fn expect_end(words: &mut Words) -> Result<(), RowFault>
     ensures { result ≡ if_last words.old tt }
 {
     match words.next() {
@@ -32,7 +32,7 @@ pub fn last_word<'a>(words: &mut Words<'a>) -> Result<&'a [u8], RowFault>
     ensures { Gives Memory (λ word. word.now) result (last_word words.old) }
 {
     let word = next_word(words)?;
-    if_last(words)?;
+    expect_end(words)?;
     Ok(word)
 }
 

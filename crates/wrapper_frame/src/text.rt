@@ -28,7 +28,7 @@ pub fn frame(alloc: Global, src: u16, dst: u16, payload: &[u8]) -> Result<Octets
 /// Converts bytes into a frame: overwrites the first eight bytes with the header. The payload is
 /// the rest of the bytes, at most 1,024. Does not allocate.
 #[tactic(auto, unfolding(crate::specs::Text::frame_text))]
-pub fn framed(src: u16, dst: u16, text: Octets) -> Octets
+pub fn into_frame(src: u16, dst: u16, text: Octets) -> Octets
     requires header { header_size ≤ length text }
     requires payload { length (drop header_size text) ≤ max_payload }
     ensures { result ≡ frame_text

@@ -2,7 +2,7 @@ use Rattle.std.proofs.Common.{refl}
 use Rattle.std.specs.Fn.{FnOnceReturnsAt}
 use Rattle.trace_words.proofs.PlaceLemmas.{answer_is}
 use Rattle.trace_words.specs.Rows.{Word}
-use Rattle.trace_words.proofs.labels.labelled.Goals as goal
+use Rattle.trace_words.proofs.labels.read_labelled.Goals as goal
 
 pub returns-clause-answered : goal.returns-clause-answered
 returns-clause-answered g c =
