@@ -11,7 +11,7 @@ use std::alloc::{AllocError, Global};
 pub(crate) fn write_script(alloc: Global, selector: u16) -> Result<Data, AllocError>
     ensures { IfOk result (λ value. value ≡ script_data (script_at selector)) }
 {
-    NamedScript::of_the_table(selector).to_data(alloc)
+    NamedScript::in_the_table(selector).to_data(alloc)
 }
 
 // Writes an entry: a structure of two octet-strings, time and date.

@@ -20,7 +20,7 @@ impl<T, A: Allocator> Model for BoxParts<T, A> {
 
 impl<T, A: Allocator> BoxParts<T, A> {
     /// Takes a box apart. Does not allocate, and does not move the value.
-    pub fn of(boxed: Box<T, A>) -> BoxParts<T, A>
+    pub fn from_box(boxed: Box<T, A>) -> BoxParts<T, A>
     where
         T: Drop,
         ensures { result.value ≡ boxed.value }

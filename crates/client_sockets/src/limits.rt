@@ -37,7 +37,7 @@ fn shorter(first: Duration, second: Duration) -> Duration
 
 impl StreamLimits {
     /// Returns the limits of a read or a write and of a session, in seconds; 0 means no limit.
-    pub fn of_seconds(call: u32, session: u32) -> StreamLimits
+    pub fn from_seconds(call: u32, session: u32) -> StreamLimits
         ensures call { IsLimit call result.call }
         ensures session { IsLimit session result.session }
     {

@@ -21,7 +21,7 @@ pub struct NamedScript {
 
 impl NamedScript {
     /// Returns a script of the meter's script table.
-    pub fn of_the_table(selector: u16) -> NamedScript
+    pub fn in_the_table(selector: u16) -> NamedScript
         ensures { result ≡ script_at selector }
     {
         NamedScript {

@@ -78,8 +78,8 @@ fn write_actions(alloc: Global, actions: Actions) -> Result<Data, AllocError>
     ensures value { IfOk result (λ value. value ≡ actions_data actions) }
     ensures again { IfOk result (λ value. actions_of value ≡ Ok actions) }
 {
-    let over = NamedScript::of_the_table(actions.over).to_data(alloc)?;
-    let under = NamedScript::of_the_table(actions.under).to_data(alloc)?;
+    let over = NamedScript::in_the_table(actions.over).to_data(alloc)?;
+    let under = NamedScript::in_the_table(actions.under).to_data(alloc)?;
     Ok(Data::Structure(Items::from_vec(vec![in alloc; over, under]?)))
 }
 

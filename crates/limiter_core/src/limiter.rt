@@ -63,12 +63,12 @@ impl Limiter {
             } }
         ensures rows { Keeps result [] }
     {
-        Limiter::of(Settings::new(alloc), None)
+        Limiter::from_parts(Settings::new(alloc), None)
     }
 
     /// Returns a limiter with these settings at this moment of the clock (seconds since 1 January
     /// 2000), without samples. Does not allocate.
-    pub fn of(settings: Settings, moment: Option<u32>) -> Limiter
+    pub fn from_parts(settings: Settings, moment: Option<u32>) -> Limiter
         requires { length settings.groups ≤ MAX_GROUPS }
         ensures { result ≡ record {
           settings = settings;

@@ -127,7 +127,7 @@ fn sampled_outcome(sampled: Result<Fired, MeterFault>) -> CallResult
 {
     match sampled {
         Ok(_) => CallResult::Done,
-        Err(fault) => CallResult::of_fault(fault),
+        Err(fault) => CallResult::from_fault(fault),
     }
 }
 

@@ -27,7 +27,7 @@ impl MeterHandle {
     {
         let at = nowhere();
         MeterHandle {
-            slot: HandleSlot::of_null(at, alloc),
+            slot: HandleSlot::from_null(at, alloc),
             is_open: false,
         }
     }
@@ -50,7 +50,7 @@ impl MeterHandle {
         ensures { self.new.slot.held ≡ Some held.value }
     {
         *self = MeterHandle {
-            slot: HandleSlot::of_parts(BoxParts::of(held)),
+            slot: HandleSlot::from_parts(BoxParts::from_box(held)),
             is_open: true,
         };
     }

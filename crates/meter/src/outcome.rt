@@ -64,7 +64,7 @@ impl CallResult {
     }
 
     // Returns the outcome of a fault.
-    pub(crate) fn of_fault(fault: MeterFault) -> CallResult
+    pub(crate) fn from_fault(fault: MeterFault) -> CallResult
         ensures { result ≡ of_fault fault }
     {
         match fault {

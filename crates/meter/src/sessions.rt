@@ -92,7 +92,7 @@ fn done_code(done: Result<(), MeterFault>) -> u32
 {
     match done {
         Ok(()) => CallResult::Done.code(),
-        Err(fault) => CallResult::of_fault(fault).code(),
+        Err(fault) => CallResult::from_fault(fault).code(),
     }
 }
 
@@ -105,7 +105,7 @@ fn given_outcome(given: Result<Given, MeterFault>) -> CallResult
         Ok(Given::NoRoom(_)) => CallResult::NoRoom,
         Ok(Given::Wait) => CallResult::Wait,
         Ok(Given::End(end)) => end_outcome(end),
-        Err(fault) => CallResult::of_fault(fault),
+        Err(fault) => CallResult::from_fault(fault),
     }
 }
 

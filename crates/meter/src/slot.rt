@@ -23,14 +23,14 @@ impl Model for HandleSlot {
 
 impl HandleSlot {
     // Returns a slot without a meter, whatever the pointer is.
-    pub(crate) fn of_null(at: *mut u8, alloc: Global) -> HandleSlot
+    pub(crate) fn from_null(at: *mut u8, alloc: Global) -> HandleSlot
         ensures { result.held ≡ None }
     {
         HandleSlot { at, alloc }
     }
 
     // Returns a slot with the meter of these parts of a box.
-    pub(crate) fn of_parts(parts: BoxParts<SupplyMeter, Global>) -> HandleSlot
+    pub(crate) fn from_parts(parts: BoxParts<SupplyMeter, Global>) -> HandleSlot
         ensures { result.held ≡ Some parts.value }
     {
         let BoxParts { ptr, alloc } = parts;

@@ -43,7 +43,7 @@ fn sockets_of(
     let Ok(theirs) = Arc::try_clone(&stopped) else {
         return Err(Fault::Memory);
     };
-    let limits = StreamLimits::of_seconds(bounds.inactivity, bounds.session);
+    let limits = StreamLimits::from_seconds(bounds.inactivity, bounds.session);
     let sockets = Sockets::new(*rt, listener, limits, theirs, bounds.is_verbose);
     Ok((sockets, stopped))
 }

@@ -39,7 +39,7 @@ pub fn resumed_recorder(alloc: Global, trace: &Trace, capacity: u16) -> Result<R
     ensures goes_on { GoesOn trace.now (world_of trace.now) }
 {
     has_range(&trace.opening);
-    let mut core = RelayCore::of_fit_opening(alloc, &trace.opening)?;
+    let mut core = RelayCore::from_fit_opening(alloc, &trace.opening)?;
     match take_events(alloc, &mut core, trace.events.as_slice()) {
         Ok(()) => Recorder::from_core(alloc, core, capacity),
         Err(error) => {

@@ -289,7 +289,7 @@ fn runs_fit_where_samples_can_give_them(rt: HostRuntime) {
 /// Returns a limiter with the settings of another, at a moment.
 fn limiter_like(alloc: Global, other: &Limiter, moment: u32) -> Result<Limiter, AllocError> {
     let settings = other.settings().try_clone(alloc)?;
-    Ok(Limiter::of(settings, Some(moment)))
+    Ok(Limiter::from_parts(settings, Some(moment)))
 }
 
 /// Whether a limiter begins with these settings, at this moment, without a sample.

@@ -242,7 +242,7 @@ fn a_script_is_named_by_its_table_and_its_selector(rt: HostRuntime) {
 
 /// Whether a script of the meter's table is written as this text.
 fn is_script_written(alloc: Global, selector: u16, text: &str) -> bool {
-    match NamedScript::of_the_table(selector).to_data(alloc) {
+    match NamedScript::in_the_table(selector).to_data(alloc) {
         Ok(value) => {
             let found = is_text(alloc, &value, text);
             drop(value);

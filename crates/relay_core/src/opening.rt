@@ -91,7 +91,7 @@ impl<T: Drop> From<AllocFailed<T>> for OpeningFault {
 
 impl LimiterOpening {
     // Saves the state of a limiter.
-    fn of(alloc: Global, limiter: &Limiter) -> Result<LimiterOpening, AllocError>
+    fn from_limiter(alloc: Global, limiter: &Limiter) -> Result<LimiterOpening, AllocError>
         ensures opening { IfOk result (λ opening. opening ≡ limiter_opening_of limiter.now) }
         ensures runs { IfOk result
             (λ _. IsFit limiter.now.last limiter.now.over limiter.now.under) }
@@ -122,7 +122,7 @@ impl LimiterOpening {
         ensures stands { IfOk result
             (λ limiter. MeteredStands limiter moment (opened_limiter self.now)) }
     {
-        let limiter = Limiter::of(self.settings.try_clone(alloc)?, moment);
+        let limiter = Limiter::from_parts(self.settings.try_clone(alloc)?, moment);
         let Some(limiter) = limiter.with_runs(self.value, self.over, self.under) else {
             unreachable!()
         };
@@ -142,8 +142,8 @@ impl RelayCore {
         ensures fit { IfOk result IsFitOpening }
         ensures range { IfOk result (λ opening. IsWorld (world_of_opening opening)) }
     {
-        let import = LimiterOpening::of(alloc, &self.import)?;
-        let (import, export) = and_keep(import, LimiterOpening::of(alloc, &self.export))?;
+        let import = LimiterOpening::from_limiter(alloc, &self.import)?;
+        let (import, export) = and_keep(import, LimiterOpening::from_limiter(alloc, &self.export))?;
         let copies = copy_lists(alloc, &self.device, &self.scripts, &self.schedules);
         let ((import, export), (device, scripts, schedules)) = and_keep((import, export), copies)?;
         Ok(Opening {
@@ -205,7 +205,7 @@ impl RelayCore {
     }
 
     /// Restores a core from an opening that the caller knows to be fit.
-    pub fn of_fit_opening(alloc: Global, opening: &Opening) -> Result<RelayCore, AllocError>
+    pub fn from_fit_opening(alloc: Global, opening: &Opening) -> Result<RelayCore, AllocError>
         requires { IsFitOpening opening.now }
         ensures { IfOk result (λ core. StandsFor core (world_of_opening opening.now)) }
     {

@@ -46,7 +46,7 @@ pub(crate) enum WrittenList {
 
 impl WrittenList {
     // Returns the list that an attribute is, or `None` if it is not one.
-    pub(crate) fn of_number(instance: Instance, number: u8) -> Option<WrittenList>
+    pub(crate) fn new(instance: Instance, number: u8) -> Option<WrittenList>
         ensures { result ≡ list_numbered instance number }
     {
         match (instance, number) {
@@ -121,7 +121,7 @@ fn read_parts(
         ≡ parts_read (list_numbered instance number) value.now) }
     ensures plain { IsTrue (writes_plainly_in instance number) → IsOk result }
 {
-    let Some(list) = WrittenList::of_number(instance, number) else {
+    let Some(list) = WrittenList::new(instance, number) else {
         return Ok(Parts::Plain);
     };
     match read_list(alloc, list, value)? {

@@ -52,7 +52,7 @@ impl RelayCore {
     }
 
     // Returns copies of the limiters: import, then export.
-    fn copied_limiters(&self, alloc: Global) -> Result<(Limiter, Limiter), AllocError>
+    fn copy_limiters(&self, alloc: Global) -> Result<(Limiter, Limiter), AllocError>
         ensures import { IfOk result (λ copies. copies.0 ≡ self.now.import) }
         ensures export { IfOk result (λ copies. copies.1 ≡ self.now.export) }
     {
@@ -62,7 +62,7 @@ impl RelayCore {
     }
 
     // Returns copies of the script table and the schedules.
-    pub(crate) fn copied_lists(&self, alloc: Global) -> Result<(ScriptTable, Schedules), AllocError>
+    pub(crate) fn copy_lists(&self, alloc: Global) -> Result<(ScriptTable, Schedules), AllocError>
         ensures scripts { IfOk result (λ copies. copies.0 ≡ self.now.scripts) }
         ensures schedules { IfOk result (λ copies. copies.1 ≡ self.now.schedules) }
     {
@@ -76,8 +76,8 @@ impl RelayCore {
         ensures { IfOk result (λ copy. copy ≡ self.now) }
     {
         let device = self.device.try_clone(alloc)?;
-        let (import, export) = self.copied_limiters(alloc)?;
-        let (scripts, schedules) = self.copied_lists(alloc)?;
+        let (import, export) = self.copy_limiters(alloc)?;
+        let (scripts, schedules) = self.copy_lists(alloc)?;
         Ok(RelayCore {
             device,
             control: self.control,

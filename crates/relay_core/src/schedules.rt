@@ -58,8 +58,8 @@ impl Schedules {
     pub(crate) fn try_clone(&self, alloc: Global) -> Result<Schedules, AllocError>
         ensures { IfOk result (λ copy. copy ≡ self.now) }
     {
-        let halves = copied_pair(alloc, &self.first, &self.second)?;
-        let (halves, others) = and_keep(halves, copied_pair(alloc, &self.third, &self.fourth))?;
+        let halves = copy_pair(alloc, &self.first, &self.second)?;
+        let (halves, others) = and_keep(halves, copy_pair(alloc, &self.third, &self.fourth))?;
         let (first, second) = halves;
         let (third, fourth) = others;
         Ok(Schedules {
@@ -72,7 +72,7 @@ impl Schedules {
 }
 
 // Returns copies of two schedules.
-fn copied_pair(
+fn copy_pair(
     alloc: Global,
     one: &ActionSchedule,
     other: &ActionSchedule,

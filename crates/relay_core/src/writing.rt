@@ -158,7 +158,7 @@ impl RelayCore {
         ensures plain { IsTrue (writes_plainly_in instance number) → IsOk result }
         ensures err { OnErr result (self.new ≡ self.old) }
     {
-        let Some(list) = WrittenList::of_number(instance, number) else {
+        let Some(list) = WrittenList::new(instance, number) else {
             return Ok(self.write_plain(instance, number, value));
         };
         match read_list(alloc, list, value)? {
@@ -177,7 +177,7 @@ impl RelayCore {
         ensures { (w : World) → StandsFor self.old w
             → StandsFor self.new (at_write instance number value.now w).world }
     {
-        match WrittenList::of_number(instance, number) {
+        match WrittenList::new(instance, number) {
             Some(list) => self.move_in(list, parts),
             None => {
                 drop(parts);

@@ -47,7 +47,7 @@ pub enum Event {
 pub type Events = Listed<Event>;
 
 // Returns a copy of a parameter, if there is one.
-fn copied_parameter(alloc: Global, parameter: &Option<Data>) -> Result<Option<Data>, AllocError>
+fn copy_parameter(alloc: Global, parameter: &Option<Data>) -> Result<Option<Data>, AllocError>
     ensures { IfOk result (λ copy. copy ≡ parameter.now) }
 {
     match parameter {
@@ -100,7 +100,7 @@ impl Event {
             } => Event::Execute {
                 level: *level,
                 method: *method,
-                parameter: copied_parameter(alloc, parameter)?,
+                parameter: copy_parameter(alloc, parameter)?,
             },
             Event::Button => Event::Button,
             Event::Samples(block) => Event::Samples(block.try_clone(alloc)?),

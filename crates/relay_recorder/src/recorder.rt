@@ -151,7 +151,7 @@ impl Recorder {
     }
 
     // Returns copies of the kept events, in order.
-    fn copied_events(&self, alloc: Global) -> Result<Events, AllocError>
+    fn copy_events(&self, alloc: Global) -> Result<Events, AllocError>
         ensures { IfOk result (λ events. events ≡ self.now.events) }
     {
         let mut events = Events::new(alloc);
@@ -175,7 +175,7 @@ impl Recorder {
         ensures events { IfOk result (λ trace. trace.events ≡ self.now.events) }
         ensures replays { IfOk result (λ trace. Replays self.now (world_of_opening trace.opening)) }
     {
-        let events = self.copied_events(alloc)?;
+        let events = self.copy_events(alloc)?;
         Ok(Trace {
             opening: self.opening.to_opening(alloc)?,
             events,

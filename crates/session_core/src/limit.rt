@@ -33,7 +33,7 @@ impl Model for Limit {
 
 impl Limit {
     // Returns the limit for the size that a client proposed, where 0 means no limit.
-    pub(crate) fn of(proposed: u16) -> Limit
+    pub(crate) fn new(proposed: u16) -> Limit
         ensures { result ≡ limit_of proposed }
     {
         let bytes = if proposed == 0 || proposed > MAX_PDU {

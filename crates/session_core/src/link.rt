@@ -28,7 +28,7 @@ pub(crate) fn link_from(source: u16, verdict: Verdict) -> Option<Link>
             source,
             level,
             conformance: Conformance::from_bits_retain(bits),
-            limit: Limit::of(limit),
+            limit: Limit::new(limit),
         }),
         Verdict::Rejected(_) | Verdict::InitiateError(_) => None,
     }

@@ -24,7 +24,7 @@ impl Model for Password {
 
 impl Password {
     // Copies a password. Fails if out of memory.
-    pub(crate) fn of(alloc: Global, octets: &Octets) -> Result<Password, AllocError>
+    pub(crate) fn new(alloc: Global, octets: &Octets) -> Result<Password, AllocError>
         requires { IsPassword octets.now }
         ensures { IfOk result (λ password. password ≡ octets.now) }
     {

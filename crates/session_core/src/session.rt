@@ -52,7 +52,7 @@ impl Session {
         ensures { IfOk result (Owes password.now) }
     {
         Ok(Session {
-            password: Password::of(alloc, password)?,
+            password: Password::new(alloc, password)?,
             deframer: Deframer::new(alloc),
             is_finished: false,
             state: State::new(),

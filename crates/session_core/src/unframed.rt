@@ -53,7 +53,7 @@ pub fn ask_unframed(alloc: Global, payload: &[u8]) -> Result<Unframed, AllocErro
         source: MANAGEMENT_PORT,
         level: Level::Management,
         conformance: OFFERED_CONFORMANCE,
-        limit: Limit::of(MAX_PDU),
+        limit: Limit::new(MAX_PDU),
     };
     match call_alone(alloc, link, payload)? {
         TurnStep::Join(joined) => unframed_outcome(alloc, read_joined(alloc, joined)?),

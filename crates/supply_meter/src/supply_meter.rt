@@ -90,11 +90,11 @@ impl SupplyMeter {
     {
         let password = password.try_clone(alloc)?;
         let recorder = Recorder::new(alloc, device, kept_events)?;
-        Ok(SupplyMeter::of_recorder(recorder, password))
+        Ok(SupplyMeter::from_recorder(recorder, password))
     }
 
     // Returns a meter with this recorder and without open sessions.
-    pub(crate) fn of_recorder(recorder: Recorder, password: Octets) -> SupplyMeter
+    pub(crate) fn from_recorder(recorder: Recorder, password: Octets) -> SupplyMeter
         requires { IsPassword password }
         ensures recorder { result.recorder ≡ recorder }
         ensures password { result.password ≡ password }

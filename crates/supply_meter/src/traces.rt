@@ -45,7 +45,7 @@ impl SupplyMeter {
         let recorder = resumed_recorder(alloc, &trace, kept_events);
         drop(trace);
         match recorder {
-            Ok(recorder) => Ok(SupplyMeter::of_recorder(recorder, password)),
+            Ok(recorder) => Ok(SupplyMeter::from_recorder(recorder, password)),
             Err(_) => Err(TraceFault::Memory),
         }
     }

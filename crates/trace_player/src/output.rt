@@ -38,7 +38,7 @@ fn play_behind(
         (λ fault. Fails trace_fault.Memory fault
         (trace_behind version count opening.now lines.old)) }
 {
-    let mut core = RelayCore::of_fit_opening(alloc, opening)?;
+    let mut core = RelayCore::from_fit_opening(alloc, opening)?;
     let played = play_events(alloc, version, count, lines, &mut core);
     drop(core);
     let output = PlayedLines {

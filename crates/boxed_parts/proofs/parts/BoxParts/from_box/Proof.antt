@@ -41,10 +41,10 @@ use Rattle.boxed_parts.specs.contracts.parts.BoxParts as parts
 use Rattle.std_alloc.specs.contracts.boxed.Box.into_raw_with_allocator as Ra
 use Rattle.std_alloc.proofs.boxed.Box.into_raw_with_allocator.Symbol as raw_sym
 use Rattle.std_alloc.proofs.boxed.Box.into_raw_with_allocator.Met as raw_met
-use Rattle.boxed_parts.specs.contracts.parts.BoxParts.of as F
-use Rattle.boxed_parts.specs.contracts.parts.BoxParts.of.Key.{name as #self}
-use Rattle.boxed_parts.proofs.parts.BoxParts.of.Statement as stated
-use Rattle.boxed_parts.proofs.parts.BoxParts.of.Code as code
+use Rattle.boxed_parts.specs.contracts.parts.BoxParts.from_box as F
+use Rattle.boxed_parts.specs.contracts.parts.BoxParts.from_box.Key.{name as #self}
+use Rattle.boxed_parts.proofs.parts.BoxParts.from_box.Statement as stated
+use Rattle.boxed_parts.proofs.parts.BoxParts.from_box.Code as code
 
 module _ (E : Bx) (dx : Dict) where
   abbrev args : Args
@@ -99,9 +99,9 @@ module _ (E : Bx) (dx : Dict) where
         suffices ! _ (ends_at 𝓛 ended stayed held z (word E hw b' o') made ((tt, (tt, tt)), tt) (tt, tt)) $ says ! refl $
         nothing ! $ nothing ! $ fjoin ! $ join ! $ move ! (1 ∷ 0 ∷ []) $ join ! $ done !)))))))))))))
 
-pub of_spec : {M : Type 1} → stated.statement M
+pub from_box_spec : {M : Type 1} → stated.statement M
 unfolding tables_of
-of_spec 𝓤 𝓛 𝓜 𝓡 wired X Z LX LZ g d dd dx allocator md glue =
+from_box_spec 𝓤 𝓛 𝓜 𝓡 wired X Z LX LZ g d dd dx allocator md glue =
     let E : Bx = record { row = X; laws = LX; al = record { row = Z; laws = LZ; g = g; d = d; drops = dd } } in
     let 𝓣 : Tables 𝓤 𝓛.H = tables_of 𝓤 𝓛.H 𝓜 (tables 𝓤 𝓛.H 𝓜 𝓡 𝓡.env) in
     let fn = fn' E dx in

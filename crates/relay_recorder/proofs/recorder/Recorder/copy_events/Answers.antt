@@ -1,6 +1,6 @@
 use Rattle.std.proofs.Common.{[], ◌∷◌, ◌++◌, take, ap, sym, ◌∙◌}
 use Rattle.relay_recorder.proofs.Pushed.{take_got}
-use Rattle.relay_recorder.proofs.recorder.Recorder.copied_events.Goals as goal
+use Rattle.relay_recorder.proofs.recorder.Recorder.copy_events.Goals as goal
 
 pub events-preserved : goal.events-preserved
 events-preserved c =

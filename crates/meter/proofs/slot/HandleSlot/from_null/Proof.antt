@@ -1,4 +1,4 @@
--- `of_null` combines a pointer and an allocator, which own nothing.
+-- `from_null` combines a pointer and an allocator, which own nothing.
 use mathlib.Core.Path.{refl, sym, subst}
 use mathlib.Core.List.{List, [], ◌∷◌, ◌++◌}
 use Rattle.std.specs.Prelude.{None}
@@ -25,13 +25,13 @@ use Rattle.std_heap.proofs.Global.TheLaws as heap
 use Rattle.std.proofs.raw_atomic.Walks.{proved_at}
 use Rattle.meter.proofs.AsBox.{both, both_tt, two_in}
 use Rattle.meter.specs.contracts.slot.HandleSlot as Own
-use Rattle.meter.specs.contracts.slot.HandleSlot.of_null.{ended, clauses}
-use Rattle.meter.specs.contracts.slot.HandleSlot.of_null.Key.{name as #self}
-use Rattle.meter.proofs.slot.HandleSlot.of_null.Statement.{statement}
-use Rattle.meter.proofs.slot.HandleSlot.of_null.Code as code
+use Rattle.meter.specs.contracts.slot.HandleSlot.from_null.{ended, clauses}
+use Rattle.meter.specs.contracts.slot.HandleSlot.from_null.Key.{name as #self}
+use Rattle.meter.proofs.slot.HandleSlot.from_null.Statement.{statement}
+use Rattle.meter.proofs.slot.HandleSlot.from_null.Code as code
 
-pub of_null_spec : {M : Type 1} → statement M
-of_null_spec 𝓤 𝓛 𝓜 𝓡 wired =
+pub from_null_spec : {M : Type 1} → statement M
+from_null_spec 𝓤 𝓛 𝓜 𝓡 wired =
     let H = 𝓛.H in let 𝓣 = tables 𝓤 H 𝓜 𝓡 𝓡.env in let c = clauses 𝓛 𝓜.mem 𝓡.returns in let P : RattleType = RawPtr in let Z : RattleType = Heap.the_row in let Out : RattleType = Own.the_row in
     let hs : Stays ended.signature.params ended.kept = (stay_dropped (plain (λ _. P)) yes, (stay_dropped (plain (λ _. Z)) yes, tt)) in
     proved_at 𝓛 ended hs c 𝓜 𝓡 (Goes-dropped 𝓛 0 (plain (λ _. P)) yes (λ κs x f. refl), (Goes-dropped 𝓛 0 (plain (λ _. Z)) yes (λ κs x f. refl), tt)) #self code.function (code.unfolded 𝓤 H 𝓜 𝓡 wired) (λ z are.
