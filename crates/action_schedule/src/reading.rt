@@ -57,7 +57,7 @@ fn read_entry(value: &Data) -> Result<EntryPattern, WriteFault>
 pub(crate) fn judge_entries(items: &[Data]) -> Result<(), WriteFault>
     ensures exact { result ≡ judged_entries items.now }
     ensures no_memory { ¬ IsErrOf result WriteFault.Memory }
-    ensures few { IfOk result (λ _. length items.now ≤ max_entries) }
+    ensures within_max { IfOk result (λ _. length items.now ≤ max_entries) }
 {
     judge_each(items, |item| read_entry(item))?;
     if items.len() > MAX_ENTRIES {
@@ -73,7 +73,7 @@ pub(crate) fn read_entries(
 ) -> Result<Listed<EntryPattern>, AllocError>
     ensures entries { IfOk result (λ entries. entries ≡ values entry_of items.now) }
     ensures fit { IfOk result (λ entries. All IsEntry entries) }
-    ensures few { IfOk result (λ entries. length entries ≤ length items.now) }
+    ensures within_max { IfOk result (λ entries. length entries ≤ length items.now) }
 {
     let mut entries = Vec::new(alloc);
     for item in items {

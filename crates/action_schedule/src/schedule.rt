@@ -125,7 +125,7 @@ impl ActionSchedule {
     pub fn to_data(&self, alloc: Global, attribute: ScheduleAttribute) -> Result<Data, AllocError>
         ensures value { IfOk result (λ value. value ≡ data_at attribute self.now) }
         // Reading the Data returns the attribute.
-        ensures again { IfOk result (λ value. ReadsBack attribute value self.now) }
+        ensures read_back { IfOk result (λ value. ReadsBack attribute value self.now) }
         ensures plain { IsTrue (is_plain attribute) → IsOk result }
     {
         match attribute {

@@ -8,7 +8,7 @@ use std::io::{BufRead, BufReader, Read};
 // Returns the number of bytes up to and including the first 0A, or of all bytes if there is none.
 fn line_len(bytes: &[u8]) -> usize
     ensures bound { result ≤ length bytes.now }
-    ensures some { 0 < length bytes.now → 0 < result }
+    ensures non_zero { 0 < length bytes.now → 0 < result }
     ensures before { All (λ byte. byte ≢ 10) (take (result - 1) bytes.now) }
 {
     'bytes: for i in 0..bytes.len() {

@@ -27,7 +27,7 @@ pub trait Reader {
         ensures ready { OnOk result (can_read self.new) }
         ensures counted { OnOk result (reads self.new ≡ reads self.old + 1) }
         ensures uncounted { OnErr result (reads self.new ≡ reads self.old) }
-        ensures even { OnOk result (failures self.new ≡ failures self.old) }
+        ensures failures_unchanged { OnOk result (failures self.new ≡ failures self.old) }
         ensures cause { OnErr result (failures self.old < failures self.new) };
 }
 
@@ -47,6 +47,6 @@ pub trait Writer {
         requires { can_write self.now }
         ensures bytes { OnOk result (Appends (contents self.old) (contents self.new) bytes.now) }
         ensures ready { OnOk result (can_write self.new) }
-        ensures even { OnOk result (failures self.new ≡ failures self.old) }
+        ensures failures_unchanged { OnOk result (failures self.new ≡ failures self.old) }
         ensures cause { OnErr result (failures self.old < failures self.new) };
 }

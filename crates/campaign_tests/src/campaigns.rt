@@ -37,8 +37,8 @@ pub(crate) fn lines_at<R: Threads + Sync, C: Connector>(
     password: &Octets,
     workers: u8,
 ) -> Result<Report, AllocError>
-    requires some { 1 ≤ workers }
-    requires few { workers ≤ 16 }
+    requires non_zero { 1 ≤ workers }
+    requires within_max { workers ≤ 16 }
     requires password { IsPassword password.now }
     ensures { IfOk result (AreLines (C.tells meters.now) jobs.now) }
 {
@@ -56,8 +56,8 @@ fn lines_of<R: Threads + Sync>(
     workers: u8,
     piece: usize,
 ) -> Result<Report, AllocError>
-    requires some { 1 ≤ workers }
-    requires few { workers ≤ 16 }
+    requires non_zero { 1 ≤ workers }
+    requires within_max { workers ≤ 16 }
 {
     let password = password(alloc)?;
     let meters = Meters { piece };
@@ -75,8 +75,8 @@ fn is_told<R: Threads + Sync>(
     piece: usize,
     text: &[u8],
 ) -> Result<bool, AllocError>
-    requires some { 1 ≤ workers }
-    requires few { workers ≤ 16 }
+    requires non_zero { 1 ≤ workers }
+    requires within_max { workers ≤ 16 }
 {
     let lines = lines_of(rt, alloc, jobs, workers, piece)?;
     let same = reported(alloc, &lines, text);

@@ -106,8 +106,8 @@ fn lines_of<R: Threads + Sync>(
     meters: &Counting,
     workers: u8,
 ) -> Result<Report, AllocError>
-    requires some { 1 ≤ workers }
-    requires few { workers ≤ 16 }
+    requires non_zero { 1 ≤ workers }
+    requires within_max { workers ≤ 16 }
 {
     let password = password(alloc)?;
     let jobs = jobs_named(alloc, FIVE)?;
@@ -120,8 +120,8 @@ fn lines_of<R: Threads + Sync>(
 /// Returns whether each of the five jobs connects once. The AARQ has 64 bytes, the request 23 and
 /// the release 13: m1 and m4 receive all three, m2 the AARQ, m3 the AARQ and the request.
 fn connects_once<R: Threads + Sync>(rt: &R, alloc: Global, workers: u8) -> Result<bool, AllocError>
-    requires some { 1 ≤ workers }
-    requires few { workers ≤ 16 }
+    requires non_zero { 1 ≤ workers }
+    requires within_max { workers ≤ 16 }
 {
     let meters = Counting::new(alloc)?;
     let lines = lines_of(rt, alloc, &meters, workers)?;

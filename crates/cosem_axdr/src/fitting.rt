@@ -115,7 +115,7 @@ fn is_number<T: Drop>(_number: T) -> bool
 
 // Returns true. Its contract makes known that the elements of a byte slice are below 256.
 fn are_bytes(_bytes: &[u8]) -> bool
-    ensures yes { IsTrue result }
+    ensures holds { IsTrue result }
     ensures within { IsBytes _bytes.now }
 {
     true
@@ -123,7 +123,7 @@ fn are_bytes(_bytes: &[u8]) -> bool
 
 // Returns true. Its contract makes known that an array has the length of its type.
 fn is_array<const N: usize>(bytes: [u8; N]) -> bool
-    ensures yes { IsTrue result }
+    ensures holds { IsTrue result }
     ensures len { length bytes.entry ≡ N }
     ensures within { IsBytes bytes.entry }
 {

@@ -195,7 +195,7 @@ impl DatePattern {
         ensures bytes { result ≡ date_bytes self.now }
         ensures within { IsDateFields self.now }
         // Reading the bytes returns the same date.
-        ensures again { date_of result ≡ Ok self.now }
+        ensures read_back { date_of result ≡ Ok self.now }
     {
         self.spelling()
     }

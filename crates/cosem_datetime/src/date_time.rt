@@ -111,7 +111,7 @@ impl DateTimeField {
         ensures bytes { result ≡ date_time_bytes self.now }
         ensures within { IsDateTimeFields self.now }
         // Reading the bytes returns the same date-time.
-        ensures again { date_time_of result ≡ Ok self.now }
+        ensures read_back { date_time_of result ≡ Ok self.now }
     {
         self.spelling()
     }

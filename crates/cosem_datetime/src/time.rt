@@ -140,7 +140,7 @@ impl TimePattern {
         ensures bytes { result ≡ time_bytes self.now }
         ensures within { IsTimeFields self.now }
         // Reading the bytes returns the time.
-        ensures again { time_of result ≡ Ok self.now }
+        ensures read_back { time_of result ≡ Ok self.now }
     {
         self.spelling()
     }

@@ -20,7 +20,7 @@ pub fn judge_each<X: Drop, F: Fn(&Data) -> Result<X, WriteFault>>(
     read: F,
 ) -> Result<(), WriteFault>
     requires { F.IsAlwaysCallable read }
-    ensures told { (of_item : Data → Result X WriteFault) → IsReader F.Fn read of_item
+    ensures fault { (of_item : Data → Result X WriteFault) → IsReader F.Fn read of_item
         → result ≡ fault_of_items of_item items.now }
     ensures no_memory { ¬ IsErrOf result WriteFault.Memory }
 {

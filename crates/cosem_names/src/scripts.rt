@@ -56,7 +56,7 @@ impl NamedScript {
     pub fn to_data(&self, alloc: Global) -> Result<Data, AllocError>
         ensures value { IfOk result (λ value. value ≡ script_data self.now) }
         // Reading the Data returns the script.
-        ensures again { IfOk result (λ value. script_of value ≡ Some self.now) }
+        ensures read_back { IfOk result (λ value. script_of value ≡ Some self.now) }
     {
         let name = Octets::from_slice(alloc, &self.table.0)?;
         Ok(Data::Structure(Items::from_vec(vec![in alloc;

@@ -37,8 +37,8 @@ pub fn run_campaign<R: Threads + Sync, C: Connector>(
     password: &Octets,
     workers: u8,
 ) -> Result<Report, AllocError>
-    requires some { 1 ≤ workers }
-    requires few { workers ≤ 16 }
+    requires non_zero { 1 ≤ workers }
+    requires within_max { workers ≤ 16 }
     requires password { IsPassword password.now }
     requires count { length places.old ≡ slots_for (length jobs.now) workers }
     requires unused { All (λ place. place.attempt.stage ≡ unused) places.old }
@@ -63,8 +63,8 @@ pub fn run_watched_campaign<R: Threads + Sync, C: Connector, W: Watcher>(
     workers: u8,
     watcher: &W,
 ) -> Result<Report, AllocError>
-    requires some { 1 ≤ workers }
-    requires few { workers ≤ 16 }
+    requires non_zero { 1 ≤ workers }
+    requires within_max { workers ≤ 16 }
     requires password { IsPassword password.now }
     requires count { length places.old ≡ slots_for (length jobs.now) workers }
     requires unused { All (λ place. place.attempt.stage ≡ unused) places.old }
@@ -187,7 +187,7 @@ fn blank_lines(alloc: Global, jobs: &[Job]) -> Result<Vec<ReportLine>, AllocErro
 
 // Returns the place of the job of a slot.
 fn place_of(turns: usize, workers: usize, slot: usize) -> usize
-    requires some { 0 < turns }
+    requires non_zero { 0 < turns }
     requires slot { slot < turns * workers }
     requires fits { turns * workers < 2 ^ 64 }
     ensures { result ≡ place_at turns workers slot }
@@ -199,7 +199,7 @@ fn place_of(turns: usize, workers: usize, slot: usize) -> usize
 fn gather<C: Connector>(lines: &mut [ReportLine], places: &[JobPlace<C>], turns: usize, workers: usize)
     requires workers { 0 < workers }
     requires slots { length places.now ≡ turns * workers }
-    requires few { length lines.old < turns * workers }
+    requires within_max { length lines.old < turns * workers }
     ensures rows { (i : ℕ) (line : ReportLine) (row : Row) → i < length lines.old
         → (slice_index_or lines.new i line).row
         ≡ slice_index_or (map (λ place. place.row) places.now) (slot_at turns workers i) row }
@@ -215,7 +215,7 @@ fn gather<C: Connector>(lines: &mut [ReportLine], places: &[JobPlace<C>], turns:
 
 // Returns the slot of the job at a place.
 fn slot_of(turns: usize, workers: usize, place: usize) -> usize
-    requires some { 0 < workers }
+    requires non_zero { 0 < workers }
     requires place { place < turns * workers }
     requires fits { turns * workers < 2 ^ 64 }
     ensures slot { result ≡ slot_at turns workers place }

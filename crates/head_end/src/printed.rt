@@ -55,8 +55,8 @@ pub fn report_jobs<R: Threads + Sync, C: Connector, W: Watcher>(
     workers: u8,
     watcher: &W,
 ) -> Result<Octets, AllocError>
-    requires some { 1 ≤ workers }
-    requires few { workers ≤ 16 }
+    requires non_zero { 1 ≤ workers }
+    requires within_max { workers ≤ 16 }
     requires password { IsPassword password.now }
     requires count { length places.old ≡ slots_for (length jobs.now) workers }
     requires unused { All (λ place. place.attempt.stage ≡ unused) places.old }

@@ -32,7 +32,7 @@ pub(crate) struct CampaignPlan {
     pub(crate) is_shown: bool,
     ghost sized: { IsPassword password },
     ghost some: { 1 ≤ workers },
-    ghost few: { workers ≤ 16 },
+    ghost within_max: { workers ≤ 16 },
 }
 
 // The seconds of an option.

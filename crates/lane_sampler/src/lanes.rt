@@ -68,7 +68,7 @@ pub fn classify_plain(values: &[u32], threshold: u32) -> Masks
 fn part(values: &[u32], word: usize) -> &[u32]
     requires { word ≤ 3 }
     ensures values { result.now ≡ take 64 (drop (64 * word) values.now) }
-    ensures few { length result.now ≤ 64 }
+    ensures within_max { length result.now ≤ 64 }
 {
     let from = (WORD_BITS * word).min(values.len());
     let upto = (from + WORD_BITS).min(values.len());
@@ -126,7 +126,7 @@ fn word_plainly(values: &[u32], threshold: u32) -> Word
 
 // Returns the words for all values, given those for the values before `from`.
 fn with_tail(mut word: Word, values: &[u32], from: usize, threshold: u32) -> Word
-    requires few { length values.now ≤ 64 }
+    requires within_max { length values.now ≤ 64 }
     requires within { from ≤ length values.now }
     requires before { word ≡ word_for (take from values.now) threshold }
     ensures { result ≡ word_for values.now threshold }

@@ -128,7 +128,7 @@ impl Block {
     /// Returns the import values, at most 256.
     pub fn values(&self) -> &[u32]
         ensures values { result.now ≡ self.now.import }
-        ensures few { length self.now.import ≤ most_values }
+        ensures within_max { length self.now.import ≤ most_values }
     {
         &self.import
     }
@@ -137,8 +137,8 @@ impl Block {
     /// block has import values alone.
     pub fn export(&self) -> Option<&[u32]>
         ensures values { option_copied result ≡ self.now.export }
-        ensures even { IfSome result (λ values. length values.now ≡ length self.now.import) }
-        ensures few { IfSome result (λ values. length values.now ≤ most_values) }
+        ensures same_length { IfSome result (λ values. length values.now ≡ length self.now.import) }
+        ensures within_max { IfSome result (λ values. length values.now ≤ most_values) }
     {
         match &self.export {
             Some(values) => Some(values.as_slice()),
@@ -164,8 +164,8 @@ impl Block {
     /// name. Returns `None` before the first `scan`.
     pub fn scanned(&self) -> Option<&Scans>
         ensures right { IfSome result (λ scans. AreRightScans self.now scans.now) }
-        ensures few { length self.now.import ≤ most_values }
-        ensures even { AreEven self.now }
+        ensures within_max { length self.now.import ≤ most_values }
+        ensures same_length { AreEven self.now }
     {
         match &*self.scans {
             Some(scans) => Some(scans),
@@ -198,8 +198,8 @@ fn scans_of(
     export: Option<&[u32]>,
     export_threshold: u32,
 ) -> Scans
-    requires few { length import.now ≤ most_values }
-    requires even { IfSome export (λ values. length values.now ≡ length import.now) }
+    requires within_max { length import.now ≤ most_values }
+    requires same_length { IfSome export (λ values. length values.now ≡ length import.now) }
     ensures right { AreRightScans
         (record { import = import.now; export = option_copied export.entry }) result }
     ensures import { result.import.threshold ≡ import_threshold }

@@ -23,7 +23,7 @@ fn are_ids(items: &[Data]) -> bool
 fn judge_groups(items: &[Data]) -> Result<(), WriteFault>
     ensures exact { result ≡ judged_groups items.now }
     ensures no_memory { ¬ IsErrOf result WriteFault.Memory }
-    ensures few { IfOk result (λ _. length items.now ≤ max_groups) }
+    ensures within_max { IfOk result (λ _. length items.now ≤ max_groups) }
 {
     if !are_ids(items) {
         Err(WriteFault::Unmatched)
@@ -37,7 +37,7 @@ fn judge_groups(items: &[Data]) -> Result<(), WriteFault>
 // Returns the numbers of the items that are long-unsigned.
 fn read_ids(alloc: Global, items: &[Data]) -> Result<Vec<u16>, AllocError>
     ensures ids { IfOk result (λ ids. ids.items ≡ filter_map long_unsigned_of items.now) }
-    ensures few { IfOk result (λ ids. length ids.items ≤ length items.now) }
+    ensures within_max { IfOk result (λ ids. length ids.items ≤ length items.now) }
 {
     items
         .iter()

@@ -43,7 +43,7 @@ fn write_monitored(alloc: Global, which: Which) -> Result<Data, AllocError>
 pub fn write_profile(alloc: Global, profile: &Profile) -> Result<Data, AllocError>
     ensures value { IfOk result (λ value. value ≡ profile_data profile.now) }
     // Reading the Data returns the profile.
-    ensures again { IfOk result (λ value. profile_of value ≡ Ok profile.now) }
+    ensures read_back { IfOk result (λ value. profile_of value ≡ Ok profile.now) }
 {
     let start = Octets::from_slice(alloc, &profile.start.bytes())?;
     Ok(Data::Structure(Items::from_vec(vec![in alloc;
@@ -65,7 +65,7 @@ fn write_ids(alloc: Global, ids: &[u16]) -> Result<Vec<Data>, AllocError>
 fn write_groups(alloc: Global, ids: &[u16]) -> Result<Data, AllocError>
     requires { length ids.now ≤ max_groups }
     ensures value { IfOk result (λ value. value ≡ groups_data ids.now) }
-    ensures again { IfOk result (λ value. groups_of value ≡ Ok ids.now) }
+    ensures read_back { IfOk result (λ value. groups_of value ≡ Ok ids.now) }
 {
     let items = write_ids(alloc, ids)?;
     Ok(Data::Array(Items::from_vec(items)))
@@ -76,7 +76,7 @@ fn write_groups(alloc: Global, ids: &[u16]) -> Result<Data, AllocError>
 #[tactic(auto, unfolding(crate::specs::Writing::actions_data), using(crate::proofs::Again::actions_again))]
 fn write_actions(alloc: Global, actions: Actions) -> Result<Data, AllocError>
     ensures value { IfOk result (λ value. value ≡ actions_data actions) }
-    ensures again { IfOk result (λ value. actions_of value ≡ Ok actions) }
+    ensures read_back { IfOk result (λ value. actions_of value ≡ Ok actions) }
 {
     let over = NamedScript::in_the_table(actions.over).to_data(alloc)?;
     let under = NamedScript::in_the_table(actions.under).to_data(alloc)?;
@@ -96,7 +96,7 @@ pub fn read_attribute(
     ensures value { IfOk result (λ value. value
         ≡ data_at which attribute limiter.now.settings limiter.now.moment) }
     // Writing the value to the limiter sets what it already has.
-    ensures again { IfOk result (λ value. setting_of attribute value
+    ensures read_back { IfOk result (λ value. setting_of attribute value
         ≡ Ok (setting_at attribute limiter.now.settings)) }
     ensures groups_again { attribute ≡ EmergencyProfileGroupIdList
         → IfOk result (λ value. groups_of value ≡ Ok limiter.now.settings.groups) }

@@ -168,7 +168,7 @@ impl Limiter {
     // Counts `n` samples of a kind that do not fire; `last` is the last of them.
     #[tactic(auto, using(crate::proofs::Skipping::skip_fits))]
     fn jump(&mut self, kind: Kind, n: u64, last: u32)
-        requires some { 0 < n }
+        requires non_zero { 0 < n }
         requires quiet { n ≤ quiet_count kind self.old }
         requires last { kind_of (limits_of self.old).threshold last ≡ kind }
         ensures state { self.new ≡ state_after_run kind n last self.old }
@@ -230,7 +230,7 @@ impl Limiter {
     /// Returns the settings: the attributes that clients write.
     pub fn settings(&self) -> &Settings
         ensures settings { result.now ≡ self.now.settings }
-        ensures few { length result.now.groups ≤ MAX_GROUPS }
+        ensures within_max { length result.now.groups ≤ MAX_GROUPS }
     {
         &self.settings
     }
@@ -350,7 +350,7 @@ impl Limiter {
     /// Returns `emergency_profile_group_id_list` (attribute 9), at most `MAX_GROUPS` ids.
     pub fn groups(&self) -> &[u16]
         ensures ids { result.now ≡ self.now.settings.groups }
-        ensures few { length result.now ≤ MAX_GROUPS }
+        ensures within_max { length result.now ≤ MAX_GROUPS }
     {
         self.settings.groups.as_slice()
     }

@@ -59,7 +59,7 @@ fn serve_clients<L: Listener, R: Threads + Wait + Copy + Send + 'static>(
     limit: u64,
 ) -> Result<Served, ServeFault>
     requires { IsPassword password.now }
-    ensures goes { GoesOn port.old port.new }
+    ensures port_continues { GoesOn port.old port.new }
     ensures joined { AreJoined port.old.known.splits port.new }
     ensures sessions { AreSessions password.now port.old.known.splits port.new }
     ensures limit { IfOk result (IsLimit limit) }
@@ -115,7 +115,7 @@ fn serve_with_button<
     limit: u64,
 ) -> Result<Served, ServeFault>
     requires { IsPassword password.now }
-    ensures goes { GoesOn port.old port.new }
+    ensures port_continues { GoesOn port.old port.new }
     ensures joined { AreJoined port.old.known.splits port.new }
     ensures sessions { AreSessions password.now (port.old.known.splits + 1) port.new }
     ensures limit { IfOk result (IsLimit limit) }
@@ -152,7 +152,7 @@ fn serve_with_clock<
     limit: u64,
 ) -> Result<Served, ServeFault>
     requires { IsPassword password.now }
-    ensures goes { GoesOn port.old port.new }
+    ensures port_continues { GoesOn port.old port.new }
     ensures joined { AreJoined port.old.known.splits port.new }
     ensures sessions { AreSessions password.now (port.old.known.splits + 2) port.new }
     ensures limit { IfOk result (IsLimit limit) }
@@ -194,7 +194,7 @@ fn serve_with_sampler<
     limit: u64,
 ) -> Result<Served, ServeFault>
     requires { IsPassword password.now }
-    ensures goes { GoesOn port.old port.new }
+    ensures port_continues { GoesOn port.old port.new }
     ensures joined { AreJoined port.old.known.splits port.new }
     ensures sessions { AreSessions password.now (port.old.known.splits + 3) port.new }
     ensures limit { IfOk result (IsLimit limit) }
@@ -260,7 +260,7 @@ pub fn serve_all<
     limit: u64,
 ) -> Result<(Port<Kept>, Served), (Port<Kept>, ServeFault)>
     requires { IsPassword password.now }
-    ensures goes { IfOk result (λ r. GoesOn port r.0 × IsLegal IsLegalRun r.0.known
+    ensures port_continues { IfOk result (λ r. GoesOn port r.0 × IsLegal IsLegalRun r.0.known
         × AreJoined port.known.splits r.0) }
     ensures goes_err { IfErr result (λ r. GoesOn port r.0 × IsLegal IsLegalRun r.0.known
         × AreJoined port.known.splits r.0) }

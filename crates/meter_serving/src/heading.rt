@@ -72,8 +72,8 @@ fn add_lines<I: Read>(
 // Returns the number of lines before the number of events, which the first line determines.
 // Errors: `Input` for any line that is not the first of a trace.
 fn opening_lines(first: &[u8]) -> Result<u32, Fault>
-    ensures some { IfOk result (λ count. 1 ≤ count) }
-    ensures told { (version : Version) → first.now ≡ first_line version
+    ensures non_empty { IfOk result (λ count. 1 ≤ count) }
+    ensures value { (version : Version) → first.now ≡ first_line version
         → result ≡ Ok (lines_before version) }
     ensures err { (failed : Bool) → IfErr result (IsHeadFault failed) }
 {
@@ -89,7 +89,7 @@ fn opening_lines(first: &[u8]) -> Result<u32, Fault>
 // Returns the number of events that a line states. Errors: `Input` for any other line, `Memory`.
 #[tactic(auto, unfolding(trace_words::specs::Places::line_as))]
 fn event_count(line: &[u8]) -> Result<u32, Fault>
-    ensures told { (row : Row) (count : ℕ) → IsLine line.now row → events_from row ≡ Ok count
+    ensures value { (row : Row) (count : ℕ) → IsLine line.now row → events_from row ≡ Ok count
         → IfOk result (λ events. events ≡ count) }
     ensures input { IsErrOf result Fault.Input → (row : Row) (count : ℕ) → IsLine line.now row
         → ¬ (events_from row ≡ Ok count) }
@@ -130,7 +130,7 @@ fn head_text<I: Read>(alloc: Global, input: &mut BufReader<Monitored<I>>) -> Res
 
 // Returns the fault of a head whose text is not a trace.
 fn head_fault(fault: TraceFault) -> Fault
-    ensures told { result ≡ head_fault fault }
+    ensures value { result ≡ head_fault fault }
     ensures err { (failed : Bool) → IsHeadFault failed result }
 {
     match fault {

@@ -99,7 +99,7 @@ impl RelayCore {
     // Takes import samples only, and counts the firings. A scan is used while its threshold is the
     // active one.
     fn take_values(&mut self, values: &[u32], scan: Option<Scan>) -> FiringCounts
-        requires few { length values.now ≤ 256 }
+        requires within_max { length values.now ≤ 256 }
         requires right { IfSome scan (IsRightScan values.now) }
         ensures { Takes self.old self.new no_firings result (imports values.now) }
     {
@@ -122,8 +122,8 @@ impl RelayCore {
         scan: Option<Scan>,
         other_scan: Option<Scan>,
     ) -> FiringCounts
-        requires few { length values.now ≤ 256 }
-        requires even { length others.now ≡ length values.now }
+        requires within_max { length values.now ≤ 256 }
+        requires same_length { length others.now ≡ length values.now }
         requires right { IfSome scan (IsRightScan values.now) }
         requires other_right { IfSome other_scan (IsRightScan others.now) }
         ensures { Takes self.old self.new no_firings result (pairs values.now others.now) }

@@ -15,7 +15,7 @@ use limiter_core::{Kind, Limiter};
 
 // Returns a scan of the values at this threshold: `scan` if it has this threshold, else a new one.
 pub(crate) fn scan_at(scan: Option<Scan>, values: &[u32], threshold: u32) -> Scan
-    requires few { length values.now ≤ 256 }
+    requires within_max { length values.now ≤ 256 }
     requires right { IfSome scan (IsRightScan values.now) }
     ensures right { IsRightScan values.now result }
     ensures threshold { result.threshold ≡ threshold }
@@ -47,12 +47,12 @@ fn equal_run(values: &[u32], threshold: u32, at: usize) -> usize
 // Returns the kind of the value at index `at`, and the number of consecutive values of that kind
 // from there.
 fn run_at(values: &[u32], scan: &Scan, at: usize) -> (Kind, usize)
-    requires few { length values.now ≤ 256 }
+    requires within_max { length values.now ≤ 256 }
     requires within { at < length values.now }
     requires right { IsRightScan values.now scan.now }
     ensures kind { (n : ℕ) → n ≤ result.1
         → AreOfKind result.0 scan.now.threshold (take n (drop at values.now)) }
-    ensures some { 0 < result.1 }
+    ensures non_zero { 0 < result.1 }
     ensures within { at + result.1 ≤ length values.now }
 {
     let masks = &scan.masks;
@@ -79,7 +79,7 @@ fn quiet_of(limiter: &Limiter, kind: Kind, count: usize) -> usize
 impl RelayCore {
     // Takes import samples of one kind that fire nothing.
     fn skip_values(&mut self, kind: Kind, values: &[u32])
-        requires some { 0 < length values.now }
+        requires non_empty { 0 < length values.now }
         requires quiet { length values.now ≤ quiet_count kind self.old.import }
         requires kind { AreOfKind kind (limits_of self.old.import).threshold values.now }
         ensures { (firings : FiringCounts)
@@ -92,8 +92,8 @@ impl RelayCore {
     // Takes pairs that fire nothing, with all import samples of one kind and all export samples of
     // one kind.
     fn skip_pairs(&mut self, kind: Kind, values: &[u32], other_kind: Kind, others: &[u32])
-        requires some { 0 < length values.now }
-        requires even { length others.now ≡ length values.now }
+        requires non_empty { 0 < length values.now }
+        requires same_length { length others.now ≡ length values.now }
         requires quiet { length values.now ≤ quiet_count kind self.old.import }
         requires other_quiet { length values.now ≤ quiet_count other_kind self.old.export }
         requires kind { AreOfKind kind (limits_of self.old.import).threshold values.now }
@@ -117,14 +117,14 @@ impl RelayCore {
         at: usize,
         firings: &mut FiringCounts,
     ) -> usize
-        requires few { length values.now ≤ 256 }
+        requires within_max { length values.now ≤ 256 }
         requires within { at < length values.now }
         requires right { IsRightScan values.now scan.now }
         requires active { scan.now.threshold ≡ (limits_of self.old.import).threshold }
         requires counted { AreAtMost at firings.old }
         ensures takes { Takes self.old self.new firings.old firings.new
             (imports (take result (drop at values.now))) }
-        ensures some { 0 < result }
+        ensures non_zero { 0 < result }
         ensures within { at + result ≤ length values.now }
         ensures counted { AreAtMost (at + result) firings.new }
     {
@@ -150,8 +150,8 @@ impl RelayCore {
         at: usize,
         firings: &mut FiringCounts,
     ) -> usize
-        requires few { length values.now ≤ 256 }
-        requires even { length others.now ≡ length values.now }
+        requires within_max { length values.now ≤ 256 }
+        requires same_length { length others.now ≡ length values.now }
         requires within { at < length values.now }
         requires right { IsRightScan values.now scan.now }
         requires other_right { IsRightScan others.now other_scan.now }
@@ -160,7 +160,7 @@ impl RelayCore {
         requires counted { AreAtMost (2 * at) firings.old }
         ensures takes { Takes self.old self.new firings.old firings.new
             (pairs (take result (drop at values.now)) (take result (drop at others.now))) }
-        ensures some { 0 < result }
+        ensures non_zero { 0 < result }
         ensures within { at + result ≤ length values.now }
         ensures counted { AreAtMost (2 * (at + result)) firings.new }
     {

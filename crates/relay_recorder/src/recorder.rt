@@ -137,7 +137,7 @@ impl Recorder {
     pub fn count(&self) -> u16
         ensures count { result ≡ length self.now.events }
         ensures within { result ≤ self.now.capacity }
-        ensures few { self.now.capacity ≤ 1024 }
+        ensures within_max { self.now.capacity ≤ 1024 }
     {
         self.kept.len() as u16
     }
@@ -171,7 +171,7 @@ impl Recorder {
         ensures fit { IfOk result (λ trace. IsFitOpening trace.opening) }
         ensures agrees { IfOk result (λ trace. (w : World) → StandsFor self.now.opening w
             → Agree (world_of_opening trace.opening) w) }
-        ensures few { IfOk result (λ trace. length trace.events ≤ 1024) }
+        ensures within_max { IfOk result (λ trace. length trace.events ≤ 1024) }
         ensures events { IfOk result (λ trace. trace.events ≡ self.now.events) }
         ensures replays { IfOk result (λ trace. Replays self.now (world_of_opening trace.opening)) }
     {

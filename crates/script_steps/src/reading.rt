@@ -135,7 +135,7 @@ pub(crate) fn judge_scripts(items: &[Data]) -> Result<(), WriteFault>
 fn read_steps(alloc: Global, items: &[Data]) -> Result<Listed<Step>, AllocError>
     ensures steps { IfOk result (λ steps. steps ≡ values step_of items.now) }
     ensures fit { IfOk result (λ steps. All IsStep steps) }
-    ensures few { IfOk result (λ steps. length steps ≤ length items.now) }
+    ensures within_max { IfOk result (λ steps. length steps ≤ length items.now) }
 {
     let mut steps = Vec::new(alloc);
     for item in items {

@@ -92,7 +92,7 @@ impl ScriptTable {
     pub fn to_data(&self, alloc: Global) -> Result<Data, AllocError>
         ensures value { IfOk result (λ value. value ≡ data_of self.now) }
         // Reading the Data returns the table.
-        ensures again { IfOk result (λ value. table_of value ≡ Ok self.now) }
+        ensures read_back { IfOk result (λ value. table_of value ≡ Ok self.now) }
     {
         write_scripts(alloc, self.scripts.as_slice())
     }
@@ -124,7 +124,7 @@ impl ScriptTable {
     pub fn step_count(&self, selector: u16) -> Option<u8>
         ensures count { result ≡ option_map length (steps_at selector self.now) }
         ensures steps { IfSome result (λ count. count ≡ length (running_steps selector self.now)) }
-        ensures few { IfSome result (λ count. count ≤ max_steps) }
+        ensures within_max { IfSome result (λ count. count ≤ max_steps) }
     {
         if selector == NULL_SCRIPT {
             return Some(0);

@@ -36,7 +36,7 @@ impl Model for Outgoing {
 impl Outgoing {
     // Makes a transfer before its first block.
     pub(crate) fn new(raw: Octets, limit: Limit) -> Outgoing
-        requires some { 0 < length raw }
+        requires non_empty { 0 < length raw }
         requires numbered { length raw ≤ max_blocks * (limit - block_header) }
         ensures { result ≡ unsent_by limit raw }
     {

@@ -323,7 +323,7 @@ fn begin(
     id: InvokeId,
     raw: Octets,
 ) -> Result<Answered, AllocError>
-    requires some { 0 < length raw }
+    requires non_empty { 0 < length raw }
     requires numbered { length raw ≤ max_blocks * (link.limit - block_header) }
     ensures text { IfOk result (λ answered. answered.text
         ≡ way_text way link.source

@@ -112,10 +112,10 @@ impl Session {
         // While a reply is awaited, and once the session is over, `next` returns the same again.
         ensures waits { is_asking self.old ≡ true → (result ≡ Ok Next.Wait)
             × (self.new ≡ self.old) }
-        ensures again { (end : SessionEnd) → reported_end self.old ≡ Some end
+        ensures repeated_end { (end : SessionEnd) → reported_end self.old ≡ Some end
             → (result ≡ Ok (Next.End end)) × (self.new ≡ self.old) }
         // If out of memory, no reply is awaited, and the load is no greater than before.
-        ensures silent { OnErr result (is_asking self.new ≡ false) }
+        ensures not_asking { OnErr result (is_asking self.new ≡ false) }
         ensures kept { OnErr result (load self.new ≤ load self.old) }
     {
         if self.asking() {
@@ -220,7 +220,7 @@ impl Session {
     #[tactic(auto, unfolding(crate::specs::Remaining::is_asking))]
     fn work(&mut self, alloc: Global) -> Result<Option<Next>, AllocError>
         ensures works { WorksBy self.old result self.new }
-        ensures silent { OnErr result (is_asking self.new ≡ false) }
+        ensures not_asking { OnErr result (is_asking self.new ≡ false) }
         ensures err { OnErr result (self.new ≡ self.old) }
     {
         match &self.task {
@@ -250,7 +250,7 @@ impl Session {
     fn listen(&mut self, alloc: Global) -> Result<Option<Next>, AllocError>
         requires { self.now.task ≡ Listen }
         ensures works { WorksBy self.old result self.new }
-        ensures silent { OnErr result (is_asking self.new ≡ false) }
+        ensures not_asking { OnErr result (is_asking self.new ≡ false) }
         ensures err { OnErr result (self.new ≡ self.old) }
     {
         match self.deframer.front() {
@@ -271,7 +271,7 @@ impl Session {
         requires whole { head_of self.now.deframer ≡ Whole size }
         requires there { header_size + size ≤ length self.now.deframer }
         ensures works { WorksBy self.old result self.new }
-        ensures silent { OnErr result (is_asking self.new ≡ false) }
+        ensures not_asking { OnErr result (is_asking self.new ≡ false) }
         ensures err { OnErr result (self.new ≡ self.old) }
     {
         let (src, dst) = self.deframer.ports();

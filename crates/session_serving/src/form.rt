@@ -26,7 +26,7 @@ pub(crate) trait Form {
         ensures bytes { OnOk result
             (Appends (W.contents writer.old) (W.contents writer.new) (written_as frame.now)) }
         ensures ready { OnOk result (W.can_write writer.new) }
-        ensures even { OnOk result (W.failures writer.new ≡ W.failures writer.old) }
+        ensures failures_unchanged { OnOk result (W.failures writer.new ≡ W.failures writer.old) }
         ensures err { IfErr result
             (λ fault. FailsToWrite (W.contents writer.old) (W.failures writer.old) fault
             (W.contents writer.new) (W.failures writer.new)) }

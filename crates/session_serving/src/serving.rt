@@ -34,12 +34,12 @@ fn settle<F: Form, V: SessionWatch, W: Writer, M: Meter>(
     meter: &mut M,
 ) -> Result<Option<SessionEnd>, ServeFault>
     requires writable { W.can_write writer.now }
-    requires silent { is_asking session.now ≡ false }
+    requires not_asking { is_asking session.now ≡ false }
     ensures ok { IfOk result
         (λ end. Settled M.steps F.written_as session.old meter.old (W.contents writer.old) [] end
         session.new meter.new (W.contents writer.new)) }
     ensures writable { OnOk result (W.can_write writer.new) }
-    ensures even { OnOk result (W.failures writer.new ≡ W.failures writer.old) }
+    ensures failures_unchanged { OnOk result (W.failures writer.new ≡ W.failures writer.old) }
     ensures err { IfErr result
         (λ fault. Stops M.steps F.written_as (still_asks session.old [])
         (still_sends session.old []) meter.old (W.contents writer.old) (W.failures writer.old) fault
@@ -92,12 +92,12 @@ fn take_in<V: SessionWatch, W: Writer, M: Meter>(
     meter: &mut M,
 ) -> Result<Option<SessionEnd>, ServeFault>
     requires writable { W.can_write writer.now }
-    requires silent { is_asking session.now ≡ false }
+    requires not_asking { is_asking session.now ≡ false }
     ensures ok { IfOk result
         (λ end. Settled M.steps as_bytes session.old meter.old (W.contents writer.old) bytes.now end
         session.new meter.new (W.contents writer.new)) }
     ensures writable { OnOk result (W.can_write writer.new) }
-    ensures even { OnOk result (W.failures writer.new ≡ W.failures writer.old) }
+    ensures failures_unchanged { OnOk result (W.failures writer.new ≡ W.failures writer.old) }
     ensures err { IfErr result
         (λ fault. Stops M.steps as_bytes (still_asks session.old bytes.now)
         (still_sends session.old bytes.now) meter.old (W.contents writer.old)
@@ -124,7 +124,7 @@ pub(crate) fn end_input<F: Form, V: SessionWatch, W: Writer, M: Meter>(
     meter: &mut M,
 ) -> Result<SessionEnd, ServeFault>
     requires writable { W.can_write writer.now }
-    requires silent { is_asking session.now ≡ false }
+    requires not_asking { is_asking session.now ≡ false }
     ensures ok { OnOk result
         (DoesAll M.steps F.written_as (still_asks session.old []) (still_sends session.old [])
         meter.old (W.contents writer.old) meter.new (W.contents writer.new)) }
@@ -172,7 +172,7 @@ fn serve<V: SessionWatch, R: Reader, W: Writer, M: Meter>(
     requires writable { W.can_write writer.now }
     requires settled { IsSettled session.now }
     requires ends { EndsWithInput (still_ends session.now []) }
-    requires silent { is_asking session.now ≡ false }
+    requires not_asking { is_asking session.now ≡ false }
     ensures served { (password : List ℕ) → Owes password session.old
         → Served R.remaining R.reads R.failures W.contents W.failures M.steps password reader.old
         writer.old meter.old result reader.new writer.new meter.new }

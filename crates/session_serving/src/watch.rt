@@ -27,7 +27,7 @@ pub trait SessionWatch {
         ensures ready { OnOk result (R.can_read reader.new) }
         ensures counted { OnOk result (R.reads reader.new ≡ R.reads reader.old + 1) }
         ensures uncounted { OnErr result (R.reads reader.new ≡ R.reads reader.old) }
-        ensures even { OnOk result (R.failures reader.new ≡ R.failures reader.old) }
+        ensures failures_unchanged { OnOk result (R.failures reader.new ≡ R.failures reader.old) }
         ensures cause { OnErr result (R.failures reader.old < R.failures reader.new) }
         ensures passes { Passes (passed self.old) (read_by result buffer.new) (passed self.new) };
 
@@ -37,7 +37,7 @@ pub trait SessionWatch {
         ensures bytes { OnOk result
             (Appends (W.contents writer.old) (W.contents writer.new) bytes.now) }
         ensures ready { OnOk result (W.can_write writer.new) }
-        ensures even { OnOk result (W.failures writer.new ≡ W.failures writer.old) }
+        ensures failures_unchanged { OnOk result (W.failures writer.new ≡ W.failures writer.old) }
         ensures cause { OnErr result (W.failures writer.old < W.failures writer.new) }
         ensures passes { Passes (passed self.old) (written_by result bytes.now) (passed self.new) };
 

@@ -119,7 +119,7 @@ where
     T::Reply: Send + 'static,
     T::Origin: 'static,
     requires { (t : _) (p : _) (q : _) → L.Connection.hands_back t p q → IsSame p q }
-    ensures goes { GoesOn port.old port.new }
+    ensures port_continues { GoesOn port.old port.new }
     ensures lawful { OnOk result (IsLegal T.legal port.new.known) }
     ensures joined { AreJoined port.old.known.splits port.new }
     ensures sessions { AreServed (L.Connection.hands_back (L.terms listener.old))

@@ -16,7 +16,7 @@ pub const MAX_EVENTS: u32 = 65_536;
 // Reads the words of the line of the number of events.
 fn event_count(words: &mut Words) -> Result<u32, RowFault>
     ensures count { Gives Memory (λ count. count) result (events_from words.old) }
-    ensures few { IfOk result (λ count. count ≤ 65536) }
+    ensures within_max { IfOk result (λ count. count ≤ 65536) }
 {
     read_labelled(b"events", words, |word| number_in(word, MAX_EVENTS))
 }
@@ -25,7 +25,7 @@ fn event_count(words: &mut Words) -> Result<u32, RowFault>
 /// the line if it is missing or any other.
 pub fn read_event_count(lines: &mut TraceLines) -> Result<u32, TraceFault>
     ensures reads { ReadsLines (λ count. count) result lines.new (line_as events_from lines.old) }
-    ensures few { IfOk result (λ count. count ≤ 65536) }
+    ensures within_max { IfOk result (λ count. count ≤ 65536) }
 {
     lines.read(event_count)
 }

@@ -17,7 +17,7 @@ ghost use Rattle.trace_words.specs.declared.version.Version.TheVariants.{Two};
 /// that a line can hold.
 #[tactic(auto, using(crate::proofs::EventLaws::event_again, crate::proofs::EventRows::line_again, crate::proofs::EventRows::event_is_row))]
 pub fn written_event_is_read()
-    ensures again { (event : Event) → IsTraced event → event_of Two (event_row event) ≡ Ok event }
+    ensures read_back { (event : Event) → IsTraced event → event_of Two (event_row event) ≡ Ok event }
     ensures line { (event : Event) → IsTraced event
         → event_of Two (words_of (line_of (event_row event))) ≡ Ok event }
     ensures row { (event : Event) → IsTraced event → IsTrue (is_row (event_row event)) }
@@ -43,7 +43,7 @@ pub fn read_event_count_is_written()
 /// A number of events is read back from the line that is written for it, which is a line of words.
 #[tactic(auto, using(crate::proofs::EventLaws::event_count_again, crate::proofs::EventRows::event_count_is_row))]
 pub fn written_event_count_is_read()
-    ensures again { (count number : ℕ) (rows : List Row) (unended : List ℕ) → count ≤ 65536
+    ensures read_back { (count number : ℕ) (rows : List Row) (unended : List ℕ) → count ≤ 65536
         → line_as events_from
         (record {
           number = number;

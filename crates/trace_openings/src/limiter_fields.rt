@@ -86,7 +86,7 @@ pub(crate) fn profile(alloc: Global, which: Which, words: &mut Words) -> Result<
 // Reads group ids up to the end of the line, at most 32.
 fn ids(alloc: Global, words: &mut Words) -> Result<Vec<u16>, RowFault>
     ensures ids { Gives Memory (λ ids. ids.items) result (all_at id_from MAX_GROUPS words.old) }
-    ensures few { IfOk result (λ ids. length ids.items ≤ MAX_GROUPS) }
+    ensures within_max { IfOk result (λ ids. length ids.items ≤ MAX_GROUPS) }
 {
     let mut ids = Vec::new(alloc);
     'items: while let Some(word) = words.next() {
@@ -106,7 +106,7 @@ pub(crate) fn groups(
     words: &mut Words,
 ) -> Result<Listed<u16>, RowFault>
     ensures groups { Gives Memory (λ groups. groups) result (groups_from which words.old) }
-    ensures few { IfOk result (λ groups. length groups ≤ 32) }
+    ensures within_max { IfOk result (λ groups. length groups ≤ 32) }
 {
     behind_label(which, b"groups", words)?;
     let ids = ids(alloc, words)?;

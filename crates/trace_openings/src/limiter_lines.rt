@@ -38,7 +38,7 @@ fn read_settings(
 ) -> Result<Settings, TraceFault>
     ensures reads { ReadsLines (λ settings. settings) result lines.new
         (settings_from which lines.old) }
-    ensures few { IfOk result (λ settings. length settings.groups ≤ 32) }
+    ensures within_max { IfOk result (λ settings. length settings.groups ≤ 32) }
 {
     let normal_threshold = read_value(which, b"normal", lines)?;
     let emergency_threshold = read_value(which, b"emergency", lines)?;

@@ -40,8 +40,8 @@ pub(crate) fn version(words: &mut Words) -> Result<Version, RowFault>
 #[tactic(auto, unfolding(crate::specs::OpeningFields::device_in), using(crate::proofs::OpeningLemmas::bytes_some))]
 fn device_in(alloc: Global, word: &[u8]) -> Result<Octets, RowFault>
     ensures device { Gives Memory (λ device. device) result (device_in word.now) }
-    ensures some { IfOk result (λ device. 1 ≤ length device) }
-    ensures few { IfOk result (λ device. length device ≤ 16) }
+    ensures non_empty { IfOk result (λ device. 1 ≤ length device) }
+    ensures within_max { IfOk result (λ device. length device ≤ 16) }
 {
     let device = bytes_in(alloc, word)?;
     if device.len() > MAX_DEVICE_NAME {
@@ -54,8 +54,8 @@ fn device_in(alloc: Global, word: &[u8]) -> Result<Octets, RowFault>
 pub(crate) fn device(alloc: Global, words: &mut Words) -> Result<Octets, RowFault>
     ensures device { Gives Memory (λ device. device) result
         (labelled_value (codes "device") device_in words.old) }
-    ensures some { IfOk result (λ device. 1 ≤ length device) }
-    ensures few { IfOk result (λ device. length device ≤ 16) }
+    ensures non_empty { IfOk result (λ device. 1 ≤ length device) }
+    ensures within_max { IfOk result (λ device. length device ≤ 16) }
 {
     read_labelled(b"device", words, |word| device_in(alloc, word))
 }

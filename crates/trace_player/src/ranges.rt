@@ -25,7 +25,7 @@ fn events_are_traced(events: &[Event])
 // 33,554,432 bytes, as the text of at most 1,024 events has.
 #[tactic(auto, using(crate::proofs::RangeLemmas::is_writable, crate::proofs::RangeLemmas::is_short))]
 pub(crate) fn trace_is_read_again(trace: &Trace)
-    ensures again { FitsText trace.now → length (trace_text trace.now) ≤ most_bytes
+    ensures read_back { FitsText trace.now → length (trace_text trace.now) ≤ most_bytes
         → trace_of (trace_text trace.now) ≡ Ok trace.now }
     ensures short { FitsText trace.now → length trace.now.events ≤ 1024
         → length (trace_text trace.now) ≤ most_bytes }

@@ -53,7 +53,7 @@ fn write_lines(alloc: Global, trace: &Trace) -> Result<Octets, AllocError>
 /// never longer.
 pub fn write_trace(alloc: Global, trace: &Trace) -> Result<Octets, AllocError>
     ensures text { IfOk result (λ text. text ≡ trace_text trace.now) }
-    ensures again { IfOk result (λ text. FitsText trace.now → length text ≤ most_bytes
+    ensures read_back { IfOk result (λ text. FitsText trace.now → length text ≤ most_bytes
         → trace_of text ≡ Ok trace.now) }
     ensures short { IfOk result (λ text. FitsText trace.now → length trace.now.events ≤ 1024
         → length text ≤ most_bytes) }

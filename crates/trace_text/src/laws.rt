@@ -12,7 +12,7 @@ ghost use Rattle.trace_text.specs.Lines.{is_row, lines_of, rows_of, rows_text, u
 #[tactic(auto, using(crate::proofs::Known::numbers))]
 pub fn written_number_is_read()
     ensures word { (n : ℕ) → n < 2 ^ 64 → IsTrue (is_word (decimal n)) }
-    ensures again { (n limit : ℕ) → n ≤ limit → limit < 2 ^ 64
+    ensures read_back { (n limit : ℕ) → n ≤ limit → limit < 2 ^ 64
         → number_of limit (decimal n) ≡ Some n }
     ensures only { (word : List ℕ) (n limit : ℕ) → limit < 2 ^ 64 → number_of limit word ≡ Some n
         → word ≡ decimal n }
@@ -25,7 +25,7 @@ pub fn written_number_is_read()
 pub fn written_bytes_are_read()
     ensures word { (bytes : List ℕ) → 0 < length bytes → IsBytes bytes
         → IsTrue (is_word (encode_upper bytes)) }
-    ensures again { (bytes : List ℕ) → 0 < length bytes → IsBytes bytes
+    ensures read_back { (bytes : List ℕ) → 0 < length bytes → IsBytes bytes
         → bytes_of (encode_upper bytes) ≡ Some bytes }
     ensures only { (word bytes : List ℕ) → bytes_of word ≡ Some bytes → word ≡ encode_upper bytes }
     ensures bytes { (word bytes : List ℕ) → bytes_of word ≡ Some bytes → IsBytes bytes }
@@ -38,7 +38,7 @@ pub fn written_bytes_are_read()
 /// more word follows a blank.
 #[tactic(auto, using(crate::proofs::Known::words))]
 pub fn written_words_are_read()
-    ensures again { (words : List (List ℕ)) → IsTrue (is_row words)
+    ensures read_back { (words : List (List ℕ)) → IsTrue (is_row words)
         → words_of (line_of words) ≡ words }
     ensures only { (line : List ℕ) → line_of (words_of line) ≡ line }
     ensures push { (words : List (List ℕ)) (word : List ℕ) → 0 < length words
@@ -50,7 +50,7 @@ pub fn written_words_are_read()
 /// line.
 #[tactic(auto, using(crate::proofs::Known::rows))]
 pub fn written_lines_are_read()
-    ensures again { (rows : List (List (List ℕ))) → IsTrue (list_all is_row rows)
+    ensures read_back { (rows : List (List (List ℕ))) → IsTrue (list_all is_row rows)
         → rows_of (rows_text rows) ≡ rows }
     ensures ended { (rows : List (List (List ℕ))) → IsTrue (list_all is_row rows)
         → unended_of (rows_text rows) ≡ [] }

@@ -47,7 +47,7 @@ impl GetBlocks {
     /// Does not allocate.
     pub fn new(raw: Octets, size: u16) -> Self
         requires size { min_block_size ≤ size }
-        requires some { 0 < length raw }
+        requires non_empty { 0 < length raw }
         requires numbered { length raw ≤ max_blocks * size }
         ensures { result ≡ record { text = raw; number = 0; size = size; is_open = true } }
     {

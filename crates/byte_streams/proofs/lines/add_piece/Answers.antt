@@ -37,5 +37,5 @@ returns g c =
         | else-end-eq0 w ↦ ap (λ n. get_or (take end.result shown) (n - 1) 0) long
             ∙ get_or-take end.result shown (end.result - 1) 0 (omega arith) ∙ eqb-true _ _ (sym w.is_done-is ∙ done)
       ];
-      at_end = λ done none. moved.1 (zero_unless_positive _ _ end.ensures.some (sym long ∙ none));
+      at_end = λ done none. moved.1 (zero_unless_positive _ _ end.ensures.non_zero (sym long ∙ none));
     }

@@ -12,11 +12,11 @@ loop-item-preserved g c of_item is =
     (rw c.is_err-faulty.ensures.value
     (HasJudged-more (c.loop-item.invariant of_item is) c.item-item.result c.read-given.result (omega arith) c.item-item.is read_as))
 
-pub returns-then-unmatched-clause-told : goal.returns-then-unmatched-clause-told
-returns-then-unmatched-clause-told g c of_item is = HasJudged-all (c.loop-item.invariant of_item is) (omega arith) _ (rw c.if-unmatched.true refl)
+pub returns-then-unmatched-clause-fault : goal.returns-then-unmatched-clause-fault
+returns-then-unmatched-clause-fault g c of_item is = HasJudged-all (c.loop-item.invariant of_item is) (omega arith) _ (rw c.if-unmatched.true refl)
 
-pub returns-then-faulty-clause-told : goal.returns-then-faulty-clause-told
-returns-then-faulty-clause-told g c of_item is = HasJudged-all (c.loop-item.invariant of_item is) (omega arith) _ (rw c.if-unmatched.false (rw c.if-faulty.true refl))
+pub returns-then-faulty-clause-fault : goal.returns-then-faulty-clause-fault
+returns-then-faulty-clause-fault g c of_item is = HasJudged-all (c.loop-item.invariant of_item is) (omega arith) _ (rw c.if-unmatched.false (rw c.if-faulty.true refl))
 
-pub returns-clause-told : goal.returns-clause-told
-returns-clause-told g c of_item is = HasJudged-all (c.loop-item.invariant of_item is) (omega arith) _ (rw c.if-unmatched.false (rw c.if-faulty.false refl))
+pub returns-clause-fault : goal.returns-clause-fault
+returns-clause-fault g c of_item is = HasJudged-all (c.loop-item.invariant of_item is) (omega arith) _ (rw c.if-unmatched.false (rw c.if-faulty.false refl))

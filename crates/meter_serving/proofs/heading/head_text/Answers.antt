@@ -20,7 +20,7 @@ returns-in_err-count-clause-input g c = λ is whole rest left small laid.
     let one = c.in_ok-add_line.ensures.ahead whole rest laid.first (behind_first laid) start in
     let first = c.as_slice.ensures.value ∙ version_line c.add_line.new.text.items laid.first laid.version
     (whole_line c.new-text.result.items c.add_line.new.text.items laid.first c.new-text.ensures.items one.1) laid.told in
-    let never = c.in_err-count.ensures.told laid.version first in
+    let never = c.in_err-count.ensures.value laid.version first in
     absurd cc
 
 pub returns-in_err-add_lines-clause-input : goal.returns-in_err-add_lines-clause-input
@@ -29,7 +29,7 @@ returns-in_err-add_lines-clause-input g c = λ is whole rest left small laid.
     let one = c.in_ok-add_line.ensures.ahead whole rest laid.first (behind_first laid) start in
     let first = c.as_slice.ensures.value ∙ version_line c.add_line.new.text.items laid.first laid.version
     (whole_line c.new-text.result.items c.add_line.new.text.items laid.first c.new-text.ensures.items one.1) laid.told in
-    let count = ok_is c.in_ok-count.count (lines_before laid.version) (c.in_ok-count.ensures.told laid.version first) in
+    let count = ok_is c.in_ok-count.count (lines_before laid.version) (c.in_ok-count.ensures.value laid.version first) in
     let long : length laid.opening ≡ c.in_ok-count.count - 1 = omega (arith, laid.before, count) in
     c.in_err-add_lines.ensures.input (ap (λ (f : Fault). Err f) (same_fault c.from_residual-in_err-add_lines.result c.in_err-add_lines.field-0.0 Input c.from_residual-in_err-add_lines.ensures.1 is)) whole rest laid.opening (from_count laid) long small one.0
 
@@ -39,7 +39,7 @@ returns-in_err-add_line-2-clause-input g c = λ is whole rest left small laid.
     let one = c.in_ok-add_line.ensures.ahead whole rest laid.first (behind_first laid) start in
     let first = c.as_slice.ensures.value ∙ version_line c.add_line.new.text.items laid.first laid.version
     (whole_line c.new-text.result.items c.add_line.new.text.items laid.first c.new-text.ensures.items one.1) laid.told in
-    let count = ok_is c.in_ok-count.count (lines_before laid.version) (c.in_ok-count.ensures.told laid.version first) in
+    let count = ok_is c.in_ok-count.count (lines_before laid.version) (c.in_ok-count.ensures.value laid.version first) in
     let long : length laid.opening ≡ c.in_ok-count.count - 1 = omega (arith, laid.before, count) in
     let front = c.in_ok-add_lines.ensures.ahead whole rest laid.opening (from_count laid) long one.0 in
     c.in_err-add_line-2.ensures.input
@@ -52,7 +52,7 @@ returns-in_err-events-clause-input g c = λ is whole rest left small laid.
     let one = c.in_ok-add_line.ensures.ahead whole rest laid.first (behind_first laid) start in
     let first = c.as_slice.ensures.value ∙ version_line c.add_line.new.text.items laid.first laid.version
     (whole_line c.new-text.result.items c.add_line.new.text.items laid.first c.new-text.ensures.items one.1) laid.told in
-    let count = ok_is c.in_ok-count.count (lines_before laid.version) (c.in_ok-count.ensures.told laid.version first) in
+    let count = ok_is c.in_ok-count.count (lines_before laid.version) (c.in_ok-count.ensures.value laid.version first) in
     let long : length laid.opening ≡ c.in_ok-count.count - 1 = omega (arith, laid.before, count) in
     let front = c.in_ok-add_lines.ensures.ahead whole rest laid.opening (from_count laid) long one.0 in
     let more = c.in_ok-add_line-2.ensures.ahead whole rest laid.events_row (laid.events ++ []) front in
@@ -66,13 +66,13 @@ returns-in_err-add_lines-2-clause-input g c = λ is whole rest left small laid.
     let one = c.in_ok-add_line.ensures.ahead whole rest laid.first (behind_first laid) start in
     let first = c.as_slice.ensures.value ∙ version_line c.add_line.new.text.items laid.first laid.version
     (whole_line c.new-text.result.items c.add_line.new.text.items laid.first c.new-text.ensures.items one.1) laid.told in
-    let count = ok_is c.in_ok-count.count (lines_before laid.version) (c.in_ok-count.ensures.told laid.version first) in
+    let count = ok_is c.in_ok-count.count (lines_before laid.version) (c.in_ok-count.ensures.value laid.version first) in
     let long : length laid.opening ≡ c.in_ok-count.count - 1 = omega (arith, laid.before, count) in
     let front = c.in_ok-add_lines.ensures.ahead whole rest laid.opening (from_count laid) long one.0 in
     let more = c.in_ok-add_line-2.ensures.ahead whole rest laid.events_row (laid.events ++ []) front in
     let line = line_cut c.deref.result.now c.add_lines.new.text.items c.add_line-2.new.text.items c.len-start.result laid.events_row
     c.deref.ensures.value (c.len-start.ensures ∙ c.add_lines.new.text.ok.0) more.1 in
-    let events = c.in_ok-events.ensures.told laid.events_row laid.count line laid.counted in
+    let events = c.in_ok-events.ensures.value laid.events_row laid.count line laid.counted in
     let all : length laid.events ≡ c.in_ok-events.events = laid.all ∙ sym events in
     c.in_err-add_lines-2.ensures.input (ap (λ (f : Fault). Err f) (same_fault c.from_residual-in_err-add_lines-2.result c.in_err-add_lines-2.field-0.0 Input c.from_residual-in_err-add_lines-2.ensures.1 is)) whole rest laid.events [] all small more.0
 
@@ -82,13 +82,13 @@ returns-clause-whole g c = λ whole rest left laid.
     let one = c.in_ok-add_line.ensures.ahead whole rest laid.first (behind_first laid) start in
     let first = c.as_slice.ensures.value ∙ version_line c.add_line.new.text.items laid.first laid.version
     (whole_line c.new-text.result.items c.add_line.new.text.items laid.first c.new-text.ensures.items one.1) laid.told in
-    let count = ok_is c.in_ok-count.count (lines_before laid.version) (c.in_ok-count.ensures.told laid.version first) in
+    let count = ok_is c.in_ok-count.count (lines_before laid.version) (c.in_ok-count.ensures.value laid.version first) in
     let long : length laid.opening ≡ c.in_ok-count.count - 1 = omega (arith, laid.before, count) in
     let front = c.in_ok-add_lines.ensures.ahead whole rest laid.opening (from_count laid) long one.0 in
     let more = c.in_ok-add_line-2.ensures.ahead whole rest laid.events_row (laid.events ++ []) front in
     let line = line_cut c.deref.result.now c.add_lines.new.text.items c.add_line-2.new.text.items c.len-start.result laid.events_row
     c.deref.ensures.value (c.len-start.ensures ∙ c.add_lines.new.text.ok.0) more.1 in
-    let events = c.in_ok-events.ensures.told laid.events_row laid.count line laid.counted in
+    let events = c.in_ok-events.ensures.value laid.events_row laid.count line laid.counted in
     let all : length laid.events ≡ c.in_ok-events.events = laid.all ∙ sym events in
     ahead_end whole rest c.add_lines-2.new.text.items (left_in g.I.Read.remaining c.add_lines-2.new.input) (c.in_ok-add_lines-2.ensures.ahead whole rest laid.events [] all more.0)
 

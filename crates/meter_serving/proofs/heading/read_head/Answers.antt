@@ -13,4 +13,4 @@ pub returns-clause-input : goal.returns-clause-input
 returns-clause-input g c = λ is.
     wrong_head (left_in g.I.Read.remaining c.args.input.now) c.as_slice.result.now c.in-Err.fault
     (λ whole rest left laid. c.as_slice.ensures.value ∙ c.in_ok-text.ensures.whole whole rest left laid) c.in-Err.ensures.exact
-    (not_memory c.in-Err.fault c.head_fault.result c.head_fault.ensures.told is)
+    (not_memory c.in-Err.fault c.head_fault.result c.head_fault.ensures.value is)

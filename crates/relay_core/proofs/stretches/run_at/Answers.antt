@@ -29,8 +29,8 @@ returns-clause-kind c = λ n within.
     equal_are_of_kind c.args.scan.now.threshold c.args.values.now c.args.at n (omega (arith, within, run.within))
     (λ k below. run.equal k (omega (arith, below, within)))
 
-pub returns-clause-some : goal.returns-clause-some
-returns-clause-some c =
+pub returns-clause-non_zero : goal.returns-clause-non_zero
+returns-clause-non_zero c =
     let over = c.run_from-over.ensures.passing (is_over c.args.scan.now.threshold) c.args.values.now c.requires.right.over (sym c.requires.right.len) in
     let under = c.run_from-under.ensures.passing (is_under c.args.scan.now.threshold) c.args.values.now c.requires.right.under (sym c.requires.right.len) in
     c.equal_run.ensures.some c.requires.within

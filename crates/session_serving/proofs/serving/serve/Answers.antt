@@ -8,7 +8,7 @@ use Rattle.session_serving.proofs.serving.serve.Goals as goal
 pub reads-init : goal.reads-init
 reads-init g c = record {
   stands = stands_new g.M.Meter.steps as_bytes c.args.session.now c.args.meter.now (g.W.Writer.contents c.args.writer.now) (g.R.Reader.remaining c.args.reader.now)
-      c.requires.settled c.requires.ends c.requires.silent;
+      c.requires.settled c.requires.ends c.requires.not_asking;
   readable = c.requires.readable;
   counted = sym (add-zero (g.R.Reader.reads c.args.reader.now));
   writable = c.requires.writable;
@@ -91,8 +91,8 @@ reads-preserved g c = record {
   counted = omega (arith, c.in-Ok.ensures.counted, c.reads.invariant.counted);
   readable = c.in-Ok.ensures.ready;
   writable = c.in_ok-end.ensures.writable;
-  read_even = c.in-Ok.ensures.even ∙ c.reads.invariant.read_even;
-  write_even = c.in_ok-end.ensures.even ∙ c.reads.invariant.write_even;
+  read_even = c.in-Ok.ensures.failures_unchanged ∙ c.reads.invariant.read_even;
+  write_even = c.in_ok-end.ensures.failures_unchanged ∙ c.reads.invariant.write_even;
   order = λ password owes.
       let r = (has_read password c.reads.session (take c.in-Ok.count c.read.new.buffer)
       (g.V.Watch.passed c.args.watch.now) (g.V.Watch.passed c.reads.watch)

@@ -10,7 +10,7 @@ use Rattle.session_serving.proofs.Reaching.{reached_none, reached_sent, reached_
 pub due-init : goal.due-init
 due-init g c = record {
   reached = reached_none c.args.session.now c.args.meter.now (g.W.Writer.contents c.args.writer.now);
-  silent = c.requires.silent;
+  silent = c.requires.not_asking;
   finished = refl;
   writable = c.requires.writable;
   even = refl;
@@ -47,7 +47,7 @@ due-preserved-in-Ok g c =
       silent = answered.silent;
       finished = answered.sends.finished ∙ answered.takes.finished ∙ asked.steps.finished ∙ c.due.invariant.finished;
       writable = c.in_ok-write-in-Ok.ensures.ready;
-      even = c.in_ok-write-in-Ok.ensures.even ∙ c.due.invariant.even;
+      even = c.in_ok-write-in-Ok.ensures.failures_unchanged ∙ c.due.invariant.even;
       order = λ password texts_of happened at.
           comes_sent happened (g.V.Watch.passed c.args.watch.now) (g.V.Watch.passed c.call.new.self)
           (g.V.Watch.passed c.write.new.watch)
@@ -133,7 +133,7 @@ due-preserved g c =
       silent = left.0;
       finished = stepped.finished ∙ c.due.invariant.finished;
       writable = c.in_ok-write-in-Send.ensures.ready;
-      even = c.in_ok-write-in-Send.ensures.even ∙ c.due.invariant.even;
+      even = c.in_ok-write-in-Send.ensures.failures_unchanged ∙ c.due.invariant.even;
       order = λ password texts_of happened at.
           comes_sent happened (g.V.Watch.passed c.args.watch.now) (g.V.Watch.passed c.due.watch)
           (g.V.Watch.passed c.write-in-Send.new.watch)

@@ -2,8 +2,8 @@ use Rattle.session_threads.specs.Sessions.{port_of, terms_of}
 use Rattle.session_threads.proofs.Tending.{tends_trans, joined_all, served_all}
 use Rattle.session_threads.proofs.serving.serve_connections.Goals as goal
 
-pub returns-clause-goes : goal.returns-clause-goes
-returns-clause-goes g c =
+pub returns-clause-port_continues : goal.returns-clause-port_continues
+returns-clause-port_continues g c =
     let conn = g.L.Connection.Connection in
     (tends_trans port_of (terms_of conn.terms) conn.hands_back _ _ _ _ _ _ _ c.accept_all-accepted.ensures.tends (c.close_all.ensures.tends _)).goes
 

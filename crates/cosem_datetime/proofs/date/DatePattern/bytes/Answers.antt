@@ -3,5 +3,5 @@ use Rattle.cosem_datetime.specs.Reading.{date_of}
 use Rattle.cosem_datetime.proofs.Spelled.{date_again}
 use Rattle.cosem_datetime.proofs.date.DatePattern.bytes.Goals as goal
 
-pub returns-clause-again : goal.returns-clause-again
-returns-clause-again c = ap date_of c.spelling.ensures.bytes ∙ date_again c.args.self.now c.spelling.ensures.within
+pub returns-clause-read_back : goal.returns-clause-read_back
+returns-clause-read_back c = ap date_of c.spelling.ensures.bytes ∙ date_again c.args.self.now c.spelling.ensures.within

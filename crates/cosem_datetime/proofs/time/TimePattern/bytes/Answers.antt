@@ -3,5 +3,5 @@ use Rattle.cosem_datetime.specs.Reading.{time_of}
 use Rattle.cosem_datetime.proofs.Spelled.{time_again}
 use Rattle.cosem_datetime.proofs.time.TimePattern.bytes.Goals as goal
 
-pub returns-clause-again : goal.returns-clause-again
-returns-clause-again c = ap time_of c.spelling.ensures.bytes ∙ time_again c.args.self.now c.spelling.ensures.within
+pub returns-clause-read_back : goal.returns-clause-read_back
+returns-clause-read_back c = ap time_of c.spelling.ensures.bytes ∙ time_again c.args.self.now c.spelling.ensures.within

@@ -11,7 +11,7 @@ pub returns : goal.returns
 returns c =
     let values = c.args.values.now in
     let run = c.skip_run.ensures in
-    skipped_values c.args.self.now c.skip_run.new.self values _ _ c.requires.some run.settings run.moment
-    (last_of_some (length values) _ _ _ c.requires.some run.last)
+    skipped_values c.args.self.now c.skip_run.new.self values _ _ c.requires.non_empty run.settings run.moment
+    (last_of_some (length values) _ _ _ c.requires.non_empty run.last)
     (λ rows keeps. run.rows rows values keeps c.requires.kind refl)
     (λ rows keeps. run.quiet rows values keeps c.requires.kind refl)

@@ -14,7 +14,7 @@ returns-then-quiet-gt0-clause-takes c =
 
 pub count-requires-2 : goal.count-requires-2
 count-requires-2 c =
-    at_most_more (2 * c.args.at + 1) 512 c.count.new.self (omega (arith, c.requires.within, c.requires.few))
+    at_most_more (2 * c.args.at + 1) 512 c.count.new.self (omega (arith, c.requires.within, c.requires.within_max))
     (c.count.ensures.most (2 * c.args.at) c.requires.counted)
 
 pub returns-clause-takes : goal.returns-clause-takes
@@ -30,7 +30,7 @@ returns-clause-takes c =
     let P : List ℕ → Type 0 = λ values. Takes old next c.args.firings.now c.count-2.new.self (pairs values (take 1 (drop c.args.at c.args.others.now))) in
     let value = take_one c.args.values.now c.args.at 0 c.requires.within in
     let Q : List ℕ → Type 0 = λ others. Takes old next c.args.firings.now c.count-2.new.self (pairs (get_or c.args.values.now c.args.at 0 ∷ []) others) in
-    let other = take_one c.args.others.now c.args.at 0 (omega (arith, c.requires.within, c.requires.even)) in
+    let other = take_one c.args.others.now c.args.at 0 (omega (arith, c.requires.within, c.requires.same_length)) in
     subst P (sym value) (subst Q (sym other) both)
 
 pub returns-clause-counted : goal.returns-clause-counted

@@ -19,7 +19,7 @@ nothing_awaited : (u : UnderWay) (d : Dialogue) (s : Session) → record { sessi
 nothing_awaited u d s e nothing = ap (λ (x : Dialogue). awaits_reply x.under_way) e ∙ ap awaits_reply nothing
 
 pub invariant_of-self : goal.invariant_of-self
-invariant_of-self c = record { agrees = c.in_err-event.ensures.silent ∙ sym (nothing_awaited _ _ _ c.self.view_is c.requires) }
+invariant_of-self c = record { agrees = c.in_err-event.ensures.not_asking ∙ sym (nothing_awaited _ _ _ c.self.view_is c.requires) }
 
 pub invariant_of-self-in-End : goal.invariant_of-self-in-End
 invariant_of-self-in-End c =
