@@ -1,6 +1,6 @@
 //! Connections that return the bytes of a script.
 ghost use Rattle.std.specs.Prelude.{◌≤◌, length, Some};
-ghost use Rattle.head_end.specs.Connections.{Told, ended};
+ghost use Rattle.head_end.specs.Connections.{Forecast, ended};
 
 use crate::meters::{DONE, OPENED, REFUSED, REJECTED};
 use byte_streams::StreamFault;
@@ -68,7 +68,7 @@ pub(crate) struct Telling {
 }
 
 impl Connection for Telling {
-    ghost told = { λ t. Some (record { reads = t.reads; bytes = t.bytes.now; stop = ended }) };
+    ghost forecast = { λ t. Some (record { reads = t.reads; bytes = t.bytes.now; stop = ended }) };
 
     fn read(&mut self, buffer: &mut [u8]) -> Result<usize, StreamFault> {
         let count = self.bytes.len().min(buffer.len());

@@ -9,7 +9,7 @@ use Rattle.head_end.proofs.Places.{place_back, slot_below}
 use Rattle.client_core.specs.declared.job.Job.{Job}
 use Rattle.head_end.specs.declared.row.Row.{Row}
 use Rattle.head_end.specs.declared.row.ReportLine.{ReportLine}
-use Rattle.head_end.specs.Connections.{Told}
+use Rattle.head_end.specs.Connections.{Forecast}
 use Rattle.head_end.specs.Attempts.{State, unused, IsTried}
 use Rattle.head_end.specs.Campaigns.{place_at, slot_at, IsRun, EachChange, AreTried}
 use Rattle.head_end.specs.Rows.{IsRow, IsLine, AreLines}
@@ -21,7 +21,7 @@ pub record Gathers (turns workers : ℕ) (old : List ReportLine) (slots : List R
   pub len : length new ≡ length old
 
 -- lines that are correct at each index
-pub are_lines : (tells : List ℕ → Option Told) (jobs : List Job) (lines : List ReportLine) → length lines ≡ length jobs
+pub are_lines : (tells : List ℕ → Option Forecast) (jobs : List Job) (lines : List ReportLine) → length lines ≡ length jobs
     → ((i : ℕ) (job : Job) (line : ReportLine) → i < length jobs → IsLine tells (slice_index_or jobs i job) (slice_index_or lines i line)) → AreLines tells jobs lines
 are_lines tells [] [] same each = tt
 are_lines tells [] (line ∷ lines) same each = absurd (omega arith)
@@ -46,7 +46,7 @@ same_ids (j ∷ jobs) (l ∷ lines) same zero job line below = cc
 same_ids (j ∷ jobs) (l ∷ lines) same (suc i) job line below = same_ids jobs lines (let tails : map (λ (l : ReportLine). l.id) lines ≡ map (λ (j : Job). j.id) jobs = cc in tails) i job line (omega arith)
 
 -- the lines of a campaign are correct
-pub campaign_lines : (tells : List ℕ → Option Told) (turns workers : ℕ) (jobs : List Job) (blank lines : List ReportLine) (slots : List Row)
+pub campaign_lines : (tells : List ℕ → Option Forecast) (turns workers : ℕ) (jobs : List Job) (blank lines : List ReportLine) (slots : List Row)
     → 0 < workers → length jobs < turns * workers → map (λ (l : ReportLine). l.id) blank ≡ map (λ (j : Job). j.id) jobs
     → ((slot : ℕ) (job : Job) (row : Row) → slot < turns * workers → place_at turns workers slot < length jobs
     → IsRow tells (slice_index_or jobs (place_at turns workers slot) job) (slice_index_or slots slot row))
@@ -72,8 +72,8 @@ an_element [] i below = absurd (omega arith)
 an_element (x ∷ xs) i below = x
 
 -- the row of a slot, by its index
-pub row_at : {X : Type 0} (old new : List X) (tells_of : X → List ℕ → Option Told) (stage_of : X
-    → State) (row_of : X → Row) (tells : List ℕ → Option Told)
+pub row_at : {X : Type 0} (old new : List X) (tells_of : X → List ℕ → Option Forecast) (stage_of : X
+    → State) (row_of : X → Row) (tells : List ℕ → Option Forecast)
     (turns workers : ℕ) (jobs : List Job) (password : List ℕ) → length old ≡ turns * workers
     → length new ≡ length old
     → EachChange (λ slot o n. IsRun turns workers jobs password slot (tells_of o) (stage_of n)
@@ -91,7 +91,7 @@ row_at {X} old new tells_of stage_of row_of tells turns workers jobs password co
     ≡ tells) old slot x within all in
     let is : IsRow tells (slice_index_or jobs (place_at turns workers slot) job) (row_of
     (slice_index_or new slot x)) =
-    subst (λ (t : List ℕ → Option Told). IsRow t (slice_index_or jobs
+    subst (λ (t : List ℕ → Option Forecast). IsRow t (slice_index_or jobs
     (place_at turns workers slot) job) (row_of (slice_index_or new slot x))) told
     (run.row_is job there) in
     let mapped : slice_index_or (map row_of new) slot row ≡ row_of
@@ -100,7 +100,7 @@ row_at {X} old new tells_of stage_of row_of tells turns workers jobs password co
     (sym mapped) is
 
 -- the use of its attempt by the job of a slot
-tried_at : {X : Type 0} (old new : List X) (tells_of : X → List ℕ → Option Told) (stage_of : X
+tried_at : {X : Type 0} (old new : List X) (tells_of : X → List ℕ → Option Forecast) (stage_of : X
     → State) (row_of : X → Row)
     (turns workers : ℕ) (jobs : List Job) (password : List ℕ) → length old ≡ turns * workers
     → length new ≡ length old
@@ -128,7 +128,7 @@ tried_at old new tells_of stage_of row_of turns workers jobs password count same
     (run.tried job there))
 
 -- the attempt of a slot without a job is unused
-unused_at : {X : Type 0} (old new : List X) (tells_of : X → List ℕ → Option Told) (stage_of : X
+unused_at : {X : Type 0} (old new : List X) (tells_of : X → List ℕ → Option Forecast) (stage_of : X
     → State) (row_of : X → Row)
     (turns workers : ℕ) (jobs : List Job) (password : List ℕ) → length old ≡ turns * workers
     → length new ≡ length old
@@ -143,7 +143,7 @@ unused_at old new tells_of stage_of row_of turns workers jobs password count sam
 
 -- the use of their attempts by all jobs
 pub are_tried : {X : Type 0} (old new : List X) (tells_of : X → List ℕ
-    → Option Told) (stage_of : X → State) (row_of : X → Row)
+    → Option Forecast) (stage_of : X → State) (row_of : X → Row)
     (turns workers : ℕ) (jobs : List Job) (password : List ℕ) (blank lines : List ReportLine)
     → 0 < workers → length jobs < turns * workers
     → map (λ (l : ReportLine). l.id) blank ≡ map (λ (j : Job). j.id) jobs
@@ -173,7 +173,7 @@ are_tried old new tells_of stage_of row_of turns workers jobs password blank lin
 
 -- the result of a slot, moved along equal values
 pub run_moved : {X : Type 0} (old here new there : X) (tells_of : X → List ℕ
-    → Option Told) (stage_of : X → State) (row_of : X → Row)
+    → Option Forecast) (stage_of : X → State) (row_of : X → Row)
     (turns workers : ℕ) (jobs : List Job) (password : List ℕ) (slot : ℕ) → here ≡ old → there ≡ new
     → IsRun turns workers jobs password slot (tells_of here) (stage_of there) (row_of there)
     → IsRun turns workers jobs password slot (tells_of old) (stage_of new) (row_of new)

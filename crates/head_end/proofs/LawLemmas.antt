@@ -8,7 +8,7 @@ use Rattle.client_core.specs.declared.job.Job.{Job}
 use Rattle.head_end.specs.declared.row.Row.{Row}
 use Rattle.head_end.specs.declared.row.Row.TheVariants.{Came, Memory}
 use Rattle.head_end.specs.declared.row.ReportLine.{ReportLine}
-use Rattle.head_end.specs.Connections.{Told}
+use Rattle.head_end.specs.Connections.{Forecast}
 use Rattle.head_end.specs.Jobs.{job_lines, job_of, joined_jobs, jobs_at, jobs_in}
 use Rattle.head_end.specs.Reports.{line_text, report_text}
 use Rattle.head_end.specs.Rows.{IsRow, AreLines}
@@ -26,20 +26,20 @@ lines_join tells (job ∷ jobs) rest [] others first second = absurd first
 lines_join tells (job ∷ jobs) rest (line ∷ lines) others first second = (first.0, lines_join tells jobs rest lines others first.1 second)
 
 -- a line whose connection's reads are predicted
-row_told : (job : Job) (told : Option Told) (tells : List ℕ → Option Told) (row : Row) → tells job.address ≡ told → IsSome told → IsRow tells job row → row ≢ Memory
+row_told : (job : Job) (told : Option Forecast) (tells : List ℕ → Option Forecast) (row : Row) → tells job.address ≡ told → IsSome told → IsRow tells job row → row ≢ Memory
     → row ≡ (line_by job told).row
 row_told job (Some told) tells (Came outcome) is some row_is memory = ap Came (rw is at row_is)
 row_told job told tells Memory is some row_is memory = absurd (memory refl)
 row_told job None tells (Came outcome) is some row_is memory = absurd cc
 
-id_told : (job : Job) (told : Option Told) → (line_by job told).id ≡ job.id
+id_told : (job : Job) (told : Option Forecast) → (line_by job told).id ≡ job.id
 id_told job (Some told) = refl
 id_told job None = refl
 
 same_line : (id other : List ℕ) (row came : Row) → id ≡ other → row ≡ came → ◌≡◌ {A = ReportLine} (record { id = id; row = row }) (record { id = other; row = came })
 same_line id other row came ids rows = cc
 
-lines_told : (tells : List ℕ → Option Told) (jobs : List Job) (lines : List ReportLine) → AreLines tells jobs lines → AreTold tells jobs → HaveMemory lines
+lines_told : (tells : List ℕ → Option Forecast) (jobs : List Job) (lines : List ReportLine) → AreLines tells jobs lines → AreTold tells jobs → HaveMemory lines
     → lines ≡ map (line_for tells) jobs
 lines_told tells [] [] are told memory = refl
 lines_told tells [] (line ∷ lines) are told memory = absurd are

@@ -9,7 +9,7 @@ use Rattle.std.specs.Prelude.{◌≡◌, ◌+◌, ◌*◌, ◌/◌, ◌%◌, ◌
 use Rattle.client_core.specs.declared.job.Job.{Job}
 use Rattle.head_end.specs.declared.row.Row.{Row}
 use Rattle.head_end.specs.declared.row.ReportLine.{ReportLine}
-use Rattle.head_end.specs.Connections.{Told}
+use Rattle.head_end.specs.Connections.{Forecast}
 use Rattle.head_end.specs.Rows.{IsRow}
 use Rattle.head_end.specs.Attempts.{State, unused, IsTried}
 
@@ -31,7 +31,7 @@ slots_for jobs workers = turns_for jobs workers * workers
 -- the result of a slot: the row of its job, and the use of its attempt. Without a job the attempt
 -- is unused
 pub record IsRun (turns workers : ℕ) (jobs : List Job) (password : List ℕ) (slot : ℕ)
-    (tells : List ℕ → Option Told) (stage : State) (row : Row) : Type 0 where
+    (tells : List ℕ → Option Forecast) (stage : State) (row : Row) : Type 0 where
   pub row_is : (job : Job) → place_at turns workers slot < length jobs
       → IsRow tells (slice_index_or jobs (place_at turns workers slot) job) row
   pub tried : (job : Job) → place_at turns workers slot < length jobs

@@ -1,5 +1,5 @@
 -- The predicted reads of a connection, and the effect of its calls on them.
---     Told              the results of a number of reads of a connection
+--     Forecast              the results of a number of reads of a connection
 --     ReadTells, WriteTells, ConnectTells      the effect of a read, a write and a connect on them
 use Rattle.std.specs.Prelude.{◌≡◌, ℕ, zero, suc, List, [], ◌++◌, length, take, Option, Some, None, Result, Ok, Err, ⊤}
 use Rattle.byte_streams.specs.declared.fault.StreamFault.{StreamFault}
@@ -13,44 +13,44 @@ pub data Stop : Type 0 where
 
 -- the predicted results of a number of reads of 1,024 bytes each, up to the end of the connection
 -- or a failed read or write
-pub record Told : Type 0 where
+pub record Forecast : Type 0 where
   pub reads : ℕ
   pub bytes : List ℕ
   pub stop : Stop
 
 -- a read removes bytes from the front of those predicted; the last of the reads removes all that
 -- are left
-pub record GivesPiece (told : Told) (left : ℕ) (piece : List ℕ) (new : Option Told) : Type 0 where
+pub record GivesPiece (told : Forecast) (left : ℕ) (piece : List ℕ) (new : Option Forecast) : Type 0 where
   pub rest : List ℕ
   pub bytes_are : told.bytes ≡ piece ++ rest
   pub new_is : new ≡ Some (record { reads = left; bytes = rest; stop = told.stop })
   pub last : left ≡ 0 → rest ≡ []
 
 -- a read that returned bytes, one that returned none, and one that failed
-abbrev pub ReadsTold : Told → ℕ → Result ℕ StreamFault → List ℕ → Option Told → Type 0
+abbrev pub ReadsTold : Forecast → ℕ → Result ℕ StreamFault → List ℕ → Option Forecast → Type 0
 ReadsTold told left (Ok (suc count)) buffer new = GivesPiece told left (take (suc count) buffer) new
 ReadsTold told left (Ok zero) buffer new = (told.bytes ≡ []) × (told.stop ≡ ended)
 ReadsTold told left (Err fault) buffer new = (told.bytes ≡ []) × (told.stop ≡ failed)
 
-abbrev pub ReadsBy : Told → ℕ → Result ℕ StreamFault → List ℕ → Option Told → Type 0
+abbrev pub ReadsBy : Forecast → ℕ → Result ℕ StreamFault → List ℕ → Option Forecast → Type 0
 ReadsBy told zero result buffer new = ⊤
 ReadsBy told (suc left) result buffer new = ReadsTold told left result buffer new
 
 -- a read into a buffer of 1,024 bytes, while reads are predicted
-abbrev pub ReadTells : Option Told → Result ℕ StreamFault → List ℕ → Option Told → Type 0
+abbrev pub ReadTells : Option Forecast → Result ℕ StreamFault → List ℕ → Option Forecast → Type 0
 ReadTells None result buffer new = ⊤
 ReadTells (Some told) result buffer new = length buffer ≡ 1024
     → ReadsBy told told.reads result buffer new
 
 -- a write leaves the prediction unchanged; one fails only if no predicted bytes are left
-abbrev pub WriteTells : {X : Type 0} → Option Told → Result X StreamFault → Option Told → Type 0
+abbrev pub WriteTells : {X : Type 0} → Option Forecast → Result X StreamFault → Option Forecast → Type 0
 WriteTells None result new = ⊤
 WriteTells (Some told) (Ok x) new = new ≡ Some told
 WriteTells (Some told) (Err fault) new = (told.bytes ≡ []) × (told.stop ≡ failed)
 
 -- a connect returns a connection with this prediction of its first 65,536 reads; a connect that
 -- fails counts as a connection that fails without bytes
-abbrev pub ConnectTells : {K : Type 0} → Option Told → (K → Option Told) → Result K ConnectFault
+abbrev pub ConnectTells : {K : Type 0} → Option Forecast → (K → Option Forecast) → Result K ConnectFault
     → Type 0
 ConnectTells None told_of result = ⊤
 ConnectTells (Some told) told_of (Ok connection) = (told_of connection ≡ Some told)

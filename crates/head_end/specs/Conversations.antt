@@ -9,59 +9,59 @@ use Rattle.client_core.specs.declared.job.Outcome.{Outcome}
 use Rattle.client_core.specs.declared.job.Verb.{Verb}
 use Rattle.client_core.specs.Outcomes.{progress_of, due, outcome_of}
 use Rattle.client_core.specs.Standing.{Stands}
-use Rattle.head_end.specs.Connections.{Told}
+use Rattle.head_end.specs.Connections.{Forecast}
 use Rattle.head_end.specs.Logs.{Happening, heard_in, sent_in, reads_in}
 use Rattle.head_end.specs.Wires.{due_text, given_text, Listens, GoesOn, Conversation, HasConversed}
 
 -- of the initially predicted bytes these were read, and this number of reads is left
-pub record Follows (start : Told) (now : Option Told) (seen : List ℕ) (left : ℕ) : Type 0 where
+pub record Follows (start : Forecast) (now : Option Forecast) (seen : List ℕ) (left : ℕ) : Type 0 where
   pub rest : List ℕ
   pub now_is : now ≡ Some (record { reads = left; bytes = rest; stop = start.stop })
   pub bytes_are : start.bytes ≡ seen ++ rest
   pub last : left ≡ 0 → rest ≡ []
 
 -- a client that was fed the bytes read so far
-pub record At (start : Told) (verb : Verb) (password : List ℕ) (left : ℕ) (client : Client)
-    (now : Option Told) : Type 0 where
+pub record At (start : Forecast) (verb : Verb) (password : List ℕ) (left : ℕ) (client : Client)
+    (now : Option Forecast) : Type 0 where
   pub fed : List ℕ
   pub given : ℕ
   pub stands : Stands verb password fed given false client
   pub follows : Follows start now fed left
 
 -- a client that was fed all predicted bytes
-pub record AtEnd (start : Told) (verb : Verb) (password : List ℕ) (client : Client) : Type 0 where
+pub record AtEnd (start : Forecast) (verb : Verb) (password : List ℕ) (client : Client) : Type 0 where
   pub given : ℕ
   pub stands : Stands verb password start.bytes given false client
 
 -- the outcome of a client that was fed all predicted bytes
 pub record GivesUp (old : Client) (outcome : Outcome) : Type 0 where
-  pub outcome_is : (start : Told) (verb : Verb) (password : List ℕ) → AtEnd start verb password old
+  pub outcome_is : (start : Forecast) (verb : Verb) (password : List ℕ) → AtEnd start verb password old
       → outcome ≡ outcome_of verb start.bytes
 
 -- the messages were written; or a write failed, and no more bytes will come
-abbrev pub AtAfter : Bool → Told → Verb → List ℕ → ℕ → Client → Option Told → Type 0
+abbrev pub AtAfter : Bool → Forecast → Verb → List ℕ → ℕ → Client → Option Forecast → Type 0
 AtAfter true start verb password left client now = At start verb password left client now
 AtAfter false start verb password left client now = AtEnd start verb password client
 
-pub record SendsAll (old : Client) (before : Option Told) (result : Bool) (new : Client)
-    (after : Option Told) : Type 0 where
-  pub on : (start : Told) (verb : Verb) (password : List ℕ) (left : ℕ)
+pub record SendsAll (old : Client) (before : Option Forecast) (result : Bool) (new : Client)
+    (after : Option Forecast) : Type 0 where
+  pub on : (start : Forecast) (verb : Verb) (password : List ℕ) (left : ℕ)
       → At start verb password left old before → AtAfter result start verb password left new after
 
 -- after a turn the outcome is known, or the client was fed the bytes of one more read
-abbrev pub AtTurn : Option Outcome → Told → Verb → List ℕ → ℕ → Client → Option Told → Type 0
+abbrev pub AtTurn : Option Outcome → Forecast → Verb → List ℕ → ℕ → Client → Option Forecast → Type 0
 AtTurn None start verb password left client now = At start verb password left client now
 AtTurn (Some outcome) start verb password left client now = outcome ≡ outcome_of verb start.bytes
 
-pub record Turns (old : Client) (before : Option Told) (result : Option Outcome) (new : Client)
-    (after : Option Told) : Type 0 where
-  pub on : (start : Told) (verb : Verb) (password : List ℕ) (left : ℕ)
+pub record Turns (old : Client) (before : Option Forecast) (result : Option Outcome) (new : Client)
+    (after : Option Forecast) : Type 0 where
+  pub on : (start : Forecast) (verb : Verb) (password : List ℕ) (left : ℕ)
       → At start verb password (suc left) old before
       → AtTurn result start verb password left new after
 
 -- a conversation from its start, on a connection with 65,536 predicted reads
-pub record Converses (old : Client) (before : Option Told) (outcome : Outcome) : Type 0 where
-  pub outcome_is : (start : Told) (verb : Verb) (password : List ℕ)
+pub record Converses (old : Client) (before : Option Forecast) (outcome : Outcome) : Type 0 where
+  pub outcome_is : (start : Forecast) (verb : Verb) (password : List ℕ)
       → At start verb password 65536 old before → outcome ≡ outcome_of verb start.bytes
 
 -- ---- the bytes read and written on a connection

@@ -15,21 +15,21 @@ use Rattle.head_end.specs.declared.row.Row.TheVariants.{Came, Memory}
 use Rattle.head_end.specs.declared.row.ReportLine.{ReportLine}
 use Rattle.head_end.specs.Attempts.{State}
 use Rattle.head_end.specs.Campaigns.{turns_for, AreTried}
-use Rattle.head_end.specs.Connections.{Told}
+use Rattle.head_end.specs.Connections.{Forecast}
 use Rattle.head_end.specs.Jobs.{job_lines, jobs_in}
 use Rattle.head_end.specs.Reports.{report_text}
 use Rattle.head_end.specs.Rows.{AreLines}
 
 -- the line of a job whose meter's reads are predicted
-abbrev pub line_by : Job → Option Told → ReportLine
+abbrev pub line_by : Job → Option Forecast → ReportLine
 line_by job (Some told) = record { id = job.id; row = Came (outcome_of job.verb told.bytes) }
 line_by job None = record { id = job.id; row = Came Unknown }
 
-abbrev pub line_for : (List ℕ → Option Told) → Job → ReportLine
+abbrev pub line_for : (List ℕ → Option Forecast) → Job → ReportLine
 line_for tells job = line_by job (tells job.address)
 
 -- the reads of the connections to all the jobs' meters are predicted
-abbrev pub AreTold : (List ℕ → Option Told) → List Job → Type 0
+abbrev pub AreTold : (List ℕ → Option Forecast) → List Job → Type 0
 AreTold tells [] = ⊤
 AreTold tells (job ∷ jobs) = IsSome (tells job.address) × AreTold tells jobs
 
@@ -39,7 +39,7 @@ HaveMemory [] = ⊤
 HaveMemory (line ∷ lines) = (line.row ≢ Memory) × HaveMemory lines
 
 -- the report of jobs
-abbrev pub campaign_text : (List ℕ → Option Told) → List Job → List ℕ
+abbrev pub campaign_text : (List ℕ → Option Forecast) → List Job → List ℕ
 campaign_text tells jobs = report_text (map (line_for tells) jobs)
 
 -- the concatenated reports of parts are the report of the whole
@@ -49,14 +49,14 @@ ReportsJoin = (lines others : List ReportLine)
 
 -- lines of parts of the jobs are lines of all
 abbrev pub LinesJoin : Type 0
-LinesJoin = (tells : List ℕ → Option Told) (jobs rest : List Job) (lines others : List ReportLine)
+LinesJoin = (tells : List ℕ → Option Forecast) (jobs rest : List Job) (lines others : List ReportLine)
     → AreLines tells jobs lines → AreLines tells rest others
     → AreLines tells (jobs ++ rest) (lines ++ others)
 
 -- if all reads are predicted and no job ran out of memory, the report is a function of the jobs,
 -- whatever the workers, the machines and the parts
 abbrev pub IsTheReport : Type 0
-IsTheReport = (tells : List ℕ → Option Told) (jobs : List Job) (lines : List ReportLine)
+IsTheReport = (tells : List ℕ → Option Forecast) (jobs : List Job) (lines : List ReportLine)
     → AreLines tells jobs lines → AreTold tells jobs → HaveMemory lines
     → report_text lines ≡ campaign_text tells jobs
 
@@ -70,10 +70,10 @@ JobsJoin = (text rest : List ℕ) (jobs others : List Job) → unended_of text �
 -- the text is the report of lines that are those of the jobs, each of which used its attempt
 -- correctly
 pub record Reports {X : Type 0} (tells_of : X → List ℕ
-    → Option Told) (workers : ℕ) (jobs : List Job) (password : List ℕ) (old : List X)
+    → Option Forecast) (workers : ℕ) (jobs : List Job) (password : List ℕ) (old : List X)
     (stages : List State) (text : List ℕ) : Type 0 where
   pub lines : List ReportLine
   pub text_is : text ≡ report_text lines
-  pub lines_are : (tells : List ℕ → Option Told) → All (λ x. tells_of x ≡ tells) old
+  pub lines_are : (tells : List ℕ → Option Forecast) → All (λ x. tells_of x ≡ tells) old
       → AreLines tells jobs lines
   pub tried : AreTried (turns_for (length jobs) workers) workers jobs password lines stages

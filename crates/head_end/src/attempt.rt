@@ -80,8 +80,8 @@ impl<'a, C: Connector> Attempt<'a, C> {
     /// connect fails.
     pub fn connect(&mut self, address: &Octets) -> Result<C::Connection, ConnectFault>
         requires { self.old.stage ≡ unused }
-        ensures told { ConnectTells
-            (C.tells self.old.source.value address.now) C.Connection.told result }
+        ensures forecast { ConnectTells
+            (C.tells self.old.source.value address.now) C.Connection.forecast result }
         ensures log { IfOk result (λ connection. IsNewLog (C.Connection.log connection)) }
         ensures used { self.new.stage ≡ connect_state address.now result }
         ensures source { self.new.source.value ≡ self.old.source.value }

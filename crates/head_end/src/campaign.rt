@@ -7,7 +7,7 @@ ghost use Rattle.head_end.specs.declared.row.Row.{Row};
 ghost use Rattle.head_end.specs.declared.row.ReportLine.{ReportLine};
 ghost use Rattle.head_end.specs.Attempts.{unused};
 ghost use Rattle.head_end.specs.Campaigns.{place_at, slot_at, turns_for, slots_for, IsRun, EachChange, AreTried};
-ghost use Rattle.head_end.specs.Connections.{Told};
+ghost use Rattle.head_end.specs.Connections.{Forecast};
 ghost use Rattle.head_end.specs.Rows.{AreLines};
 
 use crate::connection::Connector;
@@ -42,7 +42,7 @@ pub fn run_campaign<R: Threads + Sync, C: Connector>(
     requires password { IsPassword password.now }
     requires count { length places.old ≡ slots_for (length jobs.now) workers }
     requires unused { All (λ place. place.attempt.stage ≡ unused) places.old }
-    ensures lines { IfOk result (λ lines. (tells : List ℕ → Option Told)
+    ensures lines { IfOk result (λ lines. (tells : List ℕ → Option Forecast)
         → All (λ place. C.tells place.attempt.source.value ≡ tells) places.old
         → AreLines tells jobs.now lines) }
     ensures tried { IfOk result (λ lines. AreTried (turns_for (length jobs.now) workers)
@@ -68,7 +68,7 @@ pub fn run_watched_campaign<R: Threads + Sync, C: Connector, W: Watcher>(
     requires password { IsPassword password.now }
     requires count { length places.old ≡ slots_for (length jobs.now) workers }
     requires unused { All (λ place. place.attempt.stage ≡ unused) places.old }
-    ensures lines { IfOk result (λ lines. (tells : List ℕ → Option Told)
+    ensures lines { IfOk result (λ lines. (tells : List ℕ → Option Forecast)
         → All (λ place. C.tells place.attempt.source.value ≡ tells) places.old
         → AreLines tells jobs.now lines) }
     ensures tried { IfOk result (λ lines. AreTried (turns_for (length jobs.now) workers)
@@ -118,7 +118,7 @@ impl<'a, W: Watcher> Campaign<'a, W> {
         requires room { length self.now.jobs.now < self.now.turns * self.now.workers }
         requires unused { All (λ place. place.attempt.stage ≡ unused) places.old }
         requires names { map (λ line. line.id) lines.old ≡ map (λ job. job.id) self.now.jobs.now }
-        ensures lines { (tells : List ℕ → Option Told)
+        ensures lines { (tells : List ℕ → Option Forecast)
             → All (λ place. C.tells place.attempt.source.value ≡ tells) places.old
             → AreLines tells self.now.jobs.now lines.new }
         ensures tried { AreTried self.now.turns self.now.workers self.now.jobs.now

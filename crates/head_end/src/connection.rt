@@ -1,6 +1,6 @@
 ghost use Rattle.std.specs.Prelude.{ℕ, List, Option, None, IfOk};
 ghost use Rattle.std.specs.Io.{ReadsAtMost};
-ghost use Rattle.head_end.specs.Connections.{Told, ReadTells, WriteTells, ConnectTells};
+ghost use Rattle.head_end.specs.Connections.{Forecast, ReadTells, WriteTells, ConnectTells};
 ghost use Rattle.head_end.specs.Logs.{Happening, ReadLogs, WriteLogs, IsNewLog};
 
 use byte_streams::StreamFault;
@@ -9,11 +9,11 @@ use thiserror::Error;
 
 /// A connection to a meter, for reading and writing.
 ///
-/// An implementation may predict the results of its reads (`told`). A failed write ends the
+/// An implementation may predict the results of its reads (`forecast`). A failed write ends the
 /// prediction, so reads and writes are in one trait.
 pub trait Connection: Drop {
     // Ghost value: the predicted results of the next reads. The default claims nothing.
-    ghost told: { Self → Option Told } = { λ _. None };
+    ghost forecast: { Self → Option Forecast } = { λ _. None };
 
     // Ghost value: the reads and writes so far, in order. The default claims nothing.
     ghost log: { Self → Option (List Happening) } = { λ _. None };
@@ -21,12 +21,12 @@ pub trait Connection: Drop {
     /// Reads into the buffer, and returns the number of bytes read: 0 at the end of the connection.
     fn read(&mut self, buffer: &mut [u8]) -> Result<usize, StreamFault>
         ensures bound { ReadsAtMost result buffer.new }
-        ensures told { ReadTells (told self.old) result buffer.new (told self.new) }
+        ensures forecast { ReadTells (forecast self.old) result buffer.new (forecast self.new) }
         ensures log { ReadLogs (log self.old) result buffer.new (log self.new) };
 
     /// Writes all the bytes. If it fails, a prefix of them may have been written.
     fn write_all(&mut self, bytes: &[u8]) -> Result<(), StreamFault>
-        ensures told { WriteTells (told self.old) result (told self.new) }
+        ensures forecast { WriteTells (forecast self.old) result (forecast self.new) }
         ensures log { WriteLogs (log self.old) bytes.now result (log self.new) };
 }
 
@@ -38,11 +38,11 @@ pub trait Connector: Sync {
     type Connection: Connection + Send;
 
     // Ghost value: the predicted reads of a connection to an address. The default claims nothing.
-    ghost tells: { Self → List ℕ → Option Told } = { λ _ _. None };
+    ghost tells: { Self → List ℕ → Option Forecast } = { λ _ _. None };
 
     /// Opens a new connection to the meter at an address.
     fn connect(&self, address: &Octets) -> Result<Self::Connection, ConnectFault>
-        ensures told { ConnectTells (tells self.now address.now) Self.Connection.told result }
+        ensures forecast { ConnectTells (tells self.now address.now) Self.Connection.forecast result }
         ensures log { IfOk result (λ connection. IsNewLog (Self.Connection.log connection)) };
 }
 

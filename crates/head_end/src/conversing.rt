@@ -23,7 +23,7 @@ pub fn converse<K: Connection>(
     client: &mut Client,
     connection: &mut K,
 ) -> Result<Outcome, AllocError>
-    ensures told { IfOk result (Converses client.old (K.told connection.old)) }
+    ensures forecast { IfOk result (Converses client.old (K.forecast connection.old)) }
     ensures log { Speaks client.old (K.log connection.old) result (K.log connection.new) }
 {
     if !send_due(client, connection) {
@@ -46,9 +46,9 @@ fn take_turn<K: Connection>(
     connection: &mut K,
     buffer: &mut [u8; MAX_READ],
 ) -> Result<Option<Outcome>, AllocError>
-    ensures told { IfOk result
-        (λ outcome. Turns client.old (K.told connection.old) outcome client.new
-        (K.told connection.new)) }
+    ensures forecast { IfOk result
+        (λ outcome. Turns client.old (K.forecast connection.old) outcome client.new
+        (K.forecast connection.new)) }
     ensures log { TakesTurn client.old (K.log connection.old) result client.new
         (K.log connection.new) }
 {
@@ -66,8 +66,8 @@ fn take_turn<K: Connection>(
 
 // Writes all messages that may be sent. Returns false if a write fails.
 fn send_due<K: Connection>(client: &mut Client, connection: &mut K) -> bool
-    ensures told { SendsAll client.old (K.told connection.old) result client.new
-        (K.told connection.new) }
+    ensures forecast { SendsAll client.old (K.forecast connection.old) result client.new
+        (K.forecast connection.new) }
     ensures log { Sends client.old (K.log connection.old) result client.new (K.log connection.new) }
 {
     'texts: for _ in 0..MAX_TEXTS {

@@ -4,14 +4,14 @@ use Rattle.std.specs.Io.KnownBytes.{Appends}
 use Rattle.client_core.specs.declared.job.Job.{Job}
 use Rattle.head_end.specs.Attempts.{State}
 use Rattle.head_end.specs.Campaigns.{turns_for, AreTried}
-use Rattle.head_end.specs.Connections.{Told}
+use Rattle.head_end.specs.Connections.{Forecast}
 use Rattle.head_end.specs.Reports.{report_text}
 use Rattle.head_end.specs.Rows.{AreLines}
 use Rattle.head_end.specs.declared.row.ReportLine.{ReportLine}
 
 -- the jobs were run, and the lines of all of them were printed
 pub record PrintsReport (tells : List ℕ
-    → Option Told) (workers : ℕ) (jobs : List Job) (password : List ℕ)
+    → Option Forecast) (workers : ℕ) (jobs : List Job) (password : List ℕ)
     (written written' : Option (List ℕ)) : Type 0 where
   pub lines : List ReportLine
   pub stages : List State

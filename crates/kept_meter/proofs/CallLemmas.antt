@@ -6,7 +6,7 @@ use Rattle.relay_events.specs.declared.event.Event.{Event}
 use Rattle.relay_events.specs.declared.reply.Reply.{Reply}
 use Rattle.relay_core.specs.declared.opening.Opening.{Opening}
 use Rattle.relay_core.specs.Opening.{world_of_opening}
-use Rattle.relay_recorder.specs.Histories.{Told, StandsForHistory, Continues}
+use Rattle.relay_recorder.specs.Histories.{Exchange, StandsForHistory, Continues}
 use Rattle.relay_recorder.specs.Recording.{Recording}
 use Rattle.turn_lock.specs.declared.turned.Entry.{Entry}
 use Rattle.turn_lock.specs.History.{entry}
@@ -20,7 +20,7 @@ pub stands_on : (result : Result Reply AllocError) (old new : Recording) (origin
     → IfOk result (λ (reply : Reply). (by : List ℕ) (calls : Calls) → Stands (record { recorder = old; origin = origin }) calls
     → Stands (record { recorder = new; origin = origin }) (calls ++ entry by event reply ∷ []))
 stands_on (Ok reply) old new origin event continues = λ by calls stands.
-    subst (λ (history : List Told). StandsForHistory new history (world_of_opening origin)) (sym (told_more calls (entry by event reply)))
+    subst (λ (history : List Exchange). StandsForHistory new history (world_of_opening origin)) (sym (told_more calls (entry by event reply)))
     (continues.histories (events_and_replies calls) (world_of_opening origin) stands)
 stands_on (Err error) old new origin event continues = tt
 

@@ -6,7 +6,7 @@ use Rattle.relay_events.specs.declared.reply.Reply.{Reply}
 use Rattle.relay_core.specs.declared.opening.Opening.{Opening}
 use Rattle.relay_core.specs.Machine.{is_sure}
 use Rattle.relay_core.specs.Opening.{world_of_opening}
-use Rattle.relay_recorder.specs.Histories.{Told, StandsForHistory, events_of, replies_of, replies_from}
+use Rattle.relay_recorder.specs.Histories.{Exchange, StandsForHistory, events_of, replies_of, replies_from}
 use Rattle.kept_meter.specs.KeptRecorder.{KeptRecorder}
 
 -- the calls of all ports, oldest first
@@ -14,7 +14,7 @@ abbrev pub Calls : Type 0
 Calls = List (Entry Event Reply)
 
 -- the events of the calls with their replies, without the port that made each
-abbrev pub events_and_replies : Calls → List Told
+abbrev pub events_and_replies : Calls → List Exchange
 events_and_replies calls = map (λ (call : Entry Event Reply). (call.event, call.reply)) calls
 
 -- the replies are those of the run over the events, from the world of the opening

@@ -77,9 +77,9 @@ fn serve<
     ensures lock { result.0.lock ≡ port.lock }
     ensures serves { ServesAll
         (record {
-          blocks = B.told sources.blocks;
-          moments = M.told sources.moments;
-          presses = U.told sources.buttons;
+          blocks = B.forecast sources.blocks;
+          moments = M.forecast sources.moments;
+          presses = U.forecast sources.buttons;
           password = password.now;
         })
         port result.0 result.1 }
@@ -154,9 +154,9 @@ pub fn run_meter<
     requires password { IsPassword password.now }
     ensures run { IfOk result.trace (IsRun recorder
         (record {
-          blocks = B.told sources.blocks;
-          moments = M.told sources.moments;
-          presses = U.told sources.buttons;
+          blocks = B.forecast sources.blocks;
+          moments = M.forecast sources.moments;
+          presses = U.forecast sources.buttons;
           password = password.now;
         })
         result.served) }

@@ -125,7 +125,7 @@ fn serve_with_button<
     ensures served { IfOk result (IsServed (port.old.known.splits + 1) port.new.known.splits) }
     ensures presses { OnEnded result
         (Acted port.new (child port.old.known.number port.old.known.splits)
-        (AllPresses (U.told buttons))) }
+        (AllPresses (U.forecast buttons))) }
     ensures fault { IfErr result (StopsFor (IsSpent port.new) (L.has_failed listener.new)) }
 {
     let Some(running) = start_worker(rt, alloc, Button { source: buttons }, port) else {
@@ -162,10 +162,10 @@ fn serve_with_clock<
     ensures served { IfOk result (IsServed (port.old.known.splits + 2) port.new.known.splits) }
     ensures moments { OnEnded result
         (Acted port.new (child port.old.known.number port.old.known.splits)
-        (AllMoments (M.told moments))) }
+        (AllMoments (M.forecast moments))) }
     ensures presses { OnEnded result
         (Acted port.new (child port.old.known.number (port.old.known.splits + 1))
-        (AllPresses (U.told buttons))) }
+        (AllPresses (U.forecast buttons))) }
     ensures fault { IfErr result (StopsFor (IsSpent port.new) (L.has_failed listener.new)) }
 {
     let Some(running) = start_worker(rt, alloc, Clock { source: moments }, port) else {
@@ -204,13 +204,13 @@ fn serve_with_sampler<
     ensures served { IfOk result (IsServed (port.old.known.splits + 3) port.new.known.splits) }
     ensures blocks { OnEnded result
         (Acted port.new (child port.old.known.number port.old.known.splits)
-        (AllBlocks (B.told blocks))) }
+        (AllBlocks (B.forecast blocks))) }
     ensures moments { OnEnded result
         (Acted port.new (child port.old.known.number (port.old.known.splits + 1))
-        (AllMoments (M.told moments))) }
+        (AllMoments (M.forecast moments))) }
     ensures presses { OnEnded result
         (Acted port.new (child port.old.known.number (port.old.known.splits + 2))
-        (AllPresses (U.told buttons))) }
+        (AllPresses (U.forecast buttons))) }
     ensures fault { IfErr result (StopsFor (IsSpent port.new) (L.has_failed listener.new)) }
 {
     let Some(running) = start_worker(rt, alloc, Sampler { source: blocks }, port) else {
@@ -272,25 +272,25 @@ pub fn serve_all<
         (L.accepted listener.new)) }
     ensures served { IfOk result (λ r. IsServed (port.known.splits + 3) r.0.known.splits r.1) }
     ensures blocks { IfOk result
-        (λ r. Acted r.0 (child port.known.number port.known.splits) (AllBlocks (B.told blocks))) }
+        (λ r. Acted r.0 (child port.known.number port.known.splits) (AllBlocks (B.forecast blocks))) }
     ensures moments { IfOk result
         (λ r. Acted r.0 (child port.known.number (port.known.splits + 1))
-        (AllMoments (M.told moments))) }
+        (AllMoments (M.forecast moments))) }
     ensures presses { IfOk result
         (λ r. Acted r.0 (child port.known.number (port.known.splits + 2))
-        (AllPresses (U.told buttons))) }
+        (AllPresses (U.forecast buttons))) }
     ensures fault { IfErr result (λ r. StopsFor (IsSpent r.0) (L.has_failed listener.new) r.1) }
     ensures blocks_err { IfErr result
         (λ r. OnEnded (Err r.1)
-        (Acted r.0 (child port.known.number port.known.splits) (AllBlocks (B.told blocks)))) }
+        (Acted r.0 (child port.known.number port.known.splits) (AllBlocks (B.forecast blocks)))) }
     ensures moments_err { IfErr result
         (λ r. OnEnded (Err r.1)
         (Acted r.0 (child port.known.number (port.known.splits + 1))
-        (AllMoments (M.told moments)))) }
+        (AllMoments (M.forecast moments)))) }
     ensures presses_err { IfErr result
         (λ r. OnEnded (Err r.1)
         (Acted r.0 (child port.known.number (port.known.splits + 2))
-        (AllPresses (U.told buttons)))) }
+        (AllPresses (U.forecast buttons)))) }
 {
     let served = serve_with_sampler(
         rt, alloc, listener, blocks, moments, buttons, &mut port, password, limit,

@@ -13,7 +13,7 @@ use Rattle.relay_core.specs.declared.opening.Opening.{Opening}
 use Rattle.relay_core.proofs.AgreeingEvents.{event_alike}
 use Rattle.relay_core.proofs.OpeningLemmas.{opening_agrees}
 use Rattle.relay_core.proofs.RunLemmas.{world_after-append}
-use Rattle.relay_recorder.specs.Histories.{Told, StandsForHistory, events_of, replies_from}
+use Rattle.relay_recorder.specs.Histories.{Exchange, StandsForHistory, events_of, replies_from}
 use Rattle.relay_recorder.specs.Recording.{Recording, all_but_last}
 use Rattle.relay_recorder.specs.declared.trace.Trace.{Trace}
 use Rattle.meter_serving.specs.Resuming.{GoesOn, IsTraceOf, world_of}
@@ -48,7 +48,7 @@ split_world n events w =
 
 -- the world after a trace's run agrees with the one after every history that its recorder
 -- represents
-trace_agrees : (r : Recording) (trace : Trace) (history : List Told) (origin : World) → IsFitOpening trace.opening → IsWorld (world_of_opening trace.opening)
+trace_agrees : (r : Recording) (trace : Trace) (history : List Exchange) (origin : World) → IsFitOpening trace.opening → IsWorld (world_of_opening trace.opening)
     → IsTraceOf r trace → StandsForHistory r history origin
     → AgreeInRange (world_of trace) (world_after (events_of history) origin)
 trace_agrees r trace history origin fit range traced stands =

@@ -4,7 +4,7 @@ use Rattle.relay_core.specs.Opening.{world_of_opening, opening_of}
 use Rattle.relay_core.specs.Runs.{world_after}
 use Rattle.relay_core.specs.World.{World}
 use Rattle.relay_events.specs.declared.event.Event.{Event}
-use Rattle.relay_recorder.specs.Histories.{Told, StandsForHistory, events_of, replies_from}
+use Rattle.relay_recorder.specs.Histories.{Exchange, StandsForHistory, events_of, replies_from}
 use Rattle.relay_recorder.specs.Recording.{Recording}
 use Rattle.relay_recorder.specs.declared.trace.Trace.{Trace}
 
@@ -19,7 +19,7 @@ pub record IsTraceOf (r : Recording) (trace : Trace) : Type 0 where
 
 -- whatever comes next, a meter that represents this world answers as one with this history would
 -- have answered
-abbrev pub AnswersAlike : World → List Told → World → Type 0
+abbrev pub AnswersAlike : World → List Exchange → World → Type 0
 AnswersAlike world history origin = (further : List Event)
     → replies_from world further ≡ replies_from (world_after (events_of history) origin) further
 
@@ -27,5 +27,5 @@ AnswersAlike world history origin = (further : List Event)
 -- trace
 abbrev pub GoesOn : Trace → World → Type 0
 GoesOn trace world = (r : Recording) → IsTraceOf r trace
-    → (history : List Told) (origin : World) → StandsForHistory r history origin
+    → (history : List Exchange) (origin : World) → StandsForHistory r history origin
     → AnswersAlike world history origin

@@ -109,8 +109,8 @@ pub fn run_blocks<S: BlockSource, W: Wait>(
     mut port: Port<Kept>,
 ) -> (Port<Kept>, Result<(), CallFault>)
     ensures same { IsSame port result.0 }
-    ensures all { OnOk result.1 (HandsBlocks (S.told source) port result.0
-        × ReadsBetween (S.told source) port result.0) }
+    ensures all { OnOk result.1 (HandsBlocks (S.forecast source) port result.0
+        × ReadsBetween (S.forecast source) port result.0) }
     ensures err { IfErr result.1 (StopsFor result.0) }
 {
     let mut scanner = Scanner::new();

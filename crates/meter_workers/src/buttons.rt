@@ -24,7 +24,7 @@ pub fn run_buttons<S: ButtonSource, W: Wait>(
     mut port: Port<Kept>,
 ) -> (Port<Kept>, Result<(), CallFault>)
     ensures same { IsSame port result.0 }
-    ensures all { OnOk result.1 (HandsPresses (S.told source) port result.0) }
+    ensures all { OnOk result.1 (HandsPresses (S.forecast source) port result.0) }
     ensures err { IfErr result.1 (StopsFor result.0) }
 {
     'giving: for _ in rt.forever() {

@@ -25,7 +25,7 @@ pub fn run_moments<S: MomentSource, W: Wait>(
     mut port: Port<Kept>,
 ) -> (Port<Kept>, Result<(), CallFault>)
     ensures same { IsSame port result.0 }
-    ensures all { OnOk result.1 (HandsMoments (S.told source) port result.0) }
+    ensures all { OnOk result.1 (HandsMoments (S.forecast source) port result.0) }
     ensures err { IfErr result.1 (StopsFor result.0) }
 {
     'giving: for _ in rt.forever() {

@@ -12,7 +12,7 @@ use Rattle.relay_core.specs.Stands.{StandsFor}
 use Rattle.relay_core.specs.World.{World}
 use Rattle.relay_core.proofs.RunLemmas.{world_after-append, lines_of-append}
 use Rattle.relay_recorder.specs.Recording.{Recording, recording, all_but_last}
-use Rattle.relay_recorder.specs.Histories.{Told, events_of, replies_of, replies_from, StandsForHistory, HasHistory, Continues}
+use Rattle.relay_recorder.specs.Histories.{Exchange, events_of, replies_of, replies_from, StandsForHistory, HasHistory, Continues}
 use Rattle.relay_recorder.proofs.Pushed.{keep_last-more, all_but_last-more}
 
 -- the replies of a run with one more event
@@ -34,13 +34,13 @@ pub continues : (old new : Recording) (event : Event) (reply : Reply)
     → Continues old new event reply
 continues old new event reply core_goes answers kept opening_goes same = record {
   histories = λ history origin stands.
-      let told : Told = (event, reply) in
+      let told : Exchange = (event, reply) in
       let events = events_of history in
       let n = old.capacity in
       let before = world_after events origin in
       let first_world = world_after (all_but_last n events) origin in
-      let all_events : events_of (history ++ told ∷ []) ≡ events ++ event ∷ [] = map_push (λ (t : Told). t.0) history told in
-      let all_replies : replies_of (history ++ told ∷ []) ≡ replies_of history ++ reply ∷ [] = map_push (λ (t : Told). t.1) history told in
+      let all_events : events_of (history ++ told ∷ []) ≡ events ++ event ∷ [] = map_push (λ (t : Exchange). t.0) history told in
+      let all_replies : replies_of (history ++ told ∷ []) ≡ replies_of history ++ reply ∷ [] = map_push (λ (t : Exchange). t.1) history told in
       let pushed : keep_last n events ++ event ∷ [] ≡ old.events ++ event ∷ [] = ap (λ es. es ++ event ∷ []) (sym stands.kept) in
       let opened : all_but_last n (events ++ event ∷ []) ≡ all_but_last n events ++ all_but_last n (old.events ++ event ∷ []) =
       all_but_last-more n events event ∙ ap (λ es. all_but_last n events ++ all_but_last n es) pushed in

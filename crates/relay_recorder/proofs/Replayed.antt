@@ -16,7 +16,7 @@ use Rattle.relay_core.specs.Stands.{StandsFor}
 use Rattle.relay_core.specs.World.{World, Stepped}
 use Rattle.relay_core.proofs.AgreeingEvents.{event_alike}
 use Rattle.relay_core.proofs.RunLemmas.{lines_of-append}
-use Rattle.relay_recorder.specs.Histories.{Told, StandsForHistory, events_of}
+use Rattle.relay_recorder.specs.Histories.{Exchange, StandsForHistory, events_of}
 use Rattle.relay_recorder.specs.Recording.{Recording, all_but_last}
 use Rattle.relay_recorder.specs.Replaying.{RunsAgain}
 
@@ -60,7 +60,7 @@ drop_map f (suc n) (x ∷ xs) = drop_map f n xs
 
 -- The exported opening agrees with the world before the kept events, so they run from it as they
 -- did in the history.
-pub runs_again : (r : Recording) (history : List Told) (origin world : World) → StandsForHistory r history origin → IsWorld world
+pub runs_again : (r : Recording) (history : List Exchange) (origin world : World) → StandsForHistory r history origin → IsWorld world
     → ((w : World) → StandsFor r.opening w → Agree world w) → RunsAgain r history origin world
 runs_again r history origin world stands range agrees =
     let events = events_of history in
@@ -68,7 +68,7 @@ runs_again r history origin world stands range agrees =
     let before = world_after (all_but_last n events) origin in
     let alike : lines_of r.events world ≡ lines_of r.events before = lines_alike r.events world before range (agrees before stands.opening) in
     let kept : lines_of r.events before ≡ lines_of (keep_last n events) before = ap (λ (es : List Event). lines_of es before) stands.kept in
-    let long : length events ≡ length history = length-map history (λ (told : Told). told.0) in
+    let long : length events ≡ length history = length-map history (λ (told : Exchange). told.0) in
     let count : length events - length (keep_last n events) ≡ length history - length r.events =
     (λ i. long i - length (sym stands.kept i)) in
     let last = ap (λ (k : ℕ). drop k (lines_of events origin)) (sym count) ∙ last_lines n events origin in

@@ -10,15 +10,15 @@ use Rattle.relay_core.specs.World.{World}
 use Rattle.relay_recorder.specs.Recording.{Recording, all_but_last}
 
 -- an event and its reply
-abbrev pub Told : Type 0
-Told = Event × Reply
+abbrev pub Exchange : Type 0
+Exchange = Event × Reply
 
 -- the events of a history and its replies, oldest first
-abbrev pub events_of : List Told → List Event
-events_of history = map (λ (told : Told). told.0) history
+abbrev pub events_of : List Exchange → List Event
+events_of history = map (λ (told : Exchange). told.0) history
 
-abbrev pub replies_of : List Told → List Reply
-replies_of history = map (λ (told : Told). told.1) history
+abbrev pub replies_of : List Exchange → List Reply
+replies_of history = map (λ (told : Exchange). told.1) history
 
 -- the replies of a run over the events, from a world
 abbrev pub replies_from : World → List Event → List Reply
@@ -27,7 +27,7 @@ replies_from origin events = map (λ (line : Line). line.reply) (lines_of events
 -- The recorder results from a history that starts at world `origin`. The replies are those of the
 -- run over the events; the core is in the world after all events; the kept events are the last
 -- ones, at most `capacity`; and the opening core is in the world before the kept events.
-pub record StandsForHistory (r : Recording) (history : List Told) (origin : World) : Type 0 where
+pub record StandsForHistory (r : Recording) (history : List Exchange) (origin : World) : Type 0 where
   pub legal : replies_of history ≡ replies_from origin (events_of history)
   pub core : StandsFor r.core (world_after (events_of history) origin)
   pub kept : r.events ≡ keep_last r.capacity (events_of history)
@@ -36,12 +36,12 @@ pub record StandsForHistory (r : Recording) (history : List Told) (origin : Worl
 
 -- There are a world and a history that the recorder results from.
 pub record HasHistory (r : Recording) : Type 0 where
-  pub history : List Told
+  pub history : List Exchange
   pub origin : World
   pub stands : StandsForHistory r history origin
 
 -- The recorder took an event and replied to it: each history that it resulted from, with both
 -- appended, now results in it.
 pub record Continues (old new : Recording) (event : Event) (reply : Reply) : Type 0 where
-  pub histories : (history : List Told) (origin : World) → StandsForHistory old history origin
+  pub histories : (history : List Exchange) (origin : World) → StandsForHistory old history origin
       → StandsForHistory new (history ++ (event, reply) ∷ []) origin

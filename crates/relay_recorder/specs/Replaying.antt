@@ -2,12 +2,12 @@
 use Rattle.std.specs.Prelude.{◌≡◌, ◌-◌, List, length, drop}
 use Rattle.relay_core.specs.Runs.{lines_of}
 use Rattle.relay_core.specs.World.{World}
-use Rattle.relay_recorder.specs.Histories.{Told, StandsForHistory, events_of, replies_of, replies_from}
+use Rattle.relay_recorder.specs.Histories.{Exchange, StandsForHistory, events_of, replies_of, replies_from}
 use Rattle.relay_recorder.specs.Recording.{Recording}
 
 -- Run from `world`, the kept events give the last lines of the history's run, and the history's
 -- last replies.
-pub record RunsAgain (r : Recording) (history : List Told) (origin world : World) : Type 0 where
+pub record RunsAgain (r : Recording) (history : List Exchange) (origin world : World) : Type 0 where
   pub lines : lines_of r.events world
       ≡ drop (length history - length r.events) (lines_of (events_of history) origin)
   pub replies : replies_from world r.events
@@ -15,5 +15,5 @@ pub record RunsAgain (r : Recording) (history : List Told) (origin world : World
 
 -- run from `world`, the kept events run as they did in every history that the recorder results from
 abbrev pub Replays : Recording → World → Type 0
-Replays r world = (history : List Told) (origin : World) → StandsForHistory r history origin
+Replays r world = (history : List Exchange) (origin : World) → StandsForHistory r history origin
     → RunsAgain r history origin world

@@ -12,7 +12,7 @@ pub(crate) struct ListedBlocks {
 }
 
 impl BlockSource for ListedBlocks {
-    ghost told = { λ source. Some source.left.items };
+    ghost forecast = { λ source. Some source.left.items };
 
     #[tactic(auto, using(crate::proofs::ListLemmas::gives_front))]
     fn next_block(&mut self) -> Option<Block> {
@@ -27,7 +27,7 @@ pub(crate) struct ListedMoments {
 }
 
 impl MomentSource for ListedMoments {
-    ghost told = { λ source. Some source.left.items };
+    ghost forecast = { λ source. Some source.left.items };
 
     #[tactic(auto, using(crate::proofs::ListLemmas::gives_front))]
     fn next_moment(&mut self) -> Option<u32> {
@@ -42,7 +42,7 @@ pub(crate) struct ListedPresses {
 }
 
 impl ButtonSource for ListedPresses {
-    ghost told = { λ source. Some source.left };
+    ghost forecast = { λ source. Some source.left };
 
     #[tactic(auto, using(crate::proofs::ListLemmas::presses))]
     fn pressed(&mut self) -> bool {

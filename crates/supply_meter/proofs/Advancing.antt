@@ -3,7 +3,7 @@ use Rattle.std.proofs.Common.{◌≡◌, ℕ, List, [], ◌∷◌, ◌++◌, ◌
 use Rattle.std.specs.Prelude.{map}
 use Rattle.relay_events.specs.declared.event.Event.{Event}
 use Rattle.relay_events.specs.declared.reply.Reply.{Reply}
-use Rattle.relay_recorder.specs.Histories.{Told, StandsForHistory, Continues, events_of, replies_of}
+use Rattle.relay_recorder.specs.Histories.{Exchange, StandsForHistory, Continues, events_of, replies_of}
 use Rattle.relay_recorder.specs.Recording.{Recording}
 use Rattle.session_core.specs.Remaining.{load}
 use Rattle.session_core.specs.declared.session.Session.{Session}
@@ -21,7 +21,7 @@ map_both f (x ∷ xs) ys = ap (λ (zs : List _). f x ∷ zs) (map_both f xs ys)
 pub advances_same : (old new : Dialogue) (r : Recording) → SameAhead old new → Advances old r [] new r
 advances_same old new r same = record {
   told = [];
-  histories = λ history origin stands. subst (λ (h : List Told). StandsForHistory r h origin) (sym (append-nil history)) stands;
+  histories = λ history origin stands. subst (λ (h : List Exchange). StandsForHistory r h origin) (sym (append-nil history)) stands;
   capacity = refl;
   asks = same.asks;
   sends = same.sends;
@@ -36,16 +36,16 @@ pub advances_on : (old d new : Dialogue) (r r' r'' : Recording) (given : List (L
 advances_on old d new r r' r'' given first then_ = record {
   told = first.told ++ then_.told;
   histories = λ history origin stands.
-      subst (λ (h : List Told). StandsForHistory r'' h origin) (append_assoc history first.told then_.told)
+      subst (λ (h : List Exchange). StandsForHistory r'' h origin) (append_assoc history first.told then_.told)
       (then_.histories (history ++ first.told) origin (first.histories history origin stands));
   capacity = then_.capacity ∙ first.capacity;
   asks = λ more.
       first.asks more
       ∙ ap (λ (es : List Event). events_of first.told ++ es) (then_.asks more)
       ∙ sym (append_assoc (events_of first.told) (events_of then_.told) (asks_ahead new more))
-      ∙ ap (λ (es : List Event). es ++ asks_ahead new more) (sym (map_both (λ (told : Told). told.0) first.told then_.told));
+      ∙ ap (λ (es : List Event). es ++ asks_ahead new more) (sym (map_both (λ (told : Exchange). told.0) first.told then_.told));
   sends = λ more later.
-      ap (λ (rs : List Reply). sends_ahead old more (rs ++ later)) (map_both (λ (told : Told). told.1) first.told then_.told)
+      ap (λ (rs : List Reply). sends_ahead old more (rs ++ later)) (map_both (λ (told : Exchange). told.1) first.told then_.told)
       ∙ ap (λ (rs : List Reply). sends_ahead old more rs) (append_assoc (replies_of first.told) (replies_of then_.told) later)
       ∙ first.sends more (replies_of then_.told ++ later)
       ∙ then_.sends more later;

@@ -9,7 +9,7 @@
 use Rattle.std.specs.Prelude.{◌≡◌, ◌<◌, ◌++◌, ℕ, List, [], ◌∷◌, length, drop, Result, Ok, Err}
 use Rattle.relay_core.specs.World.{World}
 use Rattle.relay_events.specs.declared.reply.Reply.{Reply}
-use Rattle.relay_recorder.specs.Histories.{Told, StandsForHistory, events_of, replies_of}
+use Rattle.relay_recorder.specs.Histories.{Exchange, StandsForHistory, events_of, replies_of}
 use Rattle.relay_recorder.specs.Recording.{Recording}
 use Rattle.session_core.specs.Backwards.{Asks, Answers, end_of}
 use Rattle.session_core.specs.declared.end.SessionEnd.{SessionEnd}
@@ -44,8 +44,8 @@ pub record Finishes (old new : Dialogue) : Type 0 where
 -- replies. Everything else still remains to be done.
 pub record Advances (old : Dialogue) (r : Recording) (given : List (List ℕ)) (new : Dialogue)
     (r' : Recording) : Type 0 where
-  pub told : List Told
-  pub histories : (history : List Told) (origin : World) → StandsForHistory r history origin
+  pub told : List Exchange
+  pub histories : (history : List Exchange) (origin : World) → StandsForHistory r history origin
       → StandsForHistory r' (history ++ told) origin
   pub capacity : r'.capacity ≡ r.capacity
   pub asks : (more : List ℕ) → asks_ahead old more ≡ events_of told ++ asks_ahead new more

@@ -3,9 +3,9 @@ use Rattle.head_end.proofs.Turning.{goes_first, goes_on, converses_cut, converse
 use Rattle.head_end.proofs.Talking.{reaches_first, reaches_next, speaks_unsent, speaks_turn, speaks_starved, speaks_last}
 use Rattle.head_end.proofs.conversing.converse.Goals as goal
 
-pub returns-then-not-send_due-clause-told : goal.returns-then-not-send_due-clause-told
-returns-then-not-send_due-clause-told g c =
-    converses_cut c.args.client.now c.send_due.new.client _ _ c.give_up.result c.if-not-send_due.ensures.told c.give_up.ensures
+pub returns-then-not-send_due-clause-forecast : goal.returns-then-not-send_due-clause-forecast
+returns-then-not-send_due-clause-forecast g c =
+    converses_cut c.args.client.now c.send_due.new.client _ _ c.give_up.result c.if-not-send_due.ensures.forecast c.give_up.ensures
 
 pub returns-then-not-send_due-clause-log : goal.returns-then-not-send_due-clause-log
 returns-then-not-send_due-clause-log g c =
@@ -14,7 +14,7 @@ returns-then-not-send_due-clause-log g c =
 
 pub turns-init : goal.turns-init
 turns-init g c = (
-  goes_first c.args.client.now c.send_due.new.client _ _ c.if-not-send_due.ensures.told,
+  goes_first c.args.client.now c.send_due.new.client _ _ c.if-not-send_due.ensures.forecast,
   reaches_first c.args.client.now c.send_due.new.client _ _ c.if-not-send_due.ensures.log,
 )
 
@@ -24,10 +24,10 @@ returns-in_err-outcome-clause-log g c =
     c.from_residual.result
     c.from_residual.ensures.0 c.turns.invariant.1 c.in_err-outcome.ensures.log
 
-pub returns-in-Some-clause-told : goal.returns-in-Some-clause-told
-returns-in-Some-clause-told g c =
+pub returns-in-Some-clause-forecast : goal.returns-in-Some-clause-forecast
+returns-in-Some-clause-forecast g c =
     converses_turn c.args.client.now c.turns.client c.take_turn.new.client _ _ _ c.turns.counter c.in-Some.outcome (omega arith) c.turns.invariant.0
-    (rw c.in-Some.is at c.in_ok-outcome.ensures.told)
+    (rw c.in-Some.is at c.in_ok-outcome.ensures.forecast)
 
 pub returns-in-Some-clause-log : goal.returns-in-Some-clause-log
 returns-in-Some-clause-log g c =
@@ -37,14 +37,14 @@ returns-in-Some-clause-log g c =
 
 pub turns-preserved : goal.turns-preserved
 turns-preserved g c = (
-  goes_on c.args.client.now c.turns.client c.take_turn.new.client _ _ _ c.turns.counter c.turns.invariant.0 (rw c.in_default.is at c.in_ok-outcome.ensures.told),
+  goes_on c.args.client.now c.turns.client c.take_turn.new.client _ _ _ c.turns.counter c.turns.invariant.0 (rw c.in_default.is at c.in_ok-outcome.ensures.forecast),
   reaches_next c.args.client.now c.turns.client c.take_turn.new.client _ _ _ c.turns.counter
       c.turns.invariant.1
       (rw c.in_default.is at c.in_ok-outcome.ensures.log),
 )
 
-pub returns-clause-told : goal.returns-clause-told
-returns-clause-told g c =
+pub returns-clause-forecast : goal.returns-clause-forecast
+returns-clause-forecast g c =
     converses_last c.args.client.now c.turns.client _ _ c.turns.counter c.give_up-2.result (omega arith) c.turns.invariant.0 (omega arith) c.give_up-2.ensures
 
 pub returns-clause-log : goal.returns-clause-log

@@ -4,9 +4,9 @@ use Rattle.meter_run.proofs.running.run_meter.Goals as goal
 pub returns-in-Ok-clause-run : goal.returns-in-Ok-clause-run
 returns-in-Ok-clause-run g c =
     run_if c.args.recorder (record {
-      blocks = g.B.BlockSource.told c.args.sources.blocks;
-      moments = g.M.MomentSource.told c.args.sources.moments;
-      presses = g.U.ButtonSource.told c.args.sources.buttons;
+      blocks = g.B.BlockSource.forecast c.args.sources.blocks;
+      moments = g.M.MomentSource.forecast c.args.sources.moments;
+      presses = g.U.ButtonSource.forecast c.args.sources.buttons;
       password = c.args.password.now;
     }) c.serve-port.result.1 c.trace_text-trace.result c.in-Ok.port c.serve-port.result.0
     c.in-Ok.ensures.known c.serve-port.ensures.serves c.trace_text-trace.ensures.traces

@@ -36,11 +36,11 @@ returns-clause-served g c =
 
 pub returns-clause-presses : goal.returns-clause-presses
 returns-clause-presses g c =
-    acted_itself (λ w. HandsPresses (g.U.ButtonSource.told w.source)) _ c.in-Some.ensures.port c.serve_clients-served.ensures.port_continues c.join_both.ensures (λ w. AllPresses (g.U.ButtonSource.told w.source)) _ c.in-Some.ensures.worker (whole_presses _)
+    acted_itself (λ w. HandsPresses (g.U.ButtonSource.forecast w.source)) _ c.in-Some.ensures.port c.serve_clients-served.ensures.port_continues c.join_both.ensures (λ w. AllPresses (g.U.ButtonSource.forecast w.source)) _ c.in-Some.ensures.worker (whole_presses _)
 
 pub returns-clause-fault : goal.returns-clause-fault
 returns-clause-fault g c =
-    stops_beside (λ w. HandsPresses (g.U.ButtonSource.told w.source)) c.in-Some.running.promise.worker.value c.in-Some.ensures.port c.serve_clients-served.ensures.port_continues c.join_both.ensures _ _ c.serve_clients-served.ensures.fault (λ none. absurd none)
+    stops_beside (λ w. HandsPresses (g.U.ButtonSource.forecast w.source)) c.in-Some.running.promise.worker.value c.in-Some.ensures.port c.serve_clients-served.ensures.port_continues c.join_both.ensures _ _ c.serve_clients-served.ensures.fault (λ none. absurd none)
 
 pub start_worker-requires-send-T : goal.start_worker-requires-send-T
 start_worker-requires-send-T g c κs within = search (sendable, crosses, kept_send) depth 20 fits 100000

@@ -36,7 +36,7 @@ returns-clause-served g c =
 
 pub returns-clause-moments : goal.returns-clause-moments
 returns-clause-moments g c =
-    acted_itself (λ w. HandsMoments (g.M.MomentSource.told w.source)) _ c.in-Some.ensures.port c.serve_with_button-served.ensures.port_continues c.join_both.ensures (λ w. AllMoments (g.M.MomentSource.told w.source)) _ c.in-Some.ensures.worker (whole_moments _)
+    acted_itself (λ w. HandsMoments (g.M.MomentSource.forecast w.source)) _ c.in-Some.ensures.port c.serve_with_button-served.ensures.port_continues c.join_both.ensures (λ w. AllMoments (g.M.MomentSource.forecast w.source)) _ c.in-Some.ensures.worker (whole_moments _)
 
 pub returns-clause-presses : goal.returns-clause-presses
 returns-clause-presses g c =
@@ -45,7 +45,7 @@ returns-clause-presses g c =
 
 pub returns-clause-fault : goal.returns-clause-fault
 returns-clause-fault g c =
-    stops_beside (λ w. HandsMoments (g.M.MomentSource.told w.source)) c.in-Some.running.promise.worker.value c.in-Some.ensures.port c.serve_with_button-served.ensures.port_continues c.join_both.ensures _ _ c.serve_with_button-served.ensures.fault (λ spent. spent)
+    stops_beside (λ w. HandsMoments (g.M.MomentSource.forecast w.source)) c.in-Some.running.promise.worker.value c.in-Some.ensures.port c.serve_with_button-served.ensures.port_continues c.join_both.ensures _ _ c.serve_with_button-served.ensures.fault (λ spent. spent)
 
 pub start_worker-requires-send-T : goal.start_worker-requires-send-T
 start_worker-requires-send-T g c κs within = search (sendable, crosses, kept_send) depth 20 fits 100000

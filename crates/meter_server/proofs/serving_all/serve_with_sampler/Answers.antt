@@ -37,8 +37,8 @@ returns-clause-served g c =
 
 pub returns-clause-blocks : goal.returns-clause-blocks
 returns-clause-blocks g c =
-    let told = g.B.BlockSource.told in
-    acted_itself (λ w p q. HandsBlocks (told w.source) p q × ReadsBetween (told w.source) p q) _ c.in-Some.ensures.port c.serve_with_clock-served.ensures.port_continues c.join_both.ensures (λ w. AllBlocks (g.B.BlockSource.told w.source)) _ c.in-Some.ensures.worker (whole_blocks _)
+    let told = g.B.BlockSource.forecast in
+    acted_itself (λ w p q. HandsBlocks (told w.source) p q × ReadsBetween (told w.source) p q) _ c.in-Some.ensures.port c.serve_with_clock-served.ensures.port_continues c.join_both.ensures (λ w. AllBlocks (g.B.BlockSource.forecast w.source)) _ c.in-Some.ensures.worker (whole_blocks _)
 
 pub returns-clause-moments : goal.returns-clause-moments
 returns-clause-moments g c =
@@ -52,7 +52,7 @@ returns-clause-presses g c =
 
 pub returns-clause-fault : goal.returns-clause-fault
 returns-clause-fault g c =
-    let told = g.B.BlockSource.told in
+    let told = g.B.BlockSource.forecast in
     stops_beside (λ w p q. HandsBlocks (told w.source) p q × ReadsBetween (told w.source) p q) c.in-Some.running.promise.worker.value c.in-Some.ensures.port c.serve_with_clock-served.ensures.port_continues c.join_both.ensures _ _ c.serve_with_clock-served.ensures.fault (λ spent. spent)
 
 pub start_worker-requires-send-T : goal.start_worker-requires-send-T

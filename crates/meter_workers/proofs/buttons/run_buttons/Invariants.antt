@@ -6,4 +6,4 @@ use Rattle.meter_workers.proofs.buttons.run_buttons.Given as goal
 abbrev pub invariant-giving : goal.invariant-giving
 invariant-giving g l =
     (goal.iterator-giving g).can_next l.iterator' × (goal.iterator-giving g).is_finite l.iterator' × IsSame l.initial.port l.port
-    × LeavesPresses (g.S.ButtonSource.told l.initial.source) (own_events l.initial.port) (g.S.ButtonSource.told l.source) (own_events l.port)
+    × LeavesPresses (g.S.ButtonSource.forecast l.initial.source) (own_events l.initial.port) (g.S.ButtonSource.forecast l.source) (own_events l.port)
