@@ -47,13 +47,13 @@ unfoldable pub setting_of : LimiterAttribute → Data → Result (Option Setting
 setting_of attribute.MonitoredValue value = Ok None
 setting_of attribute.ThresholdActive value = Ok None
 setting_of attribute.ThresholdNormal value =
-    number_of value >>= λ watts. Ok (Some (setting.NormalThreshold watts))
+    number_of value >>= λ watts. Ok (Some (setting.ThresholdNormal watts))
 setting_of attribute.ThresholdEmergency value =
-    number_of value >>= λ watts. Ok (Some (setting.EmergencyThreshold watts))
+    number_of value >>= λ watts. Ok (Some (setting.ThresholdEmergency watts))
 setting_of attribute.MinOverThresholdDuration value =
-    number_of value >>= λ seconds. Ok (Some (setting.MinOverDuration seconds))
+    number_of value >>= λ seconds. Ok (Some (setting.MinOverThresholdDuration seconds))
 setting_of attribute.MinUnderThresholdDuration value =
-    number_of value >>= λ seconds. Ok (Some (setting.MinUnderDuration seconds))
+    number_of value >>= λ seconds. Ok (Some (setting.MinUnderThresholdDuration seconds))
 setting_of attribute.EmergencyProfile value =
     profile_of value >>= λ profile. Ok (Some (setting.Profile profile))
 setting_of attribute.EmergencyProfileGroupIdList value = Ok None

@@ -7,14 +7,14 @@ use Rattle.limiter_core.specs.declared.settings.Settings.{Settings}
 use Rattle.limiter_attributes.specs.declared.attribute.LimiterAttribute.{LimiterAttribute}
 use Rattle.limiter_attributes.specs.declared.attribute.LimiterAttribute.TheVariants as attribute
 use Rattle.limiter_attributes.specs.declared.setting.Setting.{Setting}
-use Rattle.limiter_attributes.specs.declared.setting.Setting.TheVariants.{NormalThreshold, EmergencyThreshold, MinOverDuration, MinUnderDuration, Profile, Actions}
+use Rattle.limiter_attributes.specs.declared.setting.Setting.TheVariants.{ThresholdNormal, ThresholdEmergency, MinOverThresholdDuration, MinUnderThresholdDuration, Profile, Actions}
 
 -- the settings after one of them was set
 abbrev pub with_setting : Setting → Settings → Settings
-with_setting (NormalThreshold watts) settings = record settings { normal_threshold = watts }
-with_setting (EmergencyThreshold watts) settings = record settings { emergency_threshold = watts }
-with_setting (MinOverDuration seconds) settings = record settings { min_over_duration = seconds }
-with_setting (MinUnderDuration seconds) settings = record settings { min_under_duration = seconds }
+with_setting (ThresholdNormal watts) settings = record settings { threshold_normal = watts }
+with_setting (ThresholdEmergency watts) settings = record settings { threshold_emergency = watts }
+with_setting (MinOverThresholdDuration seconds) settings = record settings { min_over_threshold_duration = seconds }
+with_setting (MinUnderThresholdDuration seconds) settings = record settings { min_under_threshold_duration = seconds }
 with_setting (Profile profile) settings = record settings { profile = profile }
 with_setting (Actions actions) settings = record settings { actions = actions }
 
@@ -23,13 +23,13 @@ with_setting (Actions actions) settings = record settings { actions = actions }
 abbrev pub setting_at : LimiterAttribute → Settings → Option Setting
 setting_at attribute.MonitoredValue settings = None
 setting_at attribute.ThresholdActive settings = None
-setting_at attribute.ThresholdNormal settings = Some (NormalThreshold settings.normal_threshold)
+setting_at attribute.ThresholdNormal settings = Some (ThresholdNormal settings.threshold_normal)
 setting_at attribute.ThresholdEmergency settings =
-    Some (EmergencyThreshold settings.emergency_threshold)
+    Some (ThresholdEmergency settings.threshold_emergency)
 setting_at attribute.MinOverThresholdDuration settings =
-    Some (MinOverDuration settings.min_over_duration)
+    Some (MinOverThresholdDuration settings.min_over_threshold_duration)
 setting_at attribute.MinUnderThresholdDuration settings =
-    Some (MinUnderDuration settings.min_under_duration)
+    Some (MinUnderThresholdDuration settings.min_under_threshold_duration)
 setting_at attribute.EmergencyProfile settings = Some (Profile settings.profile)
 setting_at attribute.EmergencyProfileGroupIdList settings = None
 setting_at attribute.EmergencyProfileActive settings = None

@@ -45,13 +45,13 @@ data_at which attribute.MonitoredValue settings moment = monitored_data which
 data_at which attribute.ThresholdActive settings moment =
     DoubleLongUnsigned (active_threshold settings moment)
 data_at which attribute.ThresholdNormal settings moment =
-    DoubleLongUnsigned settings.normal_threshold
+    DoubleLongUnsigned settings.threshold_normal
 data_at which attribute.ThresholdEmergency settings moment =
-    DoubleLongUnsigned settings.emergency_threshold
+    DoubleLongUnsigned settings.threshold_emergency
 data_at which attribute.MinOverThresholdDuration settings moment =
-    DoubleLongUnsigned settings.min_over_duration
+    DoubleLongUnsigned settings.min_over_threshold_duration
 data_at which attribute.MinUnderThresholdDuration settings moment =
-    DoubleLongUnsigned settings.min_under_duration
+    DoubleLongUnsigned settings.min_under_threshold_duration
 data_at which attribute.EmergencyProfile settings moment = profile_data settings.profile
 data_at which attribute.EmergencyProfileGroupIdList settings moment = groups_data settings.groups
 data_at which attribute.EmergencyProfileActive settings moment = Boolean (is_active settings moment)

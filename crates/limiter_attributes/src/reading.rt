@@ -79,11 +79,11 @@ pub fn read_setting(
     ensures no_memory { ¬ IsErrOf result WriteFault.Memory }
 {
     Ok(Some(match attribute {
-        LimiterAttribute::ThresholdNormal => Setting::NormalThreshold(read_number(value)?),
-        LimiterAttribute::ThresholdEmergency => Setting::EmergencyThreshold(read_number(value)?),
-        LimiterAttribute::MinOverThresholdDuration => Setting::MinOverDuration(read_number(value)?),
+        LimiterAttribute::ThresholdNormal => Setting::ThresholdNormal(read_number(value)?),
+        LimiterAttribute::ThresholdEmergency => Setting::ThresholdEmergency(read_number(value)?),
+        LimiterAttribute::MinOverThresholdDuration => Setting::MinOverThresholdDuration(read_number(value)?),
         LimiterAttribute::MinUnderThresholdDuration => {
-            Setting::MinUnderDuration(read_number(value)?)
+            Setting::MinUnderThresholdDuration(read_number(value)?)
         }
         LimiterAttribute::EmergencyProfile => Setting::Profile(read_profile(value)?),
         LimiterAttribute::Actions => Setting::Actions(read_actions(value)?),

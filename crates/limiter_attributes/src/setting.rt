@@ -7,13 +7,13 @@ use limiter_core::{Actions, Limiter, Profile};
 #[derive(Clone, Copy, Debug)]
 pub enum Setting {
     /// `threshold_normal` (attribute 4), in watts.
-    NormalThreshold(u32),
+    ThresholdNormal(u32),
     /// `threshold_emergency` (attribute 5), in watts.
-    EmergencyThreshold(u32),
+    ThresholdEmergency(u32),
     /// `min_over_threshold_duration` (attribute 6), in seconds.
-    MinOverDuration(u32),
+    MinOverThresholdDuration(u32),
     /// `min_under_threshold_duration` (attribute 7), in seconds.
-    MinUnderDuration(u32),
+    MinUnderThresholdDuration(u32),
     /// `emergency_profile` (attribute 8).
     Profile(Profile),
     /// `actions` (attribute 11).
@@ -28,10 +28,10 @@ impl Setting {
             ≡ record limiter.old { settings = with_setting self limiter.old.settings } }
     {
         match self {
-            Setting::NormalThreshold(watts) => limiter.set_normal_threshold(watts),
-            Setting::EmergencyThreshold(watts) => limiter.set_emergency_threshold(watts),
-            Setting::MinOverDuration(seconds) => limiter.set_min_over_duration(seconds),
-            Setting::MinUnderDuration(seconds) => limiter.set_min_under_duration(seconds),
+            Setting::ThresholdNormal(watts) => limiter.set_threshold_normal(watts),
+            Setting::ThresholdEmergency(watts) => limiter.set_threshold_emergency(watts),
+            Setting::MinOverThresholdDuration(seconds) => limiter.set_min_over_threshold_duration(seconds),
+            Setting::MinUnderThresholdDuration(seconds) => limiter.set_min_under_threshold_duration(seconds),
             Setting::Profile(profile) => limiter.set_profile(profile),
             Setting::Actions(actions) => limiter.set_actions(actions),
         }

@@ -106,16 +106,16 @@ pub fn read_attribute(
         LimiterAttribute::MonitoredValue => write_monitored(alloc, which),
         LimiterAttribute::ThresholdActive => Ok(Data::DoubleLongUnsigned(limiter.threshold())),
         LimiterAttribute::ThresholdNormal => {
-            Ok(Data::DoubleLongUnsigned(limiter.normal_threshold()))
+            Ok(Data::DoubleLongUnsigned(limiter.threshold_normal()))
         }
         LimiterAttribute::ThresholdEmergency => {
-            Ok(Data::DoubleLongUnsigned(limiter.emergency_threshold()))
+            Ok(Data::DoubleLongUnsigned(limiter.threshold_emergency()))
         }
         LimiterAttribute::MinOverThresholdDuration => {
-            Ok(Data::DoubleLongUnsigned(limiter.min_over_duration()))
+            Ok(Data::DoubleLongUnsigned(limiter.min_over_threshold_duration()))
         }
         LimiterAttribute::MinUnderThresholdDuration => {
-            Ok(Data::DoubleLongUnsigned(limiter.min_under_duration()))
+            Ok(Data::DoubleLongUnsigned(limiter.min_under_threshold_duration()))
         }
         LimiterAttribute::EmergencyProfile => write_profile(alloc, &limiter.profile()),
         LimiterAttribute::EmergencyProfileGroupIdList => write_groups(alloc, limiter.groups()),

@@ -186,10 +186,10 @@ room_before n need count other same few =
     subst P same (room_if count.fired n need count refl few)
 
 room_of : (kind : Kind) (state : State) (rows : List Row) (n : ℕ) → Keeps state rows → n ≤ quiet_count kind state → HasRoom kind (limits_of state) n rows
-room_of Over state rows n keeps few OverThreshold e = room_before n (need_of state.settings.min_over_duration) state.over (count_of OverThreshold rows) keeps.over few
+room_of Over state rows n keeps few OverThreshold e = room_before n (need_of state.settings.min_over_threshold_duration) state.over (count_of OverThreshold rows) keeps.over few
 room_of Over state rows n keeps few UnderThreshold e = cc
 room_of Under state rows n keeps few OverThreshold e = cc
-room_of Under state rows n keeps few UnderThreshold e = room_before n (need_of state.settings.min_under_duration) state.under (count_of UnderThreshold rows) keeps.under few
+room_of Under state rows n keeps few UnderThreshold e = room_before n (need_of state.settings.min_under_threshold_duration) state.under (count_of UnderThreshold rows) keeps.under few
 room_of Equal state rows n keeps few side e = cc
 
 -- as many samples as `quiet_count` says do not fire
@@ -209,11 +209,11 @@ room_always n need count other same small all =
 
 room_for_all : (kind : Kind) (state : State) (rows : List Row) (n : ℕ) → IsLimiter state → Keeps state rows → quiet_count kind state ≡ 2 ^ 64 - 1 → HasRoom kind (limits_of state) n rows
 room_for_all Over state rows n fit keeps all OverThreshold e =
-    room_always n (need_of state.settings.min_over_duration) state.over (count_of OverThreshold rows) keeps.over (are_counted Over state fit OverThreshold e) all
+    room_always n (need_of state.settings.min_over_threshold_duration) state.over (count_of OverThreshold rows) keeps.over (are_counted Over state fit OverThreshold e) all
 room_for_all Over state rows n fit keeps all UnderThreshold e = cc
 room_for_all Under state rows n fit keeps all OverThreshold e = cc
 room_for_all Under state rows n fit keeps all UnderThreshold e =
-    room_always n (need_of state.settings.min_under_duration) state.under (count_of UnderThreshold rows) keeps.under (are_counted Under state fit UnderThreshold e) all
+    room_always n (need_of state.settings.min_under_threshold_duration) state.under (count_of UnderThreshold rows) keeps.under (are_counted Under state fit UnderThreshold e) all
 room_for_all Equal state rows n fit keeps all side e = cc
 
 -- if no sample would ever fire, any number of them does not
@@ -314,9 +314,9 @@ one_small : (b : Bool) (x y : ℕ) → x < 2 ^ 32 → y < 2 ^ 32 → (if b then 
 one_small true x y a b = a
 one_small false x y a b = b
 
-threshold_small : (s : Settings) (moment : Option ℕ) → s.normal_threshold < 2 ^ 32 → s.emergency_threshold < 2 ^ 32 → active_threshold s moment < 2 ^ 32
+threshold_small : (s : Settings) (moment : Option ℕ) → s.threshold_normal < 2 ^ 32 → s.threshold_emergency < 2 ^ 32 → active_threshold s moment < 2 ^ 32
 unfolding active_threshold
-threshold_small s moment normal emergency = one_small (is_active s moment) s.emergency_threshold s.normal_threshold emergency normal
+threshold_small s moment normal emergency = one_small (is_active s moment) s.threshold_emergency s.threshold_normal emergency normal
 
 below_threshold : (t v : ℕ) → t < 2 ^ 32 → nat_lt v t ≡ true → v < 4294967295
 below_threshold t v small e = grind (arith, nat_tests)
@@ -325,7 +325,7 @@ below_threshold t v small e = grind (arith, nat_tests)
 pub jumped_under : (state : State) (n last : ℕ) → 0 < n → n ≤ quiet_count Under state → kind_of (limits_of state).threshold last ≡ Under → IsLimiter state → IsLimiter (state_after_run Under n last state)
 jumped_under state n last some few k fit =
     let limits : Limits = limits_of state in
-    let small : limits.threshold < 2 ^ 32 = threshold_small state.settings state.moment fit.normal_threshold fit.emergency_threshold in
+    let small : limits.threshold < 2 ^ 32 = threshold_small state.settings state.moment fit.threshold_normal fit.threshold_emergency in
     record {
       counts = record {
         over_fits = record { within = omega arith; none = λ zero. refl; full = λ full. absurd (omega (arith, full)) };
@@ -334,8 +334,8 @@ jumped_under state n last some few k fit =
         above = λ over. absurd (omega (arith, over));
         below = λ under. below_threshold limits.threshold last small (past_is Under UnderThreshold limits last k);
       };
-      normal_threshold = fit.normal_threshold;
-      emergency_threshold = fit.emergency_threshold;
+      threshold_normal = fit.threshold_normal;
+      threshold_emergency = fit.threshold_emergency;
       over_duration = fit.over_duration;
       under_duration = fit.under_duration;
       groups = fit.groups;

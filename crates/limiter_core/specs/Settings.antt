@@ -27,7 +27,7 @@ is_active s moment =
     s.profile.duration
 
 unfoldable pub active_threshold : Settings → Option ℕ → ℕ
-active_threshold s moment = if is_active s moment then s.emergency_threshold else s.normal_threshold
+active_threshold s moment = if is_active s moment then s.threshold_emergency else s.threshold_normal
 
 -- the number of samples that a duration in seconds needs, at ten a second and at least one
 abbrev pub need_of : ℕ → ℕ
@@ -44,8 +44,8 @@ pub record Limits : Type 0 where
 abbrev pub limits_at : Settings → Option ℕ → Limits
 limits_at s moment = record {
   threshold = active_threshold s moment;
-  need_over = need_of s.min_over_duration;
-  need_under = need_of s.min_under_duration;
+  need_over = need_of s.min_over_threshold_duration;
+  need_under = need_of s.min_under_threshold_duration;
 }
 
 -- the row of a sample under these limits
@@ -60,10 +60,10 @@ kind_of threshold value = if nat_lt threshold value then Over else if nat_lt val
 -- the settings of a new limiter
 abbrev pub new_settings : Settings
 new_settings = record {
-  normal_threshold = 4294967295;
-  emergency_threshold = 4294967295;
-  min_over_duration = 0;
-  min_under_duration = 0;
+  threshold_normal = 4294967295;
+  threshold_emergency = 4294967295;
+  min_over_threshold_duration = 0;
+  min_under_threshold_duration = 0;
   profile = record { id = 0; start = unspecified_date_time; duration = 0 };
   groups = [];
   actions = record { over = 0; under = 0 };

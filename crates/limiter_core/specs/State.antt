@@ -56,10 +56,10 @@ are_fit last over under =
 -- it has at most 32 group ids
 pub record IsLimiter (state : State) : Type 0 where
   pub counts : IsFit state.last state.over state.under
-  pub normal_threshold : state.settings.normal_threshold < 2 ^ 32
-  pub emergency_threshold : state.settings.emergency_threshold < 2 ^ 32
-  pub over_duration : state.settings.min_over_duration < 2 ^ 32
-  pub under_duration : state.settings.min_under_duration < 2 ^ 32
+  pub threshold_normal : state.settings.threshold_normal < 2 ^ 32
+  pub threshold_emergency : state.settings.threshold_emergency < 2 ^ 32
+  pub over_duration : state.settings.min_over_threshold_duration < 2 ^ 32
+  pub under_duration : state.settings.min_under_threshold_duration < 2 ^ 32
   pub groups : length state.settings.groups ≤ 32
 
 -- the rows after more samples under the same limits, of which the first is the oldest
@@ -83,8 +83,8 @@ AreOfKind kind threshold (value ∷ values) = (kind_of threshold value ≡ kind)
 -- the number of further samples of a kind that do not fire, or the greatest u64 if none would ever
 -- fire
 abbrev pub quiet_count : Kind → State → ℕ
-quiet_count Over state = before (need_of state.settings.min_over_duration) state.over
-quiet_count Under state = before (need_of state.settings.min_under_duration) state.under
+quiet_count Over state = before (need_of state.settings.min_over_threshold_duration) state.over
+quiet_count Under state = before (need_of state.settings.min_under_threshold_duration) state.under
 quiet_count Equal state = 2 ^ 64 - 1
 
 -- what samples of that kind fire

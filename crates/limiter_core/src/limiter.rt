@@ -99,8 +99,8 @@ impl Limiter {
         ensures last { self.new.last ≡ value }
     {
         let threshold = self.settings.active_threshold(self.moment);
-        let need_over = samples_of(self.settings.min_over_duration);
-        let need_under = samples_of(self.settings.min_under_duration);
+        let need_over = samples_of(self.settings.min_over_threshold_duration);
+        let need_under = samples_of(self.settings.min_under_threshold_duration);
         self.last = value;
         let over = self.over.take(value > threshold, need_over);
         let under = self.under.take(value < threshold, need_under);
@@ -136,10 +136,10 @@ impl Limiter {
         match kind {
             Kind::Over => self
                 .over
-                .quiet_before(samples_of(settings.min_over_duration)),
+                .quiet_before(samples_of(settings.min_over_threshold_duration)),
             Kind::Under => self
                 .under
-                .quiet_before(samples_of(settings.min_under_duration)),
+                .quiet_before(samples_of(settings.min_under_threshold_duration)),
             Kind::Equal => u64::MAX,
         }
     }
@@ -258,63 +258,63 @@ impl Limiter {
     }
 
     /// Returns `threshold_normal` (attribute 4), in watts.
-    pub fn normal_threshold(&self) -> u32
-        ensures { result ≡ self.now.settings.normal_threshold }
+    pub fn threshold_normal(&self) -> u32
+        ensures { result ≡ self.now.settings.threshold_normal }
     {
-        self.settings.normal_threshold
+        self.settings.threshold_normal
     }
 
     /// Sets `threshold_normal` (attribute 4), in watts. The runs do not change.
-    pub fn set_normal_threshold(&mut self, threshold: u32)
+    pub fn set_threshold_normal(&mut self, threshold: u32)
         ensures { self.new ≡ record self.old
-            { settings = record self.old.settings { normal_threshold = threshold } } }
+            { settings = record self.old.settings { threshold_normal = threshold } } }
     {
-        self.settings.normal_threshold = threshold;
+        self.settings.threshold_normal = threshold;
     }
 
     /// Returns `threshold_emergency` (attribute 5), in watts.
-    pub fn emergency_threshold(&self) -> u32
-        ensures { result ≡ self.now.settings.emergency_threshold }
+    pub fn threshold_emergency(&self) -> u32
+        ensures { result ≡ self.now.settings.threshold_emergency }
     {
-        self.settings.emergency_threshold
+        self.settings.threshold_emergency
     }
 
     /// Sets `threshold_emergency` (attribute 5), in watts. The runs do not change.
-    pub fn set_emergency_threshold(&mut self, threshold: u32)
+    pub fn set_threshold_emergency(&mut self, threshold: u32)
         ensures { self.new ≡ record self.old
-            { settings = record self.old.settings { emergency_threshold = threshold } } }
+            { settings = record self.old.settings { threshold_emergency = threshold } } }
     {
-        self.settings.emergency_threshold = threshold;
+        self.settings.threshold_emergency = threshold;
     }
 
     /// Returns `min_over_threshold_duration` (attribute 6), in seconds.
-    pub fn min_over_duration(&self) -> u32
-        ensures { result ≡ self.now.settings.min_over_duration }
+    pub fn min_over_threshold_duration(&self) -> u32
+        ensures { result ≡ self.now.settings.min_over_threshold_duration }
     {
-        self.settings.min_over_duration
+        self.settings.min_over_threshold_duration
     }
 
     /// Sets `min_over_threshold_duration` (attribute 6), in seconds. The runs do not change.
-    pub fn set_min_over_duration(&mut self, seconds: u32)
+    pub fn set_min_over_threshold_duration(&mut self, seconds: u32)
         ensures { self.new ≡ record self.old
-            { settings = record self.old.settings { min_over_duration = seconds } } }
+            { settings = record self.old.settings { min_over_threshold_duration = seconds } } }
     {
-        self.settings.min_over_duration = seconds;
+        self.settings.min_over_threshold_duration = seconds;
     }
 
     /// Returns `min_under_threshold_duration` (attribute 7), in seconds.
-    pub fn min_under_duration(&self) -> u32
-        ensures { result ≡ self.now.settings.min_under_duration }
+    pub fn min_under_threshold_duration(&self) -> u32
+        ensures { result ≡ self.now.settings.min_under_threshold_duration }
     {
-        self.settings.min_under_duration
+        self.settings.min_under_threshold_duration
     }
 
     /// Sets `min_under_threshold_duration` (attribute 7), in seconds. The runs do not change.
-    pub fn set_min_under_duration(&mut self, seconds: u32)
+    pub fn set_min_under_threshold_duration(&mut self, seconds: u32)
         ensures { self.new ≡ record self.old
-            { settings = record self.old.settings { min_under_duration = seconds } } }
+            { settings = record self.old.settings { min_under_threshold_duration = seconds } } }
     {
-        self.settings.min_under_duration = seconds;
+        self.settings.min_under_threshold_duration = seconds;
     }
 
     /// Returns `emergency_profile` (attribute 8).

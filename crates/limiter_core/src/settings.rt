@@ -37,13 +37,13 @@ pub struct Actions {
 #[derive(Debug, Drop)]
 pub struct Settings {
     /// `threshold_normal` (attribute 4), in watts.
-    pub normal_threshold: u32,
+    pub threshold_normal: u32,
     /// `threshold_emergency` (attribute 5), in watts.
-    pub emergency_threshold: u32,
+    pub threshold_emergency: u32,
     /// `min_over_threshold_duration` (attribute 6), in seconds.
-    pub min_over_duration: u32,
+    pub min_over_threshold_duration: u32,
     /// `min_under_threshold_duration` (attribute 7), in seconds.
-    pub min_under_duration: u32,
+    pub min_under_threshold_duration: u32,
     /// `emergency_profile` (attribute 8).
     pub profile: Profile,
     /// `emergency_profile_group_id_list` (attribute 9).
@@ -79,10 +79,10 @@ impl Settings {
         ensures { result ≡ new_settings }
     {
         Settings {
-            normal_threshold: u32::MAX,
-            emergency_threshold: u32::MAX,
-            min_over_duration: 0,
-            min_under_duration: 0,
+            threshold_normal: u32::MAX,
+            threshold_emergency: u32::MAX,
+            min_over_threshold_duration: 0,
+            min_under_threshold_duration: 0,
             profile: Profile {
                 id: 0,
                 start: DateTimeField::unspecified(),
@@ -99,10 +99,10 @@ impl Settings {
     {
         let groups = Vec::from_slice(alloc, self.groups.as_slice())?;
         Ok(Settings {
-            normal_threshold: self.normal_threshold,
-            emergency_threshold: self.emergency_threshold,
-            min_over_duration: self.min_over_duration,
-            min_under_duration: self.min_under_duration,
+            threshold_normal: self.threshold_normal,
+            threshold_emergency: self.threshold_emergency,
+            min_over_threshold_duration: self.min_over_threshold_duration,
+            min_under_threshold_duration: self.min_under_threshold_duration,
             profile: self.profile,
             groups: Listed::from_vec(groups),
             actions: self.actions,
@@ -126,9 +126,9 @@ impl Settings {
         ensures { result ≡ active_threshold self.now moment }
     {
         if self.is_active(moment) {
-            self.emergency_threshold
+            self.threshold_emergency
         } else {
-            self.normal_threshold
+            self.threshold_normal
         }
     }
 }

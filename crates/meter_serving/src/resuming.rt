@@ -53,8 +53,8 @@ pub fn resumed_recorder(alloc: Global, trace: &Trace, capacity: u16) -> Result<R
 fn limiter_has_range(opening: &LimiterOpening)
     ensures { AreInRange opening.now.settings }
 {
-    let _over = opening.settings.min_over_duration;
-    let _under = opening.settings.min_under_duration;
+    let _over = opening.settings.min_over_threshold_duration;
+    let _under = opening.settings.min_under_threshold_duration;
 }
 
 // The durations of a core's saved state are numbers of 32 bits, those in its scripts' steps too.

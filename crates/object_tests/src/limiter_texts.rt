@@ -331,9 +331,9 @@ fn traded(limiter: &mut Limiter, other: &mut Limiter) -> [bool; 4] {
     swap_groups(limiter, other);
     [
         limiter.groups() == [7, 1, 7].as_slice(),
-        limiter.normal_threshold() == 3000,
+        limiter.threshold_normal() == 3000,
         other.groups().is_empty(),
-        other.normal_threshold() == u32::MAX,
+        other.threshold_normal() == u32::MAX,
     ]
 }
 

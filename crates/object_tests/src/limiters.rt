@@ -8,8 +8,8 @@ use std::test::Fail;
 /// Returns a limiter of 5000 W that fires after that many seconds over the threshold.
 fn limiter(alloc: Global, seconds: u32) -> Limiter {
     let mut limiter = Limiter::new(alloc);
-    limiter.set_normal_threshold(5000);
-    limiter.set_min_over_duration(seconds);
+    limiter.set_threshold_normal(5000);
+    limiter.set_min_over_threshold_duration(seconds);
     limiter
 }
 
@@ -68,12 +68,12 @@ fn take(limiter: &mut Limiter, step: &Step) -> bool {
             true
         }
         Step::MinOver(seconds) => {
-            limiter.set_min_over_duration(*seconds);
-            limiter.min_over_duration() == *seconds
+            limiter.set_min_over_threshold_duration(*seconds);
+            limiter.min_over_threshold_duration() == *seconds
         }
         Step::MinUnder(seconds) => {
-            limiter.set_min_under_duration(*seconds);
-            limiter.min_under_duration() == *seconds
+            limiter.set_min_under_threshold_duration(*seconds);
+            limiter.min_under_threshold_duration() == *seconds
         }
         Step::BeforeFire(kind, samples) => limiter.before_fire(*kind) == *samples,
         Step::Value(value) => limiter.value() == *value,
@@ -187,10 +187,10 @@ fn profile() -> Result<Profile, PatternFault> {
 
 /// Whether a limiter of 5000 W keeps an emergency threshold of 3000 W and a profile.
 fn is_prepared(limiter: &mut Limiter, profile: Profile) -> bool {
-    limiter.set_emergency_threshold(3000);
+    limiter.set_threshold_emergency(3000);
     limiter.set_profile(profile);
-    limiter.normal_threshold() == 5000
-        && limiter.emergency_threshold() == 3000
+    limiter.threshold_normal() == 5000
+        && limiter.threshold_emergency() == 3000
         && limiter.profile().id == 7
         && limiter.profile().duration == 10
 }
@@ -293,10 +293,10 @@ fn limiter_like(alloc: Global, other: &Limiter, moment: u32) -> Result<Limiter, 
 }
 
 /// Whether a limiter begins with these settings, at this moment, without a sample.
-fn begins(limiter: &Limiter, normal_threshold: u32, min_over_duration: u32, moment: u32) -> bool {
+fn begins(limiter: &Limiter, threshold_normal: u32, min_over_threshold_duration: u32, moment: u32) -> bool {
     let settings = limiter.settings();
-    settings.normal_threshold == normal_threshold
-        && settings.min_over_duration == min_over_duration
+    settings.threshold_normal == threshold_normal
+        && settings.min_over_threshold_duration == min_over_threshold_duration
         && limiter.moment() == Some(moment)
         && limiter.value() == 0
         && limiter.over_run() == Count::none()
@@ -321,7 +321,7 @@ fn a_limiter_begins_with_the_settings_of_another(rt: HostRuntime) {
 #[test]
 fn new_settings_have_the_greatest_thresholds(rt: HostRuntime) {
     let settings = Settings::new(rt.alloc());
-    let thresholds = (settings.normal_threshold, settings.emergency_threshold);
+    let thresholds = (settings.threshold_normal, settings.threshold_emergency);
     let is_empty = settings.groups.as_slice().is_empty();
     drop(settings);
     assert!(rt; thresholds == (4_294_967_295, 4_294_967_295) && is_empty);

@@ -98,10 +98,10 @@ mode_alike mode v w range agree = of_rows (λ w. Alike (at_mode mode v) (at_mode
     })
 
 setting_in_range : (one : Setting) (settings : Settings) → IsSettingInRange one → AreInRange settings → AreInRange (with_setting one settings)
-setting_in_range (setting.NormalThreshold watts) settings one range = record { over = range.over; under = range.under }
-setting_in_range (setting.EmergencyThreshold watts) settings one range = record { over = range.over; under = range.under }
-setting_in_range (setting.MinOverDuration seconds) settings one range = record { over = one; under = range.under }
-setting_in_range (setting.MinUnderDuration seconds) settings one range = record { over = range.over; under = one }
+setting_in_range (setting.ThresholdNormal watts) settings one range = record { over = range.over; under = range.under }
+setting_in_range (setting.ThresholdEmergency watts) settings one range = record { over = range.over; under = range.under }
+setting_in_range (setting.MinOverThresholdDuration seconds) settings one range = record { over = one; under = range.under }
+setting_in_range (setting.MinUnderThresholdDuration seconds) settings one range = record { over = range.over; under = one }
 setting_in_range (setting.Profile profile) settings one range = record { over = range.over; under = range.under }
 setting_in_range (setting.Actions actions) settings one range = record { over = range.over; under = range.under }
 
@@ -125,10 +125,10 @@ pub step_alike : (origin : Origin) (one : Step) (v w : World) → IsStepInRange 
     → Alike (at_step origin one v) (at_step origin one w)
 unfolding at_step
 step_alike origin (step.WriteMode mode) v w small range agree = mode_alike mode v w range agree
-step_alike origin (step.WriteNormal which watts) v w small range agree = setting_alike which (setting.NormalThreshold watts) v w tt range agree
-step_alike origin (step.WriteEmergency which watts) v w small range agree = setting_alike which (setting.EmergencyThreshold watts) v w tt range agree
-step_alike origin (step.WriteMinOver which seconds) v w small range agree = setting_alike which (setting.MinOverDuration seconds) v w small range agree
-step_alike origin (step.WriteMinUnder which seconds) v w small range agree = setting_alike which (setting.MinUnderDuration seconds) v w small range agree
+step_alike origin (step.WriteNormal which watts) v w small range agree = setting_alike which (setting.ThresholdNormal watts) v w tt range agree
+step_alike origin (step.WriteEmergency which watts) v w small range agree = setting_alike which (setting.ThresholdEmergency watts) v w tt range agree
+step_alike origin (step.WriteMinOver which seconds) v w small range agree = setting_alike which (setting.MinOverThresholdDuration seconds) v w small range agree
+step_alike origin (step.WriteMinUnder which seconds) v w small range agree = setting_alike which (setting.MinUnderThresholdDuration seconds) v w small range agree
 step_alike origin (step.WriteProfile which profile) v w small range agree = setting_alike which (setting.Profile profile) v w tt range agree
 step_alike origin step.Disconnect v w small range agree = trigger_alike _ v w range agree
 step_alike origin step.Reconnect v w small range agree = trigger_alike _ v w range agree
@@ -192,12 +192,12 @@ rows_alike : (settings : Settings) (now : Option ℕ) (value : ℕ) (xs ys : Lis
 rows_alike settings now value xs ys range alike =
     let row = row_of (limits_at settings now) value in
     record {
-      over = row_counted OverThreshold row xs (λ _. need_counted settings.min_over_duration range.over)
+      over = row_counted OverThreshold row xs (λ _. need_counted settings.min_over_threshold_duration range.over)
           ∙ ap (count_after (is_past OverThreshold row) (need OverThreshold row)) alike.over
-          ∙ sym (row_counted OverThreshold row ys (λ _. need_counted settings.min_over_duration range.over));
-      under = row_counted UnderThreshold row xs (λ _. need_counted settings.min_under_duration range.under)
+          ∙ sym (row_counted OverThreshold row ys (λ _. need_counted settings.min_over_threshold_duration range.over));
+      under = row_counted UnderThreshold row xs (λ _. need_counted settings.min_under_threshold_duration range.under)
           ∙ ap (count_after (is_past UnderThreshold row) (need UnderThreshold row)) alike.under
-          ∙ sym (row_counted UnderThreshold row ys (λ _. need_counted settings.min_under_duration range.under));
+          ∙ sym (row_counted UnderThreshold row ys (λ _. need_counted settings.min_under_threshold_duration range.under));
     }
 
 fires_alike : (settings : Settings) (now : Option ℕ) (value : ℕ) (xs ys : List Row) → AreInRange settings → AreCountedAlike xs ys
@@ -207,10 +207,10 @@ fires_alike settings now value xs ys range alike =
     let fire : Count → Count → Fire = λ over under.
     if fires_at (is_past OverThreshold row) (need OverThreshold row) over then Over
     else if fires_at (is_past UnderThreshold row) (need UnderThreshold row) under then Under else Quiet in
-    fire_counted row xs (λ _. need_counted settings.min_over_duration range.over) (λ _. need_counted settings.min_under_duration range.under)
+    fire_counted row xs (λ _. need_counted settings.min_over_threshold_duration range.over) (λ _. need_counted settings.min_under_threshold_duration range.under)
     ∙ ap (λ (over : Count). fire over (count_of UnderThreshold xs)) alike.over
     ∙ ap (fire (count_of OverThreshold ys)) alike.under
-    ∙ sym (fire_counted row ys (λ _. need_counted settings.min_over_duration range.over) (λ _. need_counted settings.min_under_duration range.under))
+    ∙ sym (fire_counted row ys (λ _. need_counted settings.min_over_threshold_duration range.over) (λ _. need_counted settings.min_under_threshold_duration range.under))
 
 -- Worlds that agree, the first of them in range.
 pub record AreAlike (v w : World) : Type 0 where

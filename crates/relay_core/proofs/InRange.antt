@@ -30,10 +30,10 @@ setting_in_range : (value : Data) (a : LimiterAttribute) → IfOk (setting_of a 
 unfolding setting_of
 setting_in_range value attribute.MonitoredValue = tt
 setting_in_range value attribute.ThresholdActive = tt
-setting_in_range value attribute.ThresholdNormal = set_by (number_of value) (λ n. setting.NormalThreshold n) (λ n e. tt)
-setting_in_range value attribute.ThresholdEmergency = set_by (number_of value) (λ n. setting.EmergencyThreshold n) (λ n e. tt)
-setting_in_range value attribute.MinOverThresholdDuration = set_by (number_of value) (λ n. setting.MinOverDuration n) (λ n e. number_small value n e)
-setting_in_range value attribute.MinUnderThresholdDuration = set_by (number_of value) (λ n. setting.MinUnderDuration n) (λ n e. number_small value n e)
+setting_in_range value attribute.ThresholdNormal = set_by (number_of value) (λ n. setting.ThresholdNormal n) (λ n e. tt)
+setting_in_range value attribute.ThresholdEmergency = set_by (number_of value) (λ n. setting.ThresholdEmergency n) (λ n e. tt)
+setting_in_range value attribute.MinOverThresholdDuration = set_by (number_of value) (λ n. setting.MinOverThresholdDuration n) (λ n e. number_small value n e)
+setting_in_range value attribute.MinUnderThresholdDuration = set_by (number_of value) (λ n. setting.MinUnderThresholdDuration n) (λ n e. number_small value n e)
 setting_in_range value attribute.EmergencyProfile = set_by (profile_of value) (λ p. setting.Profile p) (λ p e. tt)
 setting_in_range value attribute.EmergencyProfileGroupIdList = tt
 setting_in_range value attribute.EmergencyProfileActive = tt

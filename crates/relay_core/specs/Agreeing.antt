@@ -3,7 +3,7 @@ use Rattle.std.specs.Prelude.{◌≡◌, ◌<◌, List, IfOk, IfSome}
 use Rattle.cosem_axdr.specs.declared.value.Data.{Data}
 use Rattle.limiter_attributes.specs.declared.attribute.LimiterAttribute.{LimiterAttribute}
 use Rattle.limiter_attributes.specs.declared.setting.Setting.{Setting}
-use Rattle.limiter_attributes.specs.declared.setting.Setting.TheVariants.{MinOverDuration, MinUnderDuration}
+use Rattle.limiter_attributes.specs.declared.setting.Setting.TheVariants.{MinOverThresholdDuration, MinUnderThresholdDuration}
 use Rattle.limiter_attributes.specs.Reading.{setting_of}
 use Rattle.limiter_core.specs.declared.settings.Settings.{Settings}
 use Rattle.limiter_core.specs.Counting.{count_of}
@@ -33,12 +33,12 @@ pub record Agree (v w : World) : Type 0 where
 
 -- Both durations fit in 32 bits.
 pub record AreInRange (settings : Settings) : Type 0 where
-  pub over : settings.min_over_duration < 4294967296
-  pub under : settings.min_under_duration < 4294967296
+  pub over : settings.min_over_threshold_duration < 4294967296
+  pub under : settings.min_under_threshold_duration < 4294967296
 
 abbrev pub IsSettingInRange : Setting → Type 0
-IsSettingInRange (MinOverDuration seconds) = seconds < 4294967296
-IsSettingInRange (MinUnderDuration seconds) = seconds < 4294967296
+IsSettingInRange (MinOverThresholdDuration seconds) = seconds < 4294967296
+IsSettingInRange (MinUnderThresholdDuration seconds) = seconds < 4294967296
 IsSettingInRange _ = Unit {0}
 
 -- A world whose durations fit in 32 bits, those in its scripts' steps included.

@@ -5,7 +5,7 @@ use Rattle.cosem_names.specs.declared.result_code.ResultCode.{ResultCode}
 use Rattle.cosem_names.specs.declared.result_code.ResultCode.TheVariants.{Success}
 use Rattle.disconnect_control.specs.declared.state.Trigger.{Trigger}
 use Rattle.disconnect_control.specs.declared.state.Trigger.TheVariants.{RemoteDisconnect, RemoteReconnect, LocalDisconnect, LocalReconnect}
-use Rattle.limiter_attributes.specs.declared.setting.Setting.TheVariants.{NormalThreshold, EmergencyThreshold, MinOverDuration, MinUnderDuration, Profile}
+use Rattle.limiter_attributes.specs.declared.setting.Setting.TheVariants.{ThresholdNormal, ThresholdEmergency, MinOverThresholdDuration, MinUnderThresholdDuration, Profile}
 use Rattle.relay_core.specs.declared.scripts.Origin.{Origin}
 use Rattle.relay_core.specs.declared.scripts.Origin.TheVariants.{Remote, Local}
 use Rattle.relay_core.specs.Switch.{at_trigger}
@@ -29,10 +29,10 @@ unfoldable pub at_step : Origin → Step → World → Outcome
 at_step origin (WriteMode mode) w = at_mode mode w
 at_step origin Disconnect w = at_trigger (disconnect_by origin) w
 at_step origin Reconnect w = at_trigger (reconnect_by origin) w
-at_step origin (WriteNormal which watts) w = at_setting which (NormalThreshold watts) w
-at_step origin (WriteEmergency which watts) w = at_setting which (EmergencyThreshold watts) w
-at_step origin (WriteMinOver which seconds) w = at_setting which (MinOverDuration seconds) w
-at_step origin (WriteMinUnder which seconds) w = at_setting which (MinUnderDuration seconds) w
+at_step origin (WriteNormal which watts) w = at_setting which (ThresholdNormal watts) w
+at_step origin (WriteEmergency which watts) w = at_setting which (ThresholdEmergency watts) w
+at_step origin (WriteMinOver which seconds) w = at_setting which (MinOverThresholdDuration seconds) w
+at_step origin (WriteMinUnder which seconds) w = at_setting which (MinUnderThresholdDuration seconds) w
 at_step origin (WriteProfile which profile) w = at_setting which (Profile profile) w
 
 abbrev pub is_success : ResultCode → Bool

@@ -56,16 +56,16 @@ impl RelayCore {
             Step::Disconnect => self.pull(origin.disconnect()),
             Step::Reconnect => self.pull(origin.reconnect()),
             Step::WriteNormal(which, watts) => {
-                self.set_limiter(which, Setting::NormalThreshold(watts))
+                self.set_limiter(which, Setting::ThresholdNormal(watts))
             }
             Step::WriteEmergency(which, watts) => {
-                self.set_limiter(which, Setting::EmergencyThreshold(watts))
+                self.set_limiter(which, Setting::ThresholdEmergency(watts))
             }
             Step::WriteMinOver(which, seconds) => {
-                self.set_limiter(which, Setting::MinOverDuration(seconds))
+                self.set_limiter(which, Setting::MinOverThresholdDuration(seconds))
             }
             Step::WriteMinUnder(which, seconds) => {
-                self.set_limiter(which, Setting::MinUnderDuration(seconds))
+                self.set_limiter(which, Setting::MinUnderThresholdDuration(seconds))
             }
             Step::WriteProfile(which, profile) => {
                 self.set_limiter(which, Setting::Profile(profile))

@@ -85,10 +85,10 @@ count_is_row name count is within =
 
 limiter_are_rows : (which : Which) (o : LimiterOpening) (rows : List Row) → IsFitLimiterOpening o → IsTracedLimiter o → AreRows rows → AreRows (limiter_rows which o ++ rows)
 limiter_are_rows which o rows fit traced are =
-    let normal = number_is_row (label which (codes "normal")) o.settings.normal_threshold (label_is_word which (codes "normal") refl) (omega (arith, traced.normal_threshold)) in
-    let emergency = number_is_row (label which (codes "emergency")) o.settings.emergency_threshold (label_is_word which (codes "emergency") refl) (omega (arith, traced.emergency_threshold)) in
-    let minover = number_is_row (label which (codes "minover")) o.settings.min_over_duration (label_is_word which (codes "minover") refl) (omega (arith, traced.min_over_duration)) in
-    let minunder = number_is_row (label which (codes "minunder")) o.settings.min_under_duration (label_is_word which (codes "minunder") refl) (omega (arith, traced.min_under_duration)) in
+    let normal = number_is_row (label which (codes "normal")) o.settings.threshold_normal (label_is_word which (codes "normal") refl) (omega (arith, traced.threshold_normal)) in
+    let emergency = number_is_row (label which (codes "emergency")) o.settings.threshold_emergency (label_is_word which (codes "emergency") refl) (omega (arith, traced.threshold_emergency)) in
+    let minover = number_is_row (label which (codes "minover")) o.settings.min_over_threshold_duration (label_is_word which (codes "minover") refl) (omega (arith, traced.min_over_threshold_duration)) in
+    let minunder = number_is_row (label which (codes "minunder")) o.settings.min_under_threshold_duration (label_is_word which (codes "minunder") refl) (omega (arith, traced.min_under_threshold_duration)) in
     let profile = profile_is_row which o traced in
     let groups = groups_is_row which o.settings.groups traced.groups in
     let actions = two_numbers_are_row (label which (codes "actions")) o.settings.actions.over o.settings.actions.under (label_is_word which (codes "actions") refl)

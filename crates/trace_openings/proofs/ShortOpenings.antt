@@ -65,13 +65,13 @@ limiter_short which o fit traced =
     let settings = o.settings in
     let profile = settings.profile in
     let start = date_time_bytes profile.start in (
-      number_row_short (label which (codes "normal")) settings.normal_threshold (named which (codes "normal") (omega arith)) traced.normal_threshold,
+      number_row_short (label which (codes "normal")) settings.threshold_normal (named which (codes "normal") (omega arith)) traced.threshold_normal,
       (
-        number_row_short (label which (codes "emergency")) settings.emergency_threshold (named which (codes "emergency") (omega arith)) traced.emergency_threshold,
+        number_row_short (label which (codes "emergency")) settings.threshold_emergency (named which (codes "emergency") (omega arith)) traced.threshold_emergency,
         (
-          number_row_short (label which (codes "minover")) settings.min_over_duration (named which (codes "minover") (omega arith)) traced.min_over_duration,
+          number_row_short (label which (codes "minover")) settings.min_over_threshold_duration (named which (codes "minover") (omega arith)) traced.min_over_threshold_duration,
           (
-            number_row_short (label which (codes "minunder")) settings.min_under_duration (named which (codes "minunder") (omega arith)) traced.min_under_duration,
+            number_row_short (label which (codes "minunder")) settings.min_under_threshold_duration (named which (codes "minunder") (omega arith)) traced.min_under_threshold_duration,
             (
               words_in (1 + 20 + (1 + 10 + (1 + 24 + (1 + 10 + 0)))) 20000 (profile_row which profile)
                   (word_on 20 (1 + 10 + (1 + 24 + (1 + 10 + 0))) (label which (codes "profile")) _ (named which (codes "profile") (omega arith))

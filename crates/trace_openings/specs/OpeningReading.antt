@@ -40,10 +40,10 @@ settings_from which place = do
   actions ← line_as (actions_from which) groups.1
   Ok (
     record {
-      normal_threshold = normal.0;
-      emergency_threshold = emergency.0;
-      min_over_duration = min_over.0;
-      min_under_duration = min_under.0;
+      threshold_normal = normal.0;
+      threshold_emergency = emergency.0;
+      min_over_threshold_duration = min_over.0;
+      min_under_threshold_duration = min_under.0;
       profile = profile.0;
       groups = groups.0;
       actions = actions.0;

@@ -42,10 +42,10 @@ value_row which limiter = number_row (label which (codes "value")) limiter.value
 -- the lines of a limiter's settings
 abbrev pub settings_rows : Which → Settings → List Row
 settings_rows which settings =
-    number_row (label which (codes "normal")) settings.normal_threshold
-    ∷ number_row (label which (codes "emergency")) settings.emergency_threshold
-    ∷ number_row (label which (codes "minover")) settings.min_over_duration
-    ∷ number_row (label which (codes "minunder")) settings.min_under_duration
+    number_row (label which (codes "normal")) settings.threshold_normal
+    ∷ number_row (label which (codes "emergency")) settings.threshold_emergency
+    ∷ number_row (label which (codes "minover")) settings.min_over_threshold_duration
+    ∷ number_row (label which (codes "minunder")) settings.min_under_threshold_duration
     ∷ profile_row which settings.profile
     ∷ groups_row which settings.groups
     ∷ (label which (codes "actions") ∷ decimal settings.actions.over

@@ -26,10 +26,10 @@ AreIds (id ∷ ids) = (id ≤ 65535) × AreIds ids
 -- ranges
 pub record IsTracedLimiter (o : LimiterOpening) : Type 0 where
   pub value : o.value ≤ 4294967295
-  pub normal_threshold : o.settings.normal_threshold ≤ 4294967295
-  pub emergency_threshold : o.settings.emergency_threshold ≤ 4294967295
-  pub min_over_duration : o.settings.min_over_duration ≤ 4294967295
-  pub min_under_duration : o.settings.min_under_duration ≤ 4294967295
+  pub threshold_normal : o.settings.threshold_normal ≤ 4294967295
+  pub threshold_emergency : o.settings.threshold_emergency ≤ 4294967295
+  pub min_over_threshold_duration : o.settings.min_over_threshold_duration ≤ 4294967295
+  pub min_under_threshold_duration : o.settings.min_under_threshold_duration ≤ 4294967295
   pub profile_id : o.settings.profile.id ≤ 65535
   pub profile_start : IsDateTimeFields o.settings.profile.start
   pub profile_duration : o.settings.profile.duration ≤ 4294967295

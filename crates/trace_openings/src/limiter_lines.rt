@@ -40,18 +40,18 @@ fn read_settings(
         (settings_from which lines.old) }
     ensures within_max { IfOk result (λ settings. length settings.groups ≤ 32) }
 {
-    let normal_threshold = read_value(which, b"normal", lines)?;
-    let emergency_threshold = read_value(which, b"emergency", lines)?;
-    let min_over_duration = read_value(which, b"minover", lines)?;
-    let min_under_duration = read_value(which, b"minunder", lines)?;
+    let threshold_normal = read_value(which, b"normal", lines)?;
+    let threshold_emergency = read_value(which, b"emergency", lines)?;
+    let min_over_threshold_duration = read_value(which, b"minover", lines)?;
+    let min_under_threshold_duration = read_value(which, b"minunder", lines)?;
     let profile = lines.read(|words| profile(alloc, which, words))?;
     let groups = lines.read(|words| groups(alloc, which, words))?;
     let (groups, actions) = and_keep(groups, lines.read(|words| actions(which, words)))?;
     Ok(Settings {
-        normal_threshold,
-        emergency_threshold,
-        min_over_duration,
-        min_under_duration,
+        threshold_normal,
+        threshold_emergency,
+        min_over_threshold_duration,
+        min_under_threshold_duration,
         profile,
         groups,
         actions,

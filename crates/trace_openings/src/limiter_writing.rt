@@ -124,10 +124,10 @@ fn write_settings(
     ensures { OnOk result (out.new.items ≡ out.old.items
         ++ rows_text (settings_rows which settings.now)) }
 {
-    write_value(out, which, b"normal", settings.normal_threshold)?;
-    write_value(out, which, b"emergency", settings.emergency_threshold)?;
-    write_value(out, which, b"minover", settings.min_over_duration)?;
-    write_value(out, which, b"minunder", settings.min_under_duration)?;
+    write_value(out, which, b"normal", settings.threshold_normal)?;
+    write_value(out, which, b"emergency", settings.threshold_emergency)?;
+    write_value(out, which, b"minover", settings.min_over_threshold_duration)?;
+    write_value(out, which, b"minunder", settings.min_under_threshold_duration)?;
     write_profile(alloc, out, which, &settings.profile)?;
     write_groups(out, which, &settings.groups)?;
     write_actions(out, which, &settings.actions)

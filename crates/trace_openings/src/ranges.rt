@@ -70,10 +70,10 @@ fn limiter_is_traced(limiter: &LimiterOpening)
 {
     let settings = &limiter.settings;
     look_at(limiter.value);
-    look_at(settings.normal_threshold);
-    look_at(settings.emergency_threshold);
-    look_at(settings.min_over_duration);
-    look_at(settings.min_under_duration);
+    look_at(settings.threshold_normal);
+    look_at(settings.threshold_emergency);
+    look_at(settings.min_over_threshold_duration);
+    look_at(settings.min_under_threshold_duration);
     profile_is_traced(&settings.profile);
     are_ids(settings.groups.as_slice());
     look_at(settings.actions.over);

@@ -251,10 +251,10 @@ fn hold(alloc: Global, text: &[u8], rows: &[Other]) -> Result<bool, AllocError> 
 // Returns whether a limiter has these thresholds and durations.
 fn has_limits(limiter: &LimiterOpening, limits: [u32; 4]) -> bool {
     [
-        limiter.settings.normal_threshold,
-        limiter.settings.emergency_threshold,
-        limiter.settings.min_over_duration,
-        limiter.settings.min_under_duration,
+        limiter.settings.threshold_normal,
+        limiter.settings.threshold_emergency,
+        limiter.settings.min_over_threshold_duration,
+        limiter.settings.min_under_threshold_duration,
     ] == limits
 }
 

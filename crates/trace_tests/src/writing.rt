@@ -112,10 +112,10 @@ fn are_lines_behind(alloc: Global, opening: &Opening, lines: &[u8]) -> Result<bo
 // Sets an import limiter that has fired over its threshold.
 fn set_import(alloc: Global, limiter: &mut LimiterOpening) -> Result<(), AllocError> {
     limiter.value = 5001;
-    limiter.settings.normal_threshold = 5000;
-    limiter.settings.emergency_threshold = 6000;
-    limiter.settings.min_over_duration = 10;
-    limiter.settings.min_under_duration = 20;
+    limiter.settings.threshold_normal = 5000;
+    limiter.settings.threshold_emergency = 6000;
+    limiter.settings.min_over_threshold_duration = 10;
+    limiter.settings.min_under_threshold_duration = 20;
     limiter.settings.profile.id = 7;
     limiter.settings.profile.duration = 30;
     limiter.settings.groups = Listed::from_vec(Vec::from_slice(alloc, &[1, 65_535])?);
@@ -130,10 +130,10 @@ fn set_import(alloc: Global, limiter: &mut LimiterOpening) -> Result<(), AllocEr
 // Sets an export limiter with a run under its threshold.
 fn set_export(alloc: Global, limiter: &mut LimiterOpening) -> Result<(), AllocError> {
     limiter.value = 8000;
-    limiter.settings.normal_threshold = 9000;
-    limiter.settings.emergency_threshold = 9500;
-    limiter.settings.min_over_duration = 40;
-    limiter.settings.min_under_duration = 60;
+    limiter.settings.threshold_normal = 9000;
+    limiter.settings.threshold_emergency = 9500;
+    limiter.settings.min_over_threshold_duration = 40;
+    limiter.settings.min_under_threshold_duration = 60;
     limiter.settings.profile.id = 8;
     limiter.settings.profile.duration = 70;
     limiter.settings.groups = Listed::from_vec(Vec::from_slice(alloc, &[2])?);

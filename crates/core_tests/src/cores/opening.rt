@@ -33,7 +33,7 @@ fn pass(core: &mut RelayCore, alloc: Global) -> Result<(), AllocError> {
 
 fn is_set_limiter(limiter: &LimiterOpening, value: u32, threshold: u32) -> bool {
     limiter.value == value
-        && limiter.settings.normal_threshold == threshold
+        && limiter.settings.threshold_normal == threshold
         && limiter.over
             == Count {
                 run: 3,
