@@ -1,7 +1,7 @@
 //! Meters that are reached over TCP on this machine.
 use crate::meters::{DONE, SENT, job, password};
 use client_core::{Job, Outcome};
-use head_end::{Attempt, Connector, TcpLimits, Row, TcpConnector, run_job};
+use head_end::{Attempt, Connector, Row, TcpConnector, TcpLimits, run_job};
 use std::alloc::{AllocError, Global};
 use std::io::{Read, Write};
 use std::net::TcpListener;

@@ -4,7 +4,7 @@ use crate::meters::{OPENED, jobs_named, password};
 use byte_streams::StreamFault;
 use client_core::Outcome;
 use cosem_axdr::Octets;
-use head_end::{ConnectFault, Connection, Connector, Jobs, ReportLine, Report, Row};
+use head_end::{ConnectFault, Connection, Connector, Jobs, Report, ReportLine, Row};
 use std::alloc::{AllocError, Global};
 use std::sync::Arc;
 use std::sync::atomic::{AtomicBool, Ordering};

@@ -20,7 +20,11 @@ pub struct DeadlineStream<R: Eprint + Copy> {
 
 impl<R: Clock + Eprint + Copy> DeadlineStream<R> {
     // Returns the input and the output of a stream whose session begins now.
-    pub(crate) fn both_ways(rt: R, stream: TcpStream, limits: StreamLimits) -> io::Result<(Self, Self)> {
+    pub(crate) fn both_ways(
+        rt: R,
+        stream: TcpStream,
+        limits: StreamLimits,
+    ) -> io::Result<(Self, Self)> {
         stream.set_nodelay(true)?;
         stream.set_read_timeout(limits.call)?;
         stream.set_write_timeout(limits.call)?;

@@ -50,7 +50,15 @@ pub fn run_campaign<R: Threads + Sync, C: Connector>(
         (map (λ place. place.attempt.stage) places.new)) }
     ensures unchanged_on_error { OnErr result (places.new ≡ places.old) }
 {
-    run_watched_campaign(rt, alloc, jobs, places, password, workers, &UnwatchedCampaign)
+    run_watched_campaign(
+        rt,
+        alloc,
+        jobs,
+        places,
+        password,
+        workers,
+        &UnwatchedCampaign,
+    )
 }
 
 /// Runs all jobs as [`run_campaign`] does, and calls a watcher after each job.
@@ -130,7 +138,12 @@ impl<'a, W: Watcher> Campaign<'a, W> {
     }
 
     // Runs the jobs of all slots.
-    fn work<R: Threads + Sync, C: Connector>(&self, rt: &R, alloc: Global, places: &mut [JobPlace<C>])
+    fn work<R: Threads + Sync, C: Connector>(
+        &self,
+        rt: &R,
+        alloc: Global,
+        places: &mut [JobPlace<C>],
+    )
         requires slots { length places.old ≡ self.now.turns * self.now.workers }
         requires unused { All (λ place. place.attempt.stage ≡ unused) places.old }
         ensures { EachChange (λ slot old new. IsRun self.now.turns self.now.workers
@@ -196,7 +209,12 @@ fn place_of(turns: usize, workers: usize, slot: usize) -> usize
 }
 
 // Stores the rows of the slots in the lines of their jobs.
-fn gather<C: Connector>(lines: &mut [ReportLine], places: &[JobPlace<C>], turns: usize, workers: usize)
+fn gather<C: Connector>(
+    lines: &mut [ReportLine],
+    places: &[JobPlace<C>],
+    turns: usize,
+    workers: usize,
+)
     requires workers { 0 < workers }
     requires slots { length places.now ≡ turns * workers }
     requires within_max { length lines.old < turns * workers }

@@ -40,5 +40,5 @@ pub use report_lines::Report;
 pub use reporting::{add_report, report};
 pub use row::{ReportLine, Row};
 pub use running::run_job;
-pub use tcp::{TcpLimits, TcpConnector};
+pub use tcp::{TcpConnector, TcpLimits};
 pub use watching::{UnwatchedCampaign, Watcher};

@@ -103,7 +103,10 @@ fn password(rt: &HostRuntime, matches: &ArgMatches<'_>) -> Result<Octets, Fault>
 }
 
 // What the command line asks for, with the jobs on standard input.
-pub(crate) fn plan_campaign(rt: &HostRuntime, matches: &ArgMatches<'_>) -> Result<CampaignPlan, Fault>
+pub(crate) fn plan_campaign(
+    rt: &HostRuntime,
+    matches: &ArgMatches<'_>,
+) -> Result<CampaignPlan, Fault>
     ensures limits { IfOk result (λ plan. AreLimits (found_of matches.now) plan.limits) }
     ensures workers { IfOk result (λ plan. AreWorkers (found_of matches.now) plan.workers) }
 {

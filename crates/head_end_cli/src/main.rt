@@ -12,7 +12,7 @@ mod telling;
 mod warnings;
 
 use crate::arguments::command_line;
-use crate::campaign::{PASSWORD_VARIABLE, CampaignPlan};
+use crate::campaign::{CampaignPlan, PASSWORD_VARIABLE};
 use crate::telling::{ListFault, input_fault, jobs_fault};
 use crate::warnings::warn;
 use byte_streams::{Counted, read_to_end_within};
@@ -102,7 +102,9 @@ fn begin_command(rt: &HostRuntime, matches: &ArgMatches<'_>) -> Result<HeadEndCo
             check(rt, matches.get_flag("verbose"))?;
             Ok(HeadEndCommand::Ended(0))
         }
-        Some(("run", matches)) => Ok(HeadEndCommand::Campaign(campaign::plan_campaign(rt, matches)?)),
+        Some(("run", matches)) => Ok(HeadEndCommand::Campaign(campaign::plan_campaign(
+            rt, matches,
+        )?)),
         _ => Err(Fault::Input),
     }
 }

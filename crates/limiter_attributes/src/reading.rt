@@ -81,7 +81,9 @@ pub fn read_setting(
     Ok(Some(match attribute {
         LimiterAttribute::ThresholdNormal => Setting::ThresholdNormal(read_number(value)?),
         LimiterAttribute::ThresholdEmergency => Setting::ThresholdEmergency(read_number(value)?),
-        LimiterAttribute::MinOverThresholdDuration => Setting::MinOverThresholdDuration(read_number(value)?),
+        LimiterAttribute::MinOverThresholdDuration => Setting::MinOverThresholdDuration(read_number(
+            value,
+        )?),
         LimiterAttribute::MinUnderThresholdDuration => {
             Setting::MinUnderThresholdDuration(read_number(value)?)
         }

@@ -30,8 +30,12 @@ impl Setting {
         match self {
             Setting::ThresholdNormal(watts) => limiter.set_threshold_normal(watts),
             Setting::ThresholdEmergency(watts) => limiter.set_threshold_emergency(watts),
-            Setting::MinOverThresholdDuration(seconds) => limiter.set_min_over_threshold_duration(seconds),
-            Setting::MinUnderThresholdDuration(seconds) => limiter.set_min_under_threshold_duration(seconds),
+            Setting::MinOverThresholdDuration(seconds) => limiter.set_min_over_threshold_duration(
+                seconds,
+            ),
+            Setting::MinUnderThresholdDuration(seconds) => limiter.set_min_under_threshold_duration(
+                seconds,
+            ),
             Setting::Profile(profile) => limiter.set_profile(profile),
             Setting::Actions(actions) => limiter.set_actions(actions),
         }

@@ -82,7 +82,12 @@ pub extern "C" fn meter_sample_pairs(
 /// Applies a moment of the meter's clock, in seconds since 2000-01-01 00:00:00. `ran` is the number
 /// of schedules that were due.
 #[unsafe(no_mangle)]
-pub extern "C" fn meter_moment(alloc: Global, meter: &mut MeterHandle, moment: u32, ran: &mut u8) -> u32
+pub extern "C" fn meter_moment(
+    alloc: Global,
+    meter: &mut MeterHandle,
+    moment: u32,
+    ran: &mut u8,
+) -> u32
     ensures { OnOpen (ran.new ≡ 0) (TickedTo moment ran.new) meter.old.slot.held result
         meter.new.slot.held }
 {

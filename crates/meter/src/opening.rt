@@ -27,7 +27,13 @@ pub extern "C" fn meter_open(
 }
 
 // Opens a new meter, unless the handle holds one.
-fn open(alloc: Global, meter: &mut MeterHandle, name: &[u8], password: &[u8], kept_events: u16) -> CallResult
+fn open(
+    alloc: Global,
+    meter: &mut MeterHandle,
+    name: &[u8],
+    password: &[u8],
+    kept_events: u16,
+) -> CallResult
     ensures { OpensTo name.now password.now kept_events meter.old.slot.held result
         meter.new.slot.held }
 {

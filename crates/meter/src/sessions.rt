@@ -25,7 +25,12 @@ pub extern "C" fn meter_open_session(alloc: Global, meter: &mut MeterHandle, ses
 
 /// Passes the next bytes to a session.
 #[unsafe(no_mangle)]
-pub extern "C" fn meter_feed(alloc: Global, meter: &mut MeterHandle, session: u8, bytes: &[u8]) -> u32
+pub extern "C" fn meter_feed(
+    alloc: Global,
+    meter: &mut MeterHandle,
+    session: u8,
+    bytes: &[u8],
+) -> u32
     ensures { OnOpen Unit (FedAt session bytes.now) meter.old.slot.held result meter.new.slot.held }
 {
     let Some(mut held) = meter.take(alloc) else {

@@ -86,7 +86,11 @@ pub extern "C" fn meter_export(
 
 // Copies a text to the buffer if it fits. `length` is the length of the text if it was copied or
 // does not fit, else 0.
-fn write_text(exported: Result<Octets, AllocError>, text: &mut [u8], length: &mut usize) -> CallResult
+fn write_text(
+    exported: Result<Octets, AllocError>,
+    text: &mut [u8],
+    length: &mut usize,
+) -> CallResult
     requires { length.old ≡ 0 }
     ensures { WritesBy exported text.old text.new length.new result }
 {

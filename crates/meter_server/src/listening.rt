@@ -10,7 +10,7 @@ use cosem_axdr::Octets;
 use kept_meter::Kept;
 use session_core::SessionEnd;
 use session_serving::ServeFault;
-use session_threads::{PortConnection, Arrival, ListenFault};
+use session_threads::{Arrival, ListenFault, PortConnection};
 use std::alloc::Global;
 use std::io::{Read, Write};
 use std::net::TcpStream;

@@ -69,7 +69,10 @@ fn begin(rt: &HostRuntime) -> Result<ServerCommand, Fault> {
 fn main(rt: HostRuntime) -> ExitCode {
     match begin(&rt) {
         Ok(ServerCommand::Ended(status)) => ExitCode::from(status),
-        Ok(ServerCommand::Serve(server)) => exit_code(&rt, serving::run(&rt, &rt, server).map(|()| 0)),
+        Ok(ServerCommand::Serve(server)) => exit_code(
+            &rt,
+            serving::run(&rt, &rt, server).map(|()| 0),
+        ),
         Err(fault) => exit_code(&rt, Err(fault)),
     }
 }

@@ -293,7 +293,12 @@ fn limiter_like(alloc: Global, other: &Limiter, moment: u32) -> Result<Limiter, 
 }
 
 /// Whether a limiter begins with these settings, at this moment, without a sample.
-fn begins(limiter: &Limiter, threshold_normal: u32, min_over_threshold_duration: u32, moment: u32) -> bool {
+fn begins(
+    limiter: &Limiter,
+    threshold_normal: u32,
+    min_over_threshold_duration: u32,
+    moment: u32,
+) -> bool {
     let settings = limiter.settings();
     settings.threshold_normal == threshold_normal
         && settings.min_over_threshold_duration == min_over_threshold_duration

@@ -106,7 +106,11 @@ impl Recorder {
     {
         let parts = RelayCore::parts(alloc, &event)?;
         let reply = self.core.step(alloc, &event)?;
-        keep(&mut self.kept, &mut self.opening, RecordedEvent::new(event, parts));
+        keep(
+            &mut self.kept,
+            &mut self.opening,
+            RecordedEvent::new(event, parts),
+        );
         Ok(reply)
     }
 

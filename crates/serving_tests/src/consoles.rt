@@ -5,7 +5,7 @@ ghost use Rattle.relay_core.specs.Opening.{IsFitOpening};
 
 use byte_streams::Monitored;
 use meter_console::{
-    Console, ConsoleEnd, Ended, EventSink, LineBuffer, Reading, ConsoleSources, console_event,
+    Console, ConsoleEnd, ConsoleSources, Ended, EventSink, LineBuffer, Reading, console_event,
     run_console, start,
 };
 use meter_server::{BlockSource, ButtonSource, MomentSource};

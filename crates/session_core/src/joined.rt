@@ -37,7 +37,11 @@ impl Joined {
             Some(value) => Ok(self.ask(value)),
             None => {
                 let service = self.purpose.service();
-                let refusal = service.refusal_response(self.id, self.number, ResultCode::OtherReason);
+                let refusal = service.refusal_response(
+                    self.id,
+                    self.number,
+                    ResultCode::OtherReason,
+                );
                 Ok(TurnStep::Say(Due::response(self.link.source, refusal)))
             }
         }

@@ -98,7 +98,11 @@ impl Session {
     {
         match &self.task {
             SessionTask::Await(_) => true,
-            SessionTask::Listen | SessionTask::Read(_) | SessionTask::Say(_) | SessionTask::Send(_) | SessionTask::Over(_) => false,
+            SessionTask::Listen
+            | SessionTask::Read(_)
+            | SessionTask::Say(_)
+            | SessionTask::Send(_)
+            | SessionTask::Over(_) => false,
         }
     }
 
@@ -200,7 +204,11 @@ impl Session {
     {
         match &self.task {
             SessionTask::Over(end) => Some(*end),
-            SessionTask::Listen | SessionTask::Read(_) | SessionTask::Await(_) | SessionTask::Say(_) | SessionTask::Send(_) => None,
+            SessionTask::Listen
+            | SessionTask::Read(_)
+            | SessionTask::Await(_)
+            | SessionTask::Say(_)
+            | SessionTask::Send(_) => None,
         }
     }
 
@@ -212,7 +220,11 @@ impl Session {
     {
         match &self.task {
             SessionTask::Listen => !self.is_finished && matches!(self.deframer.front(), Head::Part),
-            SessionTask::Read(_) | SessionTask::Await(_) | SessionTask::Say(_) | SessionTask::Send(_) | SessionTask::Over(_) => false,
+            SessionTask::Read(_)
+            | SessionTask::Await(_)
+            | SessionTask::Say(_)
+            | SessionTask::Send(_)
+            | SessionTask::Over(_) => false,
         }
     }
 

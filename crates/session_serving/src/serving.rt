@@ -11,7 +11,7 @@ ghost use Rattle.session_core.specs.Remaining.{still_asks, still_sends, still_en
 use crate::fault::ServeFault;
 use crate::form::{AsBytes, Form};
 use crate::meter::Meter;
-use crate::watch::{UnwatchedSession, SessionWatch};
+use crate::watch::{SessionWatch, UnwatchedSession};
 use byte_streams::{Reader, Writer};
 use cosem_axdr::Octets;
 use relay_events::Event;

@@ -16,7 +16,7 @@ mod sessions;
 mod worker;
 
 pub use accepted::Accepted;
-pub use connections::{PortConnection, Arrival, ListenFault, ConnectionSource};
+pub use connections::{Arrival, ConnectionSource, ListenFault, PortConnection};
 pub use flags::SESSIONS;
 pub use serving::serve_connections;
-pub use worker::{Handed, WorkerPromise, Worker, WorkerThread, join_worker, start_worker};
+pub use worker::{Handed, Worker, WorkerPromise, WorkerThread, join_worker, start_worker};

@@ -8,7 +8,7 @@ ghost use Rattle.turn_lock.specs.Calls.{Joins};
 ghost use Rattle.turn_lock.specs.Shown.{IsSame};
 
 use crate::accepted::Admission;
-use crate::connections::{PortConnection, Arrival};
+use crate::connections::{Arrival, PortConnection};
 use crate::flags::{Flags, SESSIONS};
 use crate::session::{SessionThread, start};
 use slab::Slab;

@@ -8,7 +8,7 @@ ghost use Rattle.trace_lines.specs.Events.{events_from};
 
 use std::alloc::AllocError;
 use trace_text::Words;
-use trace_words::{RowFault, TraceFault, TraceLines, read_labelled, number_in, write_number_line};
+use trace_words::{RowFault, TraceFault, TraceLines, number_in, read_labelled, write_number_line};
 
 /// The maximum number of events of a trace.
 pub const MAX_EVENTS: u32 = 65_536;

@@ -127,7 +127,12 @@ fn write_settings(
     write_value(out, which, b"normal", settings.threshold_normal)?;
     write_value(out, which, b"emergency", settings.threshold_emergency)?;
     write_value(out, which, b"minover", settings.min_over_threshold_duration)?;
-    write_value(out, which, b"minunder", settings.min_under_threshold_duration)?;
+    write_value(
+        out,
+        which,
+        b"minunder",
+        settings.min_under_threshold_duration,
+    )?;
     write_profile(alloc, out, which, &settings.profile)?;
     write_groups(out, which, &settings.groups)?;
     write_actions(out, which, &settings.actions)

@@ -14,8 +14,8 @@ use script_steps::{ScriptFault, ScriptTable};
 use std::alloc::Global;
 use trace_text::Words;
 use trace_words::{
-    RowFault, Version, behind, bytes_in, data_in, read_labelled, last_word, next_long, next_word,
-    number_in,
+    RowFault, Version, behind, bytes_in, data_in, last_word, next_long, next_word, number_in,
+    read_labelled,
 };
 
 // Reads the version of the format, 1 or 2.

@@ -24,5 +24,7 @@ pub use labels::{behind, read_labelled};
 pub use place::TraceLines;
 pub use spelling::data_in;
 pub use version::Version;
-pub use words::{bytes_in, expect_end, flag_in, last_word, long_in, next_long, next_word, number_in};
+pub use words::{
+    bytes_in, expect_end, flag_in, last_word, long_in, next_long, next_word, number_in,
+};
 pub use writing::{add_data, add_flag, write_number_line};
