@@ -48,7 +48,8 @@ proposal_or_refusal (Err fault) = Err (Rejected 1)
 -- the services that the meter offers: block transfer with GET, SET and ACTION, multiple references,
 -- GET, SET and ACTION
 abbrev pub offered_services : ℕ
-offered_services = get_in_blocks + set_in_blocks + action_in_blocks + multiple_references + get_service
+offered_services = get_in_blocks + set_in_blocks + action_in_blocks + multiple_references
+    + get_service
     + set_service + action_service
 
 -- the checks of an InitiateRequest (IEC 62056-5-3, InitiateRequest; the refusals:

@@ -22,7 +22,8 @@ use Rattle.client_core.specs.Texts.{aarq_frame, request_frame, release_frame}
 -- skipped
 abbrev pub payloads_of : List Frame → List (List ℕ)
 payloads_of [] = []
-payloads_of (frame ∷ frames) = if frame.src == 1 && frame.dst == 1 then frame.payload ∷ payloads_of frames
+payloads_of (frame ∷ frames) = if frame.src == 1 && frame.dst == 1 then frame.payload
+    ∷ payloads_of frames
     else payloads_of frames
 
 -- the request may be sent, and its response has not come
@@ -52,7 +53,8 @@ ended_by progress BadVersion = or_unknown progress
 ended_by progress TooLong = or_unknown progress
 
 unfoldable pub progress_of : Verb → List ℕ → Progress
-progress_of verb bytes = ended_by (said verb (payloads_of (frames_of bytes))) (head_of (rest_of bytes))
+progress_of verb bytes = ended_by (said verb (payloads_of (frames_of bytes)))
+    (head_of (rest_of bytes))
 
 abbrev pub outcome_after : Verb → List ℕ → Option Outcome
 outcome_after verb bytes = (progress_of verb bytes).outcome

@@ -39,7 +39,8 @@ after_bytes verb progress bytes =
 -- on the new one
 pub record Moves (verb : Verb) (old : Progress) (bytes : List ℕ) (new : Progress) (kept : List ℕ)
     : Type 0 where
-  pub on : (more : List ℕ) → after_bytes verb old (bytes ++ more) ≡ after_bytes verb new (kept ++ more)
+  pub on : (more : List ℕ) → after_bytes verb old (bytes ++ more)
+      ≡ after_bytes verb new (kept ++ more)
 
 -- and the kept bytes have no effect by themselves
 pub record Hears (verb : Verb) (old : Progress) (bytes : List ℕ) (new : Progress) (kept : List ℕ)

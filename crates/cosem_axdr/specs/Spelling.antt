@@ -230,7 +230,8 @@ abbrev mutual
   IsFine (array ts) = (count_of ts ≤ max_items) × AreFine ts
   IsFine (structure ts) = (count_of ts ≤ max_items) × AreFine ts
   IsFine (boolean b) = Unit {0}
-  IsFine (bit_string bits bytes) = (length bytes ≡ bytes_for bits) × (without_unused_bits bits bytes ≡ bytes)
+  IsFine (bit_string bits bytes) = (length bytes ≡ bytes_for bits)
+      × (without_unused_bits bits bytes ≡ bytes)
   IsFine (double_long z) = Unit {0}
   IsFine (double_long_unsigned n) = Unit {0}
   IsFine (octet_string bytes) = Unit {0}

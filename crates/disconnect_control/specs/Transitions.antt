@@ -113,7 +113,8 @@ allowed_transition mode trigger state =
 
 -- the state after a trigger
 unfoldable pub after : ControlMode → Trigger → ControlState → ControlState
-after mode trigger state = unwrap_or (option_map (λ row. row.to) (allowed_transition mode trigger state)) state
+after mode trigger state = unwrap_or (option_map (λ row. row.to)
+    (allowed_transition mode trigger state)) state
 
 -- modes whose remote reconnection waits for the button
 abbrev pub waits_for_button : ControlMode → Bool

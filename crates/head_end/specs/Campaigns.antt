@@ -45,7 +45,8 @@ EachChange {X} R old new = (i : ℕ) (x : X) → i < length old
 
 -- the use of the attempt of its slot by each job, according to its line; the attempts of slots
 -- without a job are unused
-pub record AreTried (turns workers : ℕ) (jobs : List Job) (password : List ℕ) (lines : List ReportLine)
+pub record AreTried (turns workers : ℕ) (jobs : List Job) (password : List ℕ)
+    (lines : List ReportLine)
     (stages : List State) : Type 0 where
   pub of_jobs : (i : ℕ) (job : Job) (line : ReportLine) (stage : State) → i < length jobs
       → IsTried (slice_index_or jobs i job) password (slice_index_or lines i line).row

@@ -20,7 +20,8 @@ pub record Forecast : Type 0 where
 
 -- a read removes bytes from the front of those predicted; the last of the reads removes all that
 -- are left
-pub record GivesPiece (told : Forecast) (left : ℕ) (piece : List ℕ) (new : Option Forecast) : Type 0 where
+pub record GivesPiece (told : Forecast) (left : ℕ) (piece : List ℕ) (new : Option Forecast)
+    : Type 0 where
   pub rest : List ℕ
   pub bytes_are : told.bytes ≡ piece ++ rest
   pub new_is : new ≡ Some (record { reads = left; bytes = rest; stop = told.stop })
@@ -43,14 +44,16 @@ ReadTells (Some told) result buffer new = length buffer ≡ 1024
     → ReadsBy told told.reads result buffer new
 
 -- a write leaves the prediction unchanged; one fails only if no predicted bytes are left
-abbrev pub WriteTells : {X : Type 0} → Option Forecast → Result X StreamFault → Option Forecast → Type 0
+abbrev pub WriteTells : {X : Type 0} → Option Forecast → Result X StreamFault
+    → Option Forecast → Type 0
 WriteTells None result new = ⊤
 WriteTells (Some told) (Ok x) new = new ≡ Some told
 WriteTells (Some told) (Err fault) new = (told.bytes ≡ []) × (told.stop ≡ failed)
 
 -- a connect returns a connection with this prediction of its first 65,536 reads; a connect that
 -- fails counts as a connection that fails without bytes
-abbrev pub ConnectTells : {K : Type 0} → Option Forecast → (K → Option Forecast) → Result K ConnectFault
+abbrev pub ConnectTells : {K : Type 0} → Option Forecast → (K → Option Forecast)
+    → Result K ConnectFault
     → Type 0
 ConnectTells None told_of result = ⊤
 ConnectTells (Some told) told_of (Ok connection) = (told_of connection ≡ Some told)

@@ -14,7 +14,8 @@ use Rattle.head_end.specs.Logs.{Happening, heard_in, sent_in, reads_in}
 use Rattle.head_end.specs.Wires.{due_text, given_text, Listens, GoesOn, Conversation, HasConversed}
 
 -- of the initially predicted bytes these were read, and this number of reads is left
-pub record Follows (start : Forecast) (now : Option Forecast) (seen : List ℕ) (left : ℕ) : Type 0 where
+pub record Follows (start : Forecast) (now : Option Forecast) (seen : List ℕ)
+    (left : ℕ) : Type 0 where
   pub rest : List ℕ
   pub now_is : now ≡ Some (record { reads = left; bytes = rest; stop = start.stop })
   pub bytes_are : start.bytes ≡ seen ++ rest
@@ -29,13 +30,15 @@ pub record At (start : Forecast) (verb : Verb) (password : List ℕ) (left : ℕ
   pub follows : Follows start now fed left
 
 -- a client that was fed all predicted bytes
-pub record AtEnd (start : Forecast) (verb : Verb) (password : List ℕ) (client : Client) : Type 0 where
+pub record AtEnd (start : Forecast) (verb : Verb) (password : List ℕ)
+    (client : Client) : Type 0 where
   pub given : ℕ
   pub stands : Stands verb password start.bytes given false client
 
 -- the outcome of a client that was fed all predicted bytes
 pub record GivesUp (old : Client) (outcome : Outcome) : Type 0 where
-  pub outcome_is : (start : Forecast) (verb : Verb) (password : List ℕ) → AtEnd start verb password old
+  pub outcome_is : (start : Forecast) (verb : Verb) (password : List ℕ)
+      → AtEnd start verb password old
       → outcome ≡ outcome_of verb start.bytes
 
 -- the messages were written; or a write failed, and no more bytes will come
@@ -49,7 +52,8 @@ pub record SendsAll (old : Client) (before : Option Forecast) (result : Bool) (n
       → At start verb password left old before → AtAfter result start verb password left new after
 
 -- after a turn the outcome is known, or the client was fed the bytes of one more read
-abbrev pub AtTurn : Option Outcome → Forecast → Verb → List ℕ → ℕ → Client → Option Forecast → Type 0
+abbrev pub AtTurn : Option Outcome → Forecast → Verb → List ℕ → ℕ → Client
+    → Option Forecast → Type 0
 AtTurn None start verb password left client now = At start verb password left client now
 AtTurn (Some outcome) start verb password left client now = outcome ≡ outcome_of verb start.bytes
 

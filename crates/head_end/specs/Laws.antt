@@ -49,7 +49,8 @@ ReportsJoin = (lines others : List ReportLine)
 
 -- lines of parts of the jobs are lines of all
 abbrev pub LinesJoin : Type 0
-LinesJoin = (tells : List ℕ → Option Forecast) (jobs rest : List Job) (lines others : List ReportLine)
+LinesJoin = (tells : List ℕ → Option Forecast) (jobs rest : List Job)
+    (lines others : List ReportLine)
     → AreLines tells jobs lines → AreLines tells rest others
     → AreLines tells (jobs ++ rest) (lines ++ others)
 

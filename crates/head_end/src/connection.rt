@@ -42,7 +42,8 @@ pub trait Connector: Sync {
 
     /// Opens a new connection to the meter at an address.
     fn connect(&self, address: &Octets) -> Result<Self::Connection, ConnectFault>
-        ensures forecast { ConnectTells (tells self.now address.now) Self.Connection.forecast result }
+        ensures forecast { ConnectTells (tells self.now address.now)
+            Self.Connection.forecast result }
         ensures log { IfOk result (λ connection. IsNewLog (Self.Connection.log connection)) };
 }
 

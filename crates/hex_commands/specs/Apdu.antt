@@ -18,7 +18,8 @@ use Rattle.hex_commands.specs.declared.telling.CommandFault.TheVariants as fault
 unfoldable pub answer_lines : World → List (List ℕ) → List ℕ
 answer_lines world [] = []
 answer_lines world (request ∷ requests) =
-    hex_line (answer_to_payload request world).text ++ answer_lines (answer_to_payload request world).world requests
+    hex_line (answer_to_payload request world).text
+        ++ answer_lines (answer_to_payload request world).world requests
 
 -- the answers of a new meter, whose device name is RELAY1
 abbrev pub new_answers : List (List ℕ) → List ℕ
@@ -28,7 +29,8 @@ new_answers requests = answer_lines (new_world (codes "RELAY1")) requests
 pub record AddsAnswer (request : List ℕ) (old new : RelayCore) (before after : List ℕ) : Type 0
   where
     pub world : (w : World) → StandsFor old w → StandsFor new (answer_to_payload request w).world
-    pub text : (w : World) → StandsFor old w → after ≡ before ++ hex_line (answer_to_payload request w).text
+    pub text : (w : World) → StandsFor old w → after ≡ before
+        ++ hex_line (answer_to_payload request w).text
 
 -- of these requests a core answered all but the last, and its answers were appended as lines
 pub record AnswersOn (requests last : List (List ℕ)) (old new : RelayCore) (before after : List ℕ)

@@ -20,11 +20,13 @@ events_and_replies calls = map (λ (call : Entry Event Reply). (call.event, call
 -- the replies are those of the run over the events, from the world of the opening
 abbrev pub IsLegal : Opening → Calls → Type 0
 IsLegal origin calls =
-    replies_of (events_and_replies calls) ≡ replies_from (world_of_opening origin) (events_of (events_and_replies calls))
+    replies_of (events_and_replies calls) ≡ replies_from (world_of_opening origin)
+        (events_of (events_and_replies calls))
 
 -- the recorder results from these calls, starting from the world of its origin
 abbrev pub Stands : KeptRecorder → Calls → Type 0
-Stands kept calls = StandsForHistory kept.recorder (events_and_replies calls) (world_of_opening kept.origin)
+Stands kept calls = StandsForHistory kept.recorder (events_and_replies calls)
+    (world_of_opening kept.origin)
 
 -- There are calls that the recorder results from.
 pub record HasCalls (kept : KeptRecorder) : Type 0 where

@@ -13,8 +13,10 @@ use Rattle.limiter_attributes.specs.declared.setting.Setting.TheVariants.{Thresh
 abbrev pub with_setting : Setting → Settings → Settings
 with_setting (ThresholdNormal watts) settings = record settings { threshold_normal = watts }
 with_setting (ThresholdEmergency watts) settings = record settings { threshold_emergency = watts }
-with_setting (MinOverThresholdDuration seconds) settings = record settings { min_over_threshold_duration = seconds }
-with_setting (MinUnderThresholdDuration seconds) settings = record settings { min_under_threshold_duration = seconds }
+with_setting (MinOverThresholdDuration seconds) settings =
+    record settings { min_over_threshold_duration = seconds }
+with_setting (MinUnderThresholdDuration seconds) settings =
+    record settings { min_under_threshold_duration = seconds }
 with_setting (Profile profile) settings = record settings { profile = profile }
 with_setting (Actions actions) settings = record settings { actions = actions }
 

@@ -48,7 +48,8 @@ impl<S: MomentSource + Send> Worker<Port<Kept>> for Clock<S> {
     ghost use Rattle.turn_lock.specs.Shown.{IsSame};
     ghost use Rattle.meter_workers.specs.Handed.{HandsMoments, StopsFor};
 
-    ghost did = { λ clock p q end. IsSame p q × OnOk end (HandsMoments (S.forecast clock.source) p q)
+    ghost did = { λ clock p q end. IsSame p q
+        × OnOk end (HandsMoments (S.forecast clock.source) p q)
         × IfErr end (StopsFor q) };
 
     fn work<W: Wait>(
@@ -73,7 +74,8 @@ impl<S: ButtonSource + Send> Worker<Port<Kept>> for Button<S> {
     ghost use Rattle.turn_lock.specs.Shown.{IsSame};
     ghost use Rattle.meter_workers.specs.Handed.{HandsPresses, StopsFor};
 
-    ghost did = { λ button p q end. IsSame p q × OnOk end (HandsPresses (S.forecast button.source) p q)
+    ghost did = { λ button p q end. IsSame p q
+        × OnOk end (HandsPresses (S.forecast button.source) p q)
         × IfErr end (StopsFor q) };
 
     fn work<W: Wait>(

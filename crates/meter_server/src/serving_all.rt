@@ -265,14 +265,16 @@ pub fn serve_all<
     ensures goes_err { IfErr result (λ r. GoesOn port r.0 × IsLegal IsLegalRun r.0.known
         × AreJoined port.known.splits r.0) }
     ensures sessions { IfOk result (λ r. AreSessions password.now (port.known.splits + 3) r.0) }
-    ensures sessions_err { IfErr result (λ r. AreSessions password.now (port.known.splits + 3) r.0) }
+    ensures sessions_err { IfErr result (λ r. AreSessions password.now
+        (port.known.splits + 3) r.0) }
     ensures limit { IfOk result (λ r. IsLimit limit r.1) }
     ensures counted { IfOk result
         (λ r. IsCounted (L.accepted listener.old) (r.1.served + r.1.turned_away)
         (L.accepted listener.new)) }
     ensures served { IfOk result (λ r. IsServed (port.known.splits + 3) r.0.known.splits r.1) }
     ensures blocks { IfOk result
-        (λ r. Acted r.0 (child port.known.number port.known.splits) (AllBlocks (B.forecast blocks))) }
+        (λ r. Acted r.0 (child port.known.number port.known.splits)
+            (AllBlocks (B.forecast blocks))) }
     ensures moments { IfOk result
         (λ r. Acted r.0 (child port.known.number (port.known.splits + 1))
         (AllMoments (M.forecast moments))) }

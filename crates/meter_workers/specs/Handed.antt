@@ -32,15 +32,18 @@ unread events = filter (λ (e : Event). not (is_read e)) events
 -- between them
 abbrev pub HandsBlocks : Option (List Samples) → MeterPort → MeterPort → Type 0
 HandsBlocks told p q =
-    IfSome told (λ blocks. unread (own_events q) ≡ unread (own_events p) ++ map event.Samples blocks)
+    IfSome told (λ blocks. unread (own_events q) ≡ unread (own_events p)
+        ++ map event.Samples blocks)
 
 -- all moments that the source declared were passed on since, in order, each once
 abbrev pub HandsMoments : Option (List ℕ) → MeterPort → MeterPort → Type 0
-HandsMoments told p q = IfSome told (λ moments. own_events q ≡ own_events p ++ map event.Moment moments)
+HandsMoments told p q = IfSome told (λ moments. own_events q ≡ own_events p
+    ++ map event.Moment moments)
 
 -- all presses that the source declared were passed on since
 abbrev pub HandsPresses : Option ℕ → MeterPort → MeterPort → Type 0
-HandsPresses told p q = IfSome told (λ count. own_events q ≡ own_events p ++ replicate count event.Button)
+HandsPresses told p q = IfSome told (λ count. own_events q ≡ own_events p
+    ++ replicate count event.Button)
 
 -- why a worker stops before its source ends: never because out of memory, only because its port has
 -- read that all turns of the lock's bound were drawn

@@ -48,7 +48,8 @@ own_value_in level (Schedule which) number w =
 own_value_in level DisconnectControl number w =
     result_of_attribute (λ attribute. control_data attribute w.control) (control_attribute number)
 own_value_in level (Limiter which) number w =
-    result_of_attribute (λ attribute. limiter_data which attribute (metered_of which w).settings w.moment)
+    result_of_attribute (λ attribute. limiter_data which attribute
+        (metered_of which w).settings w.moment)
     (limiter_attribute number)
 
 -- the result of reading an attribute of an object; attribute 1 is the logical name in every class

@@ -40,7 +40,8 @@ write_code (Err fault) = fault_code fault
 -- a schedule after a write of an attribute other than its list of entries, and below, the result
 -- code
 unfoldable pub schedule_after_write : Option ScheduleAttribute → Data → Schedule → Schedule
-schedule_after_write (Some ExecutedScript) value schedule = with_selector (selector_of value) schedule
+schedule_after_write (Some ExecutedScript) value schedule =
+    with_selector (selector_of value) schedule
 schedule_after_write (Some Kind) value schedule = with_kind (kind_of value) schedule
 schedule_after_write _ value schedule = schedule
 

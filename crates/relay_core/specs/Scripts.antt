@@ -31,8 +31,10 @@ at_step origin Disconnect w = at_trigger (disconnect_by origin) w
 at_step origin Reconnect w = at_trigger (reconnect_by origin) w
 at_step origin (WriteNormal which watts) w = at_setting which (ThresholdNormal watts) w
 at_step origin (WriteEmergency which watts) w = at_setting which (ThresholdEmergency watts) w
-at_step origin (WriteMinOver which seconds) w = at_setting which (MinOverThresholdDuration seconds) w
-at_step origin (WriteMinUnder which seconds) w = at_setting which (MinUnderThresholdDuration seconds) w
+at_step origin (WriteMinOver which seconds) w =
+    at_setting which (MinOverThresholdDuration seconds) w
+at_step origin (WriteMinUnder which seconds) w =
+    at_setting which (MinUnderThresholdDuration seconds) w
 at_step origin (WriteProfile which profile) w = at_setting which (Profile profile) w
 
 abbrev pub is_success : ResultCode → Bool

@@ -12,10 +12,13 @@ metering_in w firings = record { world = w; firings = firings }
 
 -- A core took samples: for every world that it represented, it represents the world after the
 -- samples, and their firings were counted.
-pub record Takes (old new : RelayCore) (before after : FiringCounts) (xs : List Measurement) : Type 0
+pub record Takes (old new : RelayCore) (before after : FiringCounts) (xs : List Measurement) : Type
+    0
   where
-    pub world : (w : World) → StandsFor old w → StandsFor new (after_samples xs (metering_in w before)).world
-    pub firings : (w : World) → StandsFor old w → after ≡ (after_samples xs (metering_in w before)).firings
+    pub world : (w : World) → StandsFor old w
+        → StandsFor new (after_samples xs (metering_in w before)).world
+    pub firings : (w : World) → StandsFor old w → after
+        ≡ (after_samples xs (metering_in w before)).firings
 
 -- No side has fired more than `n` times.
 pub record AreAtMost (n : ℕ) (firings : FiringCounts) : Type 0 where

@@ -43,7 +43,8 @@ impl RelayCore {
         number: u8,
     ) -> Result<GetResult, AllocError>
         ensures value { IfOk result (λ r. (w : World) → StandsFor self.now w
-            → r ≡ result_of_attribute (λ attribute. register_data attribute (metered_of which w).last)
+            → r ≡ result_of_attribute (λ attribute. register_data attribute
+                (metered_of which w).last)
             (register_attribute number)) }
         ensures plain { IsTrue (is_plain_where is_plain_register (register_attribute number))
             → IsOk result }

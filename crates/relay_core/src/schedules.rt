@@ -91,7 +91,8 @@ pub(crate) fn read_schedule(
     number: u8,
 ) -> Result<GetResult, AllocError>
     ensures value { IfOk result (λ r. r
-        ≡ result_of_attribute (λ attribute. data_at attribute schedule.now) (attribute_numbered number)) }
+        ≡ result_of_attribute (λ attribute. data_at attribute schedule.now)
+            (attribute_numbered number)) }
     ensures plain { IsTrue (is_plain_where is_plain (attribute_numbered number)) → IsOk result }
 {
     let Some(attribute) = ScheduleAttribute::of_number(number) else {

@@ -27,7 +27,8 @@ replies_from origin events = map (λ (line : Line). line.reply) (lines_of events
 -- The recorder results from a history that starts at world `origin`. The replies are those of the
 -- run over the events; the core is in the world after all events; the kept events are the last
 -- ones, at most `capacity`; and the opening core is in the world before the kept events.
-pub record StandsForHistory (r : Recording) (history : List Exchange) (origin : World) : Type 0 where
+pub record StandsForHistory (r : Recording) (history : List Exchange)
+    (origin : World) : Type 0 where
   pub legal : replies_of history ≡ replies_from origin (events_of history)
   pub core : StandsFor r.core (world_after (events_of history) origin)
   pub kept : r.events ≡ keep_last r.capacity (events_of history)

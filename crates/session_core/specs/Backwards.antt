@@ -179,7 +179,8 @@ begun_by_role link _ reply = None
 
 -- the transfer of a text after these GET-nexts, if they were in order and blocks are left
 abbrev pub outgoing_after_nexts : List Heard → Sending → Option Sending
-outgoing_after_nexts later s = if names_in_order later then transfer_after (blocks_so_far later) s else None
+outgoing_after_nexts later s = if names_in_order later then transfer_after (blocks_so_far later) s
+    else None
 
 -- the transfer before a request: the last request that was not a GET-next began it
 abbrev pub outgoing_among : Link → List Heard → Option Sending

@@ -65,8 +65,8 @@ call_of conformance payload =
     else request_call conformance payload
 
 -- The payload is a GET of this attribute, whole and without selective access.
-pub record IsSingleGet (conformance : ℕ) (payload : List ℕ) (id : InvokeId) (attr : AttrRef) : Type
-    0 where
+pub record IsSingleGet (conformance : ℕ) (payload : List ℕ) (id : InvokeId) (attr : AttrRef)
+    : Type 0 where
   pub opens : is_opening payload ≡ false
   pub calls : is_call payload ≡ true
   pub call : call_of conformance payload

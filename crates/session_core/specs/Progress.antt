@@ -55,8 +55,8 @@ pub record Finishes (old new : Session) : Type 0 where
   pub finished : is_finished new ≡ true
 
 -- These events were asked and these texts sent.
-pub record Steps (old : Session) (asked : List Event) (sent : List (List ℕ)) (new : Session) : Type
-    0 where
+pub record Steps (old : Session) (asked : List Event) (sent : List (List ℕ)) (new : Session)
+    : Type 0 where
   pub asks : (more : List ℕ) → still_asks old more ≡ asked ++ still_asks new more
   pub sends : (more : List ℕ) (replies : List Reply)
       → still_sends old more replies ≡ sent ++ still_sends new more replies

@@ -229,8 +229,8 @@ is_settled (Say due) = true
 is_settled (Join joined) = false
 
 -- A frame asks for this attribute and ends the transfers, whatever the password is.
-pub record HearsGet (old : State) (f : Frame) (asked : Asked) (attr : AttrRef) (new : State) : Type
-    0 where
+pub record HearsGet (old : State) (f : Frame) (asked : Asked) (attr : AttrRef) (new : State)
+    : Type 0 where
   pub outcome : (password : List ℕ)
       → outcome_at password old f ≡ asks (event.Get asked.link.level attr false) asked
   pub after : (password : List ℕ) → new ≡ state_after password old f None

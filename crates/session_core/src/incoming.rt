@@ -44,7 +44,8 @@ impl LongService {
     // Returns the answer to a block that is not added.
     pub(crate) fn fault(self, to: u16, id: InvokeId, number: u32, fault: BlockFault) -> Due
         ensures to { result.to ≡ to }
-        ensures answer { result.answer ≡ Service (refusal_response self id number (block_code self fault)) }
+        ensures answer { result.answer ≡ Service
+            (refusal_response self id number (block_code self fault)) }
     {
         Due::response(to, self.refusal_response(id, number, self.code(fault)))
     }

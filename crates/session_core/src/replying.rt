@@ -117,7 +117,8 @@ fn answer_value(
     ensures text { IfOk result (λ text. text
         ≡ due_text link.source
         (answer_text (Service
-        (long_response link (answer_with_header id (Response.Get id (GetResult.Value value.now)) 4))))) }
+        (long_response link (answer_with_header id
+            (Response.Get id (GetResult.Value value.now)) 4))))) }
     ensures outgoing { OnOk result (outgoing.new
         ≡ option_and_then (transfer_after 1)
         (long_text link (answer_with_header id (Response.Get id (GetResult.Value value.now)) 4))) }
@@ -150,7 +151,8 @@ fn answer_values(
         ≡ way_text way link.source
         (answer_text (Service (long_response link (answer_with_header id normal header))))) }
     ensures outgoing { IfOk result (λ answered. answered.outgoing
-        ≡ option_and_then (transfer_after 1) (long_text link (answer_with_header id normal header))) }
+        ≡ option_and_then (transfer_after 1) (long_text link
+            (answer_with_header id normal header))) }
     ensures err { IfErr result (λ failed. failed.1 ≡ reply_in normal) }
 {
     match answer_long(alloc, link, way, id, &normal, header) {
@@ -265,7 +267,8 @@ fn answer_long(
         ≡ way_text way link.source
         (answer_text (Service (long_response link (answer_with_header id normal.now header))))) }
     ensures outgoing { IfOk result (λ answered. answered.outgoing
-        ≡ option_and_then (transfer_after 1) (long_text link (answer_with_header id normal.now header))) }
+        ≡ option_and_then (transfer_after 1) (long_text link
+            (answer_with_header id normal.now header))) }
 {
     let text = way.write(alloc, normal)?;
     if way.payload(&text).len() <= usize::from(link.limit.bytes()) {

@@ -1,10 +1,10 @@
 //! Threads over the ports of one lock: a thread for each connection, and threads for workers.
 //!
 //! [`serve_connections`] serves at most eight connections in parallel, each through a port of its
-//! own. A [`ConnectionSource`] accepts connections, and a [`PortConnection`] serves its peer through the port
-//! that it is lent. [`start_worker`] and [`join_worker`] do likewise for a [`Worker`]. Every port
-//! that is split off is joined in again. This crate is independent of the protocol of a connection
-//! and of the value that the lock protects.
+//! own. A [`ConnectionSource`] accepts connections, and a [`PortConnection`] serves its peer
+//! through the port that it is lent. [`start_worker`] and [`join_worker`] do likewise for a
+//! [`Worker`]. Every port that is split off is joined in again. This crate is independent of the
+//! protocol of a connection and of the value that the lock protects.
 #![tactic(auto)]
 
 mod accepted;

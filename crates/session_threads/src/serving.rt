@@ -41,7 +41,8 @@ where
     ensures terms { L.terms listener.new ≡ L.terms listener.old }
     ensures accepted { IfSome result
         (λ _. RisesBy (L.accepted listener.old) 1 (L.accepted listener.new)) }
-    ensures accepted_none { IfNone result (RisesBy (L.accepted listener.old) 0 (L.accepted listener.new)) }
+    ensures accepted_none { IfNone result (RisesBy (L.accepted listener.old) 0
+        (L.accepted listener.new)) }
     ensures none { IfNone result (port.new.known.splits ≡ port.old.known.splits) }
 {
     let next = listener.accept(alloc);

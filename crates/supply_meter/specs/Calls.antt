@@ -140,8 +140,8 @@ IsFired (SampledBoth over under export_over export_under) fired =
 IsFired _ fired = ⊥
 
 -- a block of samples was applied
-pub record TakesSamples (old : Metering) (samples : Samples) (fired : Fired) (new : Metering) : Type
-    0 where
+pub record TakesSamples (old : Metering) (samples : Samples) (fired : Fired) (new : Metering)
+    : Type 0 where
   pub reply : Reply
   pub takes : Takes old (event.Samples samples) reply new
   pub tells : IsFired reply fired

@@ -71,7 +71,8 @@ fn add_asked(
 // Appends the words after the first one.
 #[tactic(auto, unfolding(crate::specs::Writing::event_words))]
 fn add_words(alloc: Global, out: &mut Vec<u8>, event: &Event) -> Result<(), AllocError>
-    ensures { OnOk result (out.new.items ≡ out.old.items ++ words_after_blanks (event_words event.now)) }
+    ensures { OnOk result (out.new.items ≡ out.old.items
+        ++ words_after_blanks (event_words event.now)) }
 {
     match event {
         Event::Get {

@@ -17,7 +17,8 @@ ghost use Rattle.trace_words.specs.declared.version.Version.TheVariants.{Two};
 /// that a line can hold.
 #[tactic(auto, using(crate::proofs::EventLaws::event_again, crate::proofs::EventRows::line_again, crate::proofs::EventRows::event_is_row))]
 pub fn written_event_is_read()
-    ensures read_back { (event : Event) → IsTraced event → event_of Two (event_row event) ≡ Ok event }
+    ensures read_back { (event : Event) → IsTraced event → event_of Two (event_row event)
+        ≡ Ok event }
     ensures line { (event : Event) → IsTraced event
         → event_of Two (words_of (line_of (event_row event))) ≡ Ok event }
     ensures row { (event : Event) → IsTraced event → IsTrue (is_row (event_row event)) }

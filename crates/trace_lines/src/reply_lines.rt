@@ -40,7 +40,8 @@ fn add_value(alloc: Global, out: &mut Vec<u8>, value: &Data) -> Result<(), Alloc
 
 // Appends the result of reading one attribute of a list.
 fn add_result(alloc: Global, out: &mut Vec<u8>, item: &GetResult) -> Result<(), AllocError>
-    ensures { OnOk result (out.new.items ≡ out.old.items ++ words_after_blanks (result_words item.now [])) }
+    ensures { OnOk result (out.new.items ≡ out.old.items
+        ++ words_after_blanks (result_words item.now [])) }
 {
     match item {
         GetResult::Value(value) => add_value(alloc, out, value),
@@ -89,7 +90,8 @@ fn add_sampled_both(
 // Appends a reply.
 #[tactic(auto, unfolding(crate::specs::Replies::reply_row))]
 fn add_reply(alloc: Global, out: &mut Vec<u8>, reply: &Reply) -> Result<(), AllocError>
-    ensures { OnOk result (out.new.items ≡ out.old.items ++ words_after_blanks (reply_row reply.now)) }
+    ensures { OnOk result (out.new.items ≡ out.old.items
+        ++ words_after_blanks (reply_row reply.now)) }
 {
     match reply {
         Reply::Value(value) => add_value(alloc, out, value),

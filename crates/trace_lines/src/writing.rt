@@ -28,7 +28,8 @@ pub(crate) fn add_attribute(
     out: &mut Vec<u8>,
     attr: &AttrRef,
 ) -> Result<(), AllocError>
-    ensures { OnOk result (out.new.items ≡ out.old.items ++ words_after_blanks (attribute_words attr.now [])) }
+    ensures { OnOk result (out.new.items ≡ out.old.items
+        ++ words_after_blanks (attribute_words attr.now [])) }
 {
     add_number(out, u64::from(attr.class.0))?;
     add_hex(alloc, out, attr.name.0.as_slice())?;
@@ -41,7 +42,8 @@ pub(crate) fn add_method(
     out: &mut Vec<u8>,
     method: &MethodRef,
 ) -> Result<(), AllocError>
-    ensures { OnOk result (out.new.items ≡ out.old.items ++ words_after_blanks (method_words method.now [])) }
+    ensures { OnOk result (out.new.items ≡ out.old.items
+        ++ words_after_blanks (method_words method.now [])) }
 {
     add_number(out, u64::from(method.class.0))?;
     add_hex(alloc, out, method.name.0.as_slice())?;
@@ -54,7 +56,8 @@ fn add_selection(
     out: &mut Vec<u8>,
     item: &AttributeSelection,
 ) -> Result<(), AllocError>
-    ensures { OnOk result (out.new.items ≡ out.old.items ++ words_after_blanks (selection_words item.now [])) }
+    ensures { OnOk result (out.new.items ≡ out.old.items
+        ++ words_after_blanks (selection_words item.now [])) }
 {
     add_attribute(alloc, out, &item.attr)?;
     add_flag(out, item.selected)

@@ -18,7 +18,8 @@ use limiter_core::fit_runs_mean;
 /// the 30 lines that are written for it, whatever follows them. Every one of these is a line of
 /// words.
 pub fn written_opening_is_read()
-    ensures read_back { (opening : Opening) (rows : List Row) (unended : List ℕ) → IsWritable opening
+    ensures read_back { (opening : Opening) (rows : List Row) (unended : List ℕ)
+        → IsWritable opening
         → opening_from (record {
           number = 1;
           rows = opening_rows opening ++ rows;

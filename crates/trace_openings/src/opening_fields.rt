@@ -73,7 +73,8 @@ fn state_in(word: &[u8]) -> Result<ControlState, RowFault>
 
 // Reads the line of the control state.
 pub(crate) fn state(words: &mut Words) -> Result<ControlState, RowFault>
-    ensures { Gives Memory (λ state. state) result (labelled_value (codes "state") state_in words.old) }
+    ensures { Gives Memory (λ state. state) result
+        (labelled_value (codes "state") state_in words.old) }
 {
     read_labelled(b"state", words, state_in)
 }
@@ -116,7 +117,8 @@ fn moment_in(word: &[u8]) -> Result<Option<u32>, RowFault>
 
 // Reads the line of the clock's last moment.
 pub(crate) fn moment(words: &mut Words) -> Result<Option<u32>, RowFault>
-    ensures { Gives Memory (λ moment. moment) result (labelled_value (codes "now") moment_in words.old) }
+    ensures { Gives Memory (λ moment. moment) result
+        (labelled_value (codes "now") moment_in words.old) }
 {
     read_labelled(b"now", words, moment_in)
 }
@@ -139,7 +141,8 @@ fn table_in(alloc: Global, word: &[u8]) -> Result<ScriptTable, RowFault>
 
 // Reads the line of the script table.
 pub(crate) fn table(alloc: Global, words: &mut Words) -> Result<ScriptTable, RowFault>
-    ensures { Gives Memory (λ table. table) result (labelled_value (codes "scripts") table_in words.old) }
+    ensures { Gives Memory (λ table. table) result
+        (labelled_value (codes "scripts") table_in words.old) }
 {
     read_labelled(b"scripts", words, |word| table_in(alloc, word))
 }

@@ -63,7 +63,8 @@ fn write_head(alloc: Global, out: &mut Vec<u8>, opening: &Opening) -> Result<(),
 
 // Appends the clock's last moment, or `-` before the first.
 fn add_moment(out: &mut Vec<u8>, moment: Option<u32>) -> Result<(), AllocError>
-    ensures { OnOk result (out.new.items ≡ out.old.items ++ words_after_blanks (moment_word moment ∷ [])) }
+    ensures { OnOk result (out.new.items ≡ out.old.items
+        ++ words_after_blanks (moment_word moment ∷ [])) }
 {
     match moment {
         Some(moment) => add_number(out, u64::from(moment)),

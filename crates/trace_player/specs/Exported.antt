@@ -14,5 +14,6 @@ kept_lines r history origin =
 
 -- a trace prints the end of every history that a recorder represents
 abbrev pub PrintsTheEnd : Recording → Trace → Type 0
-PrintsTheEnd r trace = (history : List Exchange) (origin : World) → StandsForHistory r history origin
+PrintsTheEnd r trace = (history : List Exchange) (origin : World)
+    → StandsForHistory r history origin
     → output_of_trace trace ≡ kept_lines r history origin

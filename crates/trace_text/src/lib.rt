@@ -2,9 +2,9 @@
 //! separates words, numbers are decimal without leading zeros, and bytes are hexadecimal in
 //! capitals.
 //!
-//! `TextLines` and `Words` read such a text, `read_number` and `read_hex` its words; `write_number`,
-//! `write_hex`, `add_word`, `add_number`, `add_hex` and `end_line` write one. What is written is
-//! read back, and each value is read from one word only.
+//! `TextLines` and `Words` read such a text, `read_number` and `read_hex` its words;
+//! `write_number`, `write_hex`, `add_word`, `add_number`, `add_hex` and `end_line` write one. What
+//! is written is read back, and each value is read from one word only.
 #![tactic(auto)]
 
 mod cutting;

@@ -21,7 +21,8 @@ behind label row = do
   Ok (tt, first.1)
 
 -- the value of a line of two words, this first word and one for the value
-abbrev pub labelled_value : {X : Type 0} → Word → (Word → Result X RowFault) → Row → Result X RowFault
+abbrev pub labelled_value : {X : Type 0} → Word → (Word → Result X RowFault) → Row
+    → Result X RowFault
 labelled_value label value_in row = do
   words ← behind label row
   last_as value_in words.1

@@ -5,8 +5,8 @@
 //! `TraceLines` holds the lines that are still to be read; its `read` reads the next line, a value
 //! from its words. `HeldLines` owns its text and drops what has been read. Readers of a line take
 //! its words with `next_word` and `last_word`, and the values of words with `number_in`, `flag_in`,
-//! `bytes_in` and `data_in`; `read_labelled` reads a line of a first word and one value. `add_flag`,
-//! `add_data` and `write_number_line` write.
+//! `bytes_in` and `data_in`; `read_labelled` reads a line of a first word and one value.
+//! `add_flag`, `add_data` and `write_number_line` write.
 #![tactic(auto)]
 
 mod fault;

@@ -17,7 +17,8 @@ pub fn add_flag(out: &mut Vec<u8>, flag: bool) -> Result<(), AllocError>
 
 /// Appends a Data as a word: its A-XDR encoding in hexadecimal.
 pub fn add_data(alloc: Global, out: &mut Vec<u8>, value: &Data) -> Result<(), AllocError>
-    ensures { OnOk result (out.new.items ≡ out.old.items ++ words_after_blanks (data_word value.now ∷ [])) }
+    ensures { OnOk result (out.new.items ≡ out.old.items
+        ++ words_after_blanks (data_word value.now ∷ [])) }
 {
     let mut text = Octets::new(alloc);
     write(alloc, value, &mut text)?;
